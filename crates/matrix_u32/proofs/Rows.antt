@@ -1,0 +1,202 @@
+-- Rows that are written in place, and products that are summed by blocks of inner places.
+use Rattle.std.proofs.Common.{take, drop, ◌-◌, ◌≤◌, ◌≡◌, ◌≢◌, ℕ, ◌+◌, ◌*◌, ◌%◌, ◌^◌, ◌<◌, ◌==◌, if◌then◌else◌, ◌++◌, inl, inr, arith, ap, ◌∙◌, sym, refl, List, length, slice_index, replicate}
+use Rattle.std.proofs.lemmas.Nat.{row_fits}
+use Rattle.std.proofs.lemmas.Bool.{cases_eq, cases_lt}
+use Rattle.std.proofs.lemmas.Bool.Decides.{nat_tests}
+use Rattle.std.proofs.lemmas.List.{length-take-le, take-append-le, length-append, length-drop}
+use Rattle.std.proofs.lemmas.Simd.{put_chunk_is, length-put_chunk, get_or-put_chunk_below, get_or-put_chunk_at, get_or-put_chunk_above, length-replicate, get_or-replicate, splat_is_map}
+use Rattle.std.proofs.lemmas.List.FromFn.{length-range_with_len}
+use Rattle.std.proofs.Math.Seq.{take-length}
+use Rattle.std.specs.Simd.Lanes.{put_chunk}
+use Rattle.std.specs.List.{range_with_len}
+use Rattle.matrix_u32.specs.Sum.{sum_below, list_of, dot}
+use Rattle.matrix_u32.specs.Matrix.{WordMatrix, IsWhole, entry, matrix_of, row, column, product, plus_scaled, zero_matrix, with_row, overwritten, written_row}
+use Rattle.matrix_u32.proofs.Sums.{sum_below_more, sum_below_none, sum_below-add, sum_same}
+use Rattle.matrix_u32.proofs.Products.{at-list_of, length-list_of, entry-matrix_of, words_are, entry-product_sum}
+use Rattle.matrix_u32.proofs.Changes.{matrix_by_entries}
+
+-- what a loan of part of a list leaves, where the list keeps its length
+pub overwritten_cut : (n place : ℕ) (new old : List ℕ) → length old ≡ n → place ≤ n
+    → let x = take place old ++ (new ++ drop (length new) (drop place old)) in take n (x ++ drop (length x) old) ≡ overwritten place new old
+overwritten_cut n place new old long le =
+    let x = take place old ++ (new ++ drop (length new) (drop place old)) in
+    let front : length (take place old) ≡ place = length-take-le place old (omega arith) in
+    let size : length x ≡ place + (length new + (length old - place - length new)) = simp (length-append, length-drop) (omega (arith, front)) in
+    rw (← long) (take-append-le (length old) x _ (omega (arith, size)))
+
+pub overwritten_is : (place : ℕ) (new old : List ℕ) → place + length new ≤ length old → overwritten place new old ≡ put_chunk place old new
+overwritten_is place new old fits =
+    rw (← (put_chunk_is place old new fits), ← (length-put_chunk place old new)) (take-length (put_chunk place old new))
+
+-- row i of a whole matrix, as it is written over with as many words as there are columns
+module _ (m : WordMatrix) (i : ℕ) (words : List ℕ) (whole : IsWhole m) (inside : i < m.rows) (wide : length words ≡ m.cols) where
+  room : i * m.cols + m.cols ≤ length m.words
+  room = omega (arith, whole, row_fits i m.cols m.rows m.cols inside (omega arith))
+
+  pub length-written_row : length (written_row m i words).words ≡ m.rows * m.cols
+  length-written_row = ap length (overwritten_is (i * m.cols) words m.words (omega (arith, room))) ∙ length-put_chunk (i * m.cols) m.words words ∙ whole
+
+  pub written_row-same : (q : ℕ) → q < m.cols → entry (written_row m i words) i q ≡ slice_index words q
+  written_row-same q h =
+      rw (overwritten_is (i * m.cols) words m.words (omega (arith, room)))
+      (get_or-put_chunk_at (i * m.cols) m.words words q 0 (omega (arith, room)) (omega (arith, room)))
+
+  pub written_row-other : (p q : ℕ) → p ≢ i → q < m.cols → entry (written_row m i words) p q ≡ entry m p q
+  written_row-other p q ne h =
+      rw (overwritten_is (i * m.cols) words m.words (omega (arith, room))) (elim (cases_lt p i) [
+        | inl lt ↦
+            let before : p * m.cols + m.cols ≤ i * m.cols = row_fits p m.cols i m.cols lt (omega arith) in
+            get_or-put_chunk_below (i * m.cols) m.words words (p * m.cols + q) 0 (omega (arith, room))
+        | inr le ↦
+            let lt : i < p = omega arith in
+            let after : i * m.cols + m.cols ≤ p * m.cols = row_fits i m.cols p m.cols lt (omega arith) in
+            get_or-put_chunk_above (i * m.cols) m.words words (p * m.cols + q) 0 (omega (arith, room))
+      ])
+
+pub if_here : (r i u v : ℕ) → r ≡ i → (if r == i then u else v) ≡ u
+if_here r i u v e = grind (arith, nat_tests)
+
+pub if_elsewhere : (r i u v : ℕ) → r ≢ i → (if r == i then u else v) ≡ v
+if_elsewhere r i u v e = grind (arith, nat_tests)
+
+-- a row that is written over with as many words as there are columns is replaced
+pub written_row_is : (m : WordMatrix) (i : ℕ) (words : List ℕ) → IsWhole m → i < m.rows → length words ≡ m.cols → written_row m i words ≡ with_row m i words
+written_row_is m i words whole inside wide =
+    matrix_by_entries (written_row m i words) m.rows m.cols (λ r j. if r == i then slice_index words j else entry m r j) refl refl
+    (length-written_row m i words whole inside wide) (λ r j p q. elim (cases_eq r i) [
+      | inl e ↦ ap (λ x. entry (written_row m i words) x j) e ∙ written_row-same m i words whole inside wide j q ∙ sym (if_here r i (slice_index words j) (entry m r j) e)
+      | inr ne ↦ written_row-other m i words whole inside wide r j ne q ∙ sym (if_elsewhere r i (slice_index words j) (entry m r j) ne)
+    ])
+
+pub with_row-same : (m : WordMatrix) (i q : ℕ) (words : List ℕ) → i < m.rows → q < m.cols → entry (with_row m i words) i q ≡ slice_index words q
+with_row-same m i q words p h =
+    entry-matrix_of m.rows m.cols (λ r j. if r == i then slice_index words j else entry m r j) i q p h
+    ∙ if_here i i (slice_index words q) (entry m i q) refl
+
+pub with_row-other : (m : WordMatrix) (i r q : ℕ) (words : List ℕ) → r < m.rows → r ≢ i → q < m.cols → entry (with_row m i words) r q ≡ entry m r q
+with_row-other m i r q words p ne h =
+    entry-matrix_of m.rows m.cols (λ r j. if r == i then slice_index words j else entry m r j) r q p h
+    ∙ if_elsewhere r i (slice_index words q) (entry m r q) ne
+
+-- a whole matrix with f r j in row r, column j, all rows but i as in m, is m with row i replaced
+pub row_index : (m : WordMatrix) (i q : ℕ) → q < m.cols → slice_index (row m i) q ≡ entry m i q
+row_index m i q h = at-list_of m.cols (λ j. entry m i j) q h
+
+pub length-row : (m : WordMatrix) (i : ℕ) → length (row m i) ≡ m.cols
+length-row m i = length-list_of m.cols (λ j. entry m i j)
+
+-- a list to which n rows of b from `start` on were added, each times its factor
+abbrev pub plus_rows : List ℕ → ℕ → (ℕ → ℕ) → WordMatrix → ℕ → List ℕ
+plus_rows out n f b start = list_of (length out) (λ j. (slice_index out j + sum_below n (λ k. f k * entry b (start + k) j)) % 2 ^ 32)
+
+pub plus_rows-index : (out : List ℕ) (n : ℕ) (f : ℕ → ℕ) (b : WordMatrix) (start q : ℕ) → q < length out
+    → slice_index (plus_rows out n f b start) q ≡ (slice_index out q + sum_below n (λ k. f k * entry b (start + k) q)) % 2 ^ 32
+plus_rows-index out n f b start q h =
+    at-list_of (length out) (λ j. (slice_index out j + sum_below n (λ k. f k * entry b (start + k) j)) % 2 ^ 32) q h
+
+pub plus_rows-length : (out : List ℕ) (n : ℕ) (f : ℕ → ℕ) (b : WordMatrix) (start : ℕ) → length (plus_rows out n f b start) ≡ length out
+plus_rows-length out n f b start = length-list_of (length out) _
+
+-- no rows
+pub plus_rows-none : (out : List ℕ) (f : ℕ → ℕ) (b : WordMatrix) (start : ℕ) → ((q : ℕ) → slice_index out q < 2 ^ 32) → out ≡ plus_rows out 0 f b start
+plus_rows-none out f b start small = words_are out (length out) _ refl (λ q h. let s = small q in rw sum_below_none (omega (arith, s)))
+
+-- one more row
+pub plus_rows-more : (out : List ℕ) (n : ℕ) (f : ℕ → ℕ) (b : WordMatrix) (start : ℕ) → length out ≡ b.cols
+    → plus_scaled (plus_rows out n f b start) (row b (start + n)) (f n) ≡ plus_rows out (n + 1) f b start
+plus_rows-more out n f b start wide =
+    let before = plus_rows out n f b start in
+    let long : length before ≡ length out = plus_rows-length out n f b start in
+    words_are (plus_scaled before (row b (start + n)) (f n)) (length out) _ (length-list_of (length before) _ ∙ long) (λ q h.
+    let now = at-list_of (length before) (λ j. (slice_index before j + f n * slice_index (row b (start + n)) j) % 2 ^ 32) q (omega (arith, long)) in
+    let was = plus_rows-index out n f b start q h in
+    let word = row_index b (start + n) q (omega arith) in
+    let more = sum_below_more n (λ k. f k * entry b (start + k) q) in
+    now ∙ rw word (omega (arith, was, more)))
+
+-- the words of the product of a and b so far: those of rows below i up to `more` inner places, and those of the other rows up to `start`
+pub record SoFar (a b m : WordMatrix) (start more i : ℕ) : Type 0 where
+  pub rows : m.rows ≡ a.rows
+  pub cols : m.cols ≡ b.cols
+  pub whole : IsWhole m
+  pub done : (p q : ℕ) → p < i → q < b.cols → entry m p q ≡ sum_below more (λ k. entry a p k * entry b k q) % 2 ^ 32
+  pub rest : (p q : ℕ) → i ≤ p → p < a.rows → q < b.cols → entry m p q ≡ sum_below start (λ k. entry a p k * entry b k q) % 2 ^ 32
+
+-- one more row of a block
+pub block_row : (a b m : WordMatrix) (start count i : ℕ) (f : ℕ → ℕ) (words : List ℕ) → i < a.rows → ((k : ℕ) → k < count → f k ≡ entry a i (start + k))
+    → words ≡ plus_rows (row m i) count f b start
+    → SoFar a b m start (start + count) i → SoFar a b (written_row m i words) start (start + count) (i + 1)
+block_row a b m start count i f words below factors is so_far =
+    let inside : i < m.rows = omega (arith, so_far.rows) in
+    let same : m.cols ≡ b.cols = so_far.cols in
+    let long : length words ≡ m.cols = ap length is ∙ plus_rows-length (row m i) count f b start ∙ length-row m i in
+    let word : (q : ℕ) → q < b.cols → entry (written_row m i words) i q ≡ sum_below (start + count) (λ k. entry a i k * entry b k q) % 2 ^ 32 =
+    λ q h.
+    let here : q < m.cols = omega arith in
+    let new = written_row-same m i words so_far.whole inside long q here in
+    let sum = ap (λ xs. slice_index xs q) is ∙ plus_rows-index (row m i) count f b start q (omega (arith, length-row m i)) in
+    let old = row_index m i q here ∙ so_far.rest i q (omega arith) below h in
+    let more = sum_below-add start count (λ k. entry a i k * entry b k q) in
+    let each = sum_same count (λ k. f k * entry b (start + k) q) (λ k. entry a i (start + k) * entry b (start + k) q) (λ k p. ap (λ n. n * entry b (start + k) q) (factors k p)) in
+    new ∙ sum ∙ omega (arith, old, more, each) in
+    record {
+      rows = so_far.rows;
+      cols = same;
+      whole = length-written_row m i words so_far.whole inside long;
+      done = λ p q hp hq. elim (cases_lt p i) [
+        | inl lt ↦ written_row-other m i words so_far.whole inside long p q (omega arith) (omega arith) ∙ so_far.done p q lt hq
+        | inr le ↦ let e : p ≡ i = omega arith in rw e (word q hq)
+      ];
+      rest = λ p q le hp hq. written_row-other m i words so_far.whole inside long p q (omega arith) (omega arith) ∙ so_far.rest p q (omega arith) hp hq;
+    }
+
+-- all rows of a block
+pub block_end : (a b m : WordMatrix) (start more i : ℕ) → a.rows ≤ i → SoFar a b m start more i → SoFar a b m more more 0
+block_end a b m start more i all so_far = record {
+  rows = so_far.rows;
+  cols = so_far.cols;
+  whole = so_far.whole;
+  done = λ p q hp hq. absurd (omega arith);
+  rest = λ p q le hp hq. so_far.done p q (omega arith) hq;
+}
+
+-- the next block, before its first row
+pub block_begin : (a b m : WordMatrix) (start more : ℕ) → SoFar a b m start start 0 → SoFar a b m start more 0
+block_begin a b m start more so_far = record {
+  rows = so_far.rows;
+  cols = so_far.cols;
+  whole = so_far.whole;
+  done = λ p q hp hq. absurd (omega arith);
+  rest = so_far.rest;
+}
+
+-- all blocks
+pub blocks_end : (a b m : WordMatrix) (start : ℕ) → start ≡ a.cols → a.cols ≡ b.rows → SoFar a b m start start 0 → m ≡ product a b
+blocks_end a b m start all fits so_far =
+    matrix_by_entries m a.rows b.cols (λ i j. dot (row a i) (column b j)) so_far.rows so_far.cols so_far.whole (λ p q hp hq.
+    rw all at (so_far.rest p q (omega arith) hp hq)
+    ∙ sym (entry-product_sum a b p q hp hq fits)
+    ∙ entry-matrix_of a.rows b.cols (λ i j. dot (row a i) (column b j)) p q hp hq)
+
+-- a matrix of which each word is 0
+pub zero_matrix_is : (m : WordMatrix) (rows cols : ℕ) → m.rows ≡ rows → m.cols ≡ cols → IsWhole m
+    → ((p q : ℕ) → p < rows → q < cols → entry m p q ≡ 0) → m ≡ zero_matrix rows cols
+zero_matrix_is m rows cols high wide whole each =
+    let n = rows * cols in
+    let words : (matrix_of rows cols (λ _ _. 0)).words ≡ replicate n 0 = sym (splat_is_map (range_with_len 0 n) n 0 (length-range_with_len 0 n)) in
+    matrix_by_entries m rows cols (λ _ _. 0) high wide whole each ∙ (λ t. record { rows = rows; cols = cols; words = words t })
+
+pub entry-zero_matrix : (rows cols p q : ℕ) → p < rows → q < cols → entry (zero_matrix rows cols) p q ≡ 0
+entry-zero_matrix rows cols p q hp hq =
+    let fits : p * cols + cols ≤ rows * cols = row_fits p cols rows cols hp (omega arith) in
+    get_or-replicate (rows * cols) (p * cols + q) 0 0 (omega (arith, fits))
+
+-- nothing is summed yet
+pub zero_so_far : (a b : WordMatrix) → SoFar a b (zero_matrix a.rows b.cols) 0 0 0
+zero_so_far a b = record {
+  rows = refl;
+  cols = refl;
+  whole = length-replicate (a.rows * b.cols) 0;
+  done = λ p q hp hq. absurd (omega arith);
+  rest = λ p q le hp hq. rw sum_below_none (entry-zero_matrix a.rows b.cols p q hp hq);
+}

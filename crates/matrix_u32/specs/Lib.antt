@@ -1,0 +1,4 @@
+pub mod Sum
+pub mod Matrix
+pub mod Lending
+pub mod Laws

@@ -1,0 +1,51 @@
+use super::*;
+use std::test::Fail;
+
+#[test]
+fn judges_the_limit_before_anything_else(rt: HostRuntime) -> Result<(), Fail> {
+    assert_eq!(rt;
+        Matrix::zeros(rt.alloc(), 33_554_433, 1).err(),
+        Some(MatrixError::TooLarge)
+    );
+    assert_eq!(rt;
+        Matrix::zeros(rt.alloc(), usize::MAX, 2).err(),
+        Some(MatrixError::TooLarge)
+    );
+    let words = vec![in rt.alloc(); 1u32, 2, 3]?;
+    assert_eq!(rt;
+        Matrix::from_words(2, 2, words).err(),
+        Some(MatrixError::WrongCount)
+    );
+    let words = vec![in rt.alloc(); 1u32, 2, 3]?;
+    assert_eq!(rt;
+        Matrix::from_words(33_554_433, 1, words).err(),
+        Some(MatrixError::TooLarge)
+    );
+    Ok(())
+}
+
+#[test]
+fn holds_its_words_row_by_row(rt: HostRuntime) -> Result<(), Fail> {
+    let zeros = Matrix::zeros(rt.alloc(), 1, 2)?;
+    assert_eq!(rt; zeros.words(), [0, 0].as_slice());
+
+    let mut m = Matrix::from_words(2, 3, vec![in rt.alloc(); 1u32, 2, 3, 4, 5, 6]?)?;
+    assert_eq!(rt; m.rows(), 2);
+    assert_eq!(rt; m.cols(), 3);
+    assert_eq!(rt; m.get(1, 0), 4);
+    m.set(0, 2, 30);
+    assert_eq!(rt; m.row(0), [1, 2, 30].as_slice());
+    m.row_mut(1)[1] = 50;
+    assert_eq!(rt; m.words(), [1, 2, 30, 4, 50, 6].as_slice());
+    Ok(())
+}
+
+#[test]
+fn holds_empty_matrices(rt: HostRuntime) -> Result<(), Fail> {
+    let flat = Matrix::zeros(rt.alloc(), usize::MAX, 0)?;
+    assert_eq!(rt; flat.words().len(), 0);
+    let thin = Matrix::from_words(0, 5, Vec::new(rt.alloc()))?;
+    assert_eq!(rt; thin.rows(), 0);
+    assert_eq!(rt; thin.cols(), 5);
+    Ok(())
+}
