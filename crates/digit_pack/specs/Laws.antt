@@ -1,0 +1,57 @@
+-- Laws of digits.
+use Rattle.std.specs.Prelude.{◌≡◌, slice_set, ℕ, ◌+◌, ◌*◌, ◌/◌, ◌^◌, ◌<◌, ◌≤◌, List, length, All}
+use Rattle.matrix_u32.specs.Matrix.{WordMatrix, entry}
+use Rattle.digit_pack.specs.Digits.{digit, digits_of, number_of, split_count, decomposed, recomposed, joined}
+use Rattle.digit_pack.specs.Layout.{Shape, IsShape, IsRecord, record_digits, record_bytes, digit_matrix, digits_per_record, digit_rows, digit_cols, first_row, column_of, record_at}
+
+-- the digits of a word write the word
+abbrev pub SplitJoins : Type 0
+SplitJoins = (w word : ℕ) → 0 < w → word < 2 ^ 32 → joined w (digits_of w (split_count w) word) ≡ word
+
+-- the words that a matrix decomposes into are the matrix again
+abbrev pub DecomposedRecomposes : Type 0
+DecomposedRecomposes = (w : ℕ) (a : WordMatrix) → 0 < w → length a.words ≡ a.rows * a.cols → All (λ word. word < 2 ^ 32) a.words →
+    recomposed w (decomposed w a) ≡ a
+
+-- digit t of the word in row k stands in row k split_count + t
+abbrev pub DecomposedStandsBelow : Type 0
+DecomposedStandsBelow = (w : ℕ) (a : WordMatrix) (k t j : ℕ) → t < split_count w → k < a.rows → j < a.cols →
+    entry (decomposed w a) (k * split_count w + t) j ≡ digit w (entry a k j) t
+
+-- the bytes that a record's digits write are the record
+abbrev pub PackUnpacks : Type 0
+PackUnpacks = (l : Shape) (bytes : List ℕ) → 0 < l.width → IsRecord l bytes → record_bytes l (record_digits l bytes) ≡ bytes
+
+-- digit d of record i stands in its column, d rows below its first row
+abbrev pub RecordStandsInItsColumn : Type 0
+RecordStandsInItsColumn = (l : Shape) (records : List (List ℕ)) (i d : ℕ) → IsShape l → i < l.count → d < digits_per_record l →
+    entry (digit_matrix l records) (first_row l i + d) (column_of l i) ≡ digit l.width (number_of 8 (record_at records i)) d
+
+-- and this place is inside the matrix
+abbrev pub RecordStandsInside : Type 0
+RecordStandsInside = (l : Shape) (i d : ℕ) → IsShape l → i < l.count → d < digits_per_record l →
+    (first_row l i + d < digit_rows l) × (column_of l i < digit_cols l)
+
+-- an entry whose record there is none of is 0
+abbrev pub UnusedSlotsAreZero : Type 0
+UnusedSlotsAreZero = (l : Shape) (records : List (List ℕ)) (r j : ℕ) → r < digit_rows l → j < digit_cols l →
+    length records ≤ j * l.groups + r / digits_per_record l → entry (digit_matrix l records) r j ≡ 0
+
+-- row r, column j has a digit of record i
+abbrev pub IsPlaceOf : Shape → ℕ → ℕ → ℕ → Type 0
+IsPlaceOf l i r j = (j ≡ column_of l i) × (first_row l i ≤ r) × (r < first_row l i + digits_per_record l)
+
+-- with another record i the digit matrix has its digits in its place, and all other entries as before
+pub record RecordChange (l : Shape) (records : List (List ℕ)) (i : ℕ) (bytes : List ℕ) : Type 0 where
+  pub here : (d : ℕ) → d < digits_per_record l →
+      entry (digit_matrix l (slice_set records i bytes)) (first_row l i + d) (column_of l i) ≡ digit l.width (number_of 8 bytes) d
+  pub elsewhere : (r j : ℕ) → r < digit_rows l → j < digit_cols l → ¬ IsPlaceOf l i r j →
+      entry (digit_matrix l (slice_set records i bytes)) r j ≡ entry (digit_matrix l records) r j
+
+abbrev pub ReplacedRecordChangesItsPlace : Type 0
+ReplacedRecordChangesItsPlace = (l : Shape) (records : List (List ℕ)) (i : ℕ) (bytes : List ℕ) →
+    IsShape l → i < l.count → i < length records → RecordChange l records i bytes
+
+-- digits are below 2 to their width
+abbrev pub DigitsAreSmall : Type 0
+DigitsAreSmall = (w number t : ℕ) → digit w number t < 2 ^ w

@@ -1,0 +1,107 @@
+-- Where the digits of records stand.
+use Rattle.std.specs.Prelude.{◌≡◌, ℕ, ◌+◌, ◌-◌, ◌*◌, ◌/◌, ◌%◌, ◌^◌, ◌<◌, ◌≤◌, List, [], length, take, drop, slice_index_or, All}
+use Rattle.digit_pack.specs.declared.layout.LayoutError.{LayoutError}
+use Rattle.digit_pack.specs.declared.layout.LayoutError.TheVariants.{BadWidth, BadRecord, BadGroups, BadCount}
+use Rattle.matrix_u32.specs.Sum.{list_of}
+use Rattle.matrix_u32.specs.Matrix.{WordMatrix, matrix_of}
+use Rattle.digit_pack.specs.Digits.{digit, number_of, digits_of}
+
+-- digits of `width` bits; records of `record_len` bytes, `groups` of them to a column; `count` records
+pub record Shape : Type 0 where
+  pub width : ℕ
+  pub record_len : ℕ
+  pub groups : ℕ
+  pub count : ℕ
+
+abbrev pub shape : ℕ → ℕ → ℕ → ℕ → Shape
+shape width record_len groups count = record { width = width; record_len = record_len; groups = groups; count = count }
+
+-- how many digits a record has: 8 bits a byte, divided by the width, rounded up
+abbrev pub digits_per_record : Shape → ℕ
+digits_per_record l = (8 * l.record_len + l.width - 1) / l.width
+
+-- how many rows the digit matrix has
+abbrev pub digit_rows : Shape → ℕ
+digit_rows l = l.groups * digits_per_record l
+
+-- how many columns: the records divided by the groups, rounded up
+abbrev pub digit_cols : Shape → ℕ
+digit_cols l = (l.count + l.groups - 1) / l.groups
+
+-- record i stands in this column, from this row on
+abbrev pub column_of : Shape → ℕ → ℕ
+column_of l i = i / l.groups
+
+abbrev pub first_row : Shape → ℕ → ℕ
+first_row l i = i % l.groups * digits_per_record l
+
+-- the bytes of record i; none where there is no such record
+abbrev pub record_at : List (List ℕ) → ℕ → List ℕ
+record_at records i = slice_index_or records i []
+
+-- the records that bytes spell one after another
+abbrev pub records_in : Shape → List ℕ → List (List ℕ)
+records_in l bytes = list_of l.count (λ i. take l.record_len (drop (i * l.record_len) bytes))
+
+-- the digits of a record's number, whose bytes are its digits of 8 bits
+abbrev pub record_digits : Shape → List ℕ → List ℕ
+record_digits l bytes = digits_of l.width (digits_per_record l) (number_of 8 bytes)
+
+-- the bytes of the number that digits write
+abbrev pub record_bytes : Shape → List ℕ → List ℕ
+record_bytes l digits = digits_of 8 l.record_len (number_of l.width digits)
+
+-- row r, column j has a digit of record j groups + r / digits_per_record
+abbrev pub digit_at : Shape → List (List ℕ) → ℕ → ℕ → ℕ
+digit_at l records r j =
+    digit l.width (number_of 8 (record_at records (j * l.groups + r / digits_per_record l))) (r % digits_per_record l)
+
+-- the digit matrix of records
+abbrev pub digit_matrix : Shape → List (List ℕ) → WordMatrix
+digit_matrix l records = matrix_of (digit_rows l) (digit_cols l) (digit_at l records)
+
+-- a width and sizes as `Layout::new` accepts them, as far as the laws need them
+pub record IsShape (l : Shape) : Type 0 where
+  pub width : 0 < l.width
+  pub record_len : 0 < l.record_len
+  pub groups : 0 < l.groups
+  pub small : l.width < 32
+
+-- a byte list of that length
+pub record IsRecord (l : Shape) (bytes : List ℕ) : Type 0 where
+  pub len : length bytes ≡ l.record_len
+  pub each : All (λ b. b < 2 ^ 8) bytes
+
+-- what `Layout::new` accepts: digits of 6 to 10 bits
+abbrev pub HasWidth : Shape → Type 0
+HasWidth l = (6 ≤ l.width) × (l.width ≤ 10)
+
+-- records of 1 to 256 bytes
+abbrev pub HasRecord : Shape → Type 0
+HasRecord l = (1 ≤ l.record_len) × (l.record_len ≤ 256)
+
+-- a record or more to a column, of at most 4096 digits
+abbrev pub HasGroups : Shape → Type 0
+HasGroups l = (1 ≤ l.groups) × (digit_rows l ≤ 4096)
+
+-- a record or more, in at most 4096 columns
+abbrev pub HasCount : Shape → Type 0
+HasCount l = (1 ≤ l.count) × (digit_cols l ≤ 4096)
+
+-- within every limit
+pub record IsLayout (l : Shape) : Type 0 where
+  pub width : HasWidth l
+  pub record_len : HasRecord l
+  pub groups : HasGroups l
+  pub count : HasCount l
+
+-- the first limit that a shape breaks
+abbrev pub IsLayoutFault : Shape → LayoutError → Type 0
+IsLayoutFault l BadWidth = ¬ HasWidth l
+IsLayoutFault l BadRecord = HasWidth l × ¬ HasRecord l
+IsLayoutFault l BadGroups = HasWidth l × HasRecord l × ¬ HasGroups l
+IsLayoutFault l BadCount = HasWidth l × HasRecord l × HasGroups l × ¬ HasCount l
+
+-- no bit of the number that the digits write stands past the record's last byte
+abbrev pub FitsRecord : Shape → List ℕ → Type 0
+FitsRecord l digits = number_of l.width digits < 2 ^ (8 * l.record_len)

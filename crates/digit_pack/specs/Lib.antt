@@ -1,0 +1,5 @@
+pub mod Digits
+pub mod Layout
+pub mod Columns
+pub mod Laws
+pub mod Windows

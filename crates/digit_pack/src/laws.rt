@@ -1,0 +1,59 @@
+//! Laws of digits and layouts, over the definitions alone. A caller that calls one of these functions has
+//! its law at hand in its proof; the call costs nothing.
+
+ghost use Rattle.digit_pack.specs.Laws.{
+  SplitJoins,
+  DecomposedRecomposes,
+  DecomposedStandsBelow,
+  PackUnpacks,
+  RecordStandsInItsColumn,
+  RecordStandsInside,
+  UnusedSlotsAreZero,
+  ReplacedRecordChangesItsPlace,
+  DigitsAreSmall,
+};
+
+/// The digits of a word write the word.
+pub fn split_joins()
+    ensures { SplitJoins }
+{}
+
+/// The words that the digits of a matrix of words write are the matrix again.
+pub fn decomposed_recomposes()
+    ensures { DecomposedRecomposes }
+{}
+
+/// Digit t of the word in row k stands in row k κ + t of the decomposed matrix, κ digits to a word.
+pub fn decomposed_stands_below()
+    ensures { DecomposedStandsBelow }
+{}
+
+/// The bytes that a record's digits write are the record.
+pub fn pack_unpacks()
+    ensures { PackUnpacks }
+{}
+
+/// Digit d of record i stands in its column, d rows below its first row.
+pub fn record_stands_in_its_column()
+    ensures { RecordStandsInItsColumn }
+{}
+
+/// That place is inside the digit matrix.
+pub fn record_stands_inside()
+    ensures { RecordStandsInside }
+{}
+
+/// Where there is no record, the digit matrix is 0.
+pub fn unused_slots_are_zero()
+    ensures { UnusedSlotsAreZero }
+{}
+
+/// Another record in the place of record i changes its digits, and no other entry of the digit matrix.
+pub fn replaced_record_changes_its_place()
+    ensures { ReplacedRecordChangesItsPlace }
+{}
+
+/// Digits are below two to their width.
+pub fn digits_are_small()
+    ensures { DigitsAreSmall }
+{}

@@ -1,0 +1,24 @@
+//! Where the digits of records stand in a matrix, how records and words are written in digits, and the
+//! stores that keep a matrix of digits.
+//!
+//! A digit has w bits, w in 6..=10. A record is the whole number of its bytes, least significant first,
+//! written in digits of w bits, least significant first; `groups` records stand below one another in a
+//! column. `specs/` defines all of it; the functions of [`laws`] have empty bodies, and their contracts
+//! are the laws of these definitions.
+#![tactic(auto)]
+
+mod filling;
+pub mod laws;
+mod layout;
+mod packing;
+mod store;
+
+pub use filling::{digits_of_records, record_of, write_digits, write_record};
+pub use layout::{
+    BadDigits, Layout, LayoutError, MAX_COLS, MAX_RECORD_LEN, MAX_ROWS, pack, unpack,
+};
+pub use packing::{join_word, pack_bytes, split_count, split_word, word_digit};
+pub use store::{DigitStore, Flat};
+
+#[cfg(test)]
+mod tests;

@@ -1,0 +1,171 @@
+use super::*;
+use matrix_u32::{Kernel, MatrixError, Plain};
+use std::process::Abort;
+use std::test::Fail;
+
+#[test]
+fn layouts_at_their_limits(rt: HostRuntime) {
+    for (width, record_len, groups, count, fault) in [
+        (5, 1, 1, 1, LayoutError::BadWidth),
+        (11, 0, 0, 0, LayoutError::BadWidth),
+        (8, 0, 0, 0, LayoutError::BadRecord),
+        (8, 257, 1, 1, LayoutError::BadRecord),
+        (8, 1, 0, 0, LayoutError::BadGroups),
+        (8, 256, 17, 0, LayoutError::BadGroups),
+        (8, 1, usize::MAX, 1, LayoutError::BadGroups),
+        (8, 1, 1, 0, LayoutError::BadCount),
+        (8, 1, 1, 4097, LayoutError::BadCount),
+        (8, 1, 4096, usize::MAX, LayoutError::BadCount),
+    ] {
+        let refused = Layout::new(width, record_len, groups, count).err();
+        assert_eq!(rt;
+            refused,
+            Some(fault),
+            "{width} {record_len} {groups} {count}"
+        );
+    }
+    for (width, record_len, groups, count, rows, cols) in [
+        (8, 256, 16, 1, 4096, 1),
+        (8, 1, 1, 4096, 1, 4096),
+        (8, 1, 4096, 4096 * 4096, 4096, 4096),
+        (6, 2, 1, 1, 3, 1),
+        (10, 256, 1, 3, 205, 3),
+    ] {
+        let Ok(layout) = Layout::new(width, record_len, groups, count) else {
+            panic!(rt; "{width} {record_len} {groups} {count}");
+        };
+        assert_eq!(rt; (layout.rows(), layout.cols()), (rows, cols));
+    }
+}
+
+#[test]
+fn a_layout_tells_its_sizes_and_places(rt: HostRuntime) -> Result<(), Fail> {
+    let layout = Layout::new(6, 2, 4, 10)?;
+    assert_eq!(rt; layout.width(), 6);
+    assert_eq!(rt; layout.record_len(), 2);
+    assert_eq!(rt; layout.groups(), 4);
+    assert_eq!(rt; layout.count(), 10);
+    assert_eq!(rt; layout.digits_per_record(), 3);
+    assert_eq!(rt; layout.rows(), 12);
+    assert_eq!(rt; layout.cols(), 3);
+    // record 9 is the second of the third column
+    assert_eq!(rt; layout.place(9), (3, 2));
+    Ok(())
+}
+
+#[test]
+fn packs_records_in_digits(rt: HostRuntime) -> Result<(), Fail> {
+    let narrow = Layout::new(6, 2, 1, 1)?;
+    let mut digits = [7u32; 3];
+    assert_eq!(rt; (narrow.record_len(), narrow.digits_per_record()), (2, 3));
+    pack(&narrow, &[0xab, 0xcd], &mut digits);
+    assert_eq!(rt; digits, [43, 54, 12]);
+
+    let wide = Layout::new(10, 2, 1, 1)?;
+    let mut digits = [7u32; 2];
+    assert_eq!(rt; (wide.record_len(), wide.digits_per_record()), (2, 2));
+    pack(&wide, &[0xff, 0x01], &mut digits);
+    assert_eq!(rt; digits, [511, 0]);
+    Ok(())
+}
+
+// Unpacks three digits of 6 bits, and says what became of a buffer of two bytes.
+fn unpacked(rt: &impl Abort, layout: &Layout, digits: [u32; 3]) -> (bool, [u8; 2]) {
+    let mut bytes = [1u8, 2];
+    assert_eq!(rt;
+        (
+            layout.width(),
+            layout.record_len(),
+            layout.digits_per_record()
+        ),
+        (6, 2, 3)
+    );
+    assert!(rt; digits.iter().all(|digit| *digit < 64));
+    let done = unpack(layout, &digits, &mut bytes).is_ok();
+    (done, bytes)
+}
+
+#[test]
+fn unpacks_or_names_bad_digits(rt: HostRuntime) -> Result<(), Fail> {
+    let layout = Layout::new(6, 2, 1, 1)?;
+    assert_eq!(rt; unpacked(&rt, &layout, [43, 54, 12]), (true, [0xab, 0xcd]));
+    // bit 16 is past the record's two bytes
+    assert_eq!(rt; unpacked(&rt, &layout, [43, 54, 16]), (false, [1, 2]));
+    Ok(())
+}
+
+#[test]
+fn splits_and_joins_words(rt: HostRuntime) {
+    let mut digits = [0u32; 4];
+    assert_eq!(rt; split_count(10), 4);
+    assert_eq!(rt; split_count(8), 4);
+    split_word(0xFFFF_FFFF, 10, &mut digits);
+    assert_eq!(rt; digits, [1023, 1023, 1023, 3]);
+    assert_eq!(rt; join_word(&digits, 10), 0xFFFF_FFFF);
+    split_word(0x0102_0304, 8, &mut digits);
+    assert_eq!(rt; digits, [4, 3, 2, 1]);
+    assert_eq!(rt; word_digit(0x0102_0304, 8, 2), 2);
+    for (w, count) in [(6, 6), (7, 5), (9, 4)] {
+        assert_eq!(rt; split_count(w), count, "at {w} bits");
+    }
+    let mut bytes = [0u32; 2];
+    pack_bytes(8, &[10, 200], &mut bytes);
+    assert_eq!(rt; bytes, [10, 200]);
+}
+
+// What every store of digits does.
+fn keeps_digits<S: DigitStore + Drop, K: Kernel>(
+    rt: &(impl Abort + AllocGlobal),
+    kernel: K,
+) -> Result<(), Fail> {
+    let too_large = match S::zeros(rt.alloc(), 33_554_433, 1) {
+        Ok(_) => None,
+        Err(fault) => Some(fault),
+    };
+    assert_eq!(rt; too_large, Some(MatrixError::TooLarge));
+    let Ok(mut store) = S::zeros(rt.alloc(), 2, 4) else {
+        return Err(Fail::from(MatrixError::Memory));
+    };
+    assert_eq!(rt; (store.rows(), store.cols()), (2, 4));
+    assert_eq!(rt; store.get(1, 2), 0);
+    store.set(1, 3, 1023);
+    store.set(1, 2, 5);
+    let mut row = [9u32; 4];
+    for j in 0..4 {
+        row[j] = store.get(1, j);
+    }
+    assert_eq!(rt; row, [0, 0, 5, 1023]);
+    assert_eq!(rt; (store.get(0, 2), store.get(0, 3)), (0, 0));
+    let mut product = [7u32; 2];
+    store.mul_vec(kernel, &[1, 2, 3, 4], &mut product);
+    assert_eq!(rt; product, [0, 4107]);
+    Ok(())
+}
+
+#[test]
+fn flat_keeps_digits(rt: HostRuntime) -> Result<(), Fail> {
+    keeps_digits::<Flat, Plain>(&rt, Plain)?;
+    let Ok(zeros) = Flat::zeros(rt.alloc(), 1, 2) else {
+        return Err(Fail::from(MatrixError::Memory));
+    };
+    assert_eq!(rt; (zeros.rows(), zeros.cols()), (1, 2));
+    assert_eq!(rt; (zeros.get(0, 0), zeros.get(0, 1)), (0, 0));
+    Ok(())
+}
+
+#[test]
+fn records_stand_in_their_columns(rt: HostRuntime) -> Result<(), Fail> {
+    // five records of two bytes, two to a column, in digits of 8 bits: one byte a digit
+    let layout = Layout::new(8, 2, 2, 5)?;
+    let mut bytes = [1u8, 2, 3, 4, 5, 6, 7, 8, 9, 10];
+    assert_eq!(rt; (layout.count(), layout.record_len()), (5, 2));
+    let digits: Flat = digits_of_records(rt.alloc(), &layout, &bytes)?;
+    assert_eq!(rt; (digits.rows(), digits.cols()), (4, 3));
+    for (row, col, digit) in [(0, 0, 1), (1, 0, 2), (3, 0, 4), (2, 1, 7), (0, 2, 9), (1, 2, 10), (2, 2, 0)] {
+        assert_eq!(rt; digits.get(row, col), digit, "row {row}, column {col}");
+    }
+    write_record(&layout, &mut bytes, 3, &[70, 80]);
+    assert_eq!(rt; record_of(&layout, &bytes, 3), [70, 80].as_slice());
+    assert_eq!(rt; bytes, [1, 2, 3, 4, 5, 6, 70, 80, 9, 10]);
+    Ok(())
+}

@@ -1,0 +1,112 @@
+-- What a stream of bytes says: its frames, and what stands behind them.
+use Rattle.std.specs.Prelude.{◌≡◌, ◌<◌, ◌≤◌, ◌+◌, ◌==◌, ℕ, List, [], ◌∷◌, ◌++◌, length, max, slice_index, Option, Some, None, Result, Ok, Err, ◌||◌, Bool, true, false}
+use Rattle.std.specs.List.{flat_map, AllByRecursion}
+use Rattle.frame_codec.specs.declared.frame.Frame.{Frame}
+use Rattle.frame_codec.specs.declared.reader.ReadFault.{ReadFault}
+use Rattle.frame_codec.specs.declared.reader.ReadFault.TheVariants.{TooLong, UnknownKind, BadPayload, Memory, Failed}
+use Rattle.frame_codec.specs.Numbers.{number_in}
+use Rattle.frame_codec.specs.Frames.{IsFrame, spelling, payload_limit}
+
+-- whether a byte names a kind
+abbrev pub is_kind : ℕ → Bool
+is_kind k = (k == 1) || (k == 5) || (k == 8) || (k == 133) || (k == 134) || (k == 143)
+
+-- the payload's length that the first four bytes say
+abbrev pub length_at : List ℕ → ℕ
+length_at bytes = number_in 4 bytes
+
+-- the kind that the fifth byte says
+abbrev pub kind_at : List ℕ → ℕ
+kind_at bytes = slice_index bytes 4
+
+-- a frame is whole at the front
+abbrev pub HasFrame : List ℕ → Type 0
+HasFrame bytes = (f : Frame) × (more : List ℕ) × IsFrame f × (bytes ≡ spelling f ++ more)
+
+-- A fault stands in the place of a frame: the bytes by which it is judged have come, no earlier fault stands there, and what makes it is so.
+abbrev pub HasFault : ReadFault → List ℕ → Type 0
+HasFault TooLong bytes = (4 ≤ length bytes) × (payload_limit < length_at bytes)
+HasFault UnknownKind bytes = (5 ≤ length bytes) × (length_at bytes ≤ payload_limit) × (is_kind (kind_at bytes) ≡ false)
+HasFault BadPayload bytes =
+    (5 + length_at bytes ≤ length bytes) × (length_at bytes ≤ payload_limit) × (is_kind (kind_at bytes) ≡ true) × (HasFrame bytes → ⊥)
+HasFault Memory bytes = ⊥
+HasFault Failed bytes = ⊥
+
+-- what makes a reader stop with a fault: it stands there, or memory was refused
+abbrev pub StopsAt : ReadFault → List ℕ → Type 0
+StopsAt TooLong bytes = HasFault TooLong bytes
+StopsAt UnknownKind bytes = HasFault UnknownKind bytes
+StopsAt BadPayload bytes = HasFault BadPayload bytes
+StopsAt Memory bytes = Unit {0}
+StopsAt Failed bytes = ⊥
+
+-- less than a frame, and nothing yet that could be judged
+pub record IsPartial (bytes : List ℕ) : Type 0 where
+  pub no_frame : HasFrame bytes → ⊥
+  pub no_fault : (fault : ReadFault) → HasFault fault bytes → ⊥
+
+-- the stream is these frames, and then a rest
+pub record Begins (stream : List ℕ) (frames : List Frame) (rest : List ℕ) : Type 0 where
+  pub whole : stream ≡ flat_map spelling frames ++ rest
+  pub each : AllByRecursion IsFrame frames
+
+-- the stream is these frames, and then less than a frame
+pub record Reads (stream : List ℕ) (frames : List Frame) (rest : List ℕ) : Type 0 where
+  pub begins : Begins stream frames rest
+  pub partial : IsPartial rest
+
+-- a reader stops with this fault behind these frames
+abbrev pub Stops : List ℕ → List Frame → ReadFault → Type 0
+Stops stream frames fault = (rest : List ℕ) × Begins stream frames rest × StopsAt fault rest
+
+-- What a piece does to the bytes of an unfinished frame: the answer, the frames that are whole now, and the unfinished frame's bytes then.
+abbrev pub Advances : List ℕ → List ℕ → Result (Unit {0}) ReadFault → List Frame → List ℕ → Type 0
+Advances old piece (Ok done) frames new = Reads (old ++ piece) frames new
+Advances old piece (Err fault) frames new = Stops (old ++ piece) frames fault
+
+-- What a piece does to a reader, which is None once it has stopped.
+abbrev pub Feeds : Option (List ℕ) → List ℕ → Result (Unit {0}) ReadFault → List Frame → Option (List ℕ) → Type 0
+Feeds None piece answer frames new = (answer ≡ Err Failed) × (frames ≡ []) × (new ≡ None)
+Feeds (Some old) piece (Ok done) frames new = (rest : List ℕ) × Reads (old ++ piece) frames rest × (new ≡ Some rest)
+Feeds (Some old) piece (Err fault) frames new = Stops (old ++ piece) frames fault × (new ≡ None)
+
+-- Pieces fed to a reader one after another, each without a fault: the frames that they gave, and the rest that the reader keeps.
+abbrev pub FeedsAll : List ℕ → List (List ℕ) → List Frame → List ℕ → Type 0
+FeedsAll old [] frames rest = (frames ≡ []) × (rest ≡ old)
+FeedsAll old (piece ∷ pieces) frames rest =
+    (first : List Frame) × (between : List ℕ) × (later : List Frame) × (done : Unit {0})
+    × Feeds (Some old) piece (Ok done) first (Some between) × FeedsAll between pieces later rest × (frames ≡ first ++ later)
+
+-- the stream that pieces make
+abbrev pub joined : List (List ℕ) → List ℕ
+joined pieces = flat_map (λ piece. piece) pieces
+
+-- What stands after a piece of frames that were sent, where later bytes are still on their way: the rest and these are the other frames. Else memory was refused.
+abbrev pub Arrives : Result (Unit {0}) ReadFault → Option (List ℕ) → List ℕ → List Frame → Type 0
+Arrives (Ok done) None later more = ⊥
+Arrives (Ok done) (Some rest) later more = rest ++ later ≡ flat_map spelling more
+Arrives (Err TooLong) new later more = ⊥
+Arrives (Err UnknownKind) new later more = ⊥
+Arrives (Err BadPayload) new later more = ⊥
+Arrives (Err Memory) new later more = Unit {0}
+Arrives (Err Failed) new later more = ⊥
+
+-- The first five bytes are sound as far as they have come, and say the frame's whole length; that it has five bytes is known before.
+pub record IsSound (bytes : List ℕ) (size : ℕ) : Type 0 where
+  pub header : length bytes < 5 → size ≡ 5
+  pub short : 4 ≤ length bytes → length_at bytes ≤ payload_limit
+  pub known : 5 ≤ length bytes → (is_kind (kind_at bytes) ≡ true) × (size ≡ 5 + length_at bytes)
+
+-- Bytes were moved from the front of a piece behind older ones, until these were enough or the piece was used up.
+pub record TopsUp (enough : ℕ) (old piece new rest : List ℕ) : Type 0 where
+  pub moved : List ℕ
+  pub grown : new ≡ old ++ moved
+  pub split : piece ≡ moved ++ rest
+  pub within : length new ≤ max enough (length old)
+  pub until : length new < enough → rest ≡ []
+
+-- An unfinished frame was given what it lacks from the front of a piece: no byte stands behind it, and none is left over while it isn't whole.
+pub record Fills (old piece new rest : List ℕ) : Type 0 where
+  pub whole : new ++ rest ≡ old ++ piece
+  pub alone : (f : Frame) (more : List ℕ) → IsFrame f → new ≡ spelling f ++ more → more ≡ []
+  pub until : IsPartial new → rest ≡ []

@@ -1,0 +1,125 @@
+//! The frames, and the lists in them.
+
+ghost use Rattle.std.specs.Prelude.{◌≡◌, ◌<◌, ◌^◌, List, ℕ, All};
+
+use std::marker::Model;
+
+/// Bytes in order.
+#[derive(Drop)]
+pub struct Bytes {
+    items: Vec<u8>,
+}
+
+impl Model for Bytes {
+    ghost use Rattle.std.specs.Prelude.{◌<◌, ◌^◌, List, ℕ, All};
+
+    ghost Value = { List ℕ };
+
+    ghost view = { λ b. b.items.items };
+
+    ghost invariant = { λ b. All (λ x. x < 2 ^ 8) b.items.items };
+}
+
+impl Bytes {
+    /// These bytes.
+    pub fn new(items: Vec<u8>) -> Bytes
+        ensures items { result ≡ items.items }
+        ensures fields { All (λ b. b < 2 ^ 8) result }
+    {
+        Bytes { items }
+    }
+
+    /// The bytes, lent.
+    pub fn as_slice(&self) -> &[u8]
+        ensures items { result.now ≡ self.now }
+        ensures fields { All (λ b. b < 2 ^ 8) self.now }
+    {
+        self.items.as_slice()
+    }
+
+    /// The bytes, given away.
+    pub fn into_vec(self) -> Vec<u8>
+        ensures { result.items ≡ self }
+    {
+        let Bytes { items } = self;
+        items
+    }
+}
+
+/// Words of 32 bits in order.
+#[derive(Drop)]
+pub struct Words {
+    items: Vec<u32>,
+}
+
+impl Model for Words {
+    ghost use Rattle.std.specs.Prelude.{◌<◌, ◌^◌, List, ℕ, All};
+
+    ghost Value = { List ℕ };
+
+    ghost view = { λ w. w.items.items };
+
+    ghost invariant = { λ w. All (λ x. x < 2 ^ 32) w.items.items };
+}
+
+impl Words {
+    /// These words.
+    pub fn new(items: Vec<u32>) -> Words
+        ensures items { result ≡ items.items }
+        ensures fields { All (λ w. w < 2 ^ 32) result }
+    {
+        Words { items }
+    }
+
+    /// The words, lent.
+    pub fn as_slice(&self) -> &[u32]
+        ensures items { result.now ≡ self.now }
+        ensures fields { All (λ w. w < 2 ^ 32) self.now }
+    {
+        &self.items
+    }
+
+    /// The words, given away.
+    pub fn into_vec(self) -> Vec<u32>
+        ensures { result.items ≡ self }
+    {
+        let Words { items } = self;
+        items
+    }
+}
+
+/// A frame of the protocol, by its kind. No field's value is judged here.
+#[derive(Drop)]
+pub enum Frame {
+    /// Kind 01: a database of records of `record_len` bytes each, in `groups` groups of rows, with
+    /// digits of `width` bits.
+    Load {
+        record_len: u16,
+        groups: u16,
+        width: u8,
+        records: Bytes,
+    },
+    /// Kind 05: a query to a version of the database.
+    Query {
+        scheme: u8,
+        version: u64,
+        words: Words,
+    },
+    /// Kind 08: the end of a session.
+    Bye,
+    /// Kind 85: the answer to a query.
+    Answer {
+        scheme: u8,
+        version: u64,
+        words: Words,
+    },
+    /// Kind 86: another version is current, with so many records.
+    Stale {
+        version: u64,
+        count: u32,
+    },
+    /// Kind 8f: the request was refused, for the reason that the code names.
+    Refused {
+        code: u8,
+    },
+}

@@ -1,0 +1,19 @@
+//! Frames on a stream of bytes.
+//!
+//! A frame is the length of its payload (four bytes, the lowest first), its kind (one byte) and its
+//! payload, of at most 16,777,216 bytes. All numbers stand with their lowest byte first.
+#![tactic(auto)]
+
+mod frame;
+mod front;
+pub mod laws;
+mod numbers;
+mod payload;
+mod reader;
+#[cfg(test)]
+mod tests;
+mod writer;
+
+pub use frame::{Bytes, Frame, Words};
+pub use reader::{ReadFault, Reader};
+pub use writer::write_frame;

@@ -1,0 +1,130 @@
+//! The frame that a kind and a payload make: one function a kind.
+
+ghost use Rattle.std.specs.Prelude.{◌≡◌, ◌≤◌, ◌<◌, ◌+◌, ◌*◌, ◌^◌, ◌∷◌, ◌++◌, ℕ, All, length, IfOk, IfSome, IfNone};
+ghost use Rattle.frame_codec.specs.declared.frame.Frame.{Frame};
+ghost use Rattle.frame_codec.specs.Numbers.{number_bytes, word_bytes};
+ghost use Rattle.frame_codec.specs.Frames.{Stands};
+
+use crate::frame::{Bytes, Frame, Words};
+use crate::numbers::{u16_at, u32_at, u64_at};
+use byteorder::{ByteOrder, LittleEndian};
+use std::alloc::{AllocError, Global};
+
+/// The words that the bytes spell.
+fn words_of(alloc: Global, bytes: &[u8]) -> Result<Words, AllocError>
+    requires { (n : ℕ) × (length bytes.now ≡ 4 * n) }
+    ensures bytes { IfOk result (λ words. word_bytes words ≡ bytes.now) }
+    ensures fields { IfOk result (λ words. All (λ w. w < 2 ^ 32) words) }
+{
+    let mut items = vec![in alloc; 0u32; bytes.len() / 4]?;
+    LittleEndian::read_u32_into(bytes, &mut items);
+    Ok(Words::new(items))
+}
+
+/// The scheme, the version and the words of a payload that is just these three.
+fn scheme_words(alloc: Global, payload: &[u8]) -> Result<Option<(u8, u64, Words)>, AllocError>
+    ensures some { IfOk result (λ o. IfSome o (λ parts.
+        parts.0 ∷ (number_bytes 8 parts.1 ++ word_bytes parts.2) ≡ payload.now)) }
+    ensures fields { IfOk result (λ o. IfSome o (λ parts.
+        (parts.0 < 2 ^ 8) × (parts.1 < 2 ^ 64) × All (λ w. w < 2 ^ 32) parts.2)) }
+    ensures none { IfOk result (λ o. IfNone o ((n : ℕ) → length payload.now ≡ 9 + 4 * n → ⊥)) }
+{
+    if payload.len() < 9 || (payload.len() - 9) % 4 != 0 {
+        return Ok(None);
+    }
+    let words = words_of(alloc, &payload[9..])?;
+    Ok(Some((payload[0], u64_at(&payload[1..]), words)))
+}
+
+fn load_of(alloc: Global, payload: &[u8]) -> Result<Option<Frame>, AllocError>
+    ensures some { IfOk result (λ o. IfSome o (λ f. Stands 1 payload.now f)) }
+    ensures none { IfOk result (λ o. IfNone o ((f : Frame) → Stands 1 payload.now f → ⊥)) }
+{
+    if payload.len() < 5 {
+        return Ok(None);
+    }
+    let records = Vec::from_slice(alloc, &payload[5..])?;
+    Ok(Some(Frame::Load {
+        record_len: u16_at(payload),
+        groups: u16_at(&payload[2..]),
+        width: payload[4],
+        records: Bytes::new(records),
+    }))
+}
+
+fn query_of(alloc: Global, payload: &[u8]) -> Result<Option<Frame>, AllocError>
+    ensures some { IfOk result (λ o. IfSome o (λ f. Stands 5 payload.now f)) }
+    ensures none { IfOk result (λ o. IfNone o ((f : Frame) → Stands 5 payload.now f → ⊥)) }
+{
+    let Some((scheme, version, words)) = scheme_words(alloc, payload)? else {
+        return Ok(None);
+    };
+    Ok(Some(Frame::Query {
+        scheme,
+        version,
+        words,
+    }))
+}
+
+fn bye_of(payload: &[u8]) -> Option<Frame>
+    ensures some { IfSome result (λ f. Stands 8 payload.now f) }
+    ensures none { IfNone result ((f : Frame) → Stands 8 payload.now f → ⊥) }
+{
+    if !payload.is_empty() {
+        return None;
+    }
+    Some(Frame::Bye)
+}
+
+fn answer_of(alloc: Global, payload: &[u8]) -> Result<Option<Frame>, AllocError>
+    ensures some { IfOk result (λ o. IfSome o (λ f. Stands 133 payload.now f)) }
+    ensures none { IfOk result (λ o. IfNone o ((f : Frame) → Stands 133 payload.now f → ⊥)) }
+{
+    let Some((scheme, version, words)) = scheme_words(alloc, payload)? else {
+        return Ok(None);
+    };
+    Ok(Some(Frame::Answer {
+        scheme,
+        version,
+        words,
+    }))
+}
+
+fn stale_of(payload: &[u8]) -> Option<Frame>
+    ensures some { IfSome result (λ f. Stands 134 payload.now f) }
+    ensures none { IfNone result ((f : Frame) → Stands 134 payload.now f → ⊥) }
+{
+    if payload.len() != 12 {
+        return None;
+    }
+    Some(Frame::Stale {
+        version: u64_at(payload),
+        count: u32_at(&payload[8..]),
+    })
+}
+
+fn refused_of(payload: &[u8]) -> Option<Frame>
+    ensures some { IfSome result (λ f. Stands 143 payload.now f) }
+    ensures none { IfNone result ((f : Frame) → Stands 143 payload.now f → ⊥) }
+{
+    if payload.len() != 1 {
+        return None;
+    }
+    Some(Frame::Refused { code: payload[0] })
+}
+
+/// The frame of this kind with this payload, if there is one.
+pub fn decode(alloc: Global, kind: u8, payload: &[u8]) -> Result<Option<Frame>, AllocError>
+    ensures some { IfOk result (λ o. IfSome o (λ f. Stands kind payload.now f)) }
+    ensures none { IfOk result (λ o. IfNone o ((f : Frame) → Stands kind payload.now f → ⊥)) }
+{
+    match kind {
+        0x01 => load_of(alloc, payload),
+        0x05 => query_of(alloc, payload),
+        0x08 => Ok(bye_of(payload)),
+        0x85 => answer_of(alloc, payload),
+        0x86 => Ok(stale_of(payload)),
+        0x8f => Ok(refused_of(payload)),
+        _ => Ok(None),
+    }
+}

@@ -1,0 +1,176 @@
+//! Frames out of a stream that comes in pieces.
+
+ghost use Rattle.std.specs.Prelude.{◌≡◌, ◌↔◌, IsTrue, List, [], ◌∷◌, ◌++◌, None, Some, IfOk, IfErr, IfSome, IfNone};
+ghost use Rattle.frame_codec.specs.declared.frame.Frame.{Frame};
+ghost use Rattle.frame_codec.specs.Frames.{IsFrame, spelling};
+ghost use Rattle.frame_codec.specs.Streams.{Feeds, Advances, Fills, IsPartial, StopsAt, TopsUp};
+
+use crate::frame::Frame;
+use crate::front::{HEADER_LEN, frame_at, frame_len, scan};
+use std::alloc::Global;
+use std::marker::Model;
+use thiserror::Error;
+
+/// Why a reader stopped.
+#[derive(Clone, Copy, Debug, PartialEq, Eq, Error)]
+pub enum ReadFault {
+    /// A payload of more than 16,777,216 bytes. It comes with the fourth byte of the frame.
+    #[error("a payload of more than 16777216 bytes")]
+    TooLong,
+    /// A kind that there is not. It comes with the fifth byte of the frame.
+    #[error("an unknown kind of frame")]
+    UnknownKind,
+    /// A payload that no frame of its kind has. It comes with the last byte of the payload.
+    #[error("a bad payload")]
+    BadPayload,
+    /// Memory was refused.
+    #[error("out of memory")]
+    Memory,
+    /// An earlier feed had a fault.
+    #[error("the stream had failed")]
+    Failed,
+}
+
+/// The bytes of an unfinished frame, or that the stream has failed.
+#[derive(Drop)]
+pub struct Reader {
+    alloc: Global,
+    pending: Vec<u8>,
+    failed: bool,
+}
+
+impl Model for Reader {
+    ghost use Rattle.std.specs.Prelude.{◌≡◌, List, ℕ, Option, None, Some, cond, false};
+    ghost use Rattle.frame_codec.specs.Streams.{IsPartial};
+
+    ghost Value = { Option (List ℕ) };
+
+    ghost view = { λ r. cond r.failed None (Some r.pending.items) };
+
+    ghost invariant = { λ r. r.failed ≡ false → IsPartial r.pending.items };
+}
+
+impl Reader {
+    /// A reader at the start of a stream.
+    pub fn new(alloc: Global) -> Reader
+        ensures { result ≡ Some [] }
+    {
+        Reader {
+            alloc,
+            pending: Vec::new(alloc),
+            failed: false,
+        }
+    }
+
+    /// Whether the stream so far is whole frames and nothing behind them.
+    pub fn is_between_frames(&self) -> bool
+        ensures { IsTrue result ↔ (self.now ≡ Some []) }
+    {
+        !self.failed && self.pending.is_empty()
+    }
+
+    /// Takes the next piece of the stream, and adds each frame that is whole now to `out`.
+    ///
+    /// A fault comes with the piece that has the byte by which it is judged. The whole frames before
+    /// it are added, and every later feed answers `Failed`.
+    pub fn feed(&mut self, piece: &[u8], out: &mut Vec<Frame>) -> Result<(), ReadFault>
+        ensures { (frames : List Frame) × (out.new.items ≡ out.old.items ++ frames) × Feeds self.old piece.now result frames self.new }
+    {
+        if self.failed {
+            return Err(ReadFault::Failed);
+        }
+        let answer = advance(self.alloc, &mut self.pending, piece, out);
+        if answer.is_err() {
+            self.failed = true;
+        }
+        answer
+    }
+}
+
+/// Reads a piece behind an unfinished frame, and keeps what has come of the next one.
+fn advance(
+    alloc: Global,
+    pending: &mut Vec<u8>,
+    piece: &[u8],
+    out: &mut Vec<Frame>,
+) -> Result<(), ReadFault>
+    requires { IsPartial pending.old.items }
+    ensures { (frames : List Frame) × (out.new.items ≡ out.old.items ++ frames) × Advances pending.old.items piece.now result frames pending.new.items }
+{
+    if pending.is_empty() {
+        return start(alloc, pending, piece, out);
+    }
+    match finish(alloc, pending, piece, out)? {
+        None => Ok(()),
+        Some(rest) => start(alloc, pending, rest, out),
+    }
+}
+
+/// Reads a piece where no frame is unfinished.
+fn start(
+    alloc: Global,
+    pending: &mut Vec<u8>,
+    piece: &[u8],
+    out: &mut Vec<Frame>,
+) -> Result<(), ReadFault>
+    requires { pending.old.items ≡ [] }
+    ensures { (frames : List Frame) × (out.new.items ≡ out.old.items ++ frames) × Advances [] piece.now result frames pending.new.items }
+{
+    let rest = scan(alloc, piece, out)?;
+    if pending.extend_from_slice(rest).is_err() {
+        return Err(ReadFault::Memory);
+    }
+    Ok(())
+}
+
+/// Gives an unfinished frame what it lacks. Where it is whole then, it is added, and what is left of
+/// the piece is answered.
+fn finish<'a>(
+    alloc: Global,
+    pending: &mut Vec<u8>,
+    piece: &'a [u8],
+    out: &mut Vec<Frame>,
+) -> Result<Option<&'a [u8]>, ReadFault>
+    requires { IsPartial pending.old.items }
+    ensures whole { IfOk result (λ o. IfSome o (λ rest. (frame : Frame) × (out.new.items ≡ out.old.items ++ frame ∷ [])
+        × IsFrame frame × (pending.old.items ++ piece.now ≡ spelling frame ++ rest.now) × (pending.new.items ≡ []))) }
+    ensures partial { IfOk result (λ o. IfNone o ((out.new.items ≡ out.old.items) × (pending.new.items ≡ pending.old.items ++ piece.now) × IsPartial pending.new.items)) }
+    ensures err { IfErr result (λ fault. (out.new.items ≡ out.old.items) × StopsAt fault (pending.old.items ++ piece.now)) }
+{
+    let rest = fill(pending, piece)?;
+    let Some((frame, _)) = frame_at(alloc, pending)? else {
+        return Ok(None);
+    };
+    if out.push(frame).is_err() {
+        return Err(ReadFault::Memory);
+    }
+    // A long frame's room is given back.
+    *pending = Vec::new(alloc);
+    Ok(Some(rest))
+}
+
+/// Gives an unfinished frame what it lacks: its header, and then its payload. Answers the rest of the
+/// piece.
+fn fill<'a>(pending: &mut Vec<u8>, piece: &'a [u8]) -> Result<&'a [u8], ReadFault>
+    requires { IsPartial pending.old.items }
+    ensures ok { IfOk result (λ rest. Fills pending.old.items piece.now pending.new.items rest.now) }
+    ensures err { IfErr result (λ fault. StopsAt fault (pending.old.items ++ piece.now)) }
+{
+    let behind = top_up(pending, piece, HEADER_LEN)?;
+    let size = frame_len(pending)?;
+    top_up(pending, behind, size)
+}
+
+/// Moves bytes from the front of a piece behind the pending ones, until these are enough or the piece
+/// is used up.
+fn top_up<'a>(pending: &mut Vec<u8>, piece: &'a [u8], enough: usize) -> Result<&'a [u8], ReadFault>
+    ensures ok { IfOk result (λ rest. TopsUp enough pending.old.items piece.now pending.new.items rest.now) }
+    ensures err { IfErr result (λ fault. fault ≡ ReadFault.Memory) }
+{
+    let lacking = enough.saturating_sub(pending.len());
+    let (moved, rest) = piece.split_at(lacking.min(piece.len()));
+    if pending.extend_from_slice(moved).is_err() {
+        return Err(ReadFault::Memory);
+    }
+    Ok(rest)
+}

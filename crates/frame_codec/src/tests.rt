@@ -1,0 +1,312 @@
+//! Each kind's bytes, each fault and its byte, and long streams.
+
+use crate::{Bytes, Frame, ReadFault, Reader, Words, write_frame};
+use std::alloc::Global;
+use std::process::Abort;
+use std::test::Fail;
+
+/// Records 0a and c8 of one byte each, in one group, with digits of eight bits.
+const LOAD: [u8; 12] = [0x07, 0, 0, 0, 0x01, 0x01, 0, 0x01, 0, 0x08, 0x0a, 0xc8];
+
+/// The words 22 and 16777249 to version 1.
+const QUERY: [u8; 22] = [
+    0x11, 0, 0, 0, 0x05, 0, 0x01, 0, 0, 0, 0, 0, 0, 0, 0x16, 0, 0, 0, 0x21, 0, 0, 0x01,
+];
+
+/// The word 3355450020 of version 1.
+const ANSWER: [u8; 18] = [
+    0x0d, 0, 0, 0, 0x85, 0, 0x01, 0, 0, 0, 0, 0, 0, 0, 0xa4, 0x1a, 0, 0xc8,
+];
+
+/// Version 3 with five records.
+const STALE: [u8; 17] = [
+    0x0c, 0, 0, 0, 0x86, 0x03, 0, 0, 0, 0, 0, 0, 0, 0x05, 0, 0, 0,
+];
+
+const REFUSED: [u8; 6] = [0x01, 0, 0, 0, 0x8f, 0x01];
+
+const BYE: [u8; 5] = [0, 0, 0, 0, 0x08];
+
+/// The frames of `each_kind` in bytes, in the order of the kinds.
+fn each_kind_spelled(alloc: Global) -> Result<Vec<u8>, Fail> {
+    let mut stream = Vec::new(alloc);
+    stream.extend_from_slice(&LOAD)?;
+    stream.extend_from_slice(&QUERY)?;
+    stream.extend_from_slice(&BYE)?;
+    stream.extend_from_slice(&ANSWER)?;
+    stream.extend_from_slice(&STALE)?;
+    stream.extend_from_slice(&REFUSED)?;
+    Ok(stream)
+}
+
+/// A frame of each kind.
+fn each_kind(alloc: Global) -> Result<Vec<Frame>, Fail> {
+    let mut frames = Vec::new(alloc);
+    frames.push(Frame::Load {
+        record_len: 1,
+        groups: 1,
+        width: 8,
+        records: Bytes::new(vec![in alloc; 0x0a, 0xc8]?),
+    })?;
+    frames.push(Frame::Query {
+        scheme: 0,
+        version: 1,
+        words: Words::new(vec![in alloc; 22, 16_777_249]?),
+    })?;
+    frames.push(Frame::Bye)?;
+    frames.push(Frame::Answer {
+        scheme: 0,
+        version: 1,
+        words: Words::new(vec![in alloc; 3_355_450_020]?),
+    })?;
+    frames.push(Frame::Stale {
+        version: 3,
+        count: 5,
+    })?;
+    frames.push(Frame::Refused { code: 1 })?;
+    Ok(frames)
+}
+
+/// The frames as `write_frame` spells them.
+fn spelled(rt: &impl Abort, alloc: Global, frames: &[Frame]) -> Result<Vec<u8>, Fail> {
+    let mut out = Vec::new(alloc);
+    for frame in frames {
+        assert!(rt; frame.payload_len() <= 16_777_216);
+        write_frame(frame, &mut out)?;
+    }
+    Ok(out)
+}
+
+#[test]
+fn writes_each_kind(rt: HostRuntime) -> Result<(), Fail> {
+    let out = spelled(&rt, rt.alloc(), &each_kind(rt.alloc())?)?;
+    assert_eq!(rt; out.as_slice(), each_kind_spelled(rt.alloc())?.as_slice());
+    Ok(())
+}
+
+#[test]
+fn reads_the_fields_of_each_kind(rt: HostRuntime) -> Result<(), Fail> {
+    let mut reader = Reader::new(rt.alloc());
+    let mut frames = Vec::new(rt.alloc());
+    reader.feed(&each_kind_spelled(rt.alloc())?, &mut frames)?;
+    let mut seen = 0;
+    for frame in frames {
+        let right = match frame {
+            Frame::Load {
+                record_len,
+                groups,
+                width,
+                records,
+            } => {
+                record_len == 1
+                    && groups == 1
+                    && width == 8
+                    && records.into_vec().as_slice() == [0x0a, 0xc8].as_slice()
+            }
+            Frame::Query {
+                scheme,
+                version,
+                words,
+            } => { scheme == 0 && version == 1 && words.as_slice() == [22, 16_777_249].as_slice() }
+            Frame::Bye => true,
+            Frame::Answer {
+                scheme,
+                version,
+                words,
+            } => {
+                scheme == 0
+                    && version == 1
+                    && words.into_vec().as_slice() == [3_355_450_020].as_slice()
+            }
+            Frame::Stale { version, count } => version == 3 && count == 5,
+            Frame::Refused { code } => code == 1,
+        };
+        assert!(rt; right, "frame {seen}");
+        seen = u32::wrapping_add(seen, 1);
+    }
+    assert_eq!(rt; seen, 6);
+    Ok(())
+}
+
+#[test]
+fn reads_the_same_frames_however_cut(rt: HostRuntime) -> Result<(), Fail> {
+    let stream = each_kind_spelled(rt.alloc())?;
+    let ends = [12, 34, 39, 57, 74, 80];
+    for cut in 0..=stream.len() {
+        let (piece, later) = stream.split_at(cut);
+        let mut reader = Reader::new(rt.alloc());
+        let mut frames = Vec::new(rt.alloc());
+        reader.feed(piece, &mut frames)?;
+        assert_eq!(rt;
+            frames.len(),
+            ends.iter().filter(|end| **end <= cut).count(),
+            "cut at {cut}"
+        );
+        assert_eq!(rt;
+            reader.is_between_frames(),
+            cut == 0 || ends.contains(&cut),
+            "cut at {cut}"
+        );
+        reader.feed(later, &mut frames)?;
+        assert_eq!(rt;
+            spelled(&rt, rt.alloc(), &frames)?.as_slice(),
+            stream.as_slice(),
+            "cut at {cut}"
+        );
+    }
+    Ok(())
+}
+
+#[test]
+fn reads_byte_by_byte(rt: HostRuntime) -> Result<(), Fail> {
+    let stream = each_kind_spelled(rt.alloc())?;
+    let mut reader = Reader::new(rt.alloc());
+    let mut frames = Vec::new(rt.alloc());
+    for byte in &stream {
+        reader.feed(&[*byte], &mut frames)?;
+    }
+    assert_eq!(rt;
+        spelled(&rt, rt.alloc(), &frames)?.as_slice(),
+        stream.as_slice()
+    );
+    Ok(())
+}
+
+/// Behind one good frame, each byte but the last must be taken, and the last must give the fault, in
+/// single bytes and in one piece. Every later feed must answer `Failed`.
+fn must_fail_at_last(
+    rt: &impl Abort,
+    alloc: Global,
+    bad: &[u8],
+    fault: ReadFault,
+) -> Result<(), Fail> {
+    let mut single = Reader::new(alloc);
+    let mut frames = Vec::new(alloc);
+    single.feed(&STALE, &mut frames)?;
+    assert!(rt; !bad.is_empty());
+    let (early, last) = bad.split_at(bad.len() - 1);
+    for byte in early {
+        single.feed(&[*byte], &mut frames)?;
+    }
+    assert_eq!(rt; single.feed(last, &mut frames), Err(fault));
+    assert_eq!(rt; single.feed(&STALE, &mut frames), Err(ReadFault::Failed));
+    assert_eq!(rt; spelled(rt, alloc, &frames)?.as_slice(), STALE.as_slice());
+
+    let mut piece = Vec::from_slice(alloc, &STALE)?;
+    piece.extend_from_slice(bad)?;
+    piece.extend_from_slice(&STALE)?;
+    let mut whole = Reader::new(alloc);
+    let mut frames = Vec::new(alloc);
+    assert_eq!(rt; whole.feed(&piece, &mut frames), Err(fault));
+    assert_eq!(rt; whole.feed(&[], &mut frames), Err(ReadFault::Failed));
+    assert_eq!(rt; spelled(rt, alloc, &frames)?.as_slice(), STALE.as_slice());
+    Ok(())
+}
+
+#[test]
+fn a_long_payload_fails_at_byte_four(rt: HostRuntime) -> Result<(), Fail> {
+    must_fail_at_last(&rt, rt.alloc(), &[0x01, 0, 0, 0x01], ReadFault::TooLong)?;
+    must_fail_at_last(
+        &rt,
+        rt.alloc(),
+        &[0xff, 0xff, 0xff, 0xff],
+        ReadFault::TooLong,
+    )?;
+    let mut reader = Reader::new(rt.alloc());
+    let mut frames = Vec::new(rt.alloc());
+    reader.feed(&[0, 0, 0, 0x01, 0x05], &mut frames)?;
+    assert!(rt; frames.is_empty());
+    Ok(())
+}
+
+#[test]
+fn an_unknown_kind_fails_at_byte_five(rt: HostRuntime) -> Result<(), Fail> {
+    let known = [0x01, 0x05, 0x08, 0x85, 0x86, 0x8f];
+    for kind in 0..=255u8 {
+        if !known.contains(&kind) {
+            must_fail_at_last(
+                &rt,
+                rt.alloc(),
+                &[0x0c, 0, 0, 0, kind],
+                ReadFault::UnknownKind,
+            )?;
+        }
+    }
+    Ok(())
+}
+
+#[test]
+fn a_bad_payload_fails_at_its_last_byte(rt: HostRuntime) -> Result<(), Fail> {
+    let bad = [
+        (0x01, 0),
+        (0x01, 4),
+        (0x05, 0),
+        (0x05, 8),
+        (0x05, 10),
+        (0x05, 16),
+        (0x08, 1),
+        (0x85, 8),
+        (0x85, 12),
+        (0x86, 0),
+        (0x86, 11),
+        (0x86, 13),
+        (0x8f, 0),
+        (0x8f, 2),
+    ];
+    for (kind, len) in bad {
+        let mut frame = vec![in rt.alloc(); len, 0, 0, 0, kind]?;
+        for _ in 0..len {
+            frame.push(0x01)?;
+        }
+        must_fail_at_last(&rt, rt.alloc(), &frame, ReadFault::BadPayload)?;
+    }
+    Ok(())
+}
+
+/// A header, and then as many payload bytes as it says, in pieces of 1,000 bytes.
+fn read_in_small_pieces(
+    rt: &impl Abort,
+    alloc: Global,
+    header: [u8; 5],
+    len: usize,
+) -> Result<(), Fail> {
+    let mut reader = Reader::new(alloc);
+    let mut frames = Vec::new(alloc);
+    reader.feed(&header, &mut frames)?;
+    let piece = [0x07; 1000];
+    for _ in 0..len / 1000 {
+        reader.feed(&piece, &mut frames)?;
+    }
+    assert!(rt; frames.is_empty());
+    reader.feed(&piece[..len % 1000], &mut frames)?;
+    assert_eq!(rt; frames.len(), 1);
+    assert_eq!(rt; frames[0].payload_len(), len);
+    assert!(rt; reader.is_between_frames());
+    Ok(())
+}
+
+#[test]
+fn sixteen_mebibytes_in_small_pieces(rt: HostRuntime) -> Result<(), Fail> {
+    read_in_small_pieces(&rt, rt.alloc(), [0, 0, 0, 0x01, 0x01], 16_777_216)?;
+    read_in_small_pieces(&rt, rt.alloc(), [0xfd, 0xff, 0xff, 0, 0x05], 16_777_213)
+}
+
+#[test]
+fn sixteen_mebibytes_of_small_frames(rt: HostRuntime) -> Result<(), Fail> {
+    let mut stream = Vec::new(rt.alloc());
+    for _ in 0..986_895 {
+        stream.extend_from_slice(&STALE)?;
+    }
+    let mut reader = Reader::new(rt.alloc());
+    let mut frames = Vec::new(rt.alloc());
+    reader.feed(&stream, &mut frames)?;
+    assert_eq!(rt; frames.len(), 986_895);
+    assert!(rt; reader.is_between_frames());
+
+    let mut frames = Vec::new(rt.alloc());
+    for piece in stream.chunks(1000) {
+        reader.feed(piece, &mut frames)?;
+    }
+    assert_eq!(rt; frames.len(), 986_895);
+    Ok(())
+}

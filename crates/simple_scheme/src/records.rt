@@ -1,0 +1,141 @@
+//! How an answer is read.
+
+ghost use Rattle.std.specs.Prelude.{◌≡◌, ◌+◌, ◌^◌, ◌<◌, ◌≤◌, IfOk, All, length, slice_index};
+ghost use Rattle.matrix_u32.specs.Sum.{list_of};
+ghost use Rattle.matrix_u32.specs.Matrix.{row};
+ghost use Rattle.regev_core.specs.Encryption.{nearest, stripped};
+ghost use Rattle.digit_pack.specs.Layout.{digit_rows, digits_per_record};
+ghost use Rattle.simple_scheme.specs.Simple.{reading};
+ghost use Rattle.simple_scheme.specs.Recovery.{ReadsRecord, GivesQuietRecord};
+
+use crate::laws;
+use digit_pack::{Layout, unpack};
+use matrix_u32::{Kernel, Matrix};
+use seed_expand::stream_words;
+use std::alloc::{AllocError, Global};
+use thiserror::Error;
+
+/// Why an answer gives no record.
+#[derive(Clone, Copy, Debug, PartialEq, Eq, Error)]
+pub enum RecoverError {
+    /// The answer hasn't a word for each digit row.
+    #[error("the answer has another number of words than the layout has rows")]
+    BadLength,
+    /// The digits that the answer reads as set a bit past the record's last byte.
+    #[error("the answer's digits set a bit past the record's last byte")]
+    BadDigits,
+    /// There is no memory for the secret, the digits or the record.
+    #[error("out of memory")]
+    Memory,
+}
+
+// The digits that an answer reads as.
+fn read_all<K: Kernel>(
+    alloc: Global,
+    kernel: K,
+    seed: &[u8; 32],
+    number: u64,
+    hint: &Matrix,
+    layout: &Layout,
+    i: usize,
+    answer: &[u32],
+) -> Result<Vec<u32>, AllocError>
+    requires number { number < 2 ^ 62 }
+    requires rows { hint.now.rows ≡ digit_rows layout.now }
+    requires record { i < layout.now.count }
+    requires words { length answer.now ≡ digit_rows layout.now }
+    ensures { IfOk result (λ digits.
+        (digits.items ≡ reading layout.now hint.now seed.now number i answer.now)
+        × All (λ d. d < 2 ^ layout.now.width) digits.items
+        × (length digits.items ≡ digits_per_record layout.now)) }
+{
+    let s = stream_words(alloc, seed, 4 * number, 0, hint.cols())?;
+    let mut digits = vec![in alloc; 0; layout.digits_per_record()]?;
+    let (first, _) = layout.place(i);
+    read_digits(kernel, layout.width(), hint, &s, first, answer, &mut digits);
+    Ok(digits)
+}
+
+// The record that an answer reads as.
+fn read_record<K: Kernel>(
+    alloc: Global,
+    kernel: K,
+    seed: &[u8; 32],
+    number: u64,
+    hint: &Matrix,
+    layout: &Layout,
+    i: usize,
+    answer: &[u32],
+) -> Result<Vec<u8>, RecoverError>
+    requires number { number < 2 ^ 62 }
+    requires rows { hint.now.rows ≡ digit_rows layout.now }
+    requires record { i < layout.now.count }
+    ensures { ReadsRecord layout.now hint.now seed.now number i answer.now result }
+{
+    if answer.len() != layout.rows() {
+        return Err(RecoverError::BadLength);
+    }
+    let Ok(digits) = read_all(alloc, kernel, seed, number, hint, layout, i, answer) else {
+        return Err(RecoverError::Memory);
+    };
+    let Ok(mut bytes) = vec![in alloc; 0; layout.record_len()] else {
+        return Err(RecoverError::Memory);
+    };
+    match unpack(layout, &digits, &mut bytes) {
+        Ok(()) => Ok(bytes),
+        Err(_) => Err(RecoverError::BadDigits),
+    }
+}
+
+/// The record that the answer to the query for record i gives, with the client's seed and the number of the
+/// retrieval.
+///
+/// `BadLength` exactly where the answer hasn't a word for each row; else `Memory`, or the bytes that the
+/// answer's reading writes, `BadDigits` exactly where the digits read set a bit past the record's last
+/// byte. Where the hint and the answer are those of some records and the retrieval is quiet, it is the
+/// record.
+pub fn recover<K: Kernel>(
+    alloc: Global,
+    kernel: K,
+    seed: &[u8; 32],
+    number: u64,
+    hint: &Matrix,
+    layout: &Layout,
+    i: usize,
+    answer: &[u32],
+) -> Result<Vec<u8>, RecoverError>
+    requires number { number < 2 ^ 62 }
+    requires rows { hint.now.rows ≡ digit_rows layout.now }
+    requires record { i < layout.now.count }
+    ensures reading { ReadsRecord layout.now hint.now seed.now number i answer.now result }
+    ensures quiet { GivesQuietRecord layout.now hint.now seed.now number i answer.now result }
+{
+    laws::quiet_retrieval_reads_the_record();
+    digit_pack::laws::pack_unpacks();
+    let _width = layout.width();
+    let record = read_record(alloc, kernel, seed, number, hint, layout, i, answer);
+    record
+}
+
+/// The digits that words of an answer read as, from row `first` of the hint on: one for each place of `out`.
+pub fn read_digits<K: Kernel>(
+    kernel: K,
+    w: u32,
+    hint: &Matrix,
+    s: &[u32],
+    first: usize,
+    answer: &[u32],
+    out: &mut [u32],
+)
+    requires width { (6 ≤ w) × (w ≤ 10) }
+    requires secret { length s.now ≡ hint.now.cols }
+    requires rows { first + length out.old ≤ hint.now.rows }
+    requires words { length answer.now ≡ hint.now.rows }
+    ensures { out.new ≡
+        list_of (length out.old) (λ d. nearest w (stripped (slice_index answer.now (first + d)) (row hint.now (first + d)) s.now)) }
+{
+    for d in 0..out.len() {
+        let word = regev_core::strip(kernel, answer[first + d], hint.row(first + d), s);
+        out[d] = regev_core::round(word, w);
+    }
+}
