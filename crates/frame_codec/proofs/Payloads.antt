@@ -3,40 +3,61 @@ use Rattle.std.proofs.Common.{◌≡◌, ℕ, ◌+◌, ◌*◌, ◌^◌, ◌<◌
 use Rattle.std.specs.Prelude.{MatchBool, ◌==◌}
 use Rattle.std.proofs.lemmas.List.{length-append, append-nil, nil_from_length, length-drop, drop-drop, drop_more}
 use Rattle.frame_codec.specs.declared.frame.Frame.{Frame}
-use Rattle.frame_codec.specs.declared.frame.Frame.TheVariants.{Load, Query, Bye, Answer, Stale, Refused}
+use Rattle.frame_codec.specs.declared.frame.Frame.TheVariants.{Load, Hello, HintAsk, Query, Edit, Publish, Bye, Welcome, HintPart, Answer, Stale, Done, Refused}
 use Rattle.frame_codec.specs.Numbers.{number_bytes, number_in, word_bytes}
-use Rattle.frame_codec.specs.Frames.{kind_of, payload_of, payload_size, HasFields, Stands}
+use Rattle.frame_codec.specs.Frames.{kind_of, payload_of, HasFields, Stands, payload_size}
 use Rattle.frame_codec.proofs.NumberBytes.{IsBytes, IsBytes-drop, front, length-number, length-words}
 
 -- the lengths that a kind's payload may have
 abbrev pub HasLength : ℕ → List ℕ → Type 0
 HasLength k p =
     MatchBool (k == 1) (5 ≤ length p) (
+    MatchBool (k == 2) (length p ≡ 34) (
+    MatchBool (k == 3) (length p ≡ 13) (
     MatchBool (k == 5) ((m : ℕ) × (length p ≡ 9 + 4 * m)) (
+    MatchBool (k == 6) (4 ≤ length p) (
+    MatchBool (k == 7) (length p ≡ 0) (
     MatchBool (k == 8) (length p ≡ 0) (
+    MatchBool (k == 130) (length p ≡ 53) (
+    MatchBool (k == 131) ((m : ℕ) × (length p ≡ 13 + 4 * m)) (
     MatchBool (k == 133) ((m : ℕ) × (length p ≡ 9 + 4 * m)) (
     MatchBool (k == 134) (length p ≡ 12) (
-    length p ≡ 1)))))
+    MatchBool (k == 135) (length p ≡ 8) (
+    length p ≡ 1))))))))))))
 
 -- a scheme, a version and words
-scheme_words_length : (scheme version : ℕ) (words : List ℕ) → length (scheme ∷ (number_bytes 8 version ++ word_bytes words)) ≡ 9 + 4 * length words
+pub scheme_words_length : (scheme version : ℕ) (words : List ℕ) → length (scheme ∷ (number_bytes 8 version ++ word_bytes words)) ≡ 9 + 4 * length words
 scheme_words_length scheme version words = omega (arith, length-append (number_bytes 8 version) (word_bytes words), length-number 8 version, length-words words)
 
 pub payload_sized : (f : Frame) → length (payload_of f) ≡ payload_size f
 unfolding payload_of
 payload_sized (Load record_len groups width records) = omega (arith, length-append (number_bytes 2 record_len) (number_bytes 2 groups ++ (width ∷ records)), length-append (number_bytes 2 groups) (width ∷ records), length-number 2 record_len, length-number 2 groups)
+payload_sized (Hello profile key) = omega (arith, length-append (number_bytes 2 profile) key, length-number 2 profile)
+payload_sized (HintAsk scheme version part) = omega (arith, length-append (number_bytes 8 version) (number_bytes 4 part), length-number 8 version, length-number 4 part)
 payload_sized (Query scheme version words) = scheme_words_length scheme version words
+payload_sized (Edit index bytes) = omega (arith, length-append (number_bytes 4 index) bytes, length-number 4 index)
+payload_sized Publish = refl
 payload_sized Bye = refl
+payload_sized (Welcome profile width record_len groups count version dimension seed) = omega (arith, length-append {A = ℕ}, length-number)
+payload_sized (HintPart scheme version part words) = omega (arith, length-append (number_bytes 8 version) (number_bytes 4 part ++ word_bytes words), length-append (number_bytes 4 part) (word_bytes words), length-number 8 version, length-number 4 part, length-words words)
 payload_sized (Answer scheme version words) = scheme_words_length scheme version words
 payload_sized (Stale version count) = omega (arith, length-append (number_bytes 8 version) (number_bytes 4 count), length-number 8 version, length-number 4 count)
+payload_sized (Done version) = length-number 8 version
 payload_sized (Refused code) = refl
 
 length-payload : (f : Frame) → HasFields f → HasLength (kind_of f) (payload_of f)
 length-payload (Load record_len groups width records) fits = omega (arith, payload_sized (Load record_len groups width records))
+length-payload (Hello profile key) fits = omega (arith, payload_sized (Hello profile key), fits.1)
+length-payload (HintAsk scheme version part) fits = payload_sized (HintAsk scheme version part)
 length-payload (Query scheme version words) fits = (length words, payload_sized (Query scheme version words))
+length-payload (Edit index bytes) fits = omega (arith, payload_sized (Edit index bytes))
+length-payload Publish fits = payload_sized Publish
 length-payload Bye fits = payload_sized Bye
+length-payload (Welcome profile width record_len groups count version dimension seed) fits = omega (arith, payload_sized (Welcome profile width record_len groups count version dimension seed), fits.7)
+length-payload (HintPart scheme version part words) fits = (length words, payload_sized (HintPart scheme version part words))
 length-payload (Answer scheme version words) fits = (length words, payload_sized (Answer scheme version words))
 length-payload (Stale version count) fits = payload_sized (Stale version count)
+length-payload (Done version) fits = payload_sized (Done version)
 length-payload (Refused code) fits = payload_sized (Refused code)
 
 -- no payload of another length stands for a frame of this kind
@@ -73,6 +94,75 @@ is_load bytes fits le record_len groups records small small2 e e2 er all =
       fields = (small, small2, fits 4, all);
     }
 
+pub is_hello : (bytes : List ℕ) → IsBytes bytes → length bytes ≡ 34 → (profile : ℕ) (key : List ℕ) → profile < 2 ^ 16 → profile ≡ number_in 2 bytes → key ≡ drop 2 bytes → All (λ b. b < 2 ^ 8) key → Stands 2 bytes (Hello profile key)
+unfolding payload_of
+is_hello bytes fits len profile key small e ek all = record {
+  kind = refl;
+  payload = number_first 2 bytes fits (omega arith) profile key e ek;
+  fields = (small, ap length ek ∙ omega (arith, length-drop 2 bytes), all);
+}
+
+-- a version and a number of four bytes that are all
+pub is_version_number : (bytes : List ℕ) → IsBytes bytes → length bytes ≡ 12 → (version x : ℕ) → version ≡ number_in 8 bytes → x ≡ number_in 4 (drop 8 bytes) → number_bytes 8 version ++ number_bytes 4 x ≡ bytes
+is_version_number bytes fits len version x e e2 =
+    let tail : number_bytes 4 x ≡ drop 8 bytes = number_alone 4 (drop 8 bytes) (IsBytes-drop 8 bytes fits) (omega (arith, length-drop 8 bytes)) x e2 in
+    number_first 8 bytes fits (omega arith) version (number_bytes 4 x) e tail
+
+pub is_hint_ask : (bytes : List ℕ) → IsBytes bytes → length bytes ≡ 13 → (version part : ℕ) → version < 2 ^ 64 → part < 2 ^ 32 → version ≡ number_in 8 (drop 1 bytes) → part ≡ number_in 4 (drop 9 bytes) → Stands 3 bytes (HintAsk (get_or bytes 0 0) version part)
+unfolding payload_of
+is_hint_ask bytes fits len version part small small2 e e2 =
+    let e3 : part ≡ number_in 4 (drop 8 (drop 1 bytes)) = e2 ∙ ap (number_in 4) (sym (drop-drop 8 1 bytes)) in
+    let tail : number_bytes 8 version ++ number_bytes 4 part ≡ drop 1 bytes = is_version_number (drop 1 bytes) (IsBytes-drop 1 bytes fits) (omega (arith, length-drop 1 bytes)) version part e e3 in
+    record { kind = refl; payload = ap (λ (x : List ℕ). get_or bytes 0 0 ∷ x) tail ∙ byte_first bytes (omega arith); fields = (fits 0, small, small2) }
+
+pub is_edit : (bytes : List ℕ) → IsBytes bytes → 4 ≤ length bytes → (index : ℕ) (content : List ℕ) → index < 2 ^ 32 → index ≡ number_in 4 bytes → content ≡ drop 4 bytes → All (λ b. b < 2 ^ 8) content → Stands 6 bytes (Edit index content)
+unfolding payload_of
+is_edit bytes fits le index content small e ec all = record { kind = refl; payload = number_first 4 bytes fits le index content e ec; fields = (small, all) }
+
+pub is_publish : (bytes : List ℕ) → length bytes ≡ 0 → Stands 7 bytes Publish
+unfolding payload_of
+is_publish bytes e = record { kind = refl; payload = sym (nil_from_length bytes e); fields = tt }
+
+-- the fields of a welcome, as they stand in its payload
+pub record WelcomeFields (bytes : List ℕ) (profile record_len groups count version dimension : ℕ) (seed : List ℕ) : Type 0 where
+  pub profile_is : profile ≡ number_in 2 bytes
+  pub record_len_is : record_len ≡ number_in 2 (drop 3 bytes)
+  pub groups_is : groups ≡ number_in 2 (drop 5 bytes)
+  pub count_is : count ≡ number_in 4 (drop 7 bytes)
+  pub version_is : version ≡ number_in 8 (drop 11 bytes)
+  pub dimension_is : dimension ≡ number_in 2 (drop 19 bytes)
+  pub seed_is : seed ≡ drop 21 bytes
+
+-- a number behind the first i bytes
+number_at : (i n j : ℕ) (bytes : List ℕ) → IsBytes bytes → i + n ≡ j → j ≤ length bytes → (x : ℕ) (more : List ℕ) → x ≡ number_in n (drop i bytes) → more ≡ drop j bytes → number_bytes n x ++ more ≡ drop i bytes
+number_at i n j bytes fits place le x more e rest =
+    number_first n (drop i bytes) (IsBytes-drop i bytes fits) (omega (arith, length-drop i bytes)) x more e (rest ∙ ap (λ (k : ℕ). drop k bytes) (sym place) ∙ sym (drop-drop n i bytes))
+
+pub is_welcome : (bytes : List ℕ) → IsBytes bytes → length bytes ≡ 53 → (profile record_len groups count version dimension : ℕ) (seed : List ℕ) → WelcomeFields bytes profile record_len groups count version dimension seed
+    → profile < 2 ^ 16 → record_len < 2 ^ 16 → groups < 2 ^ 16 → count < 2 ^ 32 → version < 2 ^ 64 → dimension < 2 ^ 16 → All (λ b. b < 2 ^ 8) seed
+    → Stands 130 bytes (Welcome profile (get_or bytes 2 0) record_len groups count version dimension seed)
+unfolding payload_of
+is_welcome bytes fits len profile record_len groups count version dimension seed w sp sr sg sc sv sd all =
+    let at19 : number_bytes 2 dimension ++ seed ≡ drop 19 bytes = number_at 19 2 21 bytes fits refl (omega arith) dimension seed w.dimension_is w.seed_is in
+    let at11 : number_bytes 8 version ++ (number_bytes 2 dimension ++ seed) ≡ drop 11 bytes = number_at 11 8 19 bytes fits refl (omega arith) version (number_bytes 2 dimension ++ seed) w.version_is at19 in
+    let at7 : number_bytes 4 count ++ (number_bytes 8 version ++ (number_bytes 2 dimension ++ seed)) ≡ drop 7 bytes = number_at 7 4 11 bytes fits refl (omega arith) count _ w.count_is at11 in
+    let at5 : number_bytes 2 groups ++ (number_bytes 4 count ++ (number_bytes 8 version ++ (number_bytes 2 dimension ++ seed))) ≡ drop 5 bytes = number_at 5 2 7 bytes fits refl (omega arith) groups _ w.groups_is at7 in
+    let at3 : number_bytes 2 record_len ++ (number_bytes 2 groups ++ (number_bytes 4 count ++ (number_bytes 8 version ++ (number_bytes 2 dimension ++ seed)))) ≡ drop 3 bytes = number_at 3 2 5 bytes fits refl (omega arith) record_len _ w.record_len_is at5 in
+    let at2 : get_or bytes 2 0 ∷ (number_bytes 2 record_len ++ (number_bytes 2 groups ++ (number_bytes 4 count ++ (number_bytes 8 version ++ (number_bytes 2 dimension ++ seed))))) ≡ drop 2 bytes = ap (λ (x : List ℕ). get_or bytes 2 0 ∷ x) at3 ∙ sym (drop_more bytes 2 0 (omega arith)) in
+    record {
+      kind = refl;
+      payload = number_first 2 bytes fits (omega arith) profile _ w.profile_is at2;
+      fields = (sp, fits 2, sr, sg, sc, sv, sd, ap length w.seed_is ∙ omega (arith, length-drop 21 bytes), all);
+    }
+
+pub is_hint_part : (bytes : List ℕ) → IsBytes bytes → 13 ≤ length bytes → (version part : ℕ) (words : List ℕ) → version < 2 ^ 64 → part < 2 ^ 32 → version ≡ number_in 8 (drop 1 bytes) → part ≡ number_in 4 (drop 9 bytes) → word_bytes words ≡ drop 13 bytes → All (λ w. w < 2 ^ 32) words
+    → Stands 131 bytes (HintPart (get_or bytes 0 0) version part words)
+unfolding payload_of
+is_hint_part bytes fits le version part words small small2 e e2 ew all =
+    let at9 : number_bytes 4 part ++ word_bytes words ≡ drop 9 bytes = number_at 9 4 13 bytes fits refl le part (word_bytes words) e2 ew in
+    let at1 : number_bytes 8 version ++ (number_bytes 4 part ++ word_bytes words) ≡ drop 1 bytes = number_at 1 8 9 bytes fits refl (omega arith) version (number_bytes 4 part ++ word_bytes words) e at9 in
+    record { kind = refl; payload = ap (λ (x : List ℕ). get_or bytes 0 0 ∷ x) at1 ∙ byte_first bytes (omega arith); fields = (fits 0, small, small2, all) }
+
 -- a scheme, a version and words that are all
 pub is_scheme_words : (bytes : List ℕ) → IsBytes bytes → 9 ≤ length bytes → (version : ℕ) (words : List ℕ) → version ≡ number_in 8 (drop 1 bytes) → word_bytes words ≡ drop 9 bytes
     → get_or bytes 0 0 ∷ (number_bytes 8 version ++ word_bytes words) ≡ bytes
@@ -98,6 +188,10 @@ unfolding payload_of
 is_stale bytes fits len version count small small2 e e2 =
     let tail : number_bytes 4 count ≡ drop 8 bytes = number_alone 4 (drop 8 bytes) (IsBytes-drop 8 bytes fits) (omega (arith, length-drop 8 bytes)) count e2 in
     record { kind = refl; payload = number_first 8 bytes fits (omega arith) version (number_bytes 4 count) e tail; fields = (small, small2) }
+
+pub is_done : (bytes : List ℕ) → IsBytes bytes → length bytes ≡ 8 → (version : ℕ) → version < 2 ^ 64 → version ≡ number_in 8 bytes → Stands 135 bytes (Done version)
+unfolding payload_of
+is_done bytes fits len version small e = record { kind = refl; payload = number_alone 8 bytes fits len version e; fields = small }
 
 pub is_refused : (bytes : List ℕ) → IsBytes bytes → length bytes ≡ 1 → Stands 143 bytes (Refused (get_or bytes 0 0))
 unfolding payload_of

@@ -1,6 +1,6 @@
 //! The frames, and the lists in them.
 
-ghost use Rattle.std.specs.Prelude.{◌≡◌, ◌<◌, ◌^◌, List, ℕ, All};
+ghost use Rattle.std.specs.Prelude.{◌≡◌, ◌<◌, ◌^◌, List, ℕ, All, length};
 
 use std::marker::Model;
 
@@ -88,6 +88,44 @@ impl Words {
     }
 }
 
+/// Thirty-two bytes in order.
+#[derive(Drop)]
+pub struct Bytes32 {
+    bytes: [u8; 32],
+}
+
+impl Model for Bytes32 {
+    ghost use Rattle.std.specs.Prelude.{◌≡◌, ◌<◌, ◌^◌, List, ℕ, All, length};
+
+    ghost Value = { List ℕ };
+
+    ghost view = { λ b. b.bytes };
+
+    ghost invariant = { λ b. (length b.bytes ≡ 32) × All (λ x. x < 2 ^ 8) b.bytes };
+}
+
+impl Bytes32 {
+    /// A copy of these bytes.
+    pub fn copied(bytes: &[u8]) -> Bytes32
+        requires { length bytes.now ≡ 32 }
+        ensures items { result ≡ bytes.now }
+        ensures fields { All (λ b. b < 2 ^ 8) result }
+    {
+        let mut copy = [0u8; 32];
+        copy.copy_from_slice(bytes);
+        Bytes32 { bytes: copy }
+    }
+
+    /// The bytes, lent.
+    pub fn as_slice(&self) -> &[u8]
+        ensures items { result.now ≡ self.now }
+        ensures len { length self.now ≡ 32 }
+        ensures fields { All (λ b. b < 2 ^ 8) self.now }
+    {
+        &self.bytes
+    }
+}
+
 /// A frame of the protocol, by its kind. No field's value is judged here.
 #[derive(Drop)]
 pub enum Frame {
@@ -99,14 +137,50 @@ pub enum Frame {
         width: u8,
         records: Bytes,
     },
+    /// Kind 02: who speaks, a reader by the zero key or the publisher.
+    Hello {
+        profile: u16,
+        key: Bytes32,
+    },
+    /// Kind 03: a part of a version's hint is asked for.
+    HintAsk {
+        scheme: u8,
+        version: u64,
+        part: u32,
+    },
     /// Kind 05: a query to a version of the database.
     Query {
         scheme: u8,
         version: u64,
         words: Words,
     },
+    /// Kind 06: new bytes for a record.
+    Edit {
+        index: u32,
+        bytes: Bytes,
+    },
+    /// Kind 07: the edits become the next version.
+    Publish,
     /// Kind 08: the end of a session.
     Bye,
+    /// Kind 82: the layout, the current version and the public seed.
+    Welcome {
+        profile: u16,
+        width: u8,
+        record_len: u16,
+        groups: u16,
+        count: u32,
+        version: u64,
+        dimension: u16,
+        seed: Bytes32,
+    },
+    /// Kind 83: a part of a version's hint.
+    HintPart {
+        scheme: u8,
+        version: u64,
+        part: u32,
+        words: Words,
+    },
     /// Kind 85: the answer to a query.
     Answer {
         scheme: u8,
@@ -117,6 +191,10 @@ pub enum Frame {
     Stale {
         version: u64,
         count: u32,
+    },
+    /// Kind 87: an edit or a publication is done.
+    Done {
+        version: u64,
     },
     /// Kind 8f: the request was refused, for the reason that the code names.
     Refused {

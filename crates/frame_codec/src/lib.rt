@@ -14,6 +14,6 @@ mod reader;
 mod tests;
 mod writer;
 
-pub use frame::{Bytes, Frame, Words};
+pub use frame::{Bytes, Bytes32, Frame, Words};
 pub use reader::{ReadFault, Reader};
 pub use writer::write_frame;

@@ -5,7 +5,7 @@ ghost use Rattle.frame_codec.specs.declared.frame.Frame.{Frame};
 ghost use Rattle.frame_codec.specs.Numbers.{number_bytes, word_bytes};
 ghost use Rattle.frame_codec.specs.Frames.{Stands};
 
-use crate::frame::{Bytes, Frame, Words};
+use crate::frame::{Bytes, Bytes32, Frame, Words};
 use crate::numbers::{u16_at, u32_at, u64_at};
 use byteorder::{ByteOrder, LittleEndian};
 use std::alloc::{AllocError, Global};
@@ -52,6 +52,33 @@ fn load_of(alloc: Global, payload: &[u8]) -> Result<Option<Frame>, AllocError>
     }))
 }
 
+fn hello_of(payload: &[u8]) -> Option<Frame>
+    ensures some { IfSome result (λ f. Stands 2 payload.now f) }
+    ensures none { IfNone result ((f : Frame) → Stands 2 payload.now f → ⊥) }
+{
+    if payload.len() != 34 {
+        return None;
+    }
+    Some(Frame::Hello {
+        profile: u16_at(payload),
+        key: Bytes32::copied(&payload[2..]),
+    })
+}
+
+fn hint_ask_of(payload: &[u8]) -> Option<Frame>
+    ensures some { IfSome result (λ f. Stands 3 payload.now f) }
+    ensures none { IfNone result ((f : Frame) → Stands 3 payload.now f → ⊥) }
+{
+    if payload.len() != 13 {
+        return None;
+    }
+    Some(Frame::HintAsk {
+        scheme: payload[0],
+        version: u64_at(&payload[1..]),
+        part: u32_at(&payload[9..]),
+    })
+}
+
 fn query_of(alloc: Global, payload: &[u8]) -> Result<Option<Frame>, AllocError>
     ensures some { IfOk result (λ o. IfSome o (λ f. Stands 5 payload.now f)) }
     ensures none { IfOk result (λ o. IfNone o ((f : Frame) → Stands 5 payload.now f → ⊥)) }
@@ -66,6 +93,30 @@ fn query_of(alloc: Global, payload: &[u8]) -> Result<Option<Frame>, AllocError>
     }))
 }
 
+fn edit_of(alloc: Global, payload: &[u8]) -> Result<Option<Frame>, AllocError>
+    ensures some { IfOk result (λ o. IfSome o (λ f. Stands 6 payload.now f)) }
+    ensures none { IfOk result (λ o. IfNone o ((f : Frame) → Stands 6 payload.now f → ⊥)) }
+{
+    if payload.len() < 4 {
+        return Ok(None);
+    }
+    let bytes = Vec::from_slice(alloc, &payload[4..])?;
+    Ok(Some(Frame::Edit {
+        index: u32_at(payload),
+        bytes: Bytes::new(bytes),
+    }))
+}
+
+fn publish_of(payload: &[u8]) -> Option<Frame>
+    ensures some { IfSome result (λ f. Stands 7 payload.now f) }
+    ensures none { IfNone result ((f : Frame) → Stands 7 payload.now f → ⊥) }
+{
+    if !payload.is_empty() {
+        return None;
+    }
+    Some(Frame::Publish)
+}
+
 fn bye_of(payload: &[u8]) -> Option<Frame>
     ensures some { IfSome result (λ f. Stands 8 payload.now f) }
     ensures none { IfNone result ((f : Frame) → Stands 8 payload.now f → ⊥) }
@@ -74,6 +125,41 @@ fn bye_of(payload: &[u8]) -> Option<Frame>
         return None;
     }
     Some(Frame::Bye)
+}
+
+fn welcome_of(payload: &[u8]) -> Option<Frame>
+    ensures some { IfSome result (λ f. Stands 130 payload.now f) }
+    ensures none { IfNone result ((f : Frame) → Stands 130 payload.now f → ⊥) }
+{
+    if payload.len() != 53 {
+        return None;
+    }
+    Some(Frame::Welcome {
+        profile: u16_at(payload),
+        width: payload[2],
+        record_len: u16_at(&payload[3..]),
+        groups: u16_at(&payload[5..]),
+        count: u32_at(&payload[7..]),
+        version: u64_at(&payload[11..]),
+        dimension: u16_at(&payload[19..]),
+        seed: Bytes32::copied(&payload[21..]),
+    })
+}
+
+fn hint_part_of(alloc: Global, payload: &[u8]) -> Result<Option<Frame>, AllocError>
+    ensures some { IfOk result (λ o. IfSome o (λ f. Stands 131 payload.now f)) }
+    ensures none { IfOk result (λ o. IfNone o ((f : Frame) → Stands 131 payload.now f → ⊥)) }
+{
+    if payload.len() < 13 || (payload.len() - 13) % 4 != 0 {
+        return Ok(None);
+    }
+    let words = words_of(alloc, &payload[13..])?;
+    Ok(Some(Frame::HintPart {
+        scheme: payload[0],
+        version: u64_at(&payload[1..]),
+        part: u32_at(&payload[9..]),
+        words,
+    }))
 }
 
 fn answer_of(alloc: Global, payload: &[u8]) -> Result<Option<Frame>, AllocError>
@@ -103,6 +189,18 @@ fn stale_of(payload: &[u8]) -> Option<Frame>
     })
 }
 
+fn done_of(payload: &[u8]) -> Option<Frame>
+    ensures some { IfSome result (λ f. Stands 135 payload.now f) }
+    ensures none { IfNone result ((f : Frame) → Stands 135 payload.now f → ⊥) }
+{
+    if payload.len() != 8 {
+        return None;
+    }
+    Some(Frame::Done {
+        version: u64_at(payload),
+    })
+}
+
 fn refused_of(payload: &[u8]) -> Option<Frame>
     ensures some { IfSome result (λ f. Stands 143 payload.now f) }
     ensures none { IfNone result ((f : Frame) → Stands 143 payload.now f → ⊥) }
@@ -120,10 +218,17 @@ pub fn decode(alloc: Global, kind: u8, payload: &[u8]) -> Result<Option<Frame>, 
 {
     match kind {
         0x01 => load_of(alloc, payload),
+        0x02 => Ok(hello_of(payload)),
+        0x03 => Ok(hint_ask_of(payload)),
         0x05 => query_of(alloc, payload),
+        0x06 => edit_of(alloc, payload),
+        0x07 => Ok(publish_of(payload)),
         0x08 => Ok(bye_of(payload)),
+        0x82 => Ok(welcome_of(payload)),
+        0x83 => hint_part_of(alloc, payload),
         0x85 => answer_of(alloc, payload),
         0x86 => Ok(stale_of(payload)),
+        0x87 => Ok(done_of(payload)),
         0x8f => Ok(refused_of(payload)),
         _ => Ok(None),
     }

@@ -1,6 +1,6 @@
 //! Each kind's bytes, each fault and its byte, and long streams.
 
-use crate::{Bytes, Frame, ReadFault, Reader, Words, write_frame};
+use crate::{Bytes, Bytes32, Frame, ReadFault, Reader, Words, write_frame};
 use std::alloc::Global;
 use std::process::Abort;
 use std::test::Fail;
@@ -8,9 +8,34 @@ use std::test::Fail;
 /// Records 0a and c8 of one byte each, in one group, with digits of eight bits.
 const LOAD: [u8; 12] = [0x07, 0, 0, 0, 0x01, 0x01, 0, 0x01, 0, 0x08, 0x0a, 0xc8];
 
+/// A reader's greeting in profile 1: 32 zero bytes follow.
+const HELLO: [u8; 7] = [0x22, 0, 0, 0, 0x02, 0x01, 0];
+
+/// Part 0 of version 1.
+const HINT_ASK: [u8; 18] = [
+    0x0d, 0, 0, 0, 0x03, 0, 0x01, 0, 0, 0, 0, 0, 0, 0, 0, 0, 0, 0,
+];
+
 /// The words 22 and 16777249 to version 1.
 const QUERY: [u8; 22] = [
     0x11, 0, 0, 0, 0x05, 0, 0x01, 0, 0, 0, 0, 0, 0, 0, 0x16, 0, 0, 0, 0x21, 0, 0, 0x01,
+];
+
+/// The byte 64 for record 0.
+const EDIT: [u8; 10] = [0x05, 0, 0, 0, 0x06, 0, 0, 0, 0, 0x64];
+
+const PUBLISH: [u8; 5] = [0, 0, 0, 0, 0x07];
+
+/// Two records of one byte at version 1, in one group, with digits of eight bits and dimension 1: 32 zero
+/// bytes follow.
+const WELCOME: [u8; 26] = [
+    0x35, 0, 0, 0, 0x82, 0x01, 0, 0x08, 0x01, 0, 0x01, 0, 0x02, 0, 0, 0, 0x01, 0, 0, 0, 0, 0, 0, 0,
+    0x01, 0,
+];
+
+/// The word 2066479516 as part 0 of version 1.
+const HINT_PART: [u8; 22] = [
+    0x11, 0, 0, 0, 0x83, 0, 0x01, 0, 0, 0, 0, 0, 0, 0, 0, 0, 0, 0, 0x9c, 0xf9, 0x2b, 0x7b,
 ];
 
 /// The word 3355450020 of version 1.
@@ -23,6 +48,9 @@ const STALE: [u8; 17] = [
     0x0c, 0, 0, 0, 0x86, 0x03, 0, 0, 0, 0, 0, 0, 0, 0x05, 0, 0, 0,
 ];
 
+/// Version 1.
+const DONE: [u8; 13] = [0x08, 0, 0, 0, 0x87, 0x01, 0, 0, 0, 0, 0, 0, 0];
+
 const REFUSED: [u8; 6] = [0x01, 0, 0, 0, 0x8f, 0x01];
 
 const BYE: [u8; 5] = [0, 0, 0, 0, 0x08];
@@ -31,10 +59,19 @@ const BYE: [u8; 5] = [0, 0, 0, 0, 0x08];
 fn each_kind_spelled(alloc: Global) -> Result<Vec<u8>, Fail> {
     let mut stream = Vec::new(alloc);
     stream.extend_from_slice(&LOAD)?;
+    stream.extend_from_slice(&HELLO)?;
+    stream.extend_from_slice(&[0; 32])?;
+    stream.extend_from_slice(&HINT_ASK)?;
     stream.extend_from_slice(&QUERY)?;
+    stream.extend_from_slice(&EDIT)?;
+    stream.extend_from_slice(&PUBLISH)?;
     stream.extend_from_slice(&BYE)?;
+    stream.extend_from_slice(&WELCOME)?;
+    stream.extend_from_slice(&[0; 32])?;
+    stream.extend_from_slice(&HINT_PART)?;
     stream.extend_from_slice(&ANSWER)?;
     stream.extend_from_slice(&STALE)?;
+    stream.extend_from_slice(&DONE)?;
     stream.extend_from_slice(&REFUSED)?;
     Ok(stream)
 }
@@ -42,18 +79,60 @@ fn each_kind_spelled(alloc: Global) -> Result<Vec<u8>, Fail> {
 /// A frame of each kind.
 fn each_kind(alloc: Global) -> Result<Vec<Frame>, Fail> {
     let mut frames = Vec::new(alloc);
+    push_asked(alloc, &mut frames)?;
+    push_replied(alloc, &mut frames)?;
+    Ok(frames)
+}
+
+/// A frame of each kind that a client sends.
+fn push_asked(alloc: Global, frames: &mut Vec<Frame>) -> Result<(), Fail> {
     frames.push(Frame::Load {
         record_len: 1,
         groups: 1,
         width: 8,
         records: Bytes::new(vec![in alloc; 0x0a, 0xc8]?),
     })?;
+    frames.push(Frame::Hello {
+        profile: 1,
+        key: Bytes32::copied(&[0; 32]),
+    })?;
+    frames.push(Frame::HintAsk {
+        scheme: 0,
+        version: 1,
+        part: 0,
+    })?;
     frames.push(Frame::Query {
         scheme: 0,
         version: 1,
         words: Words::new(vec![in alloc; 22, 16_777_249]?),
     })?;
+    frames.push(Frame::Edit {
+        index: 0,
+        bytes: Bytes::new(vec![in alloc; 0x64]?),
+    })?;
+    frames.push(Frame::Publish)?;
     frames.push(Frame::Bye)?;
+    Ok(())
+}
+
+/// A frame of each kind that a server sends.
+fn push_replied(alloc: Global, frames: &mut Vec<Frame>) -> Result<(), Fail> {
+    frames.push(Frame::Welcome {
+        profile: 1,
+        width: 8,
+        record_len: 1,
+        groups: 1,
+        count: 2,
+        version: 1,
+        dimension: 1,
+        seed: Bytes32::copied(&[0; 32]),
+    })?;
+    frames.push(Frame::HintPart {
+        scheme: 0,
+        version: 1,
+        part: 0,
+        words: Words::new(vec![in alloc; 2_066_479_516]?),
+    })?;
     frames.push(Frame::Answer {
         scheme: 0,
         version: 1,
@@ -63,8 +142,9 @@ fn each_kind(alloc: Global) -> Result<Vec<Frame>, Fail> {
         version: 3,
         count: 5,
     })?;
+    frames.push(Frame::Done { version: 1 })?;
     frames.push(Frame::Refused { code: 1 })?;
-    Ok(frames)
+    Ok(())
 }
 
 /// The frames as `write_frame` spells them.
@@ -84,6 +164,78 @@ fn writes_each_kind(rt: HostRuntime) -> Result<(), Fail> {
     Ok(())
 }
 
+/// Whether a frame that a client sends has the fields of `push_asked`, or a server's those of `push_replied`.
+fn has_its_fields(frame: Frame) -> bool {
+    match frame {
+        Frame::Load {
+            record_len,
+            groups,
+            width,
+            records,
+        } => {
+            record_len == 1
+                && groups == 1
+                && width == 8
+                && records.into_vec().as_slice() == [0x0a, 0xc8].as_slice()
+        }
+        Frame::Hello { profile, key } => profile == 1 && key.as_slice() == [0; 32].as_slice(),
+        Frame::HintAsk {
+            scheme,
+            version,
+            part,
+        } => scheme == 0 && version == 1 && part == 0,
+        Frame::Query {
+            scheme,
+            version,
+            words,
+        } => scheme == 0 && version == 1 && words.as_slice() == [22, 16_777_249].as_slice(),
+        Frame::Edit { index, bytes } => index == 0 && bytes.as_slice() == [0x64].as_slice(),
+        Frame::Publish | Frame::Bye => true,
+        reply => has_its_reply_fields(reply),
+    }
+}
+
+fn has_its_reply_fields(frame: Frame) -> bool {
+    match frame {
+        Frame::Welcome {
+            profile,
+            width,
+            record_len,
+            groups,
+            count,
+            version,
+            dimension,
+            seed,
+        } => {
+            (profile, width, record_len, groups) == (1, 8, 1, 1)
+                && (count, version, dimension) == (2, 1, 1)
+                && seed.as_slice() == [0; 32].as_slice()
+        }
+        Frame::HintPart {
+            scheme,
+            version,
+            part,
+            words,
+        } => {
+            scheme == 0
+                && version == 1
+                && part == 0
+                && words.as_slice() == [2_066_479_516].as_slice()
+        }
+        Frame::Answer {
+            scheme,
+            version,
+            words,
+        } => {
+            scheme == 0 && version == 1 && words.into_vec().as_slice() == [3_355_450_020].as_slice()
+        }
+        Frame::Stale { version, count } => version == 3 && count == 5,
+        Frame::Done { version } => version == 1,
+        Frame::Refused { code } => code == 1,
+        _ => false,
+    }
+}
+
 #[test]
 fn reads_the_fields_of_each_kind(rt: HostRuntime) -> Result<(), Fail> {
     let mut reader = Reader::new(rt.alloc());
@@ -91,47 +243,17 @@ fn reads_the_fields_of_each_kind(rt: HostRuntime) -> Result<(), Fail> {
     reader.feed(&each_kind_spelled(rt.alloc())?, &mut frames)?;
     let mut seen = 0;
     for frame in frames {
-        let right = match frame {
-            Frame::Load {
-                record_len,
-                groups,
-                width,
-                records,
-            } => {
-                record_len == 1
-                    && groups == 1
-                    && width == 8
-                    && records.into_vec().as_slice() == [0x0a, 0xc8].as_slice()
-            }
-            Frame::Query {
-                scheme,
-                version,
-                words,
-            } => { scheme == 0 && version == 1 && words.as_slice() == [22, 16_777_249].as_slice() }
-            Frame::Bye => true,
-            Frame::Answer {
-                scheme,
-                version,
-                words,
-            } => {
-                scheme == 0
-                    && version == 1
-                    && words.into_vec().as_slice() == [3_355_450_020].as_slice()
-            }
-            Frame::Stale { version, count } => version == 3 && count == 5,
-            Frame::Refused { code } => code == 1,
-        };
-        assert!(rt; right, "frame {seen}");
+        assert!(rt; has_its_fields(frame), "frame {seen}");
         seen = u32::wrapping_add(seen, 1);
     }
-    assert_eq!(rt; seen, 6);
+    assert_eq!(rt; seen, 13);
     Ok(())
 }
 
 #[test]
 fn reads_the_same_frames_however_cut(rt: HostRuntime) -> Result<(), Fail> {
     let stream = each_kind_spelled(rt.alloc())?;
-    let ends = [12, 34, 39, 57, 74, 80];
+    let ends = [12, 51, 69, 91, 101, 106, 111, 169, 191, 209, 226, 239, 245];
     for cut in 0..=stream.len() {
         let (piece, later) = stream.split_at(cut);
         let mut reader = Reader::new(rt.alloc());
@@ -221,7 +343,9 @@ fn a_long_payload_fails_at_byte_four(rt: HostRuntime) -> Result<(), Fail> {
 
 #[test]
 fn an_unknown_kind_fails_at_byte_five(rt: HostRuntime) -> Result<(), Fail> {
-    let known = [0x01, 0x05, 0x08, 0x85, 0x86, 0x8f];
+    let known = [
+        0x01, 0x02, 0x03, 0x05, 0x06, 0x07, 0x08, 0x82, 0x83, 0x85, 0x86, 0x87, 0x8f,
+    ];
     for kind in 0..=255u8 {
         if !known.contains(&kind) {
             must_fail_at_last(
@@ -240,16 +364,29 @@ fn a_bad_payload_fails_at_its_last_byte(rt: HostRuntime) -> Result<(), Fail> {
     let bad = [
         (0x01, 0),
         (0x01, 4),
+        (0x02, 33),
+        (0x02, 35),
+        (0x03, 12),
+        (0x03, 14),
         (0x05, 0),
         (0x05, 8),
         (0x05, 10),
         (0x05, 16),
+        (0x06, 0),
+        (0x06, 3),
+        (0x07, 1),
         (0x08, 1),
+        (0x82, 52),
+        (0x82, 54),
+        (0x83, 12),
+        (0x83, 14),
         (0x85, 8),
         (0x85, 12),
         (0x86, 0),
         (0x86, 11),
         (0x86, 13),
+        (0x87, 7),
+        (0x87, 9),
         (0x8f, 0),
         (0x8f, 2),
     ];

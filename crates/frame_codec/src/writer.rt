@@ -1,9 +1,11 @@
 //! The spelling of a frame.
 
-ghost use Rattle.std.specs.Prelude.{◌≡◌, ◌≤◌, ◌<◌, ◌+◌, ◌++◌, length, vec_len, vec_capacity, IsOk, OnOk, OnErr};
+ghost use Rattle.std.specs.Prelude.{◌≡◌, ◌≤◌, ◌<◌, ◌+◌, ◌*◌, ◌^◌, ◌∷◌, ◌++◌, All, length, vec_len, vec_capacity, IsOk, OnOk, OnErr};
 ghost use Rattle.frame_codec.specs.Frames.{HasFields, IsFrame, spelling, payload_of, payload_size, kind_of, payload_limit};
+ghost use Rattle.frame_codec.specs.Numbers.{number_bytes, word_bytes};
+ghost use Rattle.frame_codec.specs.declared.frame.Frame.TheVariants.{Load};
 
-use crate::frame::Frame;
+use crate::frame::{Bytes, Frame, Words};
 use crate::numbers::{put, put_u16, put_u32, put_u64, put_words};
 use std::alloc::AllocError;
 
@@ -12,10 +14,17 @@ fn kind_number(frame: &Frame) -> u8
 {
     match frame {
         Frame::Load { .. } => 0x01,
+        Frame::Hello { .. } => 0x02,
+        Frame::HintAsk { .. } => 0x03,
         Frame::Query { .. } => 0x05,
+        Frame::Edit { .. } => 0x06,
+        Frame::Publish => 0x07,
         Frame::Bye => 0x08,
+        Frame::Welcome { .. } => 0x82,
+        Frame::HintPart { .. } => 0x83,
         Frame::Answer { .. } => 0x85,
         Frame::Stale { .. } => 0x86,
+        Frame::Done { .. } => 0x87,
         Frame::Refused { .. } => 0x8f,
     }
 }
@@ -30,7 +39,13 @@ impl Frame {
             Frame::Query { words, .. } | Frame::Answer { words, .. } => {
                 9 + 4 * words.as_slice().len()
             }
-            Frame::Bye => 0,
+            Frame::Hello { key, .. } => 2 + key.as_slice().len(),
+            Frame::HintAsk { .. } => 13,
+            Frame::Done { .. } => 8,
+            Frame::Edit { bytes, .. } => 4 + bytes.as_slice().len(),
+            Frame::Publish | Frame::Bye => 0,
+            Frame::Welcome { seed, .. } => 21 + seed.as_slice().len(),
+            Frame::HintPart { words, .. } => 13 + 4 * words.as_slice().len(),
             Frame::Stale { .. } => 12,
             Frame::Refused { .. } => 1,
         }
@@ -50,37 +65,133 @@ fn put_payload(out: &mut Vec<u8>, frame: &Frame)
             groups,
             width,
             records,
+        } => put_load(out, *record_len, *groups, *width, records),
+        Frame::Hello { profile, key } => {
+            put_u16(out, *profile);
+            put(out, key.as_slice());
+        }
+        Frame::HintAsk {
+            scheme,
+            version,
+            part,
         } => {
-            put_u16(out, *record_len);
-            put_u16(out, *groups);
-            put(out, &[*width]);
-            put(out, records.as_slice());
+            put_scheme(out, *scheme, *version);
+            put_u32(out, *part);
         }
         Frame::Query {
             scheme,
             version,
             words,
+        } => put_scheme_words(out, *scheme, *version, words),
+        Frame::Edit { index, bytes } => {
+            put_u32(out, *index);
+            put(out, bytes.as_slice());
+        }
+        Frame::Publish => {}
+        Frame::Bye => {}
+        _ => put_reply(out, frame),
+    }
+}
+
+/// The payload of a frame that a server sends.
+#[tactic(auto, using(crate::proofs::NumberBytes::lengths), unfolding(crate::specs::Frames::payload_of))]
+fn put_reply(out: &mut Vec<u8>, frame: &Frame)
+    requires reply { 128 ≤ kind_of frame.now }
+    requires room { vec_len out.old + payload_size frame.now ≤ vec_capacity out.old }
+    ensures items { out.new.items ≡ out.old.items ++ payload_of frame.now }
+    ensures fields { HasFields frame.now }
+    ensures capacity { vec_capacity out.old ≤ vec_capacity out.new }
+{
+    match frame {
+        Frame::HintPart {
+            scheme,
+            version,
+            part,
+            words,
         } => {
-            put(out, &[*scheme]);
-            put_u64(out, *version);
+            put_scheme(out, *scheme, *version);
+            put_u32(out, *part);
             put_words(out, words.as_slice());
         }
-        Frame::Bye => {}
         Frame::Answer {
             scheme,
             version,
             words,
-        } => {
-            put(out, &[*scheme]);
-            put_u64(out, *version);
-            put_words(out, words.as_slice());
-        }
+        } => put_scheme_words(out, *scheme, *version, words),
         Frame::Stale { version, count } => {
             put_u64(out, *version);
             put_u32(out, *count);
         }
+        Frame::Done { version } => put_u64(out, *version),
         Frame::Refused { code } => put(out, &[*code]),
+        _ => put_welcome(out, frame),
     }
+}
+
+/// The payload of a welcome. It is given no other frame.
+#[tactic(auto, using(crate::proofs::NumberBytes::lengths), unfolding(crate::specs::Frames::payload_of))]
+fn put_welcome(out: &mut Vec<u8>, frame: &Frame)
+    requires welcome { kind_of frame.now ≡ 130 }
+    requires room { vec_len out.old + payload_size frame.now ≤ vec_capacity out.old }
+    ensures items { out.new.items ≡ out.old.items ++ payload_of frame.now }
+    ensures fields { HasFields frame.now }
+    ensures capacity { vec_capacity out.old ≤ vec_capacity out.new }
+{
+    let Frame::Welcome {
+        profile,
+        width,
+        record_len,
+        groups,
+        count,
+        version,
+        dimension,
+        seed,
+    } = frame
+    else {
+        return;
+    };
+    put_u16(out, *profile);
+    put(out, &[*width]);
+    put_u16(out, *record_len);
+    put_u16(out, *groups);
+    put_u32(out, *count);
+    put_u64(out, *version);
+    put_u16(out, *dimension);
+    put(out, seed.as_slice());
+}
+
+#[tactic(auto, using(crate::proofs::NumberBytes::lengths), unfolding(crate::specs::Frames::payload_of))]
+fn put_load(out: &mut Vec<u8>, record_len: u16, groups: u16, width: u8, records: &Bytes)
+    requires { vec_len out.old + (5 + length records.now) ≤ vec_capacity out.old }
+    ensures items { out.new.items ≡ out.old.items ++ payload_of (Load record_len groups width records.now) }
+    ensures fields { HasFields (Load record_len groups width records.now) }
+    ensures capacity { vec_capacity out.old ≤ vec_capacity out.new }
+{
+    put_u16(out, record_len);
+    put_u16(out, groups);
+    put(out, &[width]);
+    put(out, records.as_slice());
+}
+
+fn put_scheme(out: &mut Vec<u8>, scheme: u8, version: u64)
+    requires { vec_len out.old + 9 ≤ vec_capacity out.old }
+    ensures items { out.new.items ≡ out.old.items ++ (scheme ∷ number_bytes 8 version) }
+    ensures len { vec_len out.new ≡ vec_len out.old + 9 }
+    ensures capacity { vec_capacity out.old ≤ vec_capacity out.new }
+{
+    put(out, &[scheme]);
+    put_u64(out, version);
+}
+
+/// The payload of a query or an answer.
+fn put_scheme_words(out: &mut Vec<u8>, scheme: u8, version: u64, words: &Words)
+    requires { vec_len out.old + (9 + 4 * length words.now) ≤ vec_capacity out.old }
+    ensures items { out.new.items ≡ out.old.items ++ (scheme ∷ (number_bytes 8 version ++ word_bytes words.now)) }
+    ensures fields { All (λ w. w < 2 ^ 32) words.now }
+    ensures capacity { vec_capacity out.old ≤ vec_capacity out.new }
+{
+    put_scheme(out, scheme, version);
+    put_words(out, words.as_slice());
 }
 
 /// Adds the spelling of a frame to `out`.

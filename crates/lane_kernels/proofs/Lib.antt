@@ -1,0 +1,4 @@
+pub mod LaneSums
+pub mod RowSums
+pub mod PackedSums
+pub mod SplitDigits

@@ -1,0 +1,9 @@
+use Rattle.std.proofs.Common.{arith}
+use Rattle.matrix_u32.proofs.Rows.{zero_so_far, blocks_end}
+use Rattle.lane_kernels.proofs.lanes.mul_into.Goals as goal
+
+pub loop-start-init : goal.loop-start-init
+loop-start-init c = record { within = omega arith; so_far = rw (c.clear.ensures, c.requires.rows, c.requires.cols) (zero_so_far c.args.a.now c.args.b.now) }
+
+pub returns : goal.returns
+returns c = blocks_end _ _ _ c.loop-start.start (omega arith) c.requires.fits c.loop-start.invariant.so_far

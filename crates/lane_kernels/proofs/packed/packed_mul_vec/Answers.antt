@@ -1,0 +1,16 @@
+use Rattle.std.proofs.Common.{◌≡◌, ◌∙◌, arith, length}
+use Rattle.std.proofs.lemmas.Simd.{get_or-replicate}
+use Rattle.matrix_u32.proofs.Sums.{sum_below_none}
+use Rattle.matrix_u32.proofs.Products.{words_are}
+use Rattle.lane_kernels.proofs.PackedSums.{row_product}
+use Rattle.lane_kernels.proofs.packed.packed_mul_vec.Goals as goal
+
+pub loop-start-init : goal.loop-start-init
+loop-start-init c = record { within = omega arith; so_far = λ q h. rw sum_below_none (rw (c.fill.ensures.after (λ y h. h)) (get_or-replicate (length c.args.out.now) q 0 0 (omega arith))) }
+
+pub returns : goal.returns
+returns c =
+    let all : c.loop-start.start ≡ c.row_words-words.result = omega arith in
+    words_are _ _ _ (omega arith) (λ q h.
+    rw (all, c.row_words-words.ensures) at (c.loop-start.invariant.so_far q (omega arith))
+    ∙ row_product c.args.packed.now c.args.x.now (length c.args.out.now) c.args.cols q h c.requires.x_fits c.requires.three_digits)

@@ -1,0 +1,8 @@
+use Rattle.std.proofs.Common.{◌≡◌, ℕ, ◌<◌, ◌≤◌, ◌/◌, ◌^◌, slice_index, bit_and}
+use Rattle.lane_kernels.proofs.split.split_rest.Given as goal
+
+abbrev pub invariant-loop-j : goal.invariant-loop-j
+invariant-loop-j l = record {
+  kept : (q : ℕ) → q < l.from → slice_index l.out q ≡ slice_index l.fn.out q;
+  done : (q : ℕ) → l.from ≤ q → q < l.j → slice_index l.out q ≡ bit_and (slice_index l.x q / 2 ^ l.shift) l.mask;
+}

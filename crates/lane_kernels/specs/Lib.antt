@@ -1,0 +1,4 @@
+pub mod Digit
+pub mod Packed
+pub mod Carried
+pub mod Rows

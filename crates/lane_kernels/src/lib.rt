@@ -1,0 +1,18 @@
+//! Products of words over lanes: a kernel that takes several words at once, products with digits that are
+//! packed three in a word, and the digits of words.
+//!
+//! Everything here gives the very words of the definitions, at every length and shape, and nothing takes
+//! memory. The loops go over vectors of 8 or 16 words by `std::simd`; what is left behind the last whole
+//! vector is done word by word.
+#![tactic(auto)]
+
+mod lanes;
+mod packed;
+mod split;
+
+pub use lanes::Lanes;
+pub use packed::packed_mul_vec;
+pub use split::split_row;
+
+#[cfg(test)]
+mod tests;

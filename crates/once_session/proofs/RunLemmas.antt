@@ -1,0 +1,201 @@
+-- What a stream leads to, piece by piece.
+use Rattle.std.proofs.Common.{◌≡◌, ℕ, List, [], ◌∷◌, ◌++◌, take, Bool, true, false, Option, Some, Result, Ok, Err, OnOk, IfErr, ap, ◌∙◌, sym, refl, subst, inl, inr, append_assoc}
+use Rattle.std.specs.Prelude.{cond, MatchBool}
+use Rattle.std.specs.Io.KnownBytes.{IsAtEnd}
+use Rattle.std.proofs.lemmas.List.{append-nil}
+use Rattle.frame_codec.specs.declared.frame.Frame.{Frame}
+use Rattle.frame_codec.specs.declared.frame.Frame.TheVariants.{Refused}
+use Rattle.frame_codec.specs.Frames.{spelling}
+use Rattle.frame_codec.specs.Streams.{Begins}
+use Rattle.frame_codec.proofs.Runs.{begins_both, begins_none, begins_ahead}
+use Rattle.frame_codec.proofs.Fronts.{nothing_partial}
+use Rattle.once_session.specs.declared.engine.OnceFault.{OnceFault}
+use Rattle.once_session.specs.declared.engine.OnceFault.TheVariants as fault
+use Rattle.once_session.specs.declared.stage.Stage.{Stage}
+use Rattle.once_session.specs.declared.stage.Stage.TheVariants as stage
+use Rattle.once_session.specs.Courses.{replies_to, stage_after, spellings}
+use Rattle.once_session.specs.Outputs.{IsFrontOf, goes_on, rest_reply, is_well, is_done, output_of, Ends, Waits, Breaks, Turns, IsOutput, IsAnswered, IsCutOff, IsServeFault, Serves, Finishes}
+use Rattle.once_session.proofs.CourseLemmas.{stage_after-append, output-append, front_behind, front_taken}
+
+-- nothing was read yet
+pub waits_none : Waits stage.Fresh [] stage.Fresh (Some []) []
+waits_none = record {
+  frames = [];
+  rest = [];
+  reads = record { begins = begins_none []; partial = nothing_partial };
+  codec_is = refl;
+  stage_is = refl;
+  out_is = refl;
+}
+
+-- two parts of an output
+both_outs : (fs gs : List Frame) (st : Stage) (out more : List ℕ) → out ≡ spellings (replies_to stage.Fresh fs) → st ≡ stage_after stage.Fresh fs → (tail : List ℕ) →
+    more ≡ spellings (replies_to st gs) ++ tail → out ++ more ≡ spellings (replies_to stage.Fresh (fs ++ gs)) ++ tail
+both_outs fs gs st out more o s tail m =
+    ap (λ (b : List ℕ). b ++ more) o
+    ∙ ap (λ (b : List ℕ). spellings (replies_to stage.Fresh fs) ++ b) (m ∙ ap (λ x. spellings (replies_to x gs) ++ tail) s)
+    ∙ sym (append_assoc (spellings (replies_to stage.Fresh fs)) (spellings (replies_to (stage_after stage.Fresh fs) gs)) tail)
+    ∙ ap (λ (b : List ℕ). b ++ tail) (sym (output-append stage.Fresh fs gs))
+
+-- the stage behind both
+both_stages : (fs gs : List Frame) (st : Stage) → st ≡ stage_after stage.Fresh fs → stage_after st gs ≡ stage_after stage.Fresh (fs ++ gs)
+both_stages fs gs st s = ap (λ x. stage_after x gs) s ∙ sym (stage_after-append stage.Fresh fs gs)
+
+both_begin : (read piece : List ℕ) (fs gs : List Frame) (rest last : List ℕ) → Begins read fs rest → Begins (rest ++ piece) gs last → Begins (read ++ piece) (fs ++ gs) last
+both_begin read piece fs gs rest last a b = begins_both (read ++ piece) fs gs (rest ++ piece) last (begins_ahead read fs rest piece a) b
+
+-- the work goes on
+pub waits_on : (read out piece more : List ℕ) (st new : Stage) (codec left : Option (List ℕ)) (w : Waits stage.Fresh read st codec out) → Waits st (w.rest ++ piece) new left more →
+    Waits stage.Fresh (read ++ piece) new left (out ++ more)
+waits_on read out piece more st new codec left w t = record {
+  frames = w.frames ++ t.frames;
+  rest = t.rest;
+  reads = record { begins = both_begin read piece w.frames t.frames w.rest t.rest w.reads.begins t.reads.begins; partial = t.reads.partial };
+  codec_is = t.codec_is;
+  stage_is = t.stage_is ∙ both_stages w.frames t.frames st w.stage_is;
+  out_is = both_outs w.frames t.frames st out more w.out_is w.stage_is [] (t.out_is ∙ sym (append-nil (spellings (replies_to st t.frames)))) ∙ append-nil (spellings (replies_to stage.Fresh (w.frames ++ t.frames)));
+}
+
+-- a frame, or what can't be read, ended it
+pub ends_on : (read out piece more : List ℕ) (st new : Stage) (codec left : Option (List ℕ)) (well : Bool) (w : Waits stage.Fresh read st codec out) → Ends st (w.rest ++ piece) new more → is_done new ≡ well →
+    IsOutput (read ++ piece) (out ++ more) left well
+ends_on read out piece more st new codec left well w t done =
+    let s : stage_after st t.frames ≡ stage_after stage.Fresh (w.frames ++ t.frames) = both_stages w.frames t.frames st w.stage_is in
+    record {
+      frames = w.frames ++ t.frames;
+      rest = t.rest;
+      begins = both_begin read piece w.frames t.frames w.rest t.rest w.reads.begins t.begins;
+      last = record { no_frame = λ going. t.no_frame (ap goes_on s ∙ going); no_more = λ going p. absurd (t.no_part (ap goes_on s ∙ going) p) };
+      out_is = both_outs w.frames t.frames st out more w.out_is w.stage_is (cond (goes_on (stage_after st t.frames)) (rest_reply t.rest) []) t.out_is
+          ∙ ap (λ x. spellings (replies_to stage.Fresh (w.frames ++ t.frames)) ++ cond (goes_on x) (rest_reply t.rest) []) s;
+      well_is = sym done ∙ t.well_is ∙ ap (λ x. is_well x t.rest) s;
+    }
+
+-- two parts of an output, of which the second is a front
+both_front : (fs gs : List Frame) (st : Stage) (out more : List ℕ) → out ≡ spellings (replies_to stage.Fresh fs) → st ≡ stage_after stage.Fresh fs → (tail : List ℕ) →
+    IsFrontOf more (spellings (replies_to st gs) ++ tail) → IsFrontOf (out ++ more) (spellings (replies_to stage.Fresh (fs ++ gs)) ++ tail)
+both_front fs gs st out more o s tail f =
+    let all : List ℕ = spellings (replies_to st gs) ++ tail in
+    subst (IsFrontOf (out ++ more)) (both_outs fs gs st out all o s tail refl) (front_behind out more all f)
+
+front_alone : (front all : List ℕ) → IsFrontOf front (all ++ []) → IsFrontOf front all
+front_alone front all f = subst (IsFrontOf front) (append-nil all) f
+
+front_long : (front all : List ℕ) → IsFrontOf front all → IsFrontOf front (all ++ [])
+front_long front all f = subst (IsFrontOf front) (sym (append-nil all)) f
+
+-- it broke off
+pub breaks_on : (read out piece more : List ℕ) (st : Stage) (codec left : Option (List ℕ)) (w : Waits stage.Fresh read st codec out) → Breaks st (w.rest ++ piece) more →
+    IsCutOff (read ++ piece) (out ++ more) left
+breaks_on read out piece more st codec left w t =
+    let s : stage_after st t.frames ≡ stage_after stage.Fresh (w.frames ++ t.frames) = both_stages w.frames t.frames st w.stage_is in
+    let all : List ℕ = spellings (replies_to st t.frames) in
+    let tail : List ℕ = cond (goes_on (stage_after st t.frames)) (rest_reply t.rest) [] in
+    record {
+      frames = w.frames ++ t.frames;
+      rest = t.rest;
+      begins = both_begin read piece w.frames t.frames w.rest t.rest w.reads.begins t.begins;
+      front = elim t.front [
+        | inl f ↦ inl (front_alone (out ++ more) (spellings (replies_to stage.Fresh (w.frames ++ t.frames)))
+            (both_front w.frames t.frames st out more w.out_is w.stage_is [] (front_long more all f)))
+        | inr f ↦ inr (
+          record { no_frame = λ going. f.0 (ap goes_on s ∙ going); no_more = λ going p. absurd (f.1 (ap goes_on s ∙ going) p) },
+          subst (λ x. IsFrontOf (out ++ more) (spellings (replies_to stage.Fresh (w.frames ++ t.frames)) ++ cond (goes_on x) (rest_reply t.rest) [])) s
+              (both_front w.frames t.frames st out more w.out_is w.stage_is tail f.2),
+        )
+      ];
+    }
+
+-- every turn was used
+pub waits_served : (read out : List ℕ) (st : Stage) (codec : Option (List ℕ)) → Waits stage.Fresh read st codec out → goes_on st ≡ true → IsAnswered read out
+waits_served read out st codec w going = record { frames = w.frames; rest = w.rest; reads = w.reads; open_still = ap goes_on (sym w.stage_is) ∙ going; out_is = w.out_is }
+
+-- the stream's end is behind a frame, or within one
+shut_output : (read out more : List ℕ) (st : Stage) (codec left : Option (List ℕ)) (well : Bool) (w : Waits stage.Fresh read st codec out) → goes_on st ≡ true → IsAtEnd left → more ≡ rest_reply w.rest →
+    well ≡ is_well (stage_after stage.Fresh w.frames) w.rest → IsOutput read (out ++ more) left well
+shut_output read out more st codec left well w going end m is = record {
+  frames = w.frames;
+  rest = w.rest;
+  begins = w.reads.begins;
+  last = record { no_frame = λ _ f. w.reads.partial.no_frame f; no_more = λ _ _. end };
+  out_is = ap (λ (b : List ℕ). b ++ more) w.out_is ∙ ap (λ (b : List ℕ). spellings (replies_to stage.Fresh w.frames) ++ b)
+      (m ∙ ap (λ b. cond b (rest_reply w.rest) []) (sym going ∙ ap goes_on w.stage_is));
+  well_is = is;
+}
+
+well_at_end : (st : Stage) (rest : List ℕ) → goes_on st ≡ true → rest ≡ [] → true ≡ is_well st rest
+well_at_end stage.Fresh rest g e = sym (ap (is_well stage.Fresh) e)
+well_at_end (stage.Loaded t) rest g e = sym (ap (is_well (stage.Loaded t)) e)
+well_at_end stage.Done rest g e = refl
+well_at_end stage.Bad rest g e = let no : false ≡ true = g in cc
+
+ill_at_end : (st : Stage) (rest : List ℕ) → goes_on st ≡ true → (rest ≡ [] → ⊥) → false ≡ is_well st rest
+ill_at_end stage.Fresh [] g some = absurd (some refl)
+ill_at_end stage.Fresh (b ∷ bs) g some = refl
+ill_at_end (stage.Loaded t) [] g some = absurd (some refl)
+ill_at_end (stage.Loaded t) (b ∷ bs) g some = refl
+ill_at_end stage.Done rest g some = let no : false ≡ true = g in cc
+ill_at_end stage.Bad rest g some = refl
+
+some_reply : (rest : List ℕ) → (rest ≡ [] → ⊥) → spelling (Refused 1) ≡ rest_reply rest
+some_reply [] some = absurd (some refl)
+some_reply (b ∷ bs) some = refl
+
+shut_cut : (read out more : List ℕ) (st : Stage) (codec left : Option (List ℕ)) (w : Waits stage.Fresh read st codec out) → goes_on st ≡ true → IsAtEnd left → IsFrontOf more (rest_reply w.rest) →
+    IsCutOff read (out ++ more) left
+shut_cut read out more st codec left w going end f = record {
+  frames = w.frames;
+  rest = w.rest;
+  begins = w.reads.begins;
+  front = inr (
+    record { no_frame = λ _ h. w.reads.partial.no_frame h; no_more = λ _ _. end },
+    subst (λ (b : List ℕ). IsFrontOf (b ++ more) (output_of w.frames w.rest)) (sym w.out_is)
+        (front_behind (spellings (replies_to stage.Fresh w.frames)) more (cond (goes_on (stage_after stage.Fresh w.frames)) (rest_reply w.rest) [])
+        (subst (λ b. IsFrontOf more (cond b (rest_reply w.rest) [])) (sym going ∙ ap goes_on w.stage_is) f)),
+  );
+}
+
+pub finish_served : (answer : Result (Unit {0}) OnceFault) (read out more : List ℕ) (st : Stage) (codec left : Option (List ℕ)) (w : Waits stage.Fresh read st codec out) → goes_on st ≡ true → IsAtEnd left →
+    Finishes answer w.rest more → Serves answer read (out ++ more) left
+finish_served (Ok done) read out more st codec left w going end f =
+    shut_output read out more st codec left true w going end (f.1 ∙ sym (ap rest_reply f.0))
+    (well_at_end (stage_after stage.Fresh w.frames) w.rest (ap goes_on (sym w.stage_is) ∙ going) f.0)
+finish_served (Err fault.BadInput) read out more st codec left w going end f =
+    shut_output read out more st codec left false w going end (f.1 ∙ some_reply w.rest f.0)
+    (ill_at_end (stage_after stage.Fresh w.frames) w.rest (ap goes_on (sym w.stage_is) ∙ going) f.0)
+finish_served (Err fault.Read) read out more st codec left w going end f = absurd f
+finish_served (Err fault.TurnsUsedUp) read out more st codec left w going end f = absurd f
+finish_served (Err fault.Write) read out more st codec left w going end f = shut_cut read out more st codec left w going end f
+finish_served (Err fault.Memory) read out more st codec left w going end f = shut_cut read out more st codec left w going end f
+
+-- a turn broke off, by a fault of one reply
+pub turn_served : (e : OnceFault) (read out piece more : List ℕ) (st new : Stage) (codec later left : Option (List ℕ)) (w : Waits stage.Fresh read st codec out) → IsServeFault e →
+    Turns (Err e) st (w.rest ++ piece) new later more → Serves (Err e) (read ++ piece) (out ++ more) left
+turn_served e read out piece more st new codec later left w (inl is) t =
+    subst (λ x. Serves (Err x) (read ++ piece) (out ++ more) left) (sym is) (breaks_on read out piece more st codec left w t)
+turn_served e read out piece more st new codec later left w (inr is) t =
+    subst (λ x. Serves (Err x) (read ++ piece) (out ++ more) left) (sym is) (breaks_on read out piece more st codec left w t)
+
+-- what a turn that goes on, or ends, led to
+pub turned_on : (st new : Stage) (stream more : List ℕ) (left : Option (List ℕ)) → goes_on new ≡ true → Turns (Ok tt) st stream new left more → Waits st stream new left more
+turned_on st new stream more left going t = subst (λ b. MatchBool b (Waits st stream new left more) (Ends st stream new more)) going t
+
+pub turned_off : (st new : Stage) (stream more : List ℕ) (left : Option (List ℕ)) → goes_on new ≡ false → Turns (Ok tt) st stream new left more → Ends st stream new more
+turned_off st new stream more left over t = subst (λ b. MatchBool b (Waits st stream new left more) (Ends st stream new more)) over t
+
+pub ended_served : (answer : Result (Unit {0}) OnceFault) (read out piece more : List ℕ) (st new : Stage) (codec left : Option (List ℕ)) (w : Waits stage.Fresh read st codec out) → Ends st (w.rest ++ piece) new more →
+    OnOk answer (is_done new ≡ true) → IfErr answer (λ e. (e ≡ fault.BadInput) × (is_done new ≡ false)) → Serves answer (read ++ piece) (out ++ more) left
+ended_served (Ok done) read out piece more st new codec left w t well ill = ends_on read out piece more st new codec left true w t well
+ended_served (Err e) read out piece more st new codec left w t well ill =
+    subst (λ x. Serves (Err x) (read ++ piece) (out ++ more) left) (sym ill.0) (ends_on read out piece more st new codec left false w t ill.1)
+
+-- no room for a piece: nothing was read
+pub nothing_served : (left : Option (List ℕ)) → Serves (Err fault.Memory) [] [] left
+nothing_served left = record { frames = []; rest = []; begins = begins_none []; front = inl ([], refl) }
+
+-- the refusal of a frame that is cut was written in part
+pub finish_cut : (e : OnceFault) (rest : List ℕ) (n : ℕ) → (rest ≡ [] → ⊥) → IsServeFault e → Finishes (Err e) rest (take n (spelling (Refused 1)))
+finish_cut e rest n some (inl is) =
+    subst (λ x. Finishes (Err x) rest (take n (spelling (Refused 1)))) (sym is) (subst (IsFrontOf (take n (spelling (Refused 1)))) (some_reply rest some) (front_taken n (spelling (Refused 1))))
+finish_cut e rest n some (inr is) =
+    subst (λ x. Finishes (Err x) rest (take n (spelling (Refused 1)))) (sym is) (subst (IsFrontOf (take n (spelling (Refused 1)))) (some_reply rest some) (front_taken n (spelling (Refused 1))))

@@ -1,0 +1,123 @@
+-- What a piece leads to.
+use Rattle.std.proofs.Common.{◌≡◌, ℕ, List, [], ◌∷◌, ◌++◌, length, take, Bool, true, false, Option, Some, Result, Ok, Err, arith, ap, ◌∙◌, sym, refl, subst, inl, inr, ◌⊎◌}
+use Rattle.std.specs.Prelude.{cond, MatchBool}
+use Rattle.std.proofs.lemmas.List.{append-nil}
+use Rattle.frame_codec.specs.declared.frame.Frame.{Frame}
+use Rattle.frame_codec.specs.declared.frame.Frame.TheVariants.{Refused}
+use Rattle.frame_codec.specs.declared.reader.ReadFault.{ReadFault}
+use Rattle.frame_codec.specs.declared.reader.ReadFault.TheVariants.{TooLong, UnknownKind, BadPayload, Memory, Failed}
+use Rattle.frame_codec.specs.Frames.{spelling}
+use Rattle.frame_codec.specs.Streams.{Begins, Feeds, HasFault, StopsAt}
+use Rattle.once_session.specs.declared.stage.Stage.{Stage}
+use Rattle.once_session.specs.declared.stage.Stage.TheVariants as stage
+use Rattle.once_session.specs.Courses.{replies_to, stage_after, spellings}
+use Rattle.once_session.specs.Outputs.{IsFrontOf, IsJudged, goes_on, rest_reply, is_well, is_done, Ends, Waits, Breaks, Turns}
+use Rattle.once_session.proofs.CourseLemmas.{no_frame_at, front_behind, front_taken, all_front}
+
+pub feeds_begins : (old piece : List ℕ) (answer : Result (Unit {0}) ReadFault) (frames : List Frame) (new : Option (List ℕ)) → Feeds (Some old) piece answer frames new → (rest : List ℕ) × Begins (old ++ piece) frames rest
+feeds_begins old piece (Ok d) frames new f = (f.0, f.1.begins)
+feeds_begins old piece (Err e) frames new f = (f.0.0, f.0.1)
+
+at_false : (b : Bool) (P Q : Type 0) → b ≡ false → Q → MatchBool b P Q
+at_false true P Q e q = let no : true ≡ false = e in cc
+at_false false P Q e q = q
+
+ends_as : (st : Stage) (rest : List ℕ) → goes_on st ≡ false → is_done st ≡ is_well st rest
+ends_as stage.Fresh rest e = let no : true ≡ false = e in cc
+ends_as (stage.Loaded t) rest e = let no : true ≡ false = e in cc
+ends_as stage.Done rest e = refl
+ends_as stage.Bad rest e = refl
+
+not_both : (b : Bool) → b ≡ false → b ≡ true → ⊥
+not_both b e f = let no : false ≡ true = sym e ∙ f in cc
+
+-- a frame ended the work
+pub turn_over : (old new : Stage) (stream : List ℕ) (frames : List Frame) (rest : List ℕ) (codec : Option (List ℕ)) (out : List ℕ) → Begins stream frames rest →
+    new ≡ stage_after old frames → goes_on new ≡ false → out ≡ spellings (replies_to old frames) → Turns (Ok tt) old stream new codec out
+turn_over old new stream frames rest codec out begins is over o =
+    let shut : goes_on (stage_after old frames) ≡ false = ap goes_on (sym is) ∙ over in
+    at_false (goes_on new) (Waits old stream new codec out) (Ends old stream new out) over (record {
+      frames = frames;
+      rest = rest;
+      begins = begins;
+      no_frame = λ e f. not_both (goes_on (stage_after old frames)) shut e;
+      no_part = λ e f. not_both (goes_on (stage_after old frames)) shut e;
+      out_is = o ∙ sym (append-nil (spellings (replies_to old frames)))
+          ∙ ap (λ b. spellings (replies_to old frames) ++ cond b (rest_reply rest) []) (sym shut);
+      well_is = ends_as new rest over ∙ ap (λ s. is_well s rest) is;
+    })
+
+judged_fault : (fault : ReadFault) (rest : List ℕ) → IsJudged fault → StopsAt fault rest → HasFault fault rest
+judged_fault TooLong rest j s = s
+judged_fault UnknownKind rest j s = s
+judged_fault BadPayload rest j s = s
+judged_fault Memory rest j s = absurd j
+judged_fault Failed rest j s = absurd j
+
+some_bytes : (fault : ReadFault) (rest : List ℕ) → HasFault fault rest → rest ≡ [] → ⊥
+some_bytes TooLong rest h e = let none : length rest ≡ 0 = ap length e in omega (arith, h.0)
+some_bytes UnknownKind rest h e = let none : length rest ≡ 0 = ap length e in omega (arith, h.0)
+some_bytes BadPayload rest h e = let none : length rest ≡ 0 = ap length e in omega (arith, h.0)
+some_bytes Memory rest h e = h
+some_bytes Failed rest h e = h
+
+refused_rest : (rest : List ℕ) → (rest ≡ [] → ⊥) → rest_reply rest ≡ spelling (Refused 1)
+refused_rest [] some = absurd (some refl)
+refused_rest (b ∷ bs) some = refl
+
+ill_rest : (st : Stage) (rest : List ℕ) → goes_on st ≡ true → (rest ≡ [] → ⊥) → is_well st rest ≡ false
+ill_rest stage.Fresh [] g some = absurd (some refl)
+ill_rest stage.Fresh (b ∷ bs) g some = refl
+ill_rest (stage.Loaded t) [] g some = absurd (some refl)
+ill_rest (stage.Loaded t) (b ∷ bs) g some = refl
+ill_rest stage.Done rest g some = let no : false ≡ true = g in cc
+ill_rest stage.Bad rest g some = refl
+
+-- what is owed where the stream can't be read on
+owed_at : (old : Stage) (frames : List Frame) (rest : List ℕ) → goes_on (stage_after old frames) ≡ true → (rest ≡ [] → ⊥) →
+    spellings (replies_to old frames) ++ spelling (Refused 1) ≡ spellings (replies_to old frames) ++ cond (goes_on (stage_after old frames)) (rest_reply rest) []
+owed_at old frames rest going some =
+    ap (λ (b : List ℕ). spellings (replies_to old frames) ++ b) (sym (refused_rest rest some) ∙ ap (λ b. cond b (rest_reply rest) []) (sym going))
+
+-- what can't be read was refused
+pub turn_refused : (old new : Stage) (stream : List ℕ) (frames : List Frame) (rest : List ℕ) (fault : ReadFault) (codec : Option (List ℕ)) (out : List ℕ) → Begins stream frames rest →
+    StopsAt fault rest → IsJudged fault → goes_on (stage_after old frames) ≡ true → new ≡ stage.Bad →
+    out ≡ spellings (replies_to old frames) ++ spelling (Refused 1) → Turns (Ok tt) old stream new codec out
+turn_refused old new stream frames rest fault codec out begins stops judged going bad o =
+    let has : HasFault fault rest = judged_fault fault rest judged stops in
+    let some : rest ≡ [] → ⊥ = some_bytes fault rest has in
+    at_false (goes_on new) (Waits old stream new codec out) (Ends old stream new out) (ap goes_on bad) (record {
+      frames = frames;
+      rest = rest;
+      begins = begins;
+      no_frame = λ _. no_frame_at fault rest has;
+      no_part = λ _ p. p.no_fault fault has;
+      out_is = o ∙ owed_at old frames rest going some;
+      well_is = ap is_done bad ∙ sym (ill_rest (stage_after old frames) rest going some);
+    })
+
+-- and here the refusal, or nothing of it, was written in part
+pub turn_cut : (old : Stage) (stream : List ℕ) (frames : List Frame) (rest : List ℕ) (fault : ReadFault) (n : ℕ) → Begins stream frames rest →
+    StopsAt fault rest → goes_on (stage_after old frames) ≡ true → ((n ≡ 0) ⊎ IsJudged fault) → Breaks old stream (spellings (replies_to old frames) ++ take n (spelling (Refused 1)))
+turn_cut old stream frames rest fault n begins stops going (inl none) = record {
+  frames = frames;
+  rest = rest;
+  begins = begins;
+  front = let nothing : spellings (replies_to old frames) ≡ spellings (replies_to old frames) ++ take n (spelling (Refused 1)) =
+      sym (ap (λ n. spellings (replies_to old frames) ++ take n (spelling (Refused 1))) none ∙ append-nil (spellings (replies_to old frames))) in
+      inl (subst (λ (b : List ℕ). IsFrontOf b (spellings (replies_to old frames))) nothing (all_front (spellings (replies_to old frames))));
+}
+turn_cut old stream frames rest fault n begins stops going (inr judged) =
+    let has : HasFault fault rest = judged_fault fault rest judged stops in
+    let some : rest ≡ [] → ⊥ = some_bytes fault rest has in
+    record {
+      frames = frames;
+      rest = rest;
+      begins = begins;
+      front = inr (
+        (λ _. no_frame_at fault rest has),
+        (λ _ p. p.no_fault fault has),
+        subst (IsFrontOf (spellings (replies_to old frames) ++ take n (spelling (Refused 1)))) (owed_at old frames rest going some)
+            (front_behind (spellings (replies_to old frames)) (take n (spelling (Refused 1))) (spelling (Refused 1)) (front_taken n (spelling (Refused 1)))),
+      );
+    }

@@ -1,0 +1,51 @@
+use Rattle.std.proofs.Common.{◌≡◌, ℕ, ◌+◌, ◌<◌, List, [], ◌∷◌, ◌++◌, length, take, drop, arith, ap, ◌∙◌, sym, subst, get_or}
+use Rattle.std.specs.Io.KnownBytes.{Appends}
+use Rattle.std.proofs.KnownBytes.{Appends-trans}
+use Rattle.std.proofs.lemmas.List.{take_more, take-append-drop}
+use Rattle.frame_codec.specs.declared.frame.Frame.{Frame}
+use Rattle.once_session.specs.declared.stage.Stage.{Stage}
+use Rattle.once_session.specs.Courses.{next, reply, reply_bytes, replies_to, stage_after, spellings}
+use Rattle.once_session.specs.Outputs.{IsFrontOf}
+use Rattle.once_session.proofs.CourseLemmas.{stage_after-append, output-append, output-more, front_behind, front_ahead, front_taken}
+use Rattle.once_session.proofs.engine.serve_frames.Goals as goal
+
+-- the frames up to one and this one
+one_more : (frames : List Frame) (k : ℕ) (f : Frame) → k < length frames → f ≡ get_or frames k f → take (k + 1) frames ≡ take k frames ++ f ∷ []
+one_more frames k f h e = take_more frames k f h ∙ ap (λ x. take k frames ++ x ∷ []) (sym e)
+
+pub loop-frame-preserved : goal.loop-frame-preserved
+loop-frame-preserved g c =
+    let st : Stage = c.args.stage.now in
+    let k : ℕ = c.loop-frame.frame-index in
+    let f : Frame = c.frame-item.result in
+    let fs : List Frame = take k c.args.frames.now in
+    let more : take (k + 1) c.args.frames.now ≡ fs ++ f ∷ [] = one_more c.args.frames.now k f (omega arith) c.frame-item.is in
+    let bytes : spellings (replies_to st fs) ++ reply_bytes (reply c.loop-frame.stage f) ≡ spellings (replies_to st (take (k + 1) c.args.frames.now)) =
+    ap (λ s. spellings (replies_to st fs) ++ reply_bytes (reply s f)) c.loop-frame.invariant.stage
+    ∙ sym (ap (λ gs. spellings (replies_to st gs)) more ∙ output-more st fs f) in
+    record {
+      stage = c.in_default.ensures.stage.0 ∙ ap (λ s. next s f) c.loop-frame.invariant.stage ∙ sym (ap (stage_after st) more ∙ stage_after-append st fs (f ∷ []));
+      table = c.in_default.ensures.stage.1;
+      written = subst (Appends (g.W.Write.contents c.args.writer.now) (g.W.Write.contents c.serve_frame.new.writer)) bytes
+          (Appends-trans (g.W.Write.contents c.args.writer.now) (g.W.Write.contents c.loop-frame.writer) (g.W.Write.contents c.serve_frame.new.writer) _ _ c.loop-frame.invariant.written c.in_default.ensures.all);
+    }
+
+pub returns-in-Err-clause-front : goal.returns-in-Err-clause-front
+returns-in-Err-clause-front g c =
+    let st : Stage = c.args.stage.now in
+    let k : ℕ = c.loop-frame.frame-index in
+    let f : Frame = c.frame-item.result in
+    let fs : List Frame = take k c.args.frames.now in
+    let more : take (k + 1) c.args.frames.now ≡ fs ++ f ∷ [] = one_more c.args.frames.now k f (omega arith) c.frame-item.is in
+    let one : List ℕ = reply_bytes (reply c.loop-frame.stage f) in
+    let part = c.in-Err.ensures.front in
+    let before : List ℕ = spellings (replies_to st fs) in
+    let later : List ℕ = spellings (replies_to (stage_after st (take (k + 1) c.args.frames.now)) (drop (k + 1) c.args.frames.now)) in
+    let all : (before ++ one) ++ later ≡ spellings (replies_to st c.args.frames.now) =
+    ap (λ (b : List ℕ). b ++ later) (ap (λ s. before ++ reply_bytes (reply s f)) c.loop-frame.invariant.stage ∙ sym (ap (λ gs. spellings (replies_to st gs)) more ∙ output-more st fs f))
+    ∙ sym (output-append st (take (k + 1) c.args.frames.now) (drop (k + 1) c.args.frames.now))
+    ∙ ap (λ gs. spellings (replies_to st gs)) (take-append-drop (k + 1) c.args.frames.now) in (
+      before ++ take part.0 one,
+      Appends-trans (g.W.Write.contents c.args.writer.now) (g.W.Write.contents c.loop-frame.writer) (g.W.Write.contents c.serve_frame.new.writer) _ _ c.loop-frame.invariant.written part.1,
+      subst (IsFrontOf (before ++ take part.0 one)) all (front_ahead (before ++ take part.0 one) (before ++ one) later (front_behind before (take part.0 one) one (front_taken part.0 one))),
+    )

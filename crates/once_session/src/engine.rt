@@ -1,0 +1,187 @@
+//! The stream: pieces in, replies out.
+
+ghost use Rattle.std.specs.Prelude.{◌≡◌, ◌≤◌, ◌<◌, ◌++◌, ◌⊎◌, ℕ, List, [], ◌∷◌, length, take, true, false, IsTrue, ◌↔◌, Some, None, Ok, Err, OnOk, OnErr, IfOk, IfErr, unwrap_or};
+ghost use Rattle.std.specs.Io.KnownBytes.{Appends, Consumes, IsAtEnd};
+ghost use Rattle.frame_codec.specs.Frames.{spelling, payload_size, payload_limit};
+ghost use Rattle.once_session.specs.Courses.{next, HasTable, FitsReply, replies_to, stage_after, reply_bytes, reply, spellings};
+ghost use Rattle.once_session.specs.Outputs.{IsServeFault, IsFrontOf, IsJudged, goes_on, Turns, Serves};
+ghost use Rattle.frame_codec.specs.declared.frame.Frame.TheVariants.{Refused};
+
+use crate::stage::{Stage, Step, step_of};
+use engine_io::{piece_buffer, read_piece, write_out};
+use frame_codec::{Frame, ReadFault, Reader, write_frame};
+use matrix_u32::Kernel;
+use std::alloc::Global;
+use std::io::{Read, Write};
+use thiserror::Error;
+
+/// Why a stream was not served to its end.
+#[derive(Clone, Copy, Debug, PartialEq, Eq, Error)]
+pub enum OnceFault {
+    /// A frame had no place, could not be read, or was cut: its refusal was written.
+    #[error("bad input")]
+    BadInput,
+    /// A read failed.
+    #[error("a read failed")]
+    Read,
+    /// A write failed, or took no byte.
+    #[error("a write failed")]
+    Write,
+    /// There was no memory.
+    #[error("out of memory")]
+    Memory,
+    /// All turns were used before the stream ended.
+    #[error("all turns are used up")]
+    TurnsUsedUp,
+}
+
+// Writes a reply, made in a buffer of its own.
+pub(crate) fn send<W: Write>(alloc: Global, reply: &Frame, writer: &mut W) -> Result<(), OnceFault>
+    requires { payload_size reply.now ≤ payload_limit }
+    ensures all { OnOk result (Appends (W.contents writer.old) (W.contents writer.new) (spelling reply.now)) }
+    ensures front { OnErr result ((n : ℕ) × Appends (W.contents writer.old) (W.contents writer.new) (take n (spelling reply.now))) }
+    ensures fault { IfErr result (λ e. IsServeFault e) }
+{
+    let mut bytes = Vec::new(alloc);
+    if write_frame(reply, &mut bytes).is_err() {
+        return Err(OnceFault::Memory);
+    }
+    if write_out(writer, &bytes).is_err() {
+        return Err(OnceFault::Write);
+    }
+    Ok(())
+}
+
+// Serves a frame: writes its reply, and goes to the next stage.
+fn serve_frame<K: Kernel, W: Write>(
+    alloc: Global,
+    kernel: K,
+    stage: &mut Stage,
+    frame: &Frame,
+    writer: &mut W,
+) -> Result<(), OnceFault>
+    requires { HasTable stage.old }
+    ensures stage { OnOk result ((stage.new ≡ next stage.old frame.now) × HasTable stage.new) }
+    ensures all { OnOk result (Appends (W.contents writer.old) (W.contents writer.new) (reply_bytes (reply stage.old frame.now))) }
+    ensures front { OnErr result ((n : ℕ) × Appends (W.contents writer.old) (W.contents writer.new) (take n (reply_bytes (reply stage.old frame.now)))) }
+    ensures fault { IfErr result IsServeFault }
+{
+    let Ok(Step { reply, moves }) = step_of(alloc, kernel, stage, frame) else {
+        return Err(OnceFault::Memory);
+    };
+    send_reply(alloc, &reply, writer)?;
+    move_on(stage, moves);
+    Ok(())
+}
+
+// Writes a reply, where there is one.
+fn send_reply<W: Write>(
+    alloc: Global,
+    reply: &Option<Frame>,
+    writer: &mut W,
+) -> Result<(), OnceFault>
+    requires { FitsReply reply.now }
+    ensures all { OnOk result (Appends (W.contents writer.old) (W.contents writer.new) (reply_bytes reply.now)) }
+    ensures front { OnErr result ((n : ℕ) × Appends (W.contents writer.old) (W.contents writer.new) (take n (reply_bytes reply.now))) }
+    ensures fault { IfErr result IsServeFault }
+{
+    match reply {
+        Some(frame) => send(alloc, frame, writer),
+        None => Ok(()),
+    }
+}
+
+// Goes to the next stage, where it is another one.
+fn move_on(stage: &mut Stage, moves: Option<Stage>)
+    ensures { stage.new ≡ unwrap_or moves stage.old }
+{
+    if let Some(next) = moves {
+        *stage = next;
+    }
+}
+
+// Serves frames in order.
+fn serve_frames<K: Kernel, W: Write>(
+    alloc: Global,
+    kernel: K,
+    stage: &mut Stage,
+    frames: &[Frame],
+    writer: &mut W,
+) -> Result<(), OnceFault>
+    requires { HasTable stage.old }
+    ensures stage { OnOk result ((stage.new ≡ stage_after stage.old frames.now) × HasTable stage.new) }
+    ensures all { OnOk result (Appends (W.contents writer.old) (W.contents writer.new) (spellings (replies_to stage.old frames.now))) }
+    ensures front { OnErr result ((out : List ℕ) × Appends (W.contents writer.old) (W.contents writer.new) out × IsFrontOf out (spellings (replies_to stage.old frames.now))) }
+    ensures fault { IfErr result IsServeFault }
+{
+    for frame in frames {
+        if let Err(fault) = serve_frame(alloc, kernel, stage, frame, writer) {
+            return Err(fault);
+        }
+    }
+    Ok(())
+}
+
+// Whether frames can follow.
+pub(crate) fn goes_on(stage: &Stage) -> bool
+    ensures { result ≡ goes_on stage.now }
+{
+    matches!(stage, Stage::Fresh | Stage::Loaded(_))
+}
+
+// Ends the work where the stream can't be read on: what stands there is refused, or memory was.
+fn stop<W: Write>(
+    alloc: Global,
+    fault: ReadFault,
+    stage: &mut Stage,
+    writer: &mut W,
+) -> Result<(), OnceFault>
+    ensures refused { OnOk result (IsJudged fault × (stage.new ≡ Stage.Bad)) }
+    ensures all { OnOk result (Appends (W.contents writer.old) (W.contents writer.new) (spelling (Refused 1))) }
+    ensures front { OnErr result ((n : ℕ) × Appends (W.contents writer.old) (W.contents writer.new) (take n (spelling (Refused 1))) × ((n ≡ 0) ⊎ IsJudged fault)) }
+    ensures fault { IfErr result IsServeFault }
+{
+    match fault {
+        ReadFault::TooLong | ReadFault::UnknownKind | ReadFault::BadPayload => {
+            if let Err(broken) = send(alloc, &Frame::Refused { code: 1 }, writer) {
+                return Err(broken);
+            }
+            *stage = Stage::Bad;
+            Ok(())
+        }
+        ReadFault::Memory | ReadFault::Failed => Err(OnceFault::Memory),
+    }
+}
+
+// Serves what a piece brings.
+pub(crate) fn turn<K: Kernel, W: Write>(
+    alloc: Global,
+    kernel: K,
+    codec: &mut Reader,
+    stage: &mut Stage,
+    piece: &[u8],
+    writer: &mut W,
+) -> Result<(), OnceFault>
+    requires table { HasTable stage.old }
+    requires open { goes_on stage.old ≡ true }
+    ensures table { OnOk result (HasTable stage.new) }
+    ensures turned { (rest : List ℕ) → codec.old ≡ Some rest → (out : List ℕ) × Appends (W.contents writer.old) (W.contents writer.new) out
+        × Turns result stage.old (rest ++ piece.now) stage.new codec.new out }
+    ensures fault { IfErr result IsServeFault }
+{
+    let mut frames = Vec::new(alloc);
+    let read = codec.feed(piece, &mut frames);
+    if let Err(fault) = serve_frames(alloc, kernel, stage, &frames, writer) {
+        return Err(fault);
+    }
+    if !goes_on(stage) {
+        return Ok(());
+    }
+    match read {
+        Ok(()) => Ok(()),
+        Err(fault) => match stop(alloc, fault, stage, writer) {
+            Ok(()) => Ok(()),
+            Err(broken) => Err(broken),
+        },
+    }
+}

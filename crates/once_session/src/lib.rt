@@ -1,0 +1,14 @@
+//! One database and its queries over one stream: the frames of a Load, of Queries and of a Bye are read, and
+//! the queries answered by SimplePIR, without versions and sessions.
+#![tactic(auto)]
+
+mod engine;
+mod session;
+mod stage;
+
+pub use engine::OnceFault;
+pub use session::{once, once_with};
+pub use stage::{Stage, Step, Table, step_of};
+
+#[cfg(test)]
+mod tests;

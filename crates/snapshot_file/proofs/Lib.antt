@@ -1,0 +1,6 @@
+pub mod NumberBytes
+pub mod Headers
+pub mod Readings
+pub mod Writings
+pub mod Unique
+pub mod Stages

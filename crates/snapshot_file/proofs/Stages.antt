@@ -1,0 +1,173 @@
+-- That no input has two verdicts: how far it is good, stage by stage.
+use Rattle.std.proofs.Common.{◌≡◌, ℕ, zero, suc, ◌+◌, ◌-◌, ◌<◌, ◌≤◌, List, [], ◌∷◌, ◌++◌, length, take, Result, Ok, Err, inl, inr, refl, sym, ap, subst, ◌∙◌, append_assoc, arith}
+use Rattle.std.proofs.lemmas.List.{length-append, length-take, append-nil, take_at}
+use Rattle.std.proofs.lemmas.Bool.{cases_lt}
+use Rattle.sha2.specs.Sha256.{sha256}
+use Rattle.snapshot_file.specs.declared.snapshot.Header.{Header}
+use Rattle.snapshot_file.specs.declared.snapshot.SnapshotFault.{SnapshotFault}
+use Rattle.snapshot_file.specs.declared.snapshot.SnapshotFault.TheVariants as faults
+use Rattle.snapshot_file.specs.Snapshots.{magic, header_bytes, hashed_bytes, snapshot_bytes, records_len, IsHeader, IsAccepted, IsSnapshot}
+use Rattle.snapshot_file.specs.Verdicts.{EndsInHeader, HasHeader, EndsBehindHeader, HasBadHeader, HasBadDigest, HasSnapshot, HasFault, IsVerdict}
+use Rattle.snapshot_file.proofs.Headers.{length-header, length-magic, header_fields}
+use Rattle.snapshot_file.proofs.Unique.{cut_front, one_header, same_records, one_snapshot, length-sha256}
+
+-- so far, and no less, the input is good
+abbrev Reached : ℕ → List ℕ → Type 0
+Reached zero bytes = Unit {0}
+Reached (suc zero) bytes = 8 ≤ length bytes
+Reached (suc (suc zero)) bytes = take 8 bytes ≡ magic
+Reached (suc (suc (suc zero))) bytes = (take 8 bytes ≡ magic) × (91 ≤ length bytes)
+Reached (suc (suc (suc (suc zero)))) bytes = (h : Header) × (rest : List ℕ) × HasHeader bytes h rest
+Reached (suc (suc (suc (suc (suc zero))))) bytes = (h : Header) × (rest : List ℕ) × HasHeader bytes h rest × (records_len h + 32 ≤ length rest)
+Reached (suc (suc (suc (suc (suc (suc zero)))))) bytes = (rest : List ℕ) × HasSnapshot bytes rest
+Reached (suc (suc (suc (suc (suc (suc (suc zero))))))) bytes = HasSnapshot bytes []
+Reached _ bytes = ⊥
+
+record StopsAfter (n : ℕ) (bytes : List ℕ) : Type 0 where
+  reached : Reached n bytes
+  last : ¬ Reached (suc n) bytes
+
+-- what stands at the front of a header
+front_of_header : (h : Header) (rest bytes : List ℕ) → IsHeader h → bytes ≡ header_bytes h ++ rest → (take 8 bytes ≡ magic) × (91 ≤ length bytes)
+front_of_header h rest bytes is e =
+    let fields = header_fields h is in
+    let split : bytes ≡ magic ++ (fields.0 ++ rest) = e ∙ ap (λ (x : List ℕ). x ++ rest) fields.1 ∙ append_assoc magic fields.0 rest in
+    let len = length-header h is in
+    (ap (take 8) split ∙ take_at magic (fields.0 ++ rest) 8 length-magic, omega (arith, ap length e, length-append (header_bytes h) rest))
+
+-- a snapshot has a header, and enough bytes behind it
+rest_of_snapshot : (bytes end : List ℕ) → HasSnapshot bytes end → (h : Header) × (rest : List ℕ) × HasHeader bytes h rest × (records_len h + 32 ≤ length rest)
+rest_of_snapshot bytes end p =
+    let digest : List ℕ = sha256 (hashed_bytes p.0 p.1) in
+    let e : bytes ≡ header_bytes p.0 ++ (p.1 ++ (sha256 (hashed_bytes p.0 p.1) ++ end)) =
+    p.3 ∙ append_assoc (hashed_bytes p.0 p.1) (sha256 (hashed_bytes p.0 p.1)) end ∙ append_assoc (header_bytes p.0) p.1 (sha256 (hashed_bytes p.0 p.1) ++ end) in
+    let len = length-sha256 (hashed_bytes p.0 p.1) in (
+      p.0,
+      p.1 ++ (sha256 (hashed_bytes p.0 p.1) ++ end),
+      (p.2.header, p.2.accepted, e),
+      omega (arith, length-append p.1 (sha256 (hashed_bytes p.0 p.1) ++ end), length-append (sha256 (hashed_bytes p.0 p.1)) end, p.2.len),
+    )
+
+back : (n : ℕ) (bytes : List ℕ) → Reached (suc n) bytes → Reached n bytes
+back zero bytes p = tt
+back (suc zero) bytes p = omega (arith, length-take 8 bytes, ap length p, length-magic)
+back (suc (suc zero)) bytes p = p.0
+back (suc (suc (suc zero))) bytes p = front_of_header p.0 p.1 bytes p.2.0 p.2.2
+back (suc (suc (suc (suc zero)))) bytes p = (p.0, p.1, p.2)
+back (suc (suc (suc (suc (suc zero))))) bytes p = rest_of_snapshot bytes p.0 p.1
+back (suc (suc (suc (suc (suc (suc zero)))))) bytes p = ([], p)
+back _ bytes p = absurd p
+
+-- ---- each verdict ends at one stage
+
+down : (d n : ℕ) (bytes : List ℕ) → Reached (d + n) bytes → Reached n bytes
+down zero n bytes p = subst (λ (m : ℕ). Reached m bytes) (omega arith) p
+down (suc d) n bytes p =
+    let e : suc d + n ≡ suc (d + n) = omega arith in
+    down d n bytes (back (d + n) bytes (subst (λ (m : ℕ). Reached m bytes) e p))
+
+not_before : (n m : ℕ) (bytes : List ℕ) → StopsAfter n bytes → StopsAfter m bytes → n < m → ⊥
+not_before n m bytes a b lt =
+    let e : m ≡ (m - suc n) + suc n = omega arith in
+    a.last (down (m - suc n) (suc n) bytes (subst (λ (k : ℕ). Reached k bytes) e b.reached))
+
+one_stage : (n m : ℕ) (bytes : List ℕ) → StopsAfter n bytes → StopsAfter m bytes → n ≡ m
+one_stage n m bytes a b =
+    elim (cases_lt n m) [
+      | inl lt ↦ absurd (not_before n m bytes a b lt)
+      | inr le ↦ elim (cases_lt m n) [ inl lt ↦ absurd (not_before m n bytes b a lt) | inr ge ↦ omega arith ]
+    ]
+
+-- the fault of the stage that is not reached
+abbrev fault_after : ℕ → SnapshotFault
+fault_after zero = faults.Short
+fault_after (suc zero) = faults.NotSnapshot
+fault_after (suc (suc zero)) = faults.Short
+fault_after (suc (suc (suc zero))) = faults.BadLayout
+fault_after (suc (suc (suc (suc zero)))) = faults.Short
+fault_after (suc (suc (suc (suc (suc zero))))) = faults.BadDigest
+fault_after _ = faults.TrailingBytes
+
+ends_in_header : (bytes : List ℕ) → EndsInHeader bytes → StopsAfter 2 bytes
+ends_in_header bytes p = record {
+  reached = ap (take 8) p.1 ∙ take_at magic p.0 8 length-magic;
+  last = λ q. absurd (omega (arith, ap length p.1, length-append magic p.0, length-magic, p.2, q.1));
+}
+
+bad_header : (bytes rest : List ℕ) → HasBadHeader bytes rest → StopsAfter 3 bytes
+bad_header bytes rest p = record {
+  reached = front_of_header p.0 rest bytes p.1 p.3;
+  last = λ q. p.2 (subst IsAccepted (one_header q.0 p.0 q.1 rest q.2.0 p.1 (sym q.2.2 ∙ p.3)).0 q.2.1);
+}
+
+ends_behind : (bytes : List ℕ) → EndsBehindHeader bytes → StopsAfter 4 bytes
+ends_behind bytes p = record {
+  reached = (p.0, p.1, p.2);
+  last = λ q. absurd (
+      let same = one_header q.0 p.0 q.1 p.1 q.2.0 p.2.0 (sym q.2.2 ∙ p.2.2) in
+      omega (arith, ap records_len same.0, ap length same.1, p.3, q.3));
+}
+
+-- behind the same header and records there is the same digest
+digest_of_snapshot : (bytes digest rest end : List ℕ) (h : Header) (records : List ℕ) → IsSnapshot h records → length digest ≡ 32
+    → bytes ≡ hashed_bytes h records ++ (digest ++ rest) → HasSnapshot bytes end → digest ≡ sha256 (hashed_bytes h records)
+digest_of_snapshot bytes digest rest end h records is len e q =
+    let whole : hashed_bytes q.0 q.1 ++ (sha256 (hashed_bytes q.0 q.1) ++ end) ≡ hashed_bytes h records ++ (digest ++ rest) =
+    sym (q.3 ∙ append_assoc (hashed_bytes q.0 q.1) (sha256 (hashed_bytes q.0 q.1)) end) ∙ e in
+    let same = same_records q.0 h q.1 records (sha256 (hashed_bytes q.0 q.1) ++ end) (digest ++ rest) q.2 is whole in
+    let cut = cut_front (sha256 (hashed_bytes q.0 q.1)) digest end rest (length-sha256 (hashed_bytes q.0 q.1) ∙ sym len) same.2 in
+    sym cut.0 ∙ (λ i. sha256 (hashed_bytes (same.0 i) (same.1 i)))
+
+bad_digest : (bytes rest : List ℕ) → HasBadDigest bytes rest → StopsAfter 5 bytes
+bad_digest bytes rest p =
+    let apart : bytes ≡ hashed_bytes p.0 p.1 ++ (p.2 ++ rest) = p.6 ∙ append_assoc (hashed_bytes p.0 p.1) p.2 rest in
+    let room : records_len p.0 + 32 ≤ length (p.1 ++ (p.2 ++ rest)) = omega (arith, length-append p.1 (p.2 ++ rest), length-append p.2 rest, p.3.len, p.4) in
+    record {
+      reached = (p.0, p.1 ++ (p.2 ++ rest), (p.3.header, p.3.accepted, apart ∙ append_assoc (header_bytes p.0) p.1 (p.2 ++ rest)), room);
+      last = λ q. p.5 (digest_of_snapshot bytes p.2 rest q.0 p.0 p.1 p.3 p.4 apart q.1);
+    }
+
+trailing : (b : ℕ) (bytes rest : List ℕ) → HasSnapshot bytes (b ∷ rest) → StopsAfter 6 bytes
+trailing b bytes rest p = record {
+  reached = (b ∷ rest, p);
+  last = λ q.
+      let same = one_snapshot p.0 q.0 p.1 q.1 (b ∷ rest) [] p.2 q.2 (sym p.3 ∙ q.3) in
+      let none : b ∷ rest ≡ [] = same.2 in cc;
+}
+
+record FaultStage (fault : SnapshotFault) (bytes : List ℕ) : Type 0 where
+  stage : ℕ
+  early : stage < 7
+  stops : StopsAfter stage bytes
+  is : fault ≡ fault_after stage
+
+stage_of_fault : (fault : SnapshotFault) (bytes : List ℕ) → HasFault fault bytes → FaultStage fault bytes
+stage_of_fault faults.NotSnapshot bytes p = record { stage = 1; early = omega arith; stops = record { reached = p.0; last = p.1 }; is = refl }
+stage_of_fault faults.BadLayout bytes p = record { stage = 3; early = omega arith; stops = bad_header bytes p.0 p.1; is = refl }
+stage_of_fault faults.Short bytes (inl p) = record { stage = 0; early = omega arith; stops = record { reached = tt; last = λ q. absurd (omega arith) }; is = refl }
+stage_of_fault faults.Short bytes (inr (inl p)) = record { stage = 2; early = omega arith; stops = ends_in_header bytes p; is = refl }
+stage_of_fault faults.Short bytes (inr (inr p)) = record { stage = 4; early = omega arith; stops = ends_behind bytes p; is = refl }
+stage_of_fault faults.BadDigest bytes p = record { stage = 5; early = omega arith; stops = bad_digest bytes p.0 p.1; is = refl }
+stage_of_fault faults.TrailingBytes bytes p = record { stage = 6; early = omega arith; stops = trailing p.0 bytes p.1 p.2; is = refl }
+stage_of_fault faults.Read bytes p = absurd p
+stage_of_fault faults.Memory bytes p = absurd p
+
+not_both : (h : Header) (records bytes : List ℕ) (fault : SnapshotFault) → IsSnapshot h records → bytes ≡ snapshot_bytes h records → HasFault fault bytes → ⊥
+not_both h records bytes fault is e p =
+    let s = stage_of_fault fault bytes p in
+    let whole : StopsAfter 7 bytes = record { reached = (h, records, is, e ∙ sym (append-nil (snapshot_bytes h records))); last = λ q. q } in
+    not_before s.stage 7 bytes s.stops whole s.early
+
+pub one_verdict : (bytes : List ℕ) (v w : Result (Header × List ℕ) SnapshotFault) → IsVerdict bytes v → IsVerdict bytes w → v ≡ w
+one_verdict bytes (Ok s) (Ok t) p q =
+    let e : snapshot_bytes s.0 s.1 ++ [] ≡ snapshot_bytes t.0 t.1 ++ [] = ap (λ (x : List ℕ). x ++ []) (sym p.1 ∙ q.1) in
+    let same = one_snapshot s.0 t.0 s.1 t.1 [] [] p.0 q.0 e in
+    λ i. Ok (same.0 i, same.1 i)
+one_verdict bytes (Ok s) (Err g) p q = absurd (not_both s.0 s.1 bytes g p.0 p.1 q)
+one_verdict bytes (Err f) (Ok t) p q = absurd (not_both t.0 t.1 bytes f q.0 q.1 p)
+one_verdict bytes (Err f) (Err g) p q =
+    let a = stage_of_fault f bytes p in
+    let b = stage_of_fault g bytes q in
+    let n : a.stage ≡ b.stage = one_stage a.stage b.stage bytes a.stops b.stops in
+    let e : f ≡ g = a.is ∙ ap fault_after n ∙ sym b.is in
+    ap (λ (x : SnapshotFault). Err x) e

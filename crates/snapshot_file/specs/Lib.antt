@@ -1,0 +1,3 @@
+pub mod Snapshots
+pub mod Verdicts
+pub mod Laws

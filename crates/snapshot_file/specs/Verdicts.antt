@@ -1,0 +1,92 @@
+-- What a reader makes of its input, by cases in the order in which the bytes are judged.
+use Rattle.std.specs.Prelude.{◌≡◌, ◌<◌, ◌≤◌, ◌+◌, ◌⊎◌, ℕ, List, [], ◌∷◌, ◌++◌, length, take, Option, Result, Ok, Err}
+use Rattle.std.specs.Io.KnownBytes.{IsAtEnd}
+use Rattle.sha2.specs.Sha256.{sha256}
+use Rattle.snapshot_file.specs.declared.snapshot.Header.{Header}
+use Rattle.snapshot_file.specs.declared.snapshot.SnapshotFault.{SnapshotFault}
+use Rattle.snapshot_file.specs.declared.snapshot.SnapshotFault.TheVariants as faults
+use Rattle.snapshot_file.specs.Snapshots.{magic, header_bytes, hashed_bytes, snapshot_bytes, records_len, IsHeader, IsAccepted, IsSnapshot}
+
+-- the magic and a part of the other fields
+abbrev pub EndsInHeader : List ℕ → Type 0
+EndsInHeader bytes = (fields : List ℕ) × (bytes ≡ magic ++ fields) × (length fields < 83)
+
+-- an accepted header, and bytes behind it
+abbrev pub HasHeader : List ℕ → Header → List ℕ → Type 0
+HasHeader bytes h rest = IsHeader h × IsAccepted h × (bytes ≡ header_bytes h ++ rest)
+
+-- an accepted header, and a part of its records and their digest
+abbrev pub EndsBehindHeader : List ℕ → Type 0
+EndsBehindHeader bytes = (h : Header) × (rest : List ℕ) × HasHeader bytes h rest × (length rest < records_len h + 32)
+
+-- bytes without a fault so far, of which more are wanted
+abbrev pub IsUnfinished : List ℕ → Type 0
+IsUnfinished bytes = (length bytes < 8) ⊎ EndsInHeader bytes ⊎ EndsBehindHeader bytes
+
+-- a header that is not accepted, and bytes behind it
+abbrev pub HasBadHeader : List ℕ → List ℕ → Type 0
+HasBadHeader bytes rest = (h : Header) × IsHeader h × (¬ IsAccepted h) × (bytes ≡ header_bytes h ++ rest)
+
+-- header and records with another digest than theirs, and bytes behind it
+abbrev pub HasBadDigest : List ℕ → List ℕ → Type 0
+HasBadDigest bytes rest = (h : Header) × (records : List ℕ) × (digest : List ℕ) × IsSnapshot h records × (length digest ≡ 32)
+    × (¬ (digest ≡ sha256 (hashed_bytes h records))) × (bytes ≡ hashed_bytes h records ++ digest ++ rest)
+
+-- a whole snapshot, and bytes behind it
+abbrev pub HasSnapshot : List ℕ → List ℕ → Type 0
+HasSnapshot bytes rest = (h : Header) × (records : List ℕ) × IsSnapshot h records × (bytes ≡ snapshot_bytes h records ++ rest)
+
+-- the fault of a whole input, where nothing keeps it from being read
+abbrev pub HasFault : SnapshotFault → List ℕ → Type 0
+HasFault faults.NotSnapshot bytes = (8 ≤ length bytes) × ¬ (take 8 bytes ≡ magic)
+HasFault faults.BadLayout bytes = (rest : List ℕ) × HasBadHeader bytes rest
+HasFault faults.Short bytes = IsUnfinished bytes
+HasFault faults.BadDigest bytes = (rest : List ℕ) × HasBadDigest bytes rest
+HasFault faults.TrailingBytes bytes = (b : ℕ) × (rest : List ℕ) × HasSnapshot bytes (b ∷ rest)
+HasFault faults.Read bytes = ⊥
+HasFault faults.Memory bytes = ⊥
+
+-- what a whole input is: a snapshot of this header and these records, or its fault
+abbrev pub IsVerdict : List ℕ → Result (Header × List ℕ) SnapshotFault → Type 0
+IsVerdict bytes (Ok s) = IsSnapshot s.0 s.1 × (bytes ≡ snapshot_bytes s.0 s.1)
+IsVerdict bytes (Err fault) = HasFault fault bytes
+
+-- what may be answered to a whole input in place of its snapshot: its fault, or that a read failed or,
+-- behind an accepted header, that there was no memory
+abbrev pub MayRefuse : SnapshotFault → List ℕ → Type 0
+MayRefuse faults.NotSnapshot bytes = HasFault faults.NotSnapshot bytes
+MayRefuse faults.BadLayout bytes = HasFault faults.BadLayout bytes
+MayRefuse faults.Short bytes = HasFault faults.Short bytes
+MayRefuse faults.BadDigest bytes = HasFault faults.BadDigest bytes
+MayRefuse faults.TrailingBytes bytes = HasFault faults.TrailingBytes bytes
+MayRefuse faults.Read bytes = Unit {0}
+MayRefuse faults.Memory bytes = (h : Header) × (rest : List ℕ) × HasHeader bytes h rest
+
+-- what had been read when reading stopped, and what was left: a fault is told with the first byte that makes it
+abbrev pub StopsAt : SnapshotFault → List ℕ → Option (List ℕ) → Type 0
+StopsAt faults.NotSnapshot read left = (length read ≡ 8) × ¬ (read ≡ magic)
+StopsAt faults.BadLayout read left = HasBadHeader read []
+StopsAt faults.Short read left = IsUnfinished read × IsAtEnd left
+StopsAt faults.BadDigest read left = HasBadDigest read []
+StopsAt faults.TrailingBytes read left = (b : ℕ) × HasSnapshot read (b ∷ [])
+StopsAt faults.Read read left = IsUnfinished read ⊎ HasSnapshot read []
+StopsAt faults.Memory read left = (h : Header) × (rest : List ℕ) × HasHeader read h rest
+
+-- what came before so many bytes were there: the input ended, or a read failed
+abbrev pub EndsBelow : ℕ → SnapshotFault → List ℕ → Option (List ℕ) → Type 0
+EndsBelow wanted faults.Short part left = (length part < wanted) × IsAtEnd left
+EndsBelow wanted faults.Read part left = length part < wanted
+EndsBelow wanted _ part left = ⊥
+
+-- the same where there may be no memory for what came
+abbrev pub EndsKept : ℕ → SnapshotFault → List ℕ → Option (List ℕ) → Type 0
+EndsKept wanted faults.Memory part left = Unit {0}
+EndsKept wanted faults.Short part left = (length part < wanted) × IsAtEnd left
+EndsKept wanted faults.Read part left = length part < wanted
+EndsKept wanted _ part left = ⊥
+
+-- what came where the input should end: a byte, or a read failed
+abbrev pub EndsBehind : SnapshotFault → List ℕ → Type 0
+EndsBehind faults.TrailingBytes part = (b : ℕ) × (part ≡ b ∷ [])
+EndsBehind faults.Read part = part ≡ []
+EndsBehind _ part = ⊥

@@ -1,0 +1,110 @@
+//! A header's bytes, and the digest of a header and its records.
+
+ghost use Rattle.std.specs.Prelude.{◌≡◌, ◌≤◌, ◌++◌, length, take, IfOk, OnOk};
+ghost use Rattle.sha2.specs.Sha256.{sha256};
+ghost use Rattle.snapshot_file.specs.Snapshots.{magic, number_bytes, header_bytes, IsHeader};
+
+use crate::snapshot::Header;
+use byteorder::{ByteOrder, LittleEndian};
+use sha2::{Digest, Sha256};
+use std::alloc::{AllocError, Global};
+
+/// How many bytes the magic has.
+pub const MAGIC_LEN: usize = 8;
+
+/// How many bytes the fields behind the magic have.
+pub const FIELDS_LEN: usize = 83;
+
+/// How many bytes the digest has.
+pub const DIGEST_LEN: usize = 32;
+
+/// What every snapshot begins with.
+#[tactic(auto, unfolding(crate::specs::Snapshots::magic))]
+pub fn magic_bytes() -> [u8; MAGIC_LEN]
+    ensures { result ≡ magic }
+{
+    *b"PIRSNAP1"
+}
+
+#[tactic(auto, unfolding(crate::specs::Snapshots::number_bytes))]
+fn put_u16(out: &mut Vec<u8>, number: u16) -> Result<(), AllocError>
+    ensures { OnOk result (out.new.items ≡ out.old.items ++ number_bytes 2 number) }
+{
+    let mut bytes = [0u8; 2];
+    LittleEndian::write_u16(&mut bytes, number);
+    out.extend_from_slice(&bytes)
+}
+
+#[tactic(auto, unfolding(crate::specs::Snapshots::number_bytes))]
+fn put_u32(out: &mut Vec<u8>, number: u32) -> Result<(), AllocError>
+    ensures { OnOk result (out.new.items ≡ out.old.items ++ number_bytes 4 number) }
+{
+    let mut bytes = [0u8; 4];
+    LittleEndian::write_u32(&mut bytes, number);
+    out.extend_from_slice(&bytes)
+}
+
+#[tactic(auto, unfolding(crate::specs::Snapshots::number_bytes))]
+fn put_u64(out: &mut Vec<u8>, number: u64) -> Result<(), AllocError>
+    ensures { OnOk result (out.new.items ≡ out.old.items ++ number_bytes 8 number) }
+{
+    let mut bytes = [0u8; 8];
+    LittleEndian::write_u64(&mut bytes, number);
+    out.extend_from_slice(&bytes)
+}
+
+/// The bytes of a header.
+#[tactic(auto, unfolding(crate::specs::Snapshots::header_bytes))]
+pub fn header_bytes(alloc: Global, header: &Header) -> Result<Vec<u8>, AllocError>
+    ensures { IfOk result (λ bytes. bytes.items ≡ header_bytes header.now) }
+{
+    let mut bytes = Vec::with_capacity(alloc, MAGIC_LEN + FIELDS_LEN)?;
+    bytes.extend_from_slice(&magic_bytes())?;
+    bytes.extend_from_slice(&[header.width])?;
+    put_u16(&mut bytes, header.record_len)?;
+    put_u16(&mut bytes, header.groups)?;
+    put_u32(&mut bytes, header.count)?;
+    put_u16(&mut bytes, header.dimension)?;
+    put_u64(&mut bytes, header.version)?;
+    bytes.extend_from_slice(&header.seed)?;
+    bytes.extend_from_slice(&header.publisher)?;
+    Ok(bytes)
+}
+
+// The first 32 bytes.
+fn first_32(bytes: &[u8]) -> [u8; 32]
+    requires { 32 ≤ length bytes.now }
+    ensures { result ≡ take 32 bytes.now }
+{
+    let mut first = [0u8; 32];
+    first.copy_from_slice(&bytes[..32]);
+    first
+}
+
+/// The header whose fields these bytes are: each number has no other spelling.
+pub fn header_in(fields: &[u8]) -> Header
+    requires { length fields.now ≡ 83 }
+    ensures bytes { header_bytes result ≡ magic ++ fields.now }
+    ensures header { IsHeader result }
+{
+    Header {
+        width: fields[0],
+        record_len: LittleEndian::read_u16(&fields[1..]),
+        groups: LittleEndian::read_u16(&fields[3..]),
+        count: LittleEndian::read_u32(&fields[5..]),
+        dimension: LittleEndian::read_u16(&fields[9..]),
+        version: LittleEndian::read_u64(&fields[11..]),
+        seed: first_32(&fields[19..]),
+        publisher: first_32(&fields[51..]),
+    }
+}
+
+/// The digest of a header's bytes and the records behind them.
+pub fn digest_of(header: &[u8], records: &[u8]) -> [u8; DIGEST_LEN]
+    ensures { result ≡ sha256 (header.now ++ records.now) }
+{
+    let mut hasher = Sha256::new();
+    hasher.update(header);
+    hasher.update(records);
+    hasher.finalize()
+}

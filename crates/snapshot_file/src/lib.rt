@@ -1,0 +1,18 @@
+//! Snapshot files: the bytes that keep a store's records, its layout and its version.
+//!
+//! A snapshot is a header of 91 bytes, the records one after another, and the SHA-256 digest (FIPS 180-4)
+//! of all bytes before it. `specs/Snapshots.antt` defines these bytes, `specs/Verdicts.antt` what a reader
+//! makes of an input. Numbers stand with their lowest byte first.
+#![tactic(auto)]
+
+mod header;
+pub mod laws;
+mod reading;
+mod snapshot;
+#[cfg(test)]
+mod tests;
+mod writing;
+
+pub use reading::read_snapshot;
+pub use snapshot::{Header, MAX_DIMENSION, Snapshot, SnapshotFault, WriteFault};
+pub use writing::write_snapshot_bytes;

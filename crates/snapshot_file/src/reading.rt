@@ -1,0 +1,175 @@
+//! A snapshot read from a reader.
+
+ghost use Rattle.std.specs.Prelude.{◌≡◌, ◌≤◌, ◌<◌, ◌*◌, ◌++◌, ◌∷◌, [], ℕ, List, length, vec_len, IfOk, IfErr, OnOk, OnErr, IfSome};
+ghost use Rattle.std.specs.Io.KnownBytes.{Consumes, IsAtEnd};
+ghost use Rattle.sha2.specs.Sha256.{sha256};
+ghost use Rattle.snapshot_file.specs.Snapshots.{magic, header_of, header_bytes, hashed_bytes, snapshot_bytes, records_len, IsHeader, IsAccepted, IsSnapshot};
+ghost use Rattle.snapshot_file.specs.Verdicts.{EndsBelow, EndsKept, EndsBehind, StopsAt, MayRefuse};
+
+use crate::header::{
+    DIGEST_LEN, FIELDS_LEN, MAGIC_LEN, digest_of, header_bytes, header_in, magic_bytes,
+};
+use crate::snapshot::{Header, Snapshot, SnapshotFault};
+use std::alloc::{AllocError, Global};
+use std::io::Read;
+
+/// How many bytes of the records are asked for at once, at most.
+const PIECE_LEN: usize = 65536;
+
+// As many bytes as there is room for.
+fn fill<R: Read>(reader: &mut R, out: &mut [u8]) -> Result<(), SnapshotFault>
+    ensures ok { OnOk result (Consumes (R.remaining reader.old) (R.remaining reader.new) out.new) }
+    ensures err { IfErr result (λ fault. (part : List ℕ) × Consumes (R.remaining reader.old) (R.remaining reader.new) part
+        × EndsBelow (length out.old) fault part (R.remaining reader.new)) }
+{
+    let mut at = 0;
+    while at < out.len() {
+        match reader.read(&mut out[at..]) {
+            Ok(0) => return Err(SnapshotFault::Short),
+            Err(_) => return Err(SnapshotFault::Read),
+            Ok(n) => at += n,
+        }
+    }
+    Ok(())
+}
+
+// The next N bytes.
+fn read_array<const N: usize, R: Read>(reader: &mut R) -> Result<[u8; N], SnapshotFault>
+    ensures ok { IfOk result (λ bytes. (length bytes ≡ N) × Consumes (R.remaining reader.old) (R.remaining reader.new) bytes) }
+    ensures err { IfErr result (λ fault. (part : List ℕ) × Consumes (R.remaining reader.old) (R.remaining reader.new) part
+        × EndsBelow N fault part (R.remaining reader.new)) }
+{
+    let mut bytes = [0u8; N];
+    fill(reader, &mut bytes)?;
+    Ok(bytes)
+}
+
+// An accepted header.
+fn read_header<R: Read>(reader: &mut R) -> Result<Header, SnapshotFault>
+    ensures ok { IfOk result (λ h. IsHeader h × IsAccepted h × Consumes (R.remaining reader.old) (R.remaining reader.new) (header_bytes h)) }
+    ensures err { IfErr result (λ fault. (read : List ℕ) × Consumes (R.remaining reader.old) (R.remaining reader.new) read
+        × StopsAt fault read (R.remaining reader.new)) }
+{
+    let first = read_array::<MAGIC_LEN, R>(reader)?;
+    if first != magic_bytes() {
+        return Err(SnapshotFault::NotSnapshot);
+    }
+    let fields = read_array::<FIELDS_LEN, R>(reader)?;
+    let header = header_in(&fields);
+    if !header.is_accepted() {
+        return Err(SnapshotFault::BadLayout);
+    }
+    Ok(header)
+}
+
+// Room for a piece. Its bytes are not said, which keeps them out of the proofs.
+fn piece_buffer(alloc: Global, len: usize) -> Result<Vec<u8>, AllocError>
+    ensures { IfOk result (λ buffer. vec_len buffer ≡ len) }
+{
+    Vec::from_elem(alloc, 0u8, len)
+}
+
+// One read, added to what was read before.
+fn read_piece<R: Read>(
+    reader: &mut R,
+    buffer: &mut [u8],
+    records: &mut Vec<u8>,
+) -> Result<(), SnapshotFault>
+    requires { 0 < length buffer.old }
+    ensures ok { OnOk result ((part : List ℕ) × (0 < length part) × (length part ≤ length buffer.old)
+        × Consumes (R.remaining reader.old) (R.remaining reader.new) part × (records.new.items ≡ records.old.items ++ part)) }
+    ensures err { IfErr result (λ fault. (part : List ℕ) × Consumes (R.remaining reader.old) (R.remaining reader.new) part
+        × EndsKept 1 fault part (R.remaining reader.new)) }
+{
+    match reader.read(buffer) {
+        Ok(0) => Err(SnapshotFault::Short),
+        Err(_) => Err(SnapshotFault::Read),
+        Ok(n) => {
+            if records.extend_from_slice(&buffer[..n]).is_err() {
+                return Err(SnapshotFault::Memory);
+            }
+            Ok(())
+        }
+    }
+}
+
+// So many bytes of records. They are kept as they come, so that a header alone, whatever it claims, makes
+// nobody reserve more than a piece.
+fn read_records<R: Read>(
+    alloc: Global,
+    reader: &mut R,
+    wanted: usize,
+) -> Result<Vec<u8>, SnapshotFault>
+    ensures ok { IfOk result (λ records. (length records.items ≡ wanted) × Consumes (R.remaining reader.old) (R.remaining reader.new) records.items) }
+    ensures err { IfErr result (λ fault. (part : List ℕ) × Consumes (R.remaining reader.old) (R.remaining reader.new) part
+        × EndsKept wanted fault part (R.remaining reader.new)) }
+{
+    let Ok(mut buffer) = piece_buffer(alloc, wanted.min(PIECE_LEN)) else {
+        return Err(SnapshotFault::Memory);
+    };
+    let mut records = Vec::new(alloc);
+    while records.len() < wanted {
+        let room = buffer.len().min(wanted - records.len());
+        read_piece(reader, &mut buffer[..room], &mut records)?;
+    }
+    Ok(records)
+}
+
+// Nothing more.
+fn read_end<R: Read>(reader: &mut R) -> Result<(), SnapshotFault>
+    ensures ok { OnOk result (Consumes (R.remaining reader.old) (R.remaining reader.new) [] × IsAtEnd (R.remaining reader.new)) }
+    ensures err { IfErr result (λ fault. (part : List ℕ) × Consumes (R.remaining reader.old) (R.remaining reader.new) part × EndsBehind fault part) }
+{
+    let mut next = [0u8; 1];
+    match reader.read(&mut next) {
+        Ok(0) => Ok(()),
+        Ok(_) => Err(SnapshotFault::TrailingBytes),
+        Err(_) => Err(SnapshotFault::Read),
+    }
+}
+
+// The records and the digest behind a header, and the end of the input.
+fn read_body<R: Read>(
+    alloc: Global,
+    reader: &mut R,
+    header: &Header,
+) -> Result<Vec<u8>, SnapshotFault>
+    requires header { IsHeader header.now }
+    requires accepted { IsAccepted header.now }
+    ensures ok { IfOk result (λ records. IsSnapshot header.now records.items
+        × Consumes (R.remaining reader.old) (R.remaining reader.new) (records.items ++ sha256 (hashed_bytes header.now records.items))
+        × IsAtEnd (R.remaining reader.new)) }
+    ensures err { IfErr result (λ fault. (read : List ℕ) × Consumes (R.remaining reader.old) (R.remaining reader.new) read
+        × StopsAt fault (header_bytes header.now ++ read) (R.remaining reader.new)) }
+{
+    // the bytes that were read: a header has no others
+    let Ok(front) = header_bytes(alloc, header) else {
+        return Err(SnapshotFault::Memory);
+    };
+    let records = read_records(alloc, reader, header.records_len())?;
+    let digest = read_array::<DIGEST_LEN, R>(reader)?;
+    if digest != digest_of(&front, &records) {
+        return Err(SnapshotFault::BadDigest);
+    }
+    read_end(reader)?;
+    Ok(records)
+}
+
+/// Reads a snapshot, which must be the whole input. Each fault is answered with the first byte that makes
+/// it: `NotSnapshot` with byte 8, `BadLayout` with byte 91, `BadDigest` with the last byte of the digest,
+/// `TrailingBytes` with the byte behind it; `Short` where the input ends before that. `Read` is answered
+/// where a read fails, an interrupted one too, and `Memory` only behind an accepted header. What is
+/// reserved never passes 64 KiB and a small multiple of the bytes that came.
+pub fn read_snapshot<R: Read>(alloc: Global, reader: &mut R) -> Result<Snapshot, SnapshotFault>
+    ensures accepted { IfOk result (λ s. IsSnapshot (header_of s) s.records.items) }
+    ensures input { IfOk result (λ s. IfSome (R.remaining reader.old) (λ bytes. bytes ≡ snapshot_bytes (header_of s) s.records.items)) }
+    ensures refused { IfErr result (λ fault. IfSome (R.remaining reader.old) (λ bytes. MayRefuse fault bytes)) }
+    ensures taken { IfOk result (λ s. Consumes (R.remaining reader.old) (R.remaining reader.new) (snapshot_bytes (header_of s) s.records.items)
+        × IsAtEnd (R.remaining reader.new)) }
+    ensures stops { IfErr result (λ fault. (read : List ℕ) × Consumes (R.remaining reader.old) (R.remaining reader.new) read
+        × StopsAt fault read (R.remaining reader.new)) }
+{
+    let header = read_header(reader)?;
+    let records = read_body(alloc, reader, &header)?;
+    Ok(header.with_records(records))
+}

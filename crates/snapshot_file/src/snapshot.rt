@@ -1,0 +1,156 @@
+//! What a snapshot holds, and why one can't be read or written.
+
+ghost use Rattle.std.specs.Prelude.{◌≡◌, ◌↔◌, IsTrue};
+ghost use Rattle.snapshot_file.specs.Snapshots.{header_of, records_len, IsAccepted};
+
+use digit_pack::Layout;
+use thiserror::Error;
+
+/// The greatest dimension: how many words a secret has.
+pub const MAX_DIMENSION: u16 = 1024;
+
+/// The fields of a snapshot but its records.
+#[derive(Clone, Copy, Debug, PartialEq, Eq)]
+pub struct Header {
+    /// How many bits a digit has, 6 to 10 in a snapshot that is read.
+    pub width: u8,
+    /// How many bytes a record has.
+    pub record_len: u16,
+    /// How many records stand in a column of the digit matrix.
+    pub groups: u16,
+    /// How many records there are.
+    pub count: u32,
+    /// How many words a secret has, 1 to [`MAX_DIMENSION`] in a snapshot that is read.
+    pub dimension: u16,
+    /// The version of the records, counted from 1.
+    pub version: u64,
+    /// The key of the public matrices.
+    pub seed: [u8; 32],
+    /// The SHA-256 digest of the publisher's key.
+    pub publisher: [u8; 32],
+}
+
+/// A store at rest: one version of its records, and what it takes to serve them. The fields are those of
+/// [`Header`], and the bytes of the records one after another, record 0 first.
+#[derive(Drop)]
+pub struct Snapshot {
+    /// How many bits a digit has.
+    pub width: u8,
+    /// How many bytes a record has.
+    pub record_len: u16,
+    /// How many records stand in a column of the digit matrix.
+    pub groups: u16,
+    /// How many records there are.
+    pub count: u32,
+    /// How many words a secret has.
+    pub dimension: u16,
+    /// The version of the records, counted from 1.
+    pub version: u64,
+    /// The key of the public matrices.
+    pub seed: [u8; 32],
+    /// The SHA-256 digest of the publisher's key.
+    pub publisher: [u8; 32],
+    /// The bytes of the records, `count` times `record_len` in a snapshot that was read.
+    pub records: Vec<u8>,
+}
+
+/// Why an input is no snapshot, or could not be read.
+#[derive(Clone, Copy, Debug, PartialEq, Eq, Error)]
+pub enum SnapshotFault {
+    /// The first 8 bytes are not `PIRSNAP1`.
+    #[error("not a snapshot")]
+    NotSnapshot,
+    /// The header's layout is refused, its dimension is not in 1 to [`MAX_DIMENSION`], or its version is 0.
+    #[error("the snapshot's layout, dimension or version is outside the limits")]
+    BadLayout,
+    /// The input ends in the header, the records or the digest.
+    #[error("the snapshot is cut short")]
+    Short,
+    /// The digest is not that of the header and the records.
+    #[error("the snapshot's digest is wrong")]
+    BadDigest,
+    /// There is a byte behind the digest.
+    #[error("there are bytes behind the snapshot")]
+    TrailingBytes,
+    /// A read failed.
+    #[error("the snapshot could not be read")]
+    Read,
+    /// There is no memory, which is wanted only behind an accepted header.
+    #[error("out of memory")]
+    Memory,
+}
+
+/// Why a snapshot was not written, or not as a whole.
+#[derive(Clone, Copy, Debug, PartialEq, Eq, Error)]
+pub enum WriteFault {
+    /// A write failed, or took no byte.
+    #[error("the snapshot could not be written")]
+    Write,
+    /// There is no memory for the header.
+    #[error("out of memory")]
+    Memory,
+}
+
+impl Header {
+    /// The snapshot of this header and these records.
+    pub fn with_records(self, records: Vec<u8>) -> Snapshot
+        ensures header { header_of result ≡ self }
+        ensures records { result.records ≡ records }
+    {
+        let seed = self.seed;
+        let publisher = self.publisher;
+        Snapshot {
+            width: self.width,
+            record_len: self.record_len,
+            groups: self.groups,
+            count: self.count,
+            dimension: self.dimension,
+            version: self.version,
+            seed,
+            publisher,
+            records,
+        }
+    }
+
+    /// How many bytes its records have together.
+    pub fn records_len(&self) -> usize
+        ensures { result ≡ records_len self.now }
+    {
+        self.count as usize * self.record_len as usize
+    }
+
+    /// Whether a reader takes it: a layout within its limits, a dimension in 1 to [`MAX_DIMENSION`], and
+    /// a version that is not 0.
+    pub fn is_accepted(&self) -> bool
+        ensures { IsTrue result ↔ IsAccepted self.now }
+    {
+        let layout = Layout::new(
+            self.width as u32,
+            self.record_len as usize,
+            self.groups as usize,
+            self.count as usize,
+        );
+        layout.is_ok()
+            && self.dimension >= 1
+            && self.dimension <= MAX_DIMENSION
+            && self.version != 0
+    }
+}
+
+impl Snapshot {
+    /// Its fields but the records.
+    pub fn header(&self) -> Header
+        ensures { result ≡ header_of self.now }
+    {
+        Header {
+            width: self.width,
+            record_len: self.record_len,
+            groups: self.groups,
+            count: self.count,
+            dimension: self.dimension,
+            version: self.version,
+            seed: self.seed,
+            publisher: self.publisher,
+        }
+    }
+}

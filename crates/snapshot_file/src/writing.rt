@@ -1,0 +1,50 @@
+//! A snapshot written to a writer.
+
+ghost use Rattle.std.specs.Prelude.{◌≡◌, ◌≤◌, ◌<◌, ℕ, Err, length, take, OnOk, OnErr, IfErr};
+ghost use Rattle.std.specs.Io.KnownBytes.{Appends};
+ghost use Rattle.snapshot_file.specs.Snapshots.{snapshot_bytes};
+
+use crate::header::{digest_of, header_bytes};
+use crate::snapshot::{Header, WriteFault};
+use std::alloc::Global;
+use std::io::Write;
+
+// Writes bytes, at least one in each turn.
+fn write_out<W: Write>(writer: &mut W, bytes: &[u8]) -> Result<(), WriteFault>
+    ensures ok { OnOk result (Appends (W.contents writer.old) (W.contents writer.new) bytes.now) }
+    ensures err { OnErr result ((n : ℕ) × (n < length bytes.now)
+        × Appends (W.contents writer.old) (W.contents writer.new) (take n bytes.now)) }
+    ensures fault { OnErr result (result ≡ Err WriteFault.Write) }
+{
+    let mut at = 0;
+    while at < bytes.len() {
+        match writer.write(&bytes[at..]) {
+            Ok(0) | Err(_) => return Err(WriteFault::Write),
+            Ok(n) => at += n,
+        }
+    }
+    Ok(())
+}
+
+/// Writes the snapshot of a header and its records, `count` times `record_len` bytes if it is to be read
+/// back. After `Write`, where a write failed or took no byte, a part of it went out, and not the whole;
+/// `Memory` comes before the first byte.
+pub fn write_snapshot_bytes<W: Write>(
+    alloc: Global,
+    header: &Header,
+    records: &[u8],
+    writer: &mut W,
+) -> Result<(), WriteFault>
+    ensures whole { OnOk result (Appends (W.contents writer.old) (W.contents writer.new) (snapshot_bytes header.now records.now)) }
+    ensures part { IfErr result (λ fault. (n : ℕ) × (n < length (snapshot_bytes header.now records.now))
+        × Appends (W.contents writer.old) (W.contents writer.new) (take n (snapshot_bytes header.now records.now))
+        × (fault ≡ WriteFault.Memory → n ≡ 0)) }
+{
+    let Ok(front) = header_bytes(alloc, header) else {
+        return Err(WriteFault::Memory);
+    };
+    let digest = digest_of(&front, records);
+    write_out(writer, &front)?;
+    write_out(writer, records)?;
+    write_out(writer, &digest)
+}
