@@ -161,7 +161,15 @@ fn records_stand_in_their_columns(rt: HostRuntime) -> Result<(), Fail> {
     assert_eq!(rt; (layout.count(), layout.record_len()), (5, 2));
     let digits: Flat = digits_of_records(rt.alloc(), &layout, &bytes)?;
     assert_eq!(rt; (digits.rows(), digits.cols()), (4, 3));
-    for (row, col, digit) in [(0, 0, 1), (1, 0, 2), (3, 0, 4), (2, 1, 7), (0, 2, 9), (1, 2, 10), (2, 2, 0)] {
+    for (row, col, digit) in [
+        (0, 0, 1),
+        (1, 0, 2),
+        (3, 0, 4),
+        (2, 1, 7),
+        (0, 2, 9),
+        (1, 2, 10),
+        (2, 2, 0),
+    ] {
         assert_eq!(rt; digits.get(row, col), digit, "row {row}, column {col}");
     }
     write_record(&layout, &mut bytes, 3, &[70, 80]);

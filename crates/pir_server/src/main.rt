@@ -6,9 +6,8 @@
 #![tactic(auto)]
 
 use once_session::{OnceFault, once};
-use std::env;
-use std::io;
 use std::process::ExitCode;
+use std::{env, io};
 
 const TURNS: u64 = 1_000_000;
 
