@@ -1,0 +1,196 @@
+-- What no reply and no call changes.
+use Rattle.std.proofs.Common.{◌≡◌, ◌≢◌, ℕ, ◌+◌, ◌*◌, ◌≤◌, Bool, true, false, cond, List, [], ◌++◌, length, Option, Some, None, refl, subst, arith}
+use Rattle.std.specs.Prelude.{◌==◌, ◌&&◌, nat_lt, nat_le, not}
+use Rattle.std.proofs.lemmas.Bool.{and_parts, eqb-true, eqb-false, leb-true}
+use Rattle.std.proofs.lemmas.List.{length-append}
+use Rattle.frame_codec.specs.declared.frame.Frame.{Frame}
+use Rattle.frame_codec.specs.declared.frame.Frame.TheVariants as frame
+use Rattle.digit_pack.specs.Layout.{Shape, shape, digit_rows}
+use Rattle.version_store.specs.declared.scheme.Scheme.TheVariants.{Simple, Double}
+use Rattle.client_core.specs.declared.state.ClientState.{ClientState}
+use Rattle.client_core.specs.declared.state.Known.{Known}
+use Rattle.client_core.specs.declared.state.Hint.{Hint}
+use Rattle.client_core.specs.declared.state.Call.{Call}
+use Rattle.client_core.specs.declared.state.Call.TheVariants.{Idle, Hello, Sync, Ask, Edit, Publish}
+use Rattle.client_core.specs.declared.state.Event.TheVariants.{Welcomed}
+use Rattle.client_core.specs.declared.state.ClientFault.TheVariants.{BadWelcome, BadReply}
+use Rattle.client_core.specs.States.{IsState, IsKnown, Keeps, KnownFits, HintFits, CallFits, is_layout, hint_len, part_len}
+use Rattle.client_core.specs.Replies.{Taken, takes, faulty, ended, is_welcome, takes_welcome, is_part, more_parts, takes_simple_part, takes_part, answered, takes_answer, with_count, staled, takes_stale, takes_done, takes_refused}
+use Rattle.client_core.proofs.Layouts.{layout_means}
+
+pub faulty_keeps : (c : ClientState) → IsState c → Keeps c (record c { failed = true })
+faulty_keeps c s = record { good = record { number = s.number; known = s.known; hint = s.hint; call = s.call }; number = refl }
+
+pub ended_keeps : (c : ClientState) → IsState c → Keeps c (record c { call = Idle })
+ended_keeps c s = record { good = record { number = s.number; known = s.known; hint = s.hint; call = tt }; number = refl }
+
+emptied_keeps : (c : ClientState) → IsState c → Keeps c (record c { parts = []; call = Idle })
+emptied_keeps c s = record { good = record { number = s.number; known = s.known; hint = s.hint; call = tt }; number = refl }
+
+if_keeps : (c : ClientState) (b : Bool) (x y : Taken) → (b ≡ true → Keeps c x.state) → (b ≡ false → Keeps c y.state) → Keeps c (cond b x y).state
+if_keeps c true x y p q = p refl
+if_keeps c false x y p q = q refl
+
+-- ---- Welcome
+
+no_hint : (known : Option Known) (hint : Option Hint) (key parts : List ℕ) (k : Known) → CallFits (Hello key) known parts → HintFits known hint → HintFits (Some k) hint
+no_hint None None key parts k a b = tt
+no_hint None (Some h) key parts k a b = absurd b
+no_hint (Some j) hint key parts k a b = absurd a
+
+told : ℕ → Shape → ℕ → List ℕ → Known
+told version l n seed = record { version = version; layout = l; dimension = n; seed = seed }
+
+welcome_known : (profile : ℕ) (l : Shape) (n version : ℕ) (seed : List ℕ) → is_welcome profile l n version ≡ true → IsKnown (told version l n seed)
+unfolding told
+welcome_known profile l n version seed h =
+    let a = and_parts (profile == 1) (is_layout l && ((nat_le 1 n && nat_le n 1024) && nat_lt 0 version)) h in
+    let b = and_parts (is_layout l) ((nat_le 1 n && nat_le n 1024) && nat_lt 0 version) a.1 in
+    let d = and_parts (nat_le 1 n && nat_le n 1024) (nat_lt 0 version) b.1 in
+    let e = and_parts (nat_le 1 n) (nat_le n 1024) d.0 in
+    record { layout = layout_means l b.0; low = leb-true 1 n e.0; high = leb-true n 1024 e.1 }
+
+welcomed_keeps : (c : ClientState) (key : List ℕ) (profile : ℕ) (l : Shape) (n version : ℕ) (seed : List ℕ) → IsState c → CallFits (Hello key) c.known c.parts
+    → is_welcome profile l n version ≡ true → Keeps c (record c { known = Some (told version l n seed); call = Idle })
+welcomed_keeps c key profile l n version seed s fits is = record {
+  good = record {
+    number = s.number;
+    known = welcome_known profile l n version seed is;
+    hint = no_hint c.known c.hint key c.parts (told version l n seed) fits s.hint;
+    call = tt;
+  };
+  number = refl;
+}
+
+welcome_keeps : (call : Call) (c : ClientState) (profile : ℕ) (l : Shape) (n version : ℕ) (seed : List ℕ) → IsState c → CallFits call c.known c.parts → Keeps c (takes_welcome call c profile l n version seed).state
+unfolding told
+welcome_keeps Idle c profile l n version seed s fits = faulty_keeps c s
+welcome_keeps (Hello key) c profile l n version seed s fits =
+    if_keeps c (is_welcome profile l n version)
+    (ended (record c { known = Some (told version l n seed) }) (Welcomed version))
+    (faulty c BadWelcome)
+    (welcomed_keeps c key profile l n version seed s fits)
+    (λ _. faulty_keeps c s)
+welcome_keeps (Sync x v p) c profile l n version seed s fits = faulty_keeps c s
+welcome_keeps (Ask i v m) c profile l n version seed s fits = faulty_keeps c s
+welcome_keeps (Edit i b) c profile l n version seed s fits = faulty_keeps c s
+welcome_keeps Publish c profile l n version seed s fits = faulty_keeps c s
+
+-- ---- HintPart
+
+pub is_part_len : (total asked next scheme version part : ℕ) (words : List ℕ) → is_part total asked next scheme version part words ≡ true → length words ≡ part_len total next
+is_part_len total asked next scheme version part words h =
+    let a = and_parts (scheme == 0) ((version == asked) && ((part == next) && (length words == part_len total next))) h in
+    let b = and_parts (version == asked) ((part == next) && (length words == part_len total next)) a.1 in
+    let d = and_parts (part == next) (length words == part_len total next) b.1 in
+    eqb-true (length words) (part_len total next) d.1
+
+-- a part behind whole ones that isn't the last is a whole one
+part_fits : (total p : ℕ) (parts words : List ℕ) → length parts ≡ 65536 * p → length parts ≤ total → length words ≡ part_len total p → (length (parts ++ words) == total) ≡ false
+    → (length (parts ++ words) ≡ 65536 * (p + 1)) × (length (parts ++ words) ≤ total)
+part_fits total p parts words e le len ne =
+    let all : length (parts ++ words) ≡ length parts + length words = length-append parts words in
+    let other : length (parts ++ words) ≢ total = eqb-false (length (parts ++ words)) total ne in
+    (omega arith, omega arith)
+
+more_keeps : (k : Known) (c : ClientState) (v p : ℕ) (words : List ℕ) → c.known ≡ Some k → IsState c → length c.parts ≡ 65536 * p → length c.parts ≤ hint_len k → length words ≡ part_len (hint_len k) p
+    → Keeps c (more_parts k c v p (c.parts ++ words)).state
+more_keeps k c v p words e s len le is =
+    if_keeps c (length (c.parts ++ words) == hint_len k) _ _
+    (λ whole. record { good = record { number = s.number; known = s.known; hint = rw e (refl, refl); call = tt }; number = refl })
+    (λ other. record { good = record { number = s.number; known = s.known; hint = s.hint; call = rw e (part_fits (hint_len k) p c.parts words len le is other) }; number = refl })
+
+simple_part_keeps : (known : Option Known) (c : ClientState) (v p scheme version part : ℕ) (words : List ℕ) → c.known ≡ known → IsState c → CallFits (Sync Simple v p) known c.parts
+    → Keeps c (takes_simple_part known c v p scheme version part words).state
+simple_part_keeps None c v p scheme version part words e s fits = faulty_keeps c s
+simple_part_keeps (Some k) c v p scheme version part words e s fits =
+    if_keeps c (is_part (hint_len k) v p scheme version part words) (more_parts k c v p (c.parts ++ words)) (faulty c BadReply)
+    (λ is. more_keeps k c v p words e s fits.0 fits.1 (is_part_len (hint_len k) v p scheme version part words is))
+    (λ _. faulty_keeps c s)
+
+part_keeps : (call : Call) (c : ClientState) (scheme version part : ℕ) (words : List ℕ) → IsState c → CallFits call c.known c.parts → Keeps c (takes_part call c scheme version part words).state
+part_keeps Idle c scheme version part words s fits = faulty_keeps c s
+part_keeps (Hello key) c scheme version part words s fits = faulty_keeps c s
+part_keeps (Sync Simple v p) c scheme version part words s fits = simple_part_keeps c.known c v p scheme version part words refl s fits
+part_keeps (Sync Double v p) c scheme version part words s fits = faulty_keeps c s
+part_keeps (Ask i v m) c scheme version part words s fits = faulty_keeps c s
+part_keeps (Edit i b) c scheme version part words s fits = faulty_keeps c s
+part_keeps Publish c scheme version part words s fits = faulty_keeps c s
+
+-- ---- Answer
+
+answered_keeps : (known : Option Known) (hint : Option Hint) (c : ClientState) (i v m scheme version : ℕ) (words : List ℕ) → IsState c → Keeps c (answered known hint c i v m scheme version words).state
+answered_keeps None hint c i v m scheme version words s = faulty_keeps c s
+answered_keeps (Some k) None c i v m scheme version words s = faulty_keeps c s
+answered_keeps (Some k) (Some h) c i v m scheme version words s =
+    if_keeps c ((scheme == 0) && ((version == v) && (length words == digit_rows k.layout))) _ (faulty c BadReply) (λ _. ended_keeps c s) (λ _. faulty_keeps c s)
+
+answer_keeps : (call : Call) (c : ClientState) (scheme version : ℕ) (words : List ℕ) → IsState c → Keeps c (takes_answer call c scheme version words).state
+answer_keeps Idle c scheme version words s = faulty_keeps c s
+answer_keeps (Hello key) c scheme version words s = faulty_keeps c s
+answer_keeps (Sync x v p) c scheme version words s = faulty_keeps c s
+answer_keeps (Ask i v m) c scheme version words s = answered_keeps c.known c.hint c i v m scheme version words s
+answer_keeps (Edit i b) c scheme version words s = faulty_keeps c s
+answer_keeps Publish c scheme version words s = faulty_keeps c s
+
+-- ---- Stale
+
+same_rows : (k : Known) (version count : ℕ) (hint : Option Hint) → HintFits (Some k) hint → HintFits (Some (record k { version = version; layout = with_count k.layout count })) hint
+same_rows k version count None fits = tt
+same_rows k version count (Some h) fits = fits
+
+stale_known : (k : Known) (asked version count : ℕ) → IsKnown k → (not (version == asked) && (nat_lt 0 version && is_layout (with_count k.layout count))) ≡ true
+    → IsKnown (record k { version = version; layout = with_count k.layout count })
+stale_known k asked version count old h =
+    let a = and_parts (not (version == asked)) (nat_lt 0 version && is_layout (with_count k.layout count)) h in
+    let b = and_parts (nat_lt 0 version) (is_layout (with_count k.layout count)) a.1 in
+    record { layout = layout_means (with_count k.layout count) b.1; low = old.low; high = old.high }
+
+staled_keeps : (known : Option Known) (c after : ClientState) (asked version count : ℕ) → c.known ≡ known → IsState c → after.number ≡ c.number → after.hint ≡ c.hint → Keeps c (staled known after c asked version count).state
+staled_keeps None c after asked version count e s en eh = faulty_keeps c s
+staled_keeps (Some k) c after asked version count e s en eh =
+    let known : IsKnown k = let P : Option Known → Type 0 = KnownFits in subst P e s.known in
+    let hint : HintFits (Some k) c.hint = let P : Option Known → Type 0 = λ o. HintFits o c.hint in subst P e s.hint in
+    if_keeps c (not (version == asked) && (nat_lt 0 version && is_layout (with_count k.layout count))) _ (faulty c BadReply)
+    (λ is. record {
+      good = record { number = rw en s.number; known = stale_known k asked version count known is; hint = rw eh (same_rows k version count c.hint hint); call = tt };
+      number = en;
+    })
+    (λ _. faulty_keeps c s)
+
+stale_keeps : (call : Call) (c : ClientState) (version count : ℕ) → IsState c → Keeps c (takes_stale call c version count).state
+stale_keeps Idle c version count s = faulty_keeps c s
+stale_keeps (Hello key) c version count s = faulty_keeps c s
+stale_keeps (Sync x v p) c version count s = staled_keeps c.known c (record c { parts = [] }) v version count refl s refl refl
+stale_keeps (Ask i v m) c version count s = staled_keeps c.known c c v version count refl s refl refl
+stale_keeps (Edit i b) c version count s = faulty_keeps c s
+stale_keeps Publish c version count s = faulty_keeps c s
+
+-- ---- Done and Refused
+
+done_keeps : (call : Call) (c : ClientState) (version : ℕ) → IsState c → Keeps c (takes_done call c version).state
+done_keeps Idle c version s = faulty_keeps c s
+done_keeps (Hello key) c version s = faulty_keeps c s
+done_keeps (Sync x v p) c version s = faulty_keeps c s
+done_keeps (Ask i v m) c version s = faulty_keeps c s
+done_keeps (Edit i b) c version s = ended_keeps c s
+done_keeps Publish c version s = ended_keeps c s
+
+refused_keeps : (call : Call) (c : ClientState) (code : ℕ) → IsState c → Keeps c (takes_refused call c code).state
+refused_keeps Idle c code s = faulty_keeps c s
+refused_keeps (Hello key) c code s = ended_keeps c s
+refused_keeps (Sync x v p) c code s = emptied_keeps c s
+refused_keeps (Ask i v m) c code s = ended_keeps c s
+refused_keeps (Edit i b) c code s = ended_keeps c s
+refused_keeps Publish c code s = ended_keeps c s
+
+-- ---- any frame
+
+pub takes_keeps : (c : ClientState) (f : Frame) → IsState c → Keeps c (takes c f).state
+takes_keeps c (frame.Welcome profile width record_len groups count version dimension seed) s = welcome_keeps c.call c profile (shape width record_len groups count) dimension version seed s s.call
+takes_keeps c (frame.HintPart scheme version part words) s = part_keeps c.call c scheme version part words s s.call
+takes_keeps c (frame.Answer scheme version words) s = answer_keeps c.call c scheme version words s
+takes_keeps c (frame.Stale version count) s = stale_keeps c.call c version count s
+takes_keeps c (frame.Done version) s = done_keeps c.call c version s
+takes_keeps c (frame.Refused code) s = refused_keeps c.call c code s
+takes_keeps c _ s = faulty_keeps c s

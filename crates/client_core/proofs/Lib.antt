@@ -1,0 +1,6 @@
+pub mod Layouts
+pub mod Queries
+pub mod Keeping
+pub mod Courses
+pub mod NumberLaws
+pub mod HintLaws

@@ -1,0 +1,137 @@
+-- The numbers of a client's queries grow.
+use Rattle.std.proofs.Common.{◌≡◌, ℕ, zero, suc, ◌+◌, ◌<◌, ◌≤◌, Bool, true, false, cond, List, [], ◌∷◌, ◌++◌, length, Option, Some, None, refl, arith}
+use Rattle.std.specs.Prelude.{slice_index}
+use Rattle.frame_codec.specs.declared.frame.Frame.{Frame}
+use Rattle.frame_codec.specs.declared.frame.Frame.TheVariants as frame
+use Rattle.digit_pack.specs.Layout.{Shape, shape}
+use Rattle.version_store.specs.declared.scheme.Scheme.TheVariants.{Simple, Double}
+use Rattle.client_core.specs.declared.state.ClientState.{ClientState}
+use Rattle.client_core.specs.declared.state.Known.{Known}
+use Rattle.client_core.specs.declared.state.Hint.{Hint}
+use Rattle.client_core.specs.declared.state.Call.{Call}
+use Rattle.client_core.specs.declared.state.Call.TheVariants as call
+use Rattle.client_core.specs.Calls.{Want, Hello, Sync, Ask, Edit, Publish}
+use Rattle.client_core.specs.Replies.{Taken, takes, takes_welcome, more_parts, takes_simple_part, takes_part, answered, takes_answer, staled, takes_stale, takes_done, takes_refused}
+use Rattle.client_core.specs.Laws.{Happening, Accepted, Lacking, Taken as Reply, Failing, after, numbers, NoNumberTwice}
+
+-- ---- no reply changes the number
+
+either : (n : ℕ) (b : Bool) (x y : Taken) → x.state.number ≡ n → y.state.number ≡ n → (cond b x y).state.number ≡ n
+either n true x y p q = p
+either n false x y p q = q
+
+welcome_number : (k : Call) (c : ClientState) (profile : ℕ) (l : Shape) (n version : ℕ) (seed : List ℕ) → (takes_welcome k c profile l n version seed).state.number ≡ c.number
+welcome_number call.Idle c profile l n version seed = refl
+welcome_number (call.Hello key) c profile l n version seed = either c.number _ _ _ refl refl
+welcome_number (call.Sync s v p) c profile l n version seed = refl
+welcome_number (call.Ask i v m) c profile l n version seed = refl
+welcome_number (call.Edit i b) c profile l n version seed = refl
+welcome_number call.Publish c profile l n version seed = refl
+
+simple_part_number : (known : Option Known) (c : ClientState) (v p scheme version part : ℕ) (words : List ℕ) → (takes_simple_part known c v p scheme version part words).state.number ≡ c.number
+simple_part_number None c v p scheme version part words = refl
+simple_part_number (Some k) c v p scheme version part words = either c.number _ (more_parts k c v p (c.parts ++ words)) _ (either c.number _ _ _ refl refl) refl
+
+part_number : (k : Call) (c : ClientState) (scheme version part : ℕ) (words : List ℕ) → (takes_part k c scheme version part words).state.number ≡ c.number
+part_number call.Idle c scheme version part words = refl
+part_number (call.Hello key) c scheme version part words = refl
+part_number (call.Sync Simple v p) c scheme version part words = simple_part_number c.known c v p scheme version part words
+part_number (call.Sync Double v p) c scheme version part words = refl
+part_number (call.Ask i v m) c scheme version part words = refl
+part_number (call.Edit i b) c scheme version part words = refl
+part_number call.Publish c scheme version part words = refl
+
+answered_number : (known : Option Known) (hint : Option Hint) (c : ClientState) (i v m scheme version : ℕ) (words : List ℕ) → (answered known hint c i v m scheme version words).state.number ≡ c.number
+answered_number None hint c i v m scheme version words = refl
+answered_number (Some k) None c i v m scheme version words = refl
+answered_number (Some k) (Some h) c i v m scheme version words = either c.number _ _ _ refl refl
+
+answer_number : (k : Call) (c : ClientState) (scheme version : ℕ) (words : List ℕ) → (takes_answer k c scheme version words).state.number ≡ c.number
+answer_number call.Idle c scheme version words = refl
+answer_number (call.Hello key) c scheme version words = refl
+answer_number (call.Sync s v p) c scheme version words = refl
+answer_number (call.Ask i v m) c scheme version words = answered_number c.known c.hint c i v m scheme version words
+answer_number (call.Edit i b) c scheme version words = refl
+answer_number call.Publish c scheme version words = refl
+
+staled_number : (known : Option Known) (later c : ClientState) (asked version count : ℕ) → later.number ≡ c.number → (staled known later c asked version count).state.number ≡ c.number
+staled_number None later c asked version count e = refl
+staled_number (Some k) later c asked version count e = either c.number _ _ _ e refl
+
+stale_number : (k : Call) (c : ClientState) (version count : ℕ) → (takes_stale k c version count).state.number ≡ c.number
+stale_number call.Idle c version count = refl
+stale_number (call.Hello key) c version count = refl
+stale_number (call.Sync s v p) c version count = staled_number c.known (record c { parts = [] }) c v version count refl
+stale_number (call.Ask i v m) c version count = staled_number c.known c c v version count refl
+stale_number (call.Edit i b) c version count = refl
+stale_number call.Publish c version count = refl
+
+done_number : (k : Call) (c : ClientState) (version : ℕ) → (takes_done k c version).state.number ≡ c.number
+done_number call.Idle c version = refl
+done_number (call.Hello key) c version = refl
+done_number (call.Sync s v p) c version = refl
+done_number (call.Ask i v m) c version = refl
+done_number (call.Edit i b) c version = refl
+done_number call.Publish c version = refl
+
+refused_number : (k : Call) (c : ClientState) (code : ℕ) → (takes_refused k c code).state.number ≡ c.number
+refused_number call.Idle c code = refl
+refused_number (call.Hello key) c code = refl
+refused_number (call.Sync s v p) c code = refl
+refused_number (call.Ask i v m) c code = refl
+refused_number (call.Edit i b) c code = refl
+refused_number call.Publish c code = refl
+
+takes_number : (c : ClientState) (f : Frame) → (takes c f).state.number ≡ c.number
+takes_number c (frame.Welcome profile width record_len groups count version dimension seed) = welcome_number c.call c profile (shape width record_len groups count) dimension version seed
+takes_number c (frame.HintPart scheme version part words) = part_number c.call c scheme version part words
+takes_number c (frame.Answer scheme version words) = answer_number c.call c scheme version words
+takes_number c (frame.Stale version count) = stale_number c.call c version count
+takes_number c (frame.Done version) = done_number c.call c version
+takes_number c (frame.Refused code) = refused_number c.call c code
+takes_number c _ = refl
+
+-- ---- what happens to a client spends numbers at most
+
+calmly : (c : ClientState) (want : Want) → c.number ≤ (after c (Lacking want)).number
+calmly c (Hello key) = omega arith
+calmly c (Sync scheme) = omega arith
+calmly c (Ask i) = omega arith
+calmly c (Edit i bytes) = omega arith
+calmly c Publish = omega arith
+
+-- the numbers are those from n on, and grow
+record Above (n : ℕ) (ns : List ℕ) : Type 0 where
+  from : (i : ℕ) → i < length ns → n ≤ slice_index ns i
+  grow : (i j : ℕ) → i < j → j < length ns → slice_index ns i < slice_index ns j
+
+none_above : (n : ℕ) → Above n []
+none_above n = record { from = λ i lt. absurd (omega arith); grow = λ i j lt lt2. absurd (omega arith) }
+
+lower : (n m : ℕ) (ns : List ℕ) → n ≤ m → Above m ns → Above n ns
+lower n m ns le a = record { from = λ i lt. let h : m ≤ slice_index ns i = a.from i lt in omega arith; grow = a.grow }
+
+from_more : (n : ℕ) (ns : List ℕ) → Above (n + 1) ns → (i : ℕ) → i < length (n ∷ ns) → n ≤ slice_index (n ∷ ns) i
+from_more n ns a zero lt = omega arith
+from_more n ns a (suc i) lt = let h : n + 1 ≤ slice_index ns i = a.from i (omega arith) in omega arith
+
+grow_more : (n : ℕ) (ns : List ℕ) → Above (n + 1) ns → (i j : ℕ) → i < j → j < length (n ∷ ns) → slice_index (n ∷ ns) i < slice_index (n ∷ ns) j
+grow_more n ns a i zero lt lt2 = absurd (omega arith)
+grow_more n ns a zero (suc j) lt lt2 = let h : n + 1 ≤ slice_index ns j = a.from j (omega arith) in omega arith
+grow_more n ns a (suc i) (suc j) lt lt2 = a.grow i j (omega arith) (omega arith)
+
+all_above : (c : ClientState) (hs : List Happening) → Above c.number (numbers c hs)
+all_above c [] = none_above c.number
+all_above c (Accepted (Hello key) ∷ hs) = all_above (after c (Accepted (Hello key))) hs
+all_above c (Accepted (Sync scheme) ∷ hs) = all_above (after c (Accepted (Sync scheme))) hs
+all_above c (Accepted (Ask i) ∷ hs) =
+    let a : Above (c.number + 1) (numbers (after c (Accepted (Ask i))) hs) = all_above (after c (Accepted (Ask i))) hs in
+    record { from = from_more c.number (numbers (after c (Accepted (Ask i))) hs) a; grow = grow_more c.number (numbers (after c (Accepted (Ask i))) hs) a }
+all_above c (Accepted (Edit i bytes) ∷ hs) = all_above (after c (Accepted (Edit i bytes))) hs
+all_above c (Accepted Publish ∷ hs) = all_above (after c (Accepted Publish)) hs
+all_above c (Lacking want ∷ hs) = lower c.number (after c (Lacking want)).number (numbers (after c (Lacking want)) hs) (calmly c want) (all_above (after c (Lacking want)) hs)
+all_above c (Reply f ∷ hs) = lower c.number (after c (Reply f)).number (numbers (after c (Reply f)) hs) (omega (arith, takes_number c f)) (all_above (after c (Reply f)) hs)
+all_above c (Failing ∷ hs) = all_above (after c Failing) hs
+
+pub no_number_is_used_twice : NoNumberTwice
+no_number_is_used_twice = record { grows = λ c hs. (all_above c hs).grow; fresh = λ c hs. (all_above c hs).from }

@@ -1,0 +1,91 @@
+-- What a client does with a call.
+use Rattle.std.specs.Prelude.{◌≡◌, ◌+◌, ◌^◌, ℕ, List, [], Option, Some, None, is_some, nat_lt, if◌then◌else◌, ◌⊎◌}
+use Rattle.frame_codec.specs.declared.frame.Frame.{Frame}
+use Rattle.frame_codec.specs.declared.frame.Frame.TheVariants as frame
+use Rattle.frame_codec.specs.Frames.{IsFrame, spelling}
+use Rattle.simple_scheme.specs.Simple.{query_of}
+use Rattle.version_store.specs.declared.scheme.Scheme.{Scheme}
+use Rattle.version_store.specs.declared.scheme.Scheme.TheVariants.{Simple, Double}
+use Rattle.client_core.specs.declared.state.ClientState.{ClientState}
+use Rattle.client_core.specs.declared.state.Known.{Known}
+use Rattle.client_core.specs.declared.state.Call.{Call}
+use Rattle.client_core.specs.declared.state.Call.TheVariants as call
+use Rattle.client_core.specs.declared.state.CallFault.{CallFault}
+use Rattle.client_core.specs.declared.state.CallFault.TheVariants.{NotReady, Busy, BadIndex, SeedUsedUp, Memory, Failed, AlreadyWelcome}
+use Rattle.client_core.specs.States.{is_idle, is_ready, known_version, known_count, public_matrix}
+
+-- a call, with what the caller gives it
+pub data Want : Type 0 where
+  Hello : (key : List ℕ) → Want
+  Sync : (scheme : Scheme) → Want
+  Ask : (index : ℕ) → Want
+  Edit : (index : ℕ) (bytes : List ℕ) → Want
+  Publish : Want
+
+-- the checks of hello
+abbrev pub hello_refusal : ClientState → Option CallFault
+hello_refusal c = if c.failed then Some Failed else (if is_some c.known then Some AlreadyWelcome else (if is_idle c.call then None else Some Busy))
+
+-- sync, edit and publish have the same checks
+abbrev pub change_refusal : ClientState → Option CallFault
+change_refusal c = if c.failed then Some Failed else (if is_some c.known then (if is_idle c.call then None else Some Busy) else Some NotReady)
+
+-- the first check that applies refuses a call
+abbrev pub refusal : Want → ClientState → Option CallFault
+refusal (Hello key) c = hello_refusal c
+refusal (Sync scheme) c = change_refusal c
+refusal (Ask i) c =
+    if c.failed then Some Failed
+    else (if is_ready c.known c.hint then (
+    if is_idle c.call then (
+    if nat_lt i (known_count c.known) then (
+    if nat_lt c.number (2 ^ 62) then None else Some SeedUsedUp) else Some BadIndex) else Some Busy) else Some NotReady)
+refusal (Edit i bytes) c = change_refusal c
+refusal Publish c = change_refusal c
+
+-- the state after an accepted call
+abbrev pub called : Want → ClientState → ClientState
+called (Hello key) c = record c { call = call.Hello key }
+called (Sync scheme) c = record c { call = call.Sync scheme (known_version c.known) 0; hint = None; parts = [] }
+called (Ask i) c = record c { call = call.Ask i (known_version c.known) c.number; number = c.number + 1 }
+called (Edit i bytes) c = record c { call = call.Edit i bytes }
+called Publish c = record c { call = call.Publish }
+
+-- the state after a call that passed its checks and found no memory: only the number of a retrieval is spent
+abbrev pub spent : Want → ClientState → ClientState
+spent (Hello key) c = c
+spent (Sync scheme) c = c
+spent (Ask i) c = record c { number = c.number + 1 }
+spent (Edit i bytes) c = c
+spent Publish c = c
+
+-- the byte that names a scheme
+abbrev pub scheme_byte : Scheme → ℕ
+scheme_byte Simple = 0
+scheme_byte Double = 1
+
+-- the words of the query for a record
+abbrev pub query_words : Option Known → List ℕ → ℕ → ℕ → List ℕ
+query_words None seed number i = []
+query_words (Some k) seed number i = query_of k.layout (public_matrix k) seed number i
+
+-- the frame of the outstanding call. An idle client has none, and any stands here
+abbrev pub call_frame : ClientState → Call → Frame
+call_frame c call.Idle = frame.Bye
+call_frame c (call.Hello key) = frame.Hello 1 key
+call_frame c (call.Sync scheme version part) = frame.HintAsk (scheme_byte scheme) version part
+call_frame c (call.Ask i version number) = frame.Query 0 version (query_words c.known c.seed number i)
+call_frame c (call.Edit i bytes) = frame.Edit i bytes
+call_frame c call.Publish = frame.Publish
+
+-- an accepted call: no check refuses it, and the bytes to send are its frame's
+pub record Accepts (old : ClientState) (want : Want) (new : ClientState) (bytes : List ℕ) : Type 0 where
+  pub may : refusal want old ≡ None
+  pub state : new ≡ called want old
+  pub written : bytes ≡ spelling (call_frame new new.call)
+  pub fits : IsFrame (call_frame new new.call)
+
+-- a refused call: by the first check that applies, and nothing changes; or memory was refused
+abbrev pub Refuses : ClientState → Want → CallFault → ClientState → Type 0
+Refuses old want fault new =
+    ((refusal want old ≡ Some fault) × (new ≡ old)) ⊎ ((fault ≡ Memory) × (refusal want old ≡ None) × (new ≡ spent want old))

@@ -1,0 +1,96 @@
+-- Laws of clients.
+use Rattle.std.specs.Prelude.{◌≡◌, ◌<◌, ◌≤◌, ◌+◌, ℕ, List, [], ◌∷◌, ◌++◌, length, slice_index, Some, None, true}
+use Rattle.matrix_u32.specs.Matrix.{WordMatrix, IsWhole}
+use Rattle.digit_pack.specs.Layout.{digit_rows}
+use Rattle.frame_codec.specs.declared.frame.Frame.{Frame}
+use Rattle.frame_codec.specs.declared.frame.Frame.TheVariants as frame
+use Rattle.version_store.specs.declared.scheme.Scheme.TheVariants.{Simple}
+use Rattle.version_store.specs.Parts.{part_of}
+use Rattle.client_core.specs.declared.state.ClientState.{ClientState}
+use Rattle.client_core.specs.declared.state.Known.{Known}
+use Rattle.client_core.specs.declared.state.Hint.{Hint}
+use Rattle.client_core.specs.declared.state.Call.TheVariants.{Sync}
+use Rattle.client_core.specs.declared.state.Event.TheVariants.{Synced}
+use Rattle.client_core.specs.States.{hint_len}
+use Rattle.client_core.specs.Calls.{Want, Hello, Sync as sync, Ask, Edit, Publish, called, spent}
+use Rattle.client_core.specs.Replies.{takes}
+use Rattle.client_core.specs.Feeding.{takes_all}
+
+-- what happens to a client: a call is accepted, a call finds no memory, a reply is taken, the client fails
+pub data Happening : Type 0 where
+  Accepted : (want : Want) → Happening
+  Lacking : (want : Want) → Happening
+  Taken : (reply : Frame) → Happening
+  Failing : Happening
+
+-- the state after it
+abbrev pub after : ClientState → Happening → ClientState
+after c (Accepted want) = called want c
+after c (Lacking want) = spent want c
+after c (Taken reply) = (takes c reply).state
+after c Failing = record c { failed = true }
+
+-- the number of the query that a call sends
+abbrev pub number_of_call : ClientState → Want → List ℕ
+number_of_call c (Hello key) = []
+number_of_call c (sync scheme) = []
+number_of_call c (Ask i) = c.number ∷ []
+number_of_call c (Edit i bytes) = []
+number_of_call c Publish = []
+
+-- the numbers of the queries sent then: one, where the call is an ask
+abbrev pub numbers_at : ClientState → Happening → List ℕ
+numbers_at c (Accepted want) = number_of_call c want
+numbers_at c (Lacking want) = []
+numbers_at c (Taken reply) = []
+numbers_at c Failing = []
+
+-- the numbers of the queries that a client sends, in order
+abbrev pub numbers : ClientState → List Happening → List ℕ
+numbers c [] = []
+numbers c (h ∷ hs) = numbers_at c h ++ numbers (after c h) hs
+
+-- they grow, whatever happens: no number is used twice, and none below the first
+pub record NoNumberTwice : Type 0 where
+  pub grows : (c : ClientState) (hs : List Happening) (i j : ℕ) → i < j → j < length (numbers c hs) → slice_index (numbers c hs) i < slice_index (numbers c hs) j
+  pub fresh : (c : ClientState) (hs : List Happening) (i : ℕ) → i < length (numbers c hs) → c.number ≤ slice_index (numbers c hs) i
+
+-- the replies are parts j, j + 1, .. of a version's hint, and these are their words, one after another
+abbrev pub ArePartsFrom : ℕ → ℕ → List Frame → List ℕ → Type 0
+ArePartsFrom v j [] words = words ≡ []
+ArePartsFrom v j (f ∷ fs) words = (here : List ℕ) × (rest : List ℕ) × (f ≡ frame.HintPart 0 v j here) × (words ≡ here ++ rest) × ArePartsFrom v (j + 1) fs rest
+
+-- the hint of these words
+abbrev pub hint_made : Known → ℕ → List ℕ → Hint
+hint_made k v words = record { version = v; matrix = record { rows = digit_rows k.layout; cols = k.dimension; words = words } }
+
+-- the replies since a sync began made it end with its hint
+pub record IsSyncedBy (c : ClientState) (k : Known) (v version : ℕ) (replies : List Frame) : Type 0 where
+  pub known : c.known ≡ Some k
+  pub asked : c.call ≡ Sync Simple v 0
+  pub none : c.parts ≡ []
+  pub good : (takes_all c replies).fault ≡ None
+  pub told : (takes_all c replies).events ≡ Synced Simple version ∷ []
+
+-- the hint held is made of the parts that came, in order, all of the one version asked
+pub record IsMadeOfParts (c : ClientState) (k : Known) (v version : ℕ) (replies : List Frame) : Type 0 where
+  pub words : List ℕ
+  pub parts : ArePartsFrom v 0 replies words
+  pub count : length words ≡ hint_len k
+  pub same : version ≡ v
+  pub hint : (takes_all c replies).state.hint ≡ Some (hint_made k v words)
+
+-- so it is after every sync
+abbrev pub SyncedHintIsMadeOfParts : Type 0
+SyncedHintIsMadeOfParts = (c : ClientState) (k : Known) (v version : ℕ) (replies : List Frame) → IsSyncedBy c k v version replies → IsMadeOfParts c k v version replies
+
+-- each reply is a part of these words, from part j on
+abbrev pub ArePartsOf : List ℕ → ℕ → ℕ → List Frame → Type 0
+ArePartsOf whole v j [] = Unit {0}
+ArePartsOf whole v j (f ∷ fs) = (f ≡ frame.HintPart 0 v j (part_of whole j)) × ArePartsOf whole v (j + 1) fs
+
+-- where the parts are those of a hint, the hint held is that hint
+abbrev pub PartsOfAHintMakeIt : Type 0
+PartsOfAHintMakeIt = (c : ClientState) (k : Known) (v version : ℕ) (replies : List Frame) (hint : WordMatrix) →
+    IsSyncedBy c k v version replies → hint.rows ≡ digit_rows k.layout → hint.cols ≡ k.dimension → IsWhole hint → ArePartsOf hint.words v 0 replies →
+    (takes_all c replies).state.hint ≡ Some (record { version = v; matrix = hint })

@@ -1,0 +1,5 @@
+pub mod States
+pub mod Calls
+pub mod Replies
+pub mod Feeding
+pub mod Laws

@@ -1,0 +1,102 @@
+-- What a client holds, and what is true of it as long as it lives.
+use Rattle.std.specs.Prelude.{◌≡◌, ◌≤◌, ◌<◌, ◌-◌, ◌*◌, ◌^◌, ℕ, List, [], length, min, Bool, true, false, ◌&&◌, Option, Some, None, nat_le, ◌==◌}
+use Rattle.matrix_u32.specs.Matrix.{WordMatrix}
+use Rattle.seed_expand.specs.Words.{public_rows}
+use Rattle.digit_pack.specs.Layout.{Shape, IsLayout, digit_rows, digit_cols}
+use Rattle.version_store.specs.declared.scheme.Scheme.TheVariants.{Simple, Double}
+use Rattle.client_core.specs.declared.state.ClientState.{ClientState}
+use Rattle.client_core.specs.declared.state.Known.{Known}
+use Rattle.client_core.specs.declared.state.Hint.{Hint}
+use Rattle.client_core.specs.declared.state.Call.{Call}
+use Rattle.client_core.specs.declared.state.Call.TheVariants.{Idle, Hello, Sync, Ask, Edit, Publish}
+
+-- no call is outstanding
+abbrev pub is_idle : Call → Bool
+is_idle Idle = true
+is_idle (Hello key) = false
+is_idle (Sync scheme version part) = false
+is_idle (Ask index version number) = false
+is_idle (Edit index bytes) = false
+is_idle Publish = false
+
+-- the last version known, 0 before the Welcome
+abbrev pub known_version : Option Known → ℕ
+known_version None = 0
+known_version (Some k) = k.version
+
+-- the count of records known
+abbrev pub known_count : Option Known → ℕ
+known_count None = 0
+known_count (Some k) = k.layout.count
+
+-- a hint of the last version known is held
+abbrev pub is_ready : Option Known → Option Hint → Bool
+is_ready None hint = false
+is_ready (Some k) None = false
+is_ready (Some k) (Some h) = h.version == k.version
+
+-- the public matrix that the server told of: a row for each column of digits, from stream 0 of its seed
+abbrev pub public_matrix : Known → WordMatrix
+public_matrix k = public_rows k.seed 0 0 (digit_cols k.layout) k.dimension
+
+-- how many words the hint has: n for each digit row
+abbrev pub hint_len : Known → ℕ
+hint_len k = digit_rows k.layout * k.dimension
+
+-- how many words stand in part j of so many: those from 65,536 j on, at most 65,536
+abbrev pub part_len : ℕ → ℕ → ℕ
+part_len total part = min 65536 (total - 65536 * part)
+
+-- whether a layout is within all limits
+unfoldable pub is_layout : Shape → Bool
+is_layout l =
+    (nat_le 6 l.width && nat_le l.width 10)
+    && ((nat_le 1 l.record_len && nat_le l.record_len 256)
+    && ((nat_le 1 l.groups && nat_le (digit_rows l) 4096)
+    && (nat_le 1 l.count && nat_le (digit_cols l) 4096)))
+
+-- a client that holds nothing yet
+abbrev pub fresh : List ℕ → ℕ → ClientState
+fresh seed number = record { seed = seed; number = number; known = None; hint = None; parts = []; call = Idle; failed = false }
+
+-- what the server told is within the limits
+pub record IsKnown (k : Known) : Type 0 where
+  pub layout : IsLayout k.layout
+  pub low : 1 ≤ k.dimension
+  pub high : k.dimension ≤ 1024
+
+-- the same, where the Welcome came
+abbrev pub KnownFits : Option Known → Type 0
+KnownFits None = Unit {0}
+KnownFits (Some k) = IsKnown k
+
+-- a hint has a row for each digit row of the layout, and n columns
+abbrev pub HintFits : Option Known → Option Hint → Type 0
+HintFits None None = Unit {0}
+HintFits None (Some h) = ⊥
+HintFits (Some k) None = Unit {0}
+HintFits (Some k) (Some h) = (h.matrix.rows ≡ digit_rows k.layout) × (h.matrix.cols ≡ k.dimension)
+
+-- hello comes before the Welcome; the parts that came are whole ones of the hint; a record asked for is one that there is
+abbrev pub CallFits : Call → Option Known → List ℕ → Type 0
+CallFits Idle known parts = Unit {0}
+CallFits (Hello key) None parts = Unit {0}
+CallFits (Hello key) (Some k) parts = ⊥
+CallFits (Sync Simple version part) None parts = Unit {0}
+CallFits (Sync Simple version part) (Some k) parts = (length parts ≡ 65536 * part) × (length parts ≤ hint_len k)
+CallFits (Sync Double version part) known parts = Unit {0}
+CallFits (Ask index version number) known parts = (index < known_count known) × (number < 2 ^ 62)
+CallFits (Edit index bytes) known parts = Unit {0}
+CallFits Publish known parts = Unit {0}
+
+-- what is always true of a client
+pub record IsState (c : ClientState) : Type 0 where
+  pub number : c.number ≤ 2 ^ 62
+  pub known : KnownFits c.known
+  pub hint : HintFits c.known c.hint
+  pub call : CallFits c.call c.known c.parts
+
+-- what no reply changes: that these things are true, and the next number
+pub record Keeps (old new : ClientState) : Type 0 where
+  pub good : IsState new
+  pub number : new.number ≡ old.number

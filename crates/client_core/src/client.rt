@@ -1,0 +1,234 @@
+//! The client.
+
+ghost use Rattle.std.specs.Prelude.{◌≡◌, ◌≤◌, ◌<◌, ◌^◌, [], List, ℕ, None, Some, IfOk, IfErr, MatchResult, length};
+ghost use Rattle.frame_codec.specs.Frames.{spelling};
+ghost use Rattle.frame_codec.specs.declared.frame.Frame.{Frame};
+ghost use Rattle.simple_scheme.specs.Simple.{query_of};
+ghost use Rattle.client_core.specs.declared.state.Known.{Known};
+ghost use Rattle.client_core.specs.States.{fresh, public_matrix};
+ghost use Rattle.client_core.specs.Calls.{Want, Accepts, Refuses};
+ghost use Rattle.client_core.specs.Feeding.{Client, FeedsClient};
+
+use crate::calls::{
+    edit_bytes, may_ask, may_change, may_hello, query_bytes, scheme_number, spelled, spend_number,
+};
+use crate::parts::Parts;
+use crate::state::{Call, CallFault, ClientFault, ClientState, Event};
+use crate::taking::take_piece;
+use frame_codec::{Bytes, Bytes32, Frame, Reader};
+use matrix_u32::Kernel;
+use std::alloc::Global;
+use std::marker::Model;
+use version_store::Scheme;
+
+/// What comes of a piece of the server's stream: the bytes to send next, the events in order, and the fault
+/// that made the client stop. With a fault, the bytes and the events are those of the frames before it.
+#[derive(Drop)]
+pub struct Fed {
+    pub out: Vec<u8>,
+    pub events: Vec<Event>,
+    pub fault: Option<ClientFault>,
+}
+
+/// A client of one server. Contracts see its state and the bytes of an unfinished frame.
+#[derive(Drop)]
+pub struct ClientCore<K: Kernel> {
+    alloc: Global,
+    kernel: K,
+    reader: Reader,
+    state: ClientState,
+}
+
+impl<K: Kernel> Model for ClientCore<K> {
+    ghost use Rattle.client_core.specs.States.{IsState};
+    ghost use Rattle.client_core.specs.Feeding.{Client};
+
+    ghost Value = { Client };
+
+    ghost view = { λ c. record { state = c.state; reader = c.reader } };
+
+    ghost invariant = { λ c. IsState c.state };
+}
+
+impl<K: Kernel> ClientCore<K> {
+    /// A client whose secrets and noise come from `seed`, and whose first retrieval has number
+    /// `first_number`, at most 2^62. The numbers below it are left alone. It takes no memory.
+    pub fn new(alloc: Global, kernel: K, seed: [u8; 32], first_number: u64) -> ClientCore<K>
+        requires { first_number ≤ 2 ^ 62 }
+        ensures { result ≡ record { state = fresh seed first_number; reader = Some [] } }
+    {
+        ClientCore {
+            alloc,
+            kernel,
+            reader: Reader::new(alloc),
+            state: ClientState {
+                seed,
+                number: first_number,
+                known: None,
+                hint: None,
+                parts: Parts::none(alloc),
+                call: Call::Idle,
+                failed: false,
+            },
+        }
+    }
+
+    /// The number of the next retrieval.
+    pub fn next_number(&self) -> u64
+        ensures number { result ≡ self.now.state.number }
+        ensures limit { result ≤ 2 ^ 62 }
+    {
+        self.state.number
+    }
+
+    /// Asks to be let in: with a key of 32 zero bytes as a reader, with the publisher's key as the
+    /// publisher. Gives the bytes to send.
+    ///
+    /// Refused in this order: `Failed`, `AlreadyWelcome`, `Busy`, `Memory`. A refusal changes nothing.
+    pub fn hello(&mut self, key: [u8; 32]) -> Result<Vec<u8>, CallFault>
+        ensures accepted { IfOk result (λ bytes. Accepts self.old.state (Want.Hello key) self.new.state bytes.items) }
+        ensures refused { IfErr result (λ e. Refuses self.old.state (Want.Hello key) e self.new.state) }
+        ensures reader { self.new.reader ≡ self.old.reader }
+    {
+        may_hello(&self.state)?;
+        let frame = Frame::Hello {
+            profile: 1,
+            key: Bytes32::copied(&key),
+        };
+        let bytes = spelled(self.alloc, &frame)?;
+        self.state.call = Call::Hello { key };
+        Ok(bytes)
+    }
+
+    /// Asks for the hint of the last version known, part by part, and drops the hint held. Gives the bytes
+    /// to send; `feed` gives those that ask for the further parts.
+    ///
+    /// Refused in this order: `Failed`, `NotReady` (no Welcome came yet), `Busy`, `Memory`. A refusal changes
+    /// nothing.
+    pub fn sync(&mut self, scheme: Scheme) -> Result<Vec<u8>, CallFault>
+        ensures accepted { IfOk result (λ bytes. Accepts self.old.state (Want.Sync scheme) self.new.state bytes.items) }
+        ensures refused { IfErr result (λ e. Refuses self.old.state (Want.Sync scheme) e self.new.state) }
+        ensures reader { self.new.reader ≡ self.old.reader }
+    {
+        let known = may_change(&self.state)?;
+        let version = known.version;
+        let frame = Frame::HintAsk {
+            scheme: scheme_number(scheme),
+            version,
+            part: 0,
+        };
+        let bytes = spelled(self.alloc, &frame)?;
+        self.state.hint = None;
+        self.state.parts = Parts::none(self.alloc);
+        self.state.call = Call::Sync {
+            scheme,
+            version,
+            part: 0,
+        };
+        Ok(bytes)
+    }
+
+    /// Asks for record `index` of the version whose hint is held, by a query that doesn't tell which. Gives
+    /// the bytes to send.
+    ///
+    /// Refused in this order: `Failed`; `NotReady` (no Welcome came yet, no hint is held, or its version is
+    /// not the last version known); `Busy`; `BadIndex` (the last version known has no such record);
+    /// `SeedUsedUp` (the next number is 2^62); `Memory`. The number is spent where only `Memory` is left, and
+    /// nothing else changes by a refusal.
+    pub fn ask(&mut self, index: u32) -> Result<Vec<u8>, CallFault>
+        ensures accepted { IfOk result (λ bytes. Accepts self.old.state (Want.Ask index) self.new.state bytes.items) }
+        ensures query { IfOk result (λ bytes. (k : Known) × (self.old.state.known ≡ Some k)
+            × (bytes.items ≡ spelling (Frame.Query 0 k.version (query_of k.layout (public_matrix k) self.old.state.seed self.old.state.number index)))) }
+        ensures refused { IfErr result (λ e. Refuses self.old.state (Want.Ask index) e self.new.state) }
+        ensures reader { self.new.reader ≡ self.old.reader }
+    {
+        let known = may_ask(&self.state, index)?;
+        // Spent before memory is asked for, so that no number serves two queries.
+        let number = spend_number(&mut self.state);
+        let bytes = query_bytes(
+            self.alloc,
+            self.kernel,
+            &known,
+            &self.state.seed,
+            number,
+            index,
+        )?;
+        self.state.call = Call::Ask {
+            index,
+            version: known.version,
+            number,
+        };
+        Ok(bytes)
+    }
+
+    /// Gives the server these bytes, at most 65,535, for record `index` of the next version. It judges the
+    /// index and the length. Gives the bytes to send.
+    ///
+    /// Refused in this order: `Failed`, `NotReady` (no Welcome came yet), `Busy`, `Memory`. A refusal changes
+    /// nothing.
+    pub fn edit(&mut self, index: u32, bytes: &[u8]) -> Result<Vec<u8>, CallFault>
+        requires { length bytes.now ≤ 65535 }
+        ensures accepted { IfOk result (λ sent. Accepts self.old.state (Want.Edit index bytes.now) self.new.state sent.items) }
+        ensures refused { IfErr result (λ e. Refuses self.old.state (Want.Edit index bytes.now) e self.new.state) }
+        ensures reader { self.new.reader ≡ self.old.reader }
+    {
+        may_change(&self.state)?;
+        let sent = edit_bytes(self.alloc, index, bytes)?;
+        let Ok(kept) = bytes.to_vec(self.alloc) else {
+            return Err(CallFault::Memory);
+        };
+        self.state.call = Call::Edit {
+            index,
+            bytes: Bytes::new(kept),
+        };
+        Ok(sent)
+    }
+
+    /// Asks the server to make its edits the next version. Gives the bytes to send.
+    ///
+    /// Refused in this order: `Failed`, `NotReady` (no Welcome came yet), `Busy`, `Memory`. A refusal changes
+    /// nothing.
+    pub fn publish(&mut self) -> Result<Vec<u8>, CallFault>
+        ensures accepted { IfOk result (λ bytes. Accepts self.old.state Want.Publish self.new.state bytes.items) }
+        ensures refused { IfErr result (λ e. Refuses self.old.state Want.Publish e self.new.state) }
+        ensures reader { self.new.reader ≡ self.old.reader }
+    {
+        may_change(&self.state)?;
+        let bytes = spelled(self.alloc, &Frame::Publish)?;
+        self.state.call = Call::Publish;
+        Ok(bytes)
+    }
+
+    /// Takes the next piece of the server's stream.
+    ///
+    /// Each frame that is whole now is taken as the reply to the outstanding call. `BadWelcome` where a
+    /// Welcome has another profile than 1, sizes beyond the limits or version 0; `BadReply` where a reply
+    /// is none that the outstanding call can have, where no call is outstanding, and where the bytes are no
+    /// frame; `Memory` where memory was refused; `Failed` where an earlier feed had a fault. After each of
+    /// them every call answers `Failed`.
+    pub fn feed(&mut self, piece: &[u8]) -> Fed
+        ensures { FeedsClient self.old piece.now result.out.items result.events.items result.fault self.new }
+    {
+        let mut out = Vec::new(self.alloc);
+        let mut events = Vec::new(self.alloc);
+        if self.state.failed {
+            return Fed {
+                out,
+                events,
+                fault: Some(ClientFault::Failed),
+            };
+        }
+        let mut frames = Vec::new(self.alloc);
+        let answer = self.reader.feed(piece, &mut frames);
+        let fault = take_piece(
+            self.alloc,
+            self.kernel,
+            &mut self.state,
+            frames.as_slice(),
+            answer,
+            &mut out,
+            &mut events,
+        );
+        Fed { out, events, fault }
+    }
+}

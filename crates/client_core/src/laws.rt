@@ -1,0 +1,20 @@
+//! Laws of clients, over the definitions alone. A caller that calls one of these functions has its law at
+//! hand in its proof; the call costs nothing.
+
+ghost use Rattle.client_core.specs.Laws.{NoNumberTwice, SyncedHintIsMadeOfParts, PartsOfAHintMakeIt};
+
+/// The numbers of the queries that a client sends grow, whatever calls and replies come: no number is used
+/// twice, and none below the first.
+pub fn no_number_twice()
+    ensures { NoNumberTwice }
+{}
+
+/// After a sync the hint held is made of the parts that came, in order, all of the version asked.
+pub fn synced_hint_is_made_of_parts()
+    ensures { SyncedHintIsMadeOfParts }
+{}
+
+/// Where these are the parts of a hint of the right size, it is that hint.
+pub fn parts_of_a_hint_make_it()
+    ensures { PartsOfAHintMakeIt }
+{}

@@ -1,0 +1,22 @@
+//! The client's side of a session: its calls, what it sends, and what it takes from a server.
+//!
+//! A client is a state machine without a connection. A call gives the bytes to send; `feed` takes the bytes
+//! that came, in any pieces, and gives the bytes to send next and the events. It holds at most one hint and
+//! one outstanding call, and answers `Failed` to everything once a reply was bad or memory was refused
+//! while it took one.
+#![tactic(auto)]
+
+mod calls;
+mod client;
+pub mod laws;
+mod parts;
+mod replies;
+mod state;
+mod taking;
+
+pub use client::{ClientCore, Fed};
+pub use state::{CallFault, ClientFault, Event};
+pub use version_store::Scheme;
+
+#[cfg(test)]
+mod tests;

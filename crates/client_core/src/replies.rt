@@ -1,0 +1,334 @@
+//! What comes of a reply: a function for each kind.
+
+ghost use Rattle.std.specs.Prelude.{◌≡◌, ◌≤◌, ◌<◌, ◌*◌, ◌^◌, ◌++◌, [], length, IfOk, IfErr, OnOk, OnErr, IfSome, IfNone, MatchOption, true, false};
+ghost use Rattle.digit_pack.specs.Layout.{shape, digit_rows, IsLayout};
+ghost use Rattle.simple_scheme.specs.Simple.{reading};
+ghost use Rattle.client_core.specs.States.{IsState, IsKnown, is_layout, hint_len as hint_words_count, part_len as part_words_count};
+ghost use Rattle.client_core.specs.Replies.{faulty, ended, welcomed, takes_welcome, takes_part, more_parts, takes_answer, record_event, takes_stale, staled, takes_done, takes_refused, with_count};
+
+use crate::parts::Parts;
+use crate::state::{Call, ClientFault, ClientState, Event, Hint, Known, Reaction};
+use digit_pack::Layout;
+use frame_codec::{Bytes, Bytes32, Words};
+use matrix_u32::{Kernel, Matrix};
+use simple_scheme::{RecoverError, recover};
+use std::alloc::{AllocError, Global};
+use std::mem;
+use version_store::Scheme;
+
+// The most words of a part of a hint.
+const PART_WORDS: usize = 65_536;
+
+// A bad reply.
+fn fails(state: &mut ClientState, fault: ClientFault) -> Reaction
+    ensures state { state.new ≡ (faulty state.old fault).state }
+    ensures reaction { result ≡ (faulty state.old fault).reaction }
+{
+    state.failed = true;
+    Reaction::Fails(fault)
+}
+
+// The end of a call.
+fn ends(state: &mut ClientState, event: Event) -> Reaction
+    ensures state { state.new ≡ (ended state.old event).state }
+    ensures reaction { result ≡ (ended state.old event).reaction }
+{
+    state.call = Call::Idle;
+    Reaction::Tells(event)
+}
+
+// The layout of these sizes, where it is within the limits.
+#[tactic(auto, using(crate::proofs::Layouts::layout_accepted, crate::proofs::Layouts::layout_refused))]
+fn layout_of(width: u32, record_len: usize, groups: usize, count: usize) -> Option<Layout>
+    ensures { MatchOption result (is_layout (shape width record_len groups count) ≡ false)
+        (λ l. (is_layout (shape width record_len groups count) ≡ true) × (l ≡ shape width record_len groups count) × IsLayout l) }
+{
+    match Layout::new(width, record_len, groups, count) {
+        Ok(layout) => Some(layout),
+        Err(_) => None,
+    }
+}
+
+/// The sizes and the numbers of a Welcome.
+#[derive(Clone, Copy)]
+pub(crate) struct Sizes {
+    pub profile: u16,
+    pub width: u8,
+    pub record_len: u16,
+    pub groups: u16,
+    pub count: u32,
+    pub version: u64,
+    pub dimension: u16,
+}
+
+/// A Welcome answers hello alone.
+pub(crate) fn take_welcome(state: &mut ClientState, sizes: Sizes, seed: &Bytes32) -> Reaction
+    ensures state { state.new ≡ (takes_welcome state.old.call state.old sizes.profile (shape sizes.width sizes.record_len sizes.groups sizes.count) sizes.dimension sizes.version seed.now).state }
+    ensures reaction { result ≡ (takes_welcome state.old.call state.old sizes.profile (shape sizes.width sizes.record_len sizes.groups sizes.count) sizes.dimension sizes.version seed.now).reaction }
+{
+    match &state.call {
+        Call::Hello { .. } => {}
+        _ => return fails(state, ClientFault::BadReply),
+    }
+    let layout = layout_of(
+        sizes.width as u32,
+        sizes.record_len as usize,
+        sizes.groups as usize,
+        sizes.count as usize,
+    );
+    let Some(layout) = layout else {
+        return fails(state, ClientFault::BadWelcome);
+    };
+    if sizes.profile != 1 || sizes.dimension < 1 || sizes.dimension > 1024 || sizes.version == 0 {
+        return fails(state, ClientFault::BadWelcome);
+    }
+    let mut copy = [0; 32];
+    copy.copy_from_slice(seed.as_slice());
+    state.known = Some(Known {
+        version: sizes.version,
+        layout,
+        dimension: sizes.dimension as usize,
+        seed: copy,
+    });
+    ends(state, Event::Welcomed(sizes.version))
+}
+
+// How many words the hint has.
+fn hint_len(known: &Known) -> usize
+    requires { IsKnown known.now }
+    ensures value { result ≡ hint_words_count known.now }
+    ensures small { result ≤ 4194304 }
+{
+    known.layout.rows() * known.dimension
+}
+
+// How many words a part of so many has.
+fn part_len(total: usize, part: u32) -> usize
+    ensures { result ≡ part_words_count total part }
+{
+    total
+        .saturating_sub(part as usize * PART_WORDS)
+        .min(PART_WORDS)
+}
+
+/// A part of a hint answers sync alone: the part that was asked for, with all its words.
+pub(crate) fn take_part(
+    alloc: Global,
+    state: &mut ClientState,
+    scheme: u8,
+    version: u64,
+    part: u32,
+    words: &Words,
+) -> Result<Reaction, AllocError>
+    requires { IsState state.old }
+    ensures state { OnOk result (state.new ≡ (takes_part state.old.call state.old scheme version part words.now).state) }
+    ensures reaction { IfOk result (λ r. r ≡ (takes_part state.old.call state.old scheme version part words.now).reaction) }
+    ensures err { OnErr result (state.new ≡ state.old) }
+{
+    let Call::Sync {
+        scheme: Scheme::Simple,
+        version: asked,
+        part: next,
+    } = state.call
+    else {
+        return Ok(fails(state, ClientFault::BadReply));
+    };
+    let Some(known) = state.known else {
+        return Ok(fails(state, ClientFault::BadReply));
+    };
+    let words = words.as_slice();
+    let wanted = part_len(hint_len(&known), next);
+    if scheme != 0 || version != asked || part != next || words.len() != wanted {
+        return Ok(fails(state, ClientFault::BadReply));
+    }
+    state.parts.add(words)?;
+    Ok(go_on(alloc, state, &known, version, next))
+}
+
+// The last part makes the hint whole; behind another the next part is asked for.
+fn go_on(alloc: Global, state: &mut ClientState, known: &Known, version: u64, part: u32) -> Reaction
+    requires known { IsKnown known.now }
+    requires part { part < 2 ^ 31 }
+    ensures state { state.new ≡ (more_parts known.now state.old version part state.old.parts).state }
+    ensures reaction { result ≡ (more_parts known.now state.old version part state.old.parts).reaction }
+{
+    if state.parts.len() != hint_len(known) {
+        let part = part + 1;
+        state.call = Call::Sync {
+            scheme: Scheme::Simple,
+            version,
+            part,
+        };
+        return Reaction::Asks { version, part };
+    }
+    let words = mem::replace(&mut state.parts, Parts::none(alloc)).into_vec();
+    // There are as many words as the hint has, and no more than a matrix holds: no refusal is left.
+    let matrix = Matrix::from_words(known.layout.rows(), known.dimension, words).unwrap();
+    state.hint = Some(Hint { version, matrix });
+    ends(state, Event::Synced(Scheme::Simple, version))
+}
+
+// What an answer with a word for each digit row says.
+#[tactic(auto, unfolding(crate::specs::Replies::record_event))]
+fn read_answer<K: Kernel>(
+    alloc: Global,
+    kernel: K,
+    known: &Known,
+    hint: &Hint,
+    seed: &[u8; 32],
+    number: u64,
+    index: u32,
+    version: u64,
+    words: &[u32],
+) -> Result<Event, AllocError>
+    requires rows { hint.now.matrix.rows ≡ digit_rows known.now.layout }
+    requires number { number < 2 ^ 62 }
+    requires record { index < known.now.layout.count }
+    requires words { length words.now ≡ digit_rows known.now.layout }
+    ensures { IfOk result (λ e. e ≡ record_event known.now.layout index version (reading known.now.layout hint.now.matrix seed.now number index words.now)) }
+{
+    match recover(
+        alloc,
+        kernel,
+        seed,
+        number,
+        &hint.matrix,
+        &known.layout,
+        index as usize,
+        words,
+    ) {
+        Ok(bytes) => Ok(Event::Retrieved {
+            index,
+            version,
+            bytes: Bytes::new(bytes),
+        }),
+        Err(RecoverError::BadDigits) => Ok(Event::Unreadable { index, version }),
+        Err(_) => Err(AllocError),
+    }
+}
+
+/// An Answer answers ask alone: on the version asked, and with a word for each digit row.
+pub(crate) fn take_answer<K: Kernel>(
+    alloc: Global,
+    kernel: K,
+    state: &mut ClientState,
+    scheme: u8,
+    version: u64,
+    words: &Words,
+) -> Result<Reaction, AllocError>
+    requires { IsState state.old }
+    ensures state { OnOk result (state.new ≡ (takes_answer state.old.call state.old scheme version words.now).state) }
+    ensures reaction { IfOk result (λ r. r ≡ (takes_answer state.old.call state.old scheme version words.now).reaction) }
+    ensures err { OnErr result (state.new ≡ state.old) }
+{
+    let Call::Ask {
+        index,
+        version: asked,
+        number,
+    } = state.call
+    else {
+        return Ok(fails(state, ClientFault::BadReply));
+    };
+    let Some(known) = state.known else {
+        return Ok(fails(state, ClientFault::BadReply));
+    };
+    let Some(hint) = &state.hint else {
+        return Ok(fails(state, ClientFault::BadReply));
+    };
+    let words = words.as_slice();
+    if scheme != 0 || version != asked || words.len() != known.layout.rows() {
+        return Ok(fails(state, ClientFault::BadReply));
+    }
+    let event = read_answer(
+        alloc,
+        kernel,
+        &known,
+        hint,
+        &state.seed,
+        number,
+        index,
+        version,
+        words,
+    )?;
+    Ok(ends(state, event))
+}
+
+/// Stale answers sync, whose unfinished parts are dropped, and ask.
+pub(crate) fn take_stale(
+    alloc: Global,
+    state: &mut ClientState,
+    version: u64,
+    count: u32,
+) -> Reaction
+    requires { IsState state.old }
+    ensures state { state.new ≡ (takes_stale state.old.call state.old version count).state }
+    ensures reaction { result ≡ (takes_stale state.old.call state.old version count).reaction }
+{
+    let (asked, in_sync) = match state.call {
+        Call::Sync { version, .. } => (version, true),
+        Call::Ask { version, .. } => (version, false),
+        _ => return fails(state, ClientFault::BadReply),
+    };
+    let Some(told) = told_of(&state.known, asked, version, count) else {
+        return fails(state, ClientFault::BadReply);
+    };
+    if in_sync {
+        state.parts = Parts::none(alloc);
+    }
+    state.known = Some(told);
+    ends(state, Event::Stale(version))
+}
+
+// What is known after Stale, where it may name this version and count.
+fn told_of(known: &Option<Known>, asked: u64, version: u64, count: u32) -> Option<Known>
+    ensures { (after c : ClientState) → MatchOption result
+        (staled known.now after c asked version count ≡ faulty c ClientFault.BadReply)
+        (λ k. staled known.now after c asked version count ≡ ended (record after { known = Some k }) (Event.Stale version)) }
+{
+    let Some(known) = known else {
+        return None;
+    };
+    let old = known.layout;
+    let layout = layout_of(old.width(), old.record_len(), old.groups(), count as usize)?;
+    if version == asked || version == 0 {
+        return None;
+    }
+    Some(Known {
+        version,
+        layout,
+        dimension: known.dimension,
+        seed: known.seed,
+    })
+}
+
+/// Done answers edit and publish, whatever version it names.
+pub(crate) fn take_done(state: &mut ClientState, version: u64) -> Reaction
+    ensures state { state.new ≡ (takes_done state.old.call state.old version).state }
+    ensures reaction { result ≡ (takes_done state.old.call state.old version).reaction }
+{
+    match &state.call {
+        Call::Edit { .. } | Call::Publish => ends(state, Event::Done(version)),
+        _ => fails(state, ClientFault::BadReply),
+    }
+}
+
+/// Refused answers every call, with any code; in a sync the unfinished parts are dropped.
+pub(crate) fn take_refused(alloc: Global, state: &mut ClientState, code: u8) -> Reaction
+    ensures state { state.new ≡ (takes_refused state.old.call state.old code).state }
+    ensures reaction { result ≡ (takes_refused state.old.call state.old code).reaction }
+{
+    match &state.call {
+        Call::Idle => return fails(state, ClientFault::BadReply),
+        Call::Sync { .. } => state.parts = Parts::none(alloc),
+        _ => {}
+    }
+    ends(state, Event::Refused(code))
+}
+
+/// A frame of any other kind is no reply.
+pub(crate) fn take_other(state: &mut ClientState) -> Reaction
+    ensures state { state.new ≡ (faulty state.old ClientFault.BadReply).state }
+    ensures reaction { result ≡ (faulty state.old ClientFault.BadReply).reaction }
+{
+    fails(state, ClientFault::BadReply)
+}

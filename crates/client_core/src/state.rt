@@ -1,0 +1,144 @@
+//! What a client holds, and what it tells.
+
+use crate::parts::Parts;
+use digit_pack::Layout;
+use frame_codec::Bytes;
+use matrix_u32::Matrix;
+use thiserror::Error;
+use version_store::Scheme;
+
+/// What the server told of its store: the last version known, the layout with that version's count of
+/// records, the dimension n of the public matrix and the seed of its words.
+#[derive(Clone, Copy, Debug, PartialEq, Eq)]
+pub struct Known {
+    pub version: u64,
+    pub layout: Layout,
+    pub dimension: usize,
+    pub seed: [u8; 32],
+}
+
+/// A whole hint of a version: a row for each digit row, n columns.
+#[derive(Drop)]
+pub struct Hint {
+    pub version: u64,
+    pub matrix: Matrix,
+}
+
+/// The outstanding call, with all that its frame says.
+#[derive(Drop)]
+pub enum Call {
+    /// There is none.
+    Idle,
+    /// Hello was sent, with this key.
+    Hello {
+        key: [u8; 32],
+    },
+    /// Part `part` of the version's hint was asked for.
+    Sync {
+        scheme: Scheme,
+        version: u64,
+        part: u32,
+    },
+    /// The query for record `index` was sent; `number` tells which retrieval of the seed it is.
+    Ask {
+        index: u32,
+        version: u64,
+        number: u64,
+    },
+    /// These bytes were sent for record `index`.
+    Edit {
+        index: u32,
+        bytes: Bytes,
+    },
+    /// Publish was sent.
+    Publish,
+}
+
+/// All that a client holds but for the bytes of an unfinished frame.
+#[derive(Drop)]
+pub struct ClientState {
+    pub seed: [u8; 32],
+    pub number: u64,
+    pub known: Option<Known>,
+    pub hint: Option<Hint>,
+    pub parts: Parts,
+    pub call: Call,
+    pub failed: bool,
+}
+
+/// What the server's reply to a call says. Each ends the call.
+#[derive(Drop)]
+pub enum Event {
+    /// The server's current version.
+    Welcomed(u64),
+    /// The hint of this version is held now.
+    Synced(Scheme, u64),
+    /// Record `index` of the version.
+    Retrieved {
+        index: u32,
+        version: u64,
+        bytes: Bytes,
+    },
+    /// The answer's digits set a bit past the record's last byte.
+    Unreadable {
+        index: u32,
+        version: u64,
+    },
+    /// The version asked isn't current; this one is.
+    Stale(u64),
+    /// An edit or a publication is done; this version is current.
+    Done(u64),
+    /// The server refused the call, for the reason that the code names.
+    Refused(u8),
+}
+
+/// Why a call is refused.
+#[derive(Clone, Copy, Debug, PartialEq, Eq, Error)]
+pub enum CallFault {
+    /// No Welcome came yet; or `ask` has no hint of the last version known.
+    #[error("there is no welcome or no hint of the last version known")]
+    NotReady,
+    /// Another call is outstanding.
+    #[error("another call is outstanding")]
+    Busy,
+    /// The last version known has no such record.
+    #[error("there is no such record")]
+    BadIndex,
+    /// All 2^62 retrieval numbers of the seed are spent.
+    #[error("the seed's numbers are used up")]
+    SeedUsedUp,
+    /// Memory was refused.
+    #[error("out of memory")]
+    Memory,
+    /// An earlier reply was bad, or memory was refused while it was taken.
+    #[error("the client had failed")]
+    Failed,
+    /// The Welcome came already.
+    #[error("the client is welcome already")]
+    AlreadyWelcome,
+}
+
+/// Why a client stopped.
+#[derive(Clone, Copy, Debug, PartialEq, Eq, Error)]
+pub enum ClientFault {
+    /// A Welcome of another profile, with sizes beyond the limits, or with version 0.
+    #[error("a bad welcome")]
+    BadWelcome,
+    /// A reply that the outstanding call can't have, or no frame at all.
+    #[error("a bad reply")]
+    BadReply,
+    /// Memory was refused.
+    #[error("out of memory")]
+    Memory,
+    /// An earlier feed had a fault.
+    #[error("the client had failed")]
+    Failed,
+}
+
+/// What comes of a reply: the next part is asked for, the call ends with an event, or the reply is bad.
+#[derive(Drop)]
+pub enum Reaction {
+    Asks { version: u64, part: u32 },
+    Tells(Event),
+    Fails(ClientFault),
+}

@@ -1,0 +1,223 @@
+//! A client against replies that are made here, frame by frame.
+
+use super::*;
+use digit_pack::Layout;
+use frame_codec::{Bytes32, Frame, Reader, Words, write_frame};
+use matrix_u32::Plain;
+use std::alloc::Global;
+use std::process::Abort;
+use std::test::Fail;
+
+mod answers;
+mod calls;
+mod hints;
+mod replies;
+
+const ZEROS: [u8; 32] = [0; 32];
+
+/// The sizes of a Welcome in profile 1, from the zero seed.
+#[derive(Clone, Copy)]
+struct Store {
+    profile: u16,
+    width: u8,
+    record_len: u16,
+    groups: u16,
+    count: u32,
+    version: u64,
+    dimension: u16,
+}
+
+/// Two records of one byte, 0a and c8, whose hint of version 1 is one word.
+const TWO_RECORDS: Store = Store {
+    profile: 1,
+    width: 8,
+    record_len: 1,
+    groups: 1,
+    count: 2,
+    version: 1,
+    dimension: 1,
+};
+
+const TWO_RECORDS_HINT: u32 = 2_066_479_516;
+
+/// One record of two bytes in digits of six bits, whose hint has three words.
+const ONE_RECORD: Store = Store {
+    profile: 1,
+    width: 6,
+    record_len: 2,
+    groups: 1,
+    count: 1,
+    version: 1,
+    dimension: 1,
+};
+
+fn spell(rt: &(impl Abort + AllocGlobal), frame: Frame) -> Result<Vec<u8>, Fail> {
+    let mut out = Vec::new(rt.alloc());
+    assert!(rt; frame.payload_len() <= 16_777_216);
+    write_frame(&frame, &mut out)?;
+    Ok(out)
+}
+
+fn welcome(rt: &(impl Abort + AllocGlobal), store: Store) -> Result<Vec<u8>, Fail> {
+    spell(
+        rt,
+        Frame::Welcome {
+            profile: store.profile,
+            width: store.width,
+            record_len: store.record_len,
+            groups: store.groups,
+            count: store.count,
+            version: store.version,
+            dimension: store.dimension,
+            seed: Bytes32::copied(&ZEROS),
+        },
+    )
+}
+
+fn part(
+    rt: &(impl Abort + AllocGlobal),
+    scheme: u8,
+    version: u64,
+    part: u32,
+    words: &[u32],
+) -> Result<Vec<u8>, Fail> {
+    let words = Words::new(words.to_vec(rt.alloc())?);
+    spell(
+        rt,
+        Frame::HintPart {
+            scheme,
+            version,
+            part,
+            words,
+        },
+    )
+}
+
+fn answer(
+    rt: &(impl Abort + AllocGlobal),
+    scheme: u8,
+    version: u64,
+    words: &[u32],
+) -> Result<Vec<u8>, Fail> {
+    let words = Words::new(words.to_vec(rt.alloc())?);
+    spell(
+        rt,
+        Frame::Answer {
+            scheme,
+            version,
+            words,
+        },
+    )
+}
+
+fn stale(rt: &(impl Abort + AllocGlobal), version: u64, count: u32) -> Result<Vec<u8>, Fail> {
+    spell(rt, Frame::Stale { version, count })
+}
+
+fn done(rt: &(impl Abort + AllocGlobal), version: u64) -> Result<Vec<u8>, Fail> {
+    spell(rt, Frame::Done { version })
+}
+
+fn refused(rt: &(impl Abort + AllocGlobal), code: u8) -> Result<Vec<u8>, Fail> {
+    spell(rt, Frame::Refused { code })
+}
+
+fn add_event(alloc: Global, text: &mut String, event: &Event) -> Result<(), Fail> {
+    let line = match event {
+        Event::Welcomed(version) => format!(in alloc; "welcomed {version}")?,
+        Event::Synced(Scheme::Simple, version) => format!(in alloc; "synced simple {version}")?,
+        Event::Synced(Scheme::Double, version) => format!(in alloc; "synced double {version}")?,
+        Event::Retrieved {
+            index,
+            version,
+            bytes,
+        } => {
+            let mut number = 0u64;
+            for byte in bytes.as_slice() {
+                number = (number % 65_536) * 256 + *byte as u64;
+            }
+            format!(in alloc; "retrieved {index} {version} {number:x}")?
+        }
+        Event::Unreadable { index, version } => format!(in alloc; "unreadable {index} {version}")?,
+        Event::Stale(version) => format!(in alloc; "stale {version}")?,
+        Event::Done(version) => format!(in alloc; "done {version}")?,
+        Event::Refused(code) => format!(in alloc; "refused {code}")?,
+    };
+    text.push_str(&line)?;
+    text.push(' ')?;
+    Ok(())
+}
+
+/// What came of a piece: each event and then the fault, with a space behind each.
+fn told(rt: &impl AllocGlobal, fed: &Fed) -> Result<String, Fail> {
+    let mut text = String::new(rt.alloc());
+    for event in fed.events.as_slice() {
+        add_event(rt.alloc(), &mut text, event)?;
+    }
+    match fed.fault {
+        None => {}
+        Some(ClientFault::BadWelcome) => text.push_str("BadWelcome ")?,
+        Some(ClientFault::BadReply) => text.push_str("BadReply ")?,
+        Some(ClientFault::Memory) => text.push_str("Memory ")?,
+        Some(ClientFault::Failed) => text.push_str("Failed ")?,
+    }
+    Ok(text)
+}
+
+/// Feeds a piece, after which nothing is to be sent, and compares what comes of it.
+fn feeds(
+    rt: &(impl Abort + AllocGlobal),
+    client: &mut ClientCore<Plain>,
+    piece: &[u8],
+    wanted: &str,
+) -> Result<(), Fail> {
+    let fed = client.feed(piece);
+    assert_eq!(rt; told(rt, &fed)?.as_str(), wanted);
+    assert_eq!(rt; fed.out.len(), 0);
+    Ok(())
+}
+
+/// A client with the zero seed.
+fn newcomer(rt: &(impl Abort + AllocGlobal), number: u64) -> ClientCore<Plain> {
+    assert!(rt; number <= 1 << 62);
+    ClientCore::new(rt.alloc(), Plain, ZEROS, number)
+}
+
+/// A client that was let in.
+fn guest(
+    rt: &(impl Abort + AllocGlobal),
+    store: Store,
+    number: u64,
+) -> Result<ClientCore<Plain>, Fail> {
+    let mut client = newcomer(rt, number);
+    client.hello(ZEROS)?;
+    let fed = client.feed(welcome(rt, store)?.as_slice());
+    assert_eq!(rt; (fed.out.len(), fed.events.len(), fed.fault), (0, 1, None));
+    Ok(client)
+}
+
+/// A client that holds the hint of version 1, which has these words.
+fn synced(
+    rt: &(impl Abort + AllocGlobal),
+    store: Store,
+    number: u64,
+    hint: &[u32],
+) -> Result<ClientCore<Plain>, Fail> {
+    let mut client = guest(rt, store, number)?;
+    client.sync(Scheme::Simple)?;
+    feeds(
+        rt,
+        &mut client,
+        part(rt, 0, 1, 0, hint)?.as_slice(),
+        "synced simple 1 ",
+    )?;
+    Ok(client)
+}
+
+/// Whether a call was refused so.
+fn is_refused(answer: Result<Vec<u8>, CallFault>, fault: CallFault) -> bool {
+    match answer {
+        Ok(_) => false,
+        Err(e) => e == fault,
+    }
+}

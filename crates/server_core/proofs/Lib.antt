@@ -1,0 +1,4 @@
+pub mod Courses
+pub mod Hints
+pub mod Pieces
+pub mod Runs

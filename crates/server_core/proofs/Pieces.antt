@@ -1,0 +1,155 @@
+-- What a piece does to a session.
+use Rattle.std.proofs.Common.{◌≡◌, ◌≢◌, ℕ, Bool, true, false, List, [], ◌∷◌, ◌++◌, length, Some, None, Option, refl, sym, ap, subst, ◌∙◌, append_assoc, arith, inl, inr, Result, Ok, Err, IsErr, OnErr, OnOk, IfOk}
+use Rattle.std.proofs.Math.Seq.{take-length}
+use Rattle.std.specs.Prelude.{MatchBool}
+use Rattle.std.specs.List.{flat_map, AllByRecursion}
+use Rattle.std.specs.declared.alloc.AllocError.{AllocError}
+use Rattle.std.proofs.lemmas.List.{append-nil}
+use Rattle.std.proofs.lemmas.List.Concat.{flat_map-append, flat_map-cons}
+use Rattle.frame_codec.specs.declared.frame.Frame.{Frame}
+use Rattle.frame_codec.specs.declared.reader.ReadFault.{ReadFault}
+use Rattle.frame_codec.specs.declared.reader.ReadFault.TheVariants.{TooLong, UnknownKind, BadPayload, Memory, Failed}
+use Rattle.frame_codec.specs.declared.frame.Frame.TheVariants.{Refused}
+use Rattle.frame_codec.specs.Frames.{IsFrame, spelling}
+use Rattle.frame_codec.specs.Streams.{Feeds}
+use Rattle.version_store.specs.Histories.{Held, History, StandsFor}
+use Rattle.server_core.specs.declared.standing.Standing.{Standing}
+use Rattle.server_core.specs.declared.standing.Standing.TheVariants.{Closed}
+use Rattle.server_core.specs.Serving.{Setting, setting_of, ServedAll, is_closed, BrokenOff}
+use Rattle.server_core.specs.Sessions.{Session, IsLive, AfterReading, EndsPiece, ServesPiece, Fed, Ended, ServedFrames, StoppedFrames}
+
+each_append : (rs more : List Frame) → AllByRecursion IsFrame rs → AllByRecursion IsFrame more → AllByRecursion IsFrame (rs ++ more)
+each_append [] more all others = others
+each_append (g ∷ rs) more all others = (all.0, each_append rs more all.1 others)
+
+-- ---- a piece's frames and its end
+
+-- the frames closed the session
+pub closed_by_frames : (x : Setting) (h : History) (st : Standing) (frames : List Frame) (answer : Result (Unit {0}) ReadFault) (store : Held) (after : Standing) (before new : List ℕ) → is_closed after ≡ true
+    → ServedAll x h st frames store after before new → ServedFrames x h st frames answer store after before new
+closed_by_frames x h st frames answer store after before new shut a =
+    record {
+      middle = after;
+      bytes = new;
+      more = [];
+      frames_are = a;
+      ends = rw shut (refl, refl);
+      written = sym (append-nil new);
+      each = tt;
+    }
+
+-- they left it open
+pub ended : (x : Setting) (h : History) (st : Standing) (frames : List Frame) (answer : Result (Unit {0}) ReadFault) (store : Held) (middle after : Standing) (before bytes new : List ℕ) → is_closed middle ≡ false
+    → ServedAll x h st frames store middle before bytes → Ended answer middle after bytes new → ServedFrames x h st frames answer store after before new
+ended x h st frames answer store middle after before bytes new open_ a e =
+    record {
+      middle = middle;
+      bytes = bytes;
+      more = e.more;
+      frames_are = a;
+      ends = rw open_ e.ends;
+      written = e.written;
+      each = e.each;
+    }
+
+pub stopped_before : (x : Setting) (h : History) (st : Standing) (frames : List Frame) (answer : Result (Unit {0}) ReadFault) (store : Held) (before new : List ℕ)
+    → BrokenOff x h st frames store before new → StoppedFrames x h st frames answer store before new
+stopped_before x h st frames answer store before new b =
+    record { count = b.count; middle = b.after; stop = inl b.within; goes_on = b.goes_on; frames_are = b.served_all }
+
+pub stopped_behind : (x : Setting) (h : History) (st : Standing) (frames : List Frame) (answer : Result (Unit {0}) ReadFault) (store : Held) (middle : Standing) (before bytes new : List ℕ) → is_closed middle ≡ false
+    → ServedAll x h st frames store middle before bytes → IsErr answer → new ≡ bytes → StoppedFrames x h st frames answer store before new
+stopped_behind x h st frames answer store middle before bytes new open_ a err same =
+    record {
+      count = length frames;
+      middle = middle;
+      stop = inr (refl, err);
+      goes_on = open_;
+      frames_are = rw (take-length, same) a;
+    }
+
+-- ---- a piece
+
+pub fed_closed : (x : Setting) (h : History) (old : Session) (piece : List ℕ) (d : Unit {0}) (store : Held) (before : List ℕ) → is_closed old.standing ≡ true → setting_of store ≡ x → StandsFor store h → Fed x h old piece (Ok d) store old before before
+fed_closed x h old piece d store before shut s i =
+    record { history = h; replies = []; setting_is = s; store_is = i; course = rw shut (refl, refl, refl); written = sym (append-nil before); each = tt }
+
+pub fed_well : (x : Setting) (h : History) (old : Session) (piece : List ℕ) (d : Unit {0}) (store : Held) (after : Standing) (u : Option (List ℕ)) (before new : List ℕ) (answer : Result (Unit {0}) ReadFault) (frames : List Frame) → is_closed old.standing ≡ false
+    → Feeds old.unfinished piece answer frames u → ServedFrames x h old.standing frames answer store after before new → Fed x h old piece (Ok d) store (record { standing = after; unfinished = u }) before new
+fed_well x h old piece d store after u before new answer frames open_ reads s =
+    let a = s.frames_are in
+    let p : ServesPiece x h old piece a.history (record { standing = after; unfinished = u }) (a.replies ++ s.more) = record { answer = answer; frames = frames; middle = s.middle; told = a.replies; more = s.more; reads = reads; serves = a.serves; ends = s.ends; all = refl } in
+    record {
+      history = a.history;
+      replies = a.replies ++ s.more;
+      setting_is = a.setting_is;
+      store_is = a.store_is;
+      course = rw open_ p;
+      written = s.written ∙ ap (λ (y : List ℕ). y ++ flat_map spelling s.more) a.written ∙ append_assoc before (flat_map spelling a.replies) (flat_map spelling s.more)
+          ∙ ap (λ (y : List ℕ). before ++ y) (sym (flat_map-append spelling a.replies s.more));
+      each = each_append a.replies s.more a.each s.each;
+    }
+
+pub fed_short : (x : Setting) (h : History) (old : Session) (piece : List ℕ) (e : AllocError) (store : Held) (u : Option (List ℕ)) (before new : List ℕ) (answer : Result (Unit {0}) ReadFault) (frames : List Frame) → is_closed old.standing ≡ false
+    → Feeds old.unfinished piece answer frames u → StoppedFrames x h old.standing frames answer store before new → Fed x h old piece (Err e) store (record { standing = Closed; unfinished = u }) before new
+fed_short x h old piece e store u before new answer frames open_ reads s =
+    let a = s.frames_are in
+    record {
+      history = a.history;
+      replies = a.replies;
+      setting_is = a.setting_is;
+      store_is = a.store_is;
+      course = (open_, record { answer = answer; frames = frames; count = s.count; middle = s.middle; reads = reads; stop = s.stop; serves = a.serves; goes_on = s.goes_on; shut = refl });
+      written = a.written;
+      each = a.each;
+    }
+
+-- ---- an open session's stream has not failed
+
+reading_goes_on : (answer : Result (Unit {0}) ReadFault) (middle after : Standing) (more : List Frame) → AfterReading answer middle after more → (after ≡ Closed → ⊥) → (d : Unit {0}) × (answer ≡ Ok d)
+reading_goes_on (Ok d) middle after more r open_ = (d, refl)
+reading_goes_on (Err TooLong) middle after more r open_ = absurd (open_ r.0)
+reading_goes_on (Err UnknownKind) middle after more r open_ = absurd (open_ r.0)
+reading_goes_on (Err BadPayload) middle after more r open_ = absurd (open_ r.0)
+reading_goes_on (Err Memory) middle after more r open_ = absurd r
+reading_goes_on (Err Failed) middle after more r open_ = absurd r
+
+open_means : (answer : Result (Unit {0}) ReadFault) (middle after : Standing) (more : List Frame) → EndsPiece answer middle after more → is_closed after ≡ false → (d : Unit {0}) × (answer ≡ Ok d)
+open_means answer middle after more e open_ = by_middle (is_closed middle) refl e
+  where
+    by_middle : (b : Bool) → b ≡ is_closed middle → MatchBool b ((after ≡ middle) × (more ≡ [])) (AfterReading answer middle after more) → (d : Unit {0}) × (answer ≡ Ok d)
+    by_middle true is r = absurd (let bad : true ≡ false = is ∙ ap is_closed (sym r.0) ∙ open_ in cc)
+    by_middle false is r = reading_goes_on answer middle after more r (λ shut. let bad : true ≡ false = sym (ap is_closed shut) ∙ open_ in cc)
+
+reads_on : (old : Option (List ℕ)) (piece : List ℕ) (d : Unit {0}) (frames : List Frame) (u : Option (List ℕ)) → Feeds old piece (Ok d) frames u → u ≢ None
+reads_on None piece d frames u f n = let bad : Ok d ≡ Err Failed = f.0 in cc
+reads_on (Some bytes) piece d frames u f n = let bad : Some f.0 ≡ None = sym f.2 ∙ n in cc
+
+pub stays_live : (old : Option (List ℕ)) (piece : List ℕ) (answer : Result (Unit {0}) ReadFault) (frames : List Frame) (u : Option (List ℕ)) (x : Setting) (h : History) (st : Standing) (store : Held) (after : Standing) (before new : List ℕ)
+    → Feeds old piece answer frames u → ServedFrames x h st frames answer store after before new → IsLive after u
+stays_live old piece answer frames u x h st store after before new f s open_ =
+    let m = open_means answer s.middle after s.more s.ends open_ in
+    reads_on old piece m.0 frames u (subst (λ (a : Result (Unit {0}) ReadFault). Feeds old piece a frames u) m.1 f)
+
+-- every store stands for a history
+abbrev pub history_of : Held → History
+history_of s = record { first = s.version; past = []; current = s.edition.records; draft = s.draft; marked = s.marked }
+
+pub stands_for_one : (s : Held) → StandsFor s (history_of s)
+stands_for_one s = record { version = omega arith; current = refl; draft = refl; marked = refl }
+
+pub on_err : {T E P Q : Type 0} (r : Result T E) → OnErr r P → (P → Q) → OnErr r Q
+on_err (Ok x) p f = tt
+on_err (Err x) p f = f p
+
+-- a fault is told
+pub told : (answer : Result (Unit {0}) ReadFault) (middle : Standing) (r : Result Standing AllocError) (out new : List ℕ) → ((after : Standing) → after ≡ Closed → AfterReading answer middle after (Refused 1 ∷ []))
+    → IfOk r (λ after. after ≡ Closed) → OnOk r (new ≡ out ++ spelling (Refused 1)) → OnOk r (IsFrame (Refused 1)) → IfOk r (λ after. Ended answer middle after out new)
+told answer middle (Ok after) out new f shut written fits =
+    record {
+      more = Refused 1 ∷ [];
+      ends = f after shut;
+      written = written ∙ ap (λ (y : List ℕ). out ++ y) (sym (flat_map-cons spelling (Refused 1) [] ∙ append-nil (spelling (Refused 1))));
+      each = (fits, tt);
+    }
+told answer middle (Err e) out new f shut written fits = tt

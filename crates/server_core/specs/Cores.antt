@@ -1,0 +1,37 @@
+-- What callers see of a server.
+use Rattle.std.specs.Prelude.{◌≡◌, ℕ, List, Option, Some, None, Result, Ok, Err}
+use Rattle.std.specs.Map.{lookup}
+use Rattle.std.specs.BTreeMap.{is_at}
+use Rattle.std.specs.Ordering.{nat_cmp}
+use Rattle.std.specs.declared.alloc.AllocError.{AllocError}
+use Rattle.version_store.specs.Histories.{Held, History}
+use Rattle.server_core.specs.Serving.{Setting}
+use Rattle.server_core.specs.Sessions.{Session, Fed}
+use Rattle.server_core.specs.declared.server.FeedError.{FeedError}
+use Rattle.server_core.specs.declared.server.FeedError.TheVariants.{NoSession, Memory}
+
+-- what the store keeps, and the sessions by their numbers
+pub record Core : Type 0 where
+  pub store : Held
+  pub sessions : List (ℕ × Session)
+
+-- the session of a number
+abbrev pub session_of : List (ℕ × Session) → ℕ → Option Session
+session_of sessions id = lookup (is_at (nat_cmp id)) sessions
+
+-- a session's stream has failed: no later byte of it is read
+abbrev pub HasFailed : Option Session → Type 0
+HasFailed None = ⊥
+HasFailed (Some s) = s.unfinished ≡ None
+
+-- What a piece did, as the answer says: all of it was served, or memory was refused. Without a session nothing is served.
+abbrev pub FeedsCore : Setting → History → Session → List ℕ → Result (Unit {0}) FeedError → Held → Session → List ℕ → List ℕ → Type 0
+FeedsCore x h old piece (Ok done) store new before after = Fed x h old piece (Ok done) store new before after
+FeedsCore x h old piece (Err Memory) store new before after = (e : AllocError) × Fed x h old piece (Err e) store new before after
+FeedsCore x h old piece (Err NoSession) store new before after = ⊥
+
+-- where there is no session
+abbrev pub OnNoSession : Result (Unit {0}) FeedError → Type 0 → Type 0
+OnNoSession (Ok done) P = Unit {0}
+OnNoSession (Err NoSession) P = P
+OnNoSession (Err Memory) P = Unit {0}

@@ -1,0 +1,45 @@
+-- What frames lead to where memory is never refused.
+use Rattle.std.specs.Prelude.{List, [], ◌∷◌, ◌++◌, Bool, false, ◌==◌, ◌||◌, cond, option_to_list}
+use Rattle.frame_codec.specs.declared.frame.Frame.{Frame}
+use Rattle.frame_codec.specs.declared.frame.Frame.TheVariants.{Load, Hello, HintAsk, Query, Edit, Publish, Bye, Welcome, HintPart, Answer, Stale, Done, Refused}
+use Rattle.version_store.specs.Histories.{History}
+use Rattle.server_core.specs.declared.standing.Standing.{Standing}
+use Rattle.server_core.specs.Serving.{Setting, Outcome, served, is_closed}
+
+-- the history and the standing after some frames, and the replies
+pub record Course : Type 0 where
+  pub history : History
+  pub standing : Standing
+  pub replies : List Frame
+
+-- a reply, and then others
+abbrev pub with_reply : Outcome → Course → Course
+with_reply o c = record { history = c.history; standing = c.standing; replies = option_to_list o.reply ++ c.replies }
+
+-- each frame as the checks say, until the session is closed
+abbrev pub course_of : Setting → History → Standing → List Frame → Course
+course_of x h st [] = record { history = h; standing = st; replies = [] }
+course_of x h st (f ∷ fs) =
+    cond (is_closed st) (record { history = h; standing = st; replies = [] })
+    (with_reply (served x h st f) (course_of x (served x h st f).history (served x h st f).standing fs))
+
+-- whether a reply refuses for want of memory
+abbrev pub is_memory : Frame → Bool
+is_memory (Load record_len groups width records) = false
+is_memory (Hello profile key) = false
+is_memory (HintAsk scheme version part) = false
+is_memory (Query scheme version words) = false
+is_memory (Edit index bytes) = false
+is_memory Publish = false
+is_memory Bye = false
+is_memory (Welcome profile width record_len groups count version dimension seed) = false
+is_memory (HintPart scheme version part words) = false
+is_memory (Answer scheme version words) = false
+is_memory (Stale version count) = false
+is_memory (Done version) = false
+is_memory (Refused code) = code == 12
+
+-- whether one of the replies does
+abbrev pub lacks_memory : List Frame → Bool
+lacks_memory [] = false
+lacks_memory (f ∷ fs) = is_memory f || lacks_memory fs

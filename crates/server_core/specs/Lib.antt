@@ -1,0 +1,4 @@
+pub mod Serving
+pub mod Sessions
+pub mod Cores
+pub mod Courses

@@ -1,0 +1,109 @@
+-- What a piece of its stream does to a session.
+use Rattle.std.specs.Prelude.{◌≡◌, ◌≢◌, ◌⊎◌, ℕ, ◌<◌, List, [], ◌∷◌, ◌++◌, length, take, false, Option, Some, None, MatchBool, Result, Ok, Err, IsErr}
+use Rattle.std.specs.List.{flat_map, AllByRecursion}
+use Rattle.std.specs.declared.alloc.AllocError.{AllocError}
+use Rattle.version_store.specs.Histories.{Held, History, StandsFor}
+use Rattle.frame_codec.specs.declared.frame.Frame.{Frame}
+use Rattle.frame_codec.specs.declared.frame.Frame.TheVariants.{Refused}
+use Rattle.frame_codec.specs.declared.reader.ReadFault.{ReadFault}
+use Rattle.frame_codec.specs.declared.reader.ReadFault.TheVariants.{TooLong, UnknownKind, BadPayload, Memory, Failed}
+use Rattle.frame_codec.specs.Frames.{IsFrame, spelling}
+use Rattle.frame_codec.specs.Streams.{Feeds}
+use Rattle.server_core.specs.declared.standing.Standing.{Standing}
+use Rattle.server_core.specs.declared.standing.Standing.TheVariants.{Stranger, Closed}
+use Rattle.server_core.specs.Serving.{Setting, setting_of, ServesAll, ServedAll, is_closed}
+
+-- who the session speaks for, and the bytes of its unfinished frame, which are None once its stream has failed
+pub record Session : Type 0 where
+  pub standing : Standing
+  pub unfinished : Option (List ℕ)
+
+-- a session that was opened just now
+abbrev pub new_session : Session
+new_session = record { standing = Stranger; unfinished = Some [] }
+
+-- the stream of an open session has not failed
+abbrev pub IsLive : Standing → Option (List ℕ) → Type 0
+IsLive standing unfinished = is_closed standing ≡ false → unfinished ≢ None
+
+-- what the end of a piece does to a session that its frames leave open, and the replies to it: a fault is refused, and closes it
+abbrev pub AfterReading : Result (Unit {0}) ReadFault → Standing → Standing → List Frame → Type 0
+AfterReading (Ok done) middle after more = (after ≡ middle) × (more ≡ [])
+AfterReading (Err TooLong) middle after more = (after ≡ Closed) × (more ≡ Refused 1 ∷ [])
+AfterReading (Err UnknownKind) middle after more = (after ≡ Closed) × (more ≡ Refused 1 ∷ [])
+AfterReading (Err BadPayload) middle after more = (after ≡ Closed) × (more ≡ Refused 1 ∷ [])
+AfterReading (Err Memory) middle after more = ⊥
+AfterReading (Err Failed) middle after more = ⊥
+
+-- the same where the frames may have closed it: then nothing more is said
+abbrev pub EndsPiece : Result (Unit {0}) ReadFault → Standing → Standing → List Frame → Type 0
+EndsPiece answer middle after more = MatchBool (is_closed middle) ((after ≡ middle) × (more ≡ [])) (AfterReading answer middle after more)
+
+-- Where memory was refused: before one of the frames, or behind them, where the reading stopped with a fault.
+abbrev pub IsStop : Result (Unit {0}) ReadFault → List Frame → ℕ → Type 0
+IsStop answer frames count = (count < length frames) ⊎ ((count ≡ length frames) × IsErr answer)
+
+-- the frames that the piece completes are served in order, and then a fault is told
+pub record ServesPiece (x : Setting) (h : History) (old : Session) (piece : List ℕ) (h2 : History) (new : Session) (replies : List Frame) : Type 0 where
+  pub answer : Result (Unit {0}) ReadFault
+  pub frames : List Frame
+  pub middle : Standing
+  pub told : List Frame
+  pub more : List Frame
+  pub reads : Feeds old.unfinished piece answer frames new.unfinished
+  pub serves : ServesAll x h old.standing frames h2 middle told
+  pub ends : EndsPiece answer middle new.standing more
+  pub all : replies ≡ told ++ more
+
+-- memory was refused behind some of them: those are served, no other is, and the session is closed
+pub record BreaksOff (x : Setting) (h : History) (old : Session) (piece : List ℕ) (h2 : History) (new : Session) (replies : List Frame) : Type 0 where
+  pub answer : Result (Unit {0}) ReadFault
+  pub frames : List Frame
+  pub count : ℕ
+  pub middle : Standing
+  pub reads : Feeds old.unfinished piece answer frames new.unfinished
+  pub stop : IsStop answer frames count
+  pub serves : ServesAll x h old.standing (take count frames) h2 middle replies
+  pub goes_on : is_closed middle ≡ false
+  pub shut : new.standing ≡ Closed
+
+-- What a piece does to a session, and the history after it and the replies. A closed session takes bytes and replies nothing. At an error memory was refused.
+abbrev pub FeedsSession : Setting → History → Session → List ℕ → Result (Unit {0}) AllocError → History → Session → List Frame → Type 0
+FeedsSession x h old piece (Ok done) h2 new replies =
+    MatchBool (is_closed old.standing) ((h2 ≡ h) × (new ≡ old) × (replies ≡ [])) (ServesPiece x h old piece h2 new replies)
+FeedsSession x h old piece (Err e) h2 new replies = (is_closed old.standing ≡ false) × BreaksOff x h old piece h2 new replies
+
+-- A store was fed a session's piece: it stands for the history after it in the same setting, and the replies are written.
+pub record Fed (x : Setting) (h : History) (old : Session) (piece : List ℕ) (result : Result (Unit {0}) AllocError) (store : Held) (new : Session) (before after : List ℕ) : Type 0 where
+  pub history : History
+  pub replies : List Frame
+  pub setting_is : setting_of store ≡ x
+  pub store_is : StandsFor store history
+  pub course : FeedsSession x h old piece result history new replies
+  pub written : after ≡ before ++ flat_map spelling replies
+  pub each : AllByRecursion IsFrame replies
+
+-- what the end of a piece wrote
+pub record Ended (answer : Result (Unit {0}) ReadFault) (middle after : Standing) (before new : List ℕ) : Type 0 where
+  pub more : List Frame
+  pub ends : AfterReading answer middle after more
+  pub written : new ≡ before ++ flat_map spelling more
+  pub each : AllByRecursion IsFrame more
+
+-- a piece's frames and its end, served by a store
+pub record ServedFrames (x : Setting) (h : History) (st : Standing) (frames : List Frame) (answer : Result (Unit {0}) ReadFault) (store : Held) (after : Standing) (before new : List ℕ) : Type 0 where
+  pub middle : Standing
+  pub bytes : List ℕ
+  pub more : List Frame
+  pub frames_are : ServedAll x h st frames store middle before bytes
+  pub ends : EndsPiece answer middle after more
+  pub written : new ≡ bytes ++ flat_map spelling more
+  pub each : AllByRecursion IsFrame more
+
+-- memory was refused behind some of a piece's frames
+pub record StoppedFrames (x : Setting) (h : History) (st : Standing) (frames : List Frame) (answer : Result (Unit {0}) ReadFault) (store : Held) (before new : List ℕ) : Type 0 where
+  pub count : ℕ
+  pub middle : Standing
+  pub stop : IsStop answer frames count
+  pub goes_on : is_closed middle ≡ false
+  pub frames_are : ServedAll x h st (take count frames) store middle before new

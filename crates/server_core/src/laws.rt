@@ -1,0 +1,15 @@
+//! Laws of replies. Each function does nothing: its clause is the law.
+
+ghost use Rattle.std.specs.Prelude.{◌≡◌, List, false};
+ghost use Rattle.frame_codec.specs.declared.frame.Frame.{Frame};
+ghost use Rattle.version_store.specs.Histories.{History};
+ghost use Rattle.server_core.specs.declared.standing.Standing.{Standing};
+ghost use Rattle.server_core.specs.Courses.{course_of, lacks_memory};
+ghost use Rattle.server_core.specs.Serving.{Setting, ServesAll};
+
+/// Where no frame is refused for want of memory, the replies, the standing and the history after them are
+/// determined by the setting, the history, the standing before and the frames, whatever other sessions do.
+pub fn frames_decide()
+    ensures { (x : Setting) (h : History) (st : Standing) (frames : List Frame) (h2 : History) (st2 : Standing) (replies : List Frame) →
+        ServesAll x h st frames h2 st2 replies → lacks_memory replies ≡ false → record { history = h2; standing = st2; replies = replies } ≡ course_of x h st frames }
+{}

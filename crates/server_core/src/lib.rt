@@ -1,0 +1,20 @@
+//! A server of sessions over one store.
+//!
+//! A session's stream comes in pieces of any size. Each frame is served when its last byte is fed, against
+//! the version that is current then. What a session gets depends on its own stream and on the versions
+//! alone, never on another session.
+#![tactic(auto)]
+
+pub mod laws;
+mod refusal;
+mod replies;
+mod serve;
+mod server;
+mod session;
+mod standing;
+
+pub use server::{FeedError, OpenError, ServerCore};
+pub use standing::Standing;
+
+#[cfg(test)]
+mod tests;

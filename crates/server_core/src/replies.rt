@@ -1,0 +1,157 @@
+//! Replies, written behind those before.
+
+ghost use Rattle.std.specs.Prelude.{◌≡◌, ◌≤◌, ◌<◌, ◌+◌, ◌*◌, ◌++◌, length, vec_len, vec_capacity, OnOk, OnErr, IfOk, IfSome, IfNone, true, false};
+ghost use Rattle.frame_codec.specs.Frames.{IsFrame, spelling, payload_size};
+ghost use Rattle.frame_codec.specs.declared.frame.Frame.TheVariants.{Answer, Done, HintPart, Refused, Stale, Welcome};
+ghost use Rattle.digit_pack.specs.Layout.{digit_cols};
+ghost use Rattle.server_core.specs.Serving.{setting_of, has_part, part_words, answer_words};
+
+use frame_codec::{Bytes32, Frame, Words, write_frame};
+use matrix_u32::Kernel;
+use std::alloc::{AllocError, Global};
+use version_store::{Scheme, Store};
+
+/// The one profile that there is.
+pub const PROFILE: u16 = 1;
+
+/// The byte of the one scheme that is offered.
+pub const SIMPLE: u8 = 0;
+
+/// The room that every reply but a hint's part and an answer fits into.
+pub const SHORT_REPLY: usize = 64;
+
+/// Adds a short reply for which there is room.
+fn put(reply: &Frame, out: &mut Vec<u8>)
+    requires short { payload_size reply.now ≤ 59 }
+    requires room { vec_len out.old + 64 ≤ vec_capacity out.old }
+    ensures items { out.new.items ≡ out.old.items ++ spelling reply.now }
+    ensures fits { IsFrame reply.now }
+{
+    let _ = write_frame(reply, out);
+}
+
+/// Adds a refusal.
+pub fn put_refused(code: u8, out: &mut Vec<u8>)
+    requires { vec_len out.old + 64 ≤ vec_capacity out.old }
+    ensures items { out.new.items ≡ out.old.items ++ spelling (Refused code) }
+    ensures fits { IsFrame (Refused code) }
+{
+    put(&Frame::Refused { code }, out);
+}
+
+/// Adds that it is done.
+pub fn put_done(version: u64, out: &mut Vec<u8>)
+    requires { vec_len out.old + 64 ≤ vec_capacity out.old }
+    ensures items { out.new.items ≡ out.old.items ++ spelling (Done version) }
+    ensures fits { IsFrame (Done version) }
+{
+    put(&Frame::Done { version }, out);
+}
+
+/// Adds the current version and its record count.
+pub fn put_stale<K: Kernel>(store: &Store<K>, out: &mut Vec<u8>)
+    requires { vec_len out.old + 64 ≤ vec_capacity out.old }
+    ensures items { out.new.items ≡ out.old.items ++ spelling (Stale store.now.version store.now.edition.shape.count) }
+    ensures fits { IsFrame (Stale store.now.version store.now.edition.shape.count) }
+{
+    let reply = Frame::Stale {
+        version: store.version(),
+        count: store.layout().count() as u32,
+    };
+    put(&reply, out);
+}
+
+/// Adds the sizes, the current version and the public seed.
+pub fn put_welcome<K: Kernel>(store: &Store<K>, out: &mut Vec<u8>)
+    requires { vec_len out.old + 64 ≤ vec_capacity out.old }
+    ensures items { out.new.items ≡ out.old.items ++ spelling (Welcome 1 store.now.edition.shape.width store.now.edition.shape.record_len
+        store.now.edition.shape.groups store.now.edition.shape.count store.now.version store.now.edition.dimension store.now.edition.seed) }
+    ensures fits { IsFrame (Welcome 1 store.now.edition.shape.width store.now.edition.shape.record_len
+        store.now.edition.shape.groups store.now.edition.shape.count store.now.version store.now.edition.dimension store.now.edition.seed) }
+{
+    let layout = store.layout();
+    let reply = Frame::Welcome {
+        profile: PROFILE,
+        width: layout.width() as u8,
+        record_len: layout.record_len() as u16,
+        groups: layout.groups() as u16,
+        count: layout.count() as u32,
+        version: store.version(),
+        dimension: store.dimension() as u16,
+        seed: Bytes32::copied(store.seed()),
+    };
+    put(&reply, out);
+}
+
+/// The words of a part of the hint.
+pub fn part_of_hint<K: Kernel>(store: &Store<K>, part: u32) -> Option<&[u32]>
+    ensures none { IfNone result (has_part (setting_of store.now) store.now.edition.records part ≡ false) }
+    ensures some { IfSome result (λ words. has_part (setting_of store.now) store.now.edition.records part ≡ true) }
+    ensures words { IfSome result (λ words. words.now ≡ part_words (setting_of store.now) store.now.edition.records part) }
+    ensures few { IfSome result (λ words. length words.now ≤ 65536) }
+{
+    store.hint_words(Scheme::Simple, part as usize)
+}
+
+/// Adds a part of the hint. Only want of memory gives an `Err`, and then nothing was added.
+pub fn put_part(
+    alloc: Global,
+    version: u64,
+    part: u32,
+    words: &[u32],
+    out: &mut Vec<u8>,
+) -> Result<(), AllocError>
+    requires { length words.now ≤ 65536 }
+    ensures ok { OnOk result (out.new.items ≡ out.old.items ++ spelling (HintPart 0 version part words.now)) }
+    ensures fits { OnOk result (IsFrame (HintPart 0 version part words.now)) }
+    ensures err { OnErr result (out.new.items ≡ out.old.items) }
+    ensures room { vec_capacity out.old ≤ vec_capacity out.new }
+{
+    let words = Words::new(words.to_vec(alloc)?);
+    let reply = Frame::HintPart {
+        scheme: SIMPLE,
+        version,
+        part,
+        words,
+    };
+    write_frame(&reply, out)
+}
+
+/// Adds the answer to a query. Only want of memory gives an `Err`, and then nothing was added.
+///
+/// It is one pass over the digits; the answer's words are moved into the reply, and their bytes written once.
+pub fn put_answer<K: Kernel>(
+    alloc: Global,
+    store: &Store<K>,
+    words: &Words,
+    out: &mut Vec<u8>,
+) -> Result<(), AllocError>
+    requires { length words.now ≡ digit_cols store.now.edition.shape }
+    ensures ok { OnOk result (out.new.items ≡ out.old.items ++ spelling (Answer 0 store.now.version (answer_words (setting_of store.now) store.now.edition.records words.now))) }
+    ensures fits { OnOk result (IsFrame (Answer 0 store.now.version (answer_words (setting_of store.now) store.now.edition.records words.now))) }
+    ensures err { OnErr result (out.new.items ≡ out.old.items) }
+    ensures room { vec_capacity out.old ≤ vec_capacity out.new }
+{
+    let answer = answer_to(alloc, store, words.as_slice())?;
+    let reply = Frame::Answer {
+        scheme: SIMPLE,
+        version: store.version(),
+        words: Words::new(answer),
+    };
+    write_frame(&reply, out)
+}
+
+/// The words that answer a query.
+fn answer_to<K: Kernel>(
+    alloc: Global,
+    store: &Store<K>,
+    words: &[u32],
+) -> Result<Vec<u32>, AllocError>
+    requires { length words.now ≡ digit_cols store.now.edition.shape }
+    ensures words { IfOk result (λ v. v.items ≡ answer_words (setting_of store.now) store.now.edition.records words.now) }
+    ensures few { IfOk result (λ v. length v.items ≤ 4096) }
+{
+    store.layout();
+    let answer = store.answer_simple(alloc, words)?;
+    Ok(answer)
+}

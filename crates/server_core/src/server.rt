@@ -1,0 +1,175 @@
+//! Sessions over one store.
+
+ghost use Rattle.std.specs.Prelude.{◌≡◌, ◌≢◌, ◌⊎◌, ◌≤◌, ◌<◌, ◌^◌, ◌+◌, ◌↔◌, ℕ, length, OnOk, OnErr, IfOk, IsSome, Some, None, IsErrOf, is_some, slice_set, true, false};
+ghost use Rattle.version_store.specs.Histories.{History, StandsFor, edited, published};
+ghost use Rattle.server_core.specs.Cores.{session_of, FeedsCore, HasFailed, OnNoSession};
+ghost use Rattle.server_core.specs.Serving.{setting_of, IsFull};
+ghost use Rattle.server_core.specs.Sessions as sessions;
+
+use crate::session::Session;
+use matrix_u32::Kernel;
+use std::alloc::Global;
+use std::collections::BTreeMap;
+use std::marker::Model;
+use thiserror::Error;
+use version_store::{EditError, PublishError, Store};
+
+/// Why no session was opened: the first cause in the order of the variants.
+#[derive(Clone, Copy, Debug, PartialEq, Eq, Error)]
+pub enum OpenError {
+    /// There is a session of this number.
+    #[error("there is a session of this number")]
+    IdInUse,
+    /// There is no memory for it.
+    #[error("out of memory")]
+    Memory,
+}
+
+/// Why a piece wasn't served to its end: the first cause in the order of the variants.
+#[derive(Clone, Copy, Debug, PartialEq, Eq, Error)]
+pub enum FeedError {
+    /// There is no session of this number.
+    #[error("there is no session of this number")]
+    NoSession,
+    /// There is no memory for a frame or for a reply. The session is closed.
+    #[error("out of memory")]
+    Memory,
+}
+
+/// A store and the sessions of those that ask it, by their numbers.
+///
+/// Contracts see it as what the store keeps and the list of the sessions. They say what a call does to every
+/// history that the store stands for.
+#[derive(Drop)]
+pub struct ServerCore<K: Kernel> {
+    alloc: Global,
+    store: Store<K>,
+    sessions: BTreeMap<u64, Session>,
+}
+
+impl<K: Kernel> Model for ServerCore<K> {
+    ghost use Rattle.server_core.specs.Cores.{Core};
+
+    ghost Value = { Core };
+
+    ghost view = { λ c. record { store = c.store; sessions = c.sessions.entries } };
+}
+
+impl<K: Kernel> ServerCore<K> {
+    /// A server with no sessions.
+    pub fn new(alloc: Global, store: Store<K>) -> ServerCore<K>
+        ensures store { result.store ≡ store }
+        ensures none { (id : ℕ) → session_of result.sessions id ≡ None }
+    {
+        ServerCore {
+            alloc,
+            store,
+            sessions: BTreeMap::new(alloc),
+        }
+    }
+
+    /// Opens a session: its stream is empty so far, and no greeting was accepted.
+    ///
+    /// `IdInUse` exactly where there is one of this number, also a closed one; else it is opened, or `Memory`.
+    /// A refused opening changes nothing.
+    pub fn open_session(&mut self, id: u64) -> Result<(), OpenError>
+        ensures opened { OnOk result (session_of self.new.sessions id ≡ Some sessions.new_session) }
+        ensures in_use { IsErrOf result OpenError.IdInUse ↔ IsSome (session_of self.old.sessions id) }
+        ensures others { (other : ℕ) → other ≢ id → session_of self.new.sessions other ≡ session_of self.old.sessions other }
+        ensures store { self.new.store ≡ self.old.store }
+        ensures refused { OnErr result (self.new ≡ self.old) }
+    {
+        if self.sessions.contains_key(&id) {
+            return Err(OpenError::IdInUse);
+        }
+        match self.sessions.insert(id, Session::new(self.alloc)) {
+            Ok(_) => Ok(()),
+            Err(_) => Err(OpenError::Memory),
+        }
+    }
+
+    /// Takes a session away, and answers whether there was one of this number.
+    pub fn close_session(&mut self, id: u64) -> bool
+        ensures was { result ≡ is_some (session_of self.old.sessions id) }
+        ensures gone { session_of self.new.sessions id ≡ None }
+        ensures others { (other : ℕ) → other ≢ id → session_of self.new.sessions other ≡ session_of self.old.sessions other }
+        ensures store { self.new.store ≡ self.old.store }
+    {
+        self.sessions.remove(&id).is_some()
+    }
+
+    /// Whether there is a session of this number, also a closed one.
+    pub fn has_session(&self, id: u64) -> bool
+        ensures { result ≡ is_some (session_of self.now.sessions id) }
+    {
+        self.sessions.contains_key(&id)
+    }
+
+    /// The store.
+    pub fn store(&self) -> &Store<K>
+        ensures { result.now ≡ self.now.store }
+    {
+        &self.store
+    }
+
+    /// Replaces record i of the draft, as [`Store::edit`] does. No session changes.
+    pub fn edit(&mut self, i: usize, bytes: &[u8]) -> Result<(), EditError>
+        ensures accepted { OnOk result (self.new.store ≡ record self.old.store {
+          draft = slice_set self.old.store.draft i bytes.now;
+          marked = true;
+        }) }
+        ensures history { OnOk result ((h : History) → StandsFor self.old.store h → StandsFor self.new.store (edited i bytes.now h)) }
+        ensures bad_index { IsErrOf result EditError.BadIndex ↔ (self.old.store.edition.shape.count ≤ i) }
+        ensures bad_length { IsErrOf result EditError.BadLength ↔
+            (i < self.old.store.edition.shape.count) × (length bytes.now ≢ self.old.store.edition.shape.record_len) }
+        ensures refused { OnErr result (self.new.store ≡ self.old.store) }
+        ensures sessions { self.new.sessions ≡ self.old.sessions }
+    {
+        self.store.edit(self.alloc, i, bytes)
+    }
+
+    /// Makes the draft the current version and answers its number, as [`Store::publish`] does. No session
+    /// changes.
+    pub fn publish(&mut self) -> Result<u64, PublishError>
+        ensures version { IfOk result (λ v. (v ≡ self.old.store.version + 1) × (v < 2 ^ 64)) }
+        ensures done { OnOk result (self.new.store ≡ record self.old.store {
+          version = self.old.store.version + 1;
+          edition = record self.old.store.edition { records = self.old.store.draft };
+          marked = false;
+        }) }
+        ensures history { OnOk result ((h : History) → StandsFor self.old.store h → StandsFor self.new.store (published h)) }
+        ensures nothing { IsErrOf result PublishError.NothingToPublish ↔ (self.old.store.marked ≡ false) }
+        ensures used_up { IsErrOf result PublishError.VersionsUsedUp ↔ (self.old.store.marked ≡ true) × (self.old.store.version + 1 ≡ 2 ^ 64) }
+        ensures refused { OnErr result (self.new.store ≡ self.old.store) }
+        ensures sessions { self.new.sessions ≡ self.old.sessions }
+    {
+        self.store.publish(self.alloc)
+    }
+
+    /// Takes the next piece of a session's stream, and adds to `out` the replies to the frames that are whole
+    /// now, each served against the version that is current then.
+    ///
+    /// `NoSession` exactly where there is no session of this number: nothing changes. At `Memory` the session
+    /// is closed and `out` has gained the whole replies to the frames before the one at hand, which isn't
+    /// served. A closed session takes bytes and replies nothing. No other session changes.
+    pub fn feed(&mut self, id: u64, piece: &[u8], out: &mut Vec<u8>) -> Result<(), FeedError>
+        ensures fed { (h : History) → StandsFor self.old.store h → (old : sessions.Session) → session_of self.old.sessions id ≡ Some old →
+            (new : sessions.Session) × (session_of self.new.sessions id ≡ Some new)
+            × FeedsCore (setting_of self.old.store) h old piece.now result self.new.store new out.old.items out.new.items }
+        ensures no_session { IsErrOf result FeedError.NoSession ↔ (session_of self.old.sessions id ≡ None) }
+        ensures full { IsErrOf result FeedError.Memory → IsFull out.new ⊎ HasFailed (session_of self.new.sessions id) }
+        ensures unchanged { OnNoSession result ((self.new ≡ self.old) × (out.new.items ≡ out.old.items)) }
+        ensures others { (other : ℕ) → other ≢ id → session_of self.new.sessions other ≡ session_of self.old.sessions other }
+    {
+        let Some(session) = self.sessions.get_mut(&id) else {
+            return Err(FeedError::NoSession);
+        };
+        if session
+            .feed(self.alloc, &mut self.store, piece, out)
+            .is_err()
+        {
+            return Err(FeedError::Memory);
+        }
+        Ok(())
+    }
+}

@@ -1,0 +1,135 @@
+//! One session.
+
+ghost use Rattle.std.specs.Prelude.{◌≡◌, ◌⊎◌, ◌++◌, IfOk, IsErr, None, OnErr, OnOk};
+ghost use Rattle.frame_codec.specs.declared.frame.Frame.TheVariants.{Refused};
+ghost use Rattle.frame_codec.specs.Frames.{IsFrame, spelling};
+ghost use Rattle.version_store.specs.Histories.{History, StandsFor};
+ghost use Rattle.server_core.specs.Serving.{setting_of, IsFull};
+ghost use Rattle.server_core.specs.Sessions.{new_session, Ended, Fed, ServedFrames, StoppedFrames};
+
+use crate::refusal::BAD_FRAME;
+use crate::replies::{SHORT_REPLY, put_refused};
+use crate::serve::serve_frames;
+use crate::standing::Standing;
+use frame_codec::{Frame, ReadFault, Reader};
+use matrix_u32::Kernel;
+use std::alloc::{AllocError, Global};
+use std::marker::Model;
+use version_store::Store;
+
+/// Who a session speaks for, and what has come of its next frame. The stream of an open one has not failed.
+#[derive(Drop)]
+pub struct Session {
+    standing: Standing,
+    reader: Reader,
+}
+
+impl Model for Session {
+    ghost use Rattle.server_core.specs.Sessions as sessions;
+
+    ghost Value = { sessions.Session };
+
+    ghost view = { λ s. record { standing = s.standing; unfinished = s.reader } };
+
+    ghost invariant = { λ s. sessions.IsLive s.standing s.reader };
+}
+
+impl Session {
+    /// A session at the start of its stream.
+    pub fn new(alloc: Global) -> Session
+        ensures { result ≡ new_session }
+    {
+        Session {
+            standing: Standing::Stranger,
+            reader: Reader::new(alloc),
+        }
+    }
+
+    /// Takes the next piece of the stream, and adds the replies to the frames that are whole now. A closed
+    /// session takes it and adds nothing. At an `Err` memory was refused: the session is closed, and `out` has
+    /// the replies to the frames before.
+    pub fn feed<K: Kernel>(
+        &mut self,
+        alloc: Global,
+        store: &mut Store<K>,
+        piece: &[u8],
+        out: &mut Vec<u8>,
+    ) -> Result<(), AllocError>
+        ensures fed { (h : History) → StandsFor store.old h → Fed (setting_of store.old) h self.old piece.now result store.new self.new out.old.items out.new.items }
+        ensures full { OnErr result (IsFull out.new ⊎ (self.new.unfinished ≡ None)) }
+    {
+        if self.standing.is_closed() {
+            return Ok(());
+        }
+        let mut frames = Vec::new(alloc);
+        let read = self.reader.feed(piece, &mut frames);
+        match serve_piece(alloc, store, self.standing, &frames, read, out) {
+            Ok(standing) => {
+                self.standing = standing;
+                Ok(())
+            }
+            Err(fault) => {
+                self.standing = Standing::Closed;
+                Err(fault)
+            }
+        }
+    }
+}
+
+/// Serves the frames that a piece completes, and then tells how the reading ended. Answers the standing after
+/// it. At an `Err` memory was refused.
+fn serve_piece<K: Kernel>(
+    alloc: Global,
+    store: &mut Store<K>,
+    standing: Standing,
+    frames: &[Frame],
+    read: Result<(), ReadFault>,
+    out: &mut Vec<u8>,
+) -> Result<Standing, AllocError>
+    ensures ok { IfOk result (λ after. (h : History) → StandsFor store.old h → ServedFrames (setting_of store.old) h standing frames.now read store.new after out.old.items out.new.items) }
+    ensures err { OnErr result ((h : History) → StandsFor store.old h → StoppedFrames (setting_of store.old) h standing frames.now read store.new out.old.items out.new.items) }
+    ensures full { OnErr result (IsFull out.new ⊎ IsErr read) }
+{
+    let middle = match serve_frames(alloc, store, standing, frames, out) {
+        Ok(middle) => middle,
+        Err(fault) => return Err(fault),
+    };
+    if middle.is_closed() {
+        return Ok(middle);
+    }
+    end_piece(middle, read, out)
+}
+
+/// What the end of a piece does to a session that is open. At an `Err` memory was refused, and nothing was
+/// added.
+fn end_piece(
+    middle: Standing,
+    read: Result<(), ReadFault>,
+    out: &mut Vec<u8>,
+) -> Result<Standing, AllocError>
+    ensures ok { IfOk result (λ after. Ended read middle after out.old.items out.new.items) }
+    ensures err { OnErr result (IsErr read × (out.new.items ≡ out.old.items)) }
+    ensures full { OnErr result (IsFull out.new ⊎ IsErr read) }
+{
+    match read {
+        Ok(()) => Ok(middle),
+        Err(ReadFault::TooLong) => refuse(out),
+        Err(ReadFault::UnknownKind) => refuse(out),
+        Err(ReadFault::BadPayload) => refuse(out),
+        // an open session's stream has not failed
+        Err(ReadFault::Memory | ReadFault::Failed) => Err(AllocError),
+    }
+}
+
+/// Refuses what can't be read, and closes the session. At an `Err` memory was refused, and nothing was added.
+fn refuse(out: &mut Vec<u8>) -> Result<Standing, AllocError>
+    ensures closed { IfOk result (λ after. after ≡ Standing.Closed) }
+    ensures items { OnOk result (out.new.items ≡ out.old.items ++ spelling (Refused 1)) }
+    ensures fits { OnOk result (IsFrame (Refused 1)) }
+    ensures err { OnErr result (out.new.items ≡ out.old.items) }
+    ensures full { OnErr result (IsFull out.new) }
+{
+    out.reserve(SHORT_REPLY)?;
+    put_refused(BAD_FRAME, out);
+    Ok(Standing::Closed)
+}

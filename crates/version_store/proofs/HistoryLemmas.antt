@@ -1,0 +1,42 @@
+-- What a store stands for after an edit and after a publication.
+use Rattle.std.proofs.Common.{◌≡◌, ℕ, ◌+◌, arith, ap, ◌∙◌, sym, refl, subst, List, [], ◌∷◌, length, true, false, Option, Some, None}
+use Rattle.std.specs.Prelude.{slice_set}
+use Rattle.version_store.specs.Editions.{Records}
+use Rattle.digit_pack.specs.Layout.{Shape, records_in}
+use Rattle.snapshot_file.specs.declared.snapshot.Header.{Header}
+use Rattle.snapshot_file.specs.Snapshots.{shape_of}
+use Rattle.version_store.specs.Openings.{held_of}
+use Rattle.version_store.specs.Histories.{Held, History, StandsFor, number, opened, edited, published, held_edited, held_published, Change, history_after, held_after}
+
+pub edit_stands : (old new : Held) (i : ℕ) (bytes : List ℕ) → new ≡ held_edited i bytes old →
+    (h : History) → StandsFor old h → StandsFor new (edited i bytes h)
+edit_stands old new i bytes e h s = record {
+  version = s.version ∙ sym (ap (λ t. t.version) e);
+  current = s.current ∙ sym (ap (λ t. t.edition.records) e);
+  draft = ap (λ (d : List (List ℕ)). slice_set d i bytes) s.draft ∙ sym (ap (λ t. t.draft) e);
+  marked = sym (ap (λ t. t.marked) e);
+}
+
+pub publish_stands : (old new : Held) → new ≡ held_published old → (h : History) → StandsFor old h → StandsFor new (published h)
+publish_stands old new e h s =
+    let version : new.version ≡ old.version + 1 = ap (λ t. t.version) e in
+    record {
+      version = omega (arith, s.version, version);
+      current = s.draft ∙ sym (ap (λ t. t.edition.records) e);
+      draft = s.draft ∙ sym (ap (λ t. t.draft) e);
+      marked = sym (ap (λ t. t.marked) e);
+    }
+
+pub open_stands : (s : Held) (h : Header) (bytes : List ℕ) → s ≡ held_of h bytes → StandsFor s (opened h.version (records_in (shape_of h) bytes))
+open_stands s h bytes e = record {
+  version = omega (arith, ap (λ t. t.version) e);
+  current = sym (ap (λ t. t.edition.records) e);
+  draft = sym (ap (λ t. t.draft) e);
+  marked = sym (ap (λ t. t.marked) e);
+}
+
+-- a store stands for its history after any changes
+pub run_stands : (changes : List Change) (s : Held) (h : History) → StandsFor s h → StandsFor (held_after changes s) (history_after changes h)
+run_stands [] s h stands = stands
+run_stands (Some (i, bytes) ∷ more) s h stands = run_stands more (held_edited i bytes s) (edited i bytes h) (edit_stands s (held_edited i bytes s) i bytes refl h stands)
+run_stands (None ∷ more) s h stands = run_stands more (held_published s) (published h) (publish_stands s (held_published s) refl h stands)

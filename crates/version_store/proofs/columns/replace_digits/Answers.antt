@@ -1,0 +1,38 @@
+use Rattle.std.proofs.Common.{arith, refl, ap, sym, ◌∙◌, ◌+◌, ◌<◌, subst, ◌≡◌, ℕ, length}
+use Rattle.std.specs.Prelude.{slice_index}
+use Rattle.matrix_u32.specs.Matrix.{WordMatrix, product}
+use Rattle.digit_pack.specs.Columns.{WritesFirst}
+use Rattle.digit_pack.proofs.ColumnLemmas.{none_written, one_written}
+use Rattle.version_store.proofs.columns.replace_digits.Goals as goal
+
+pub loop-d-init : goal.loop-d-init
+loop-d-init g c = record {
+  written = none_written (g.S.DigitStore.digits c.args.digits.now) c.args.first c.args.col c.args.written.now c.rows.ensures.whole;
+  made = c.requires.made;
+}
+
+pub get-old-requires-clause-row : goal.get-old-requires-clause-row
+get-old-requires-clause-row g c = omega (arith, c.loop-d.invariant.written.rows, c.requires.rows)
+
+pub get-old-requires-clause-col : goal.get-old-requires-clause-col
+get-old-requires-clause-col g c = omega (arith, c.loop-d.invariant.written.cols, c.requires.col)
+
+pub loop-d-preserved : goal.loop-d-preserved
+loop-d-preserved g c =
+    let old : WordMatrix = g.S.DigitStore.digits c.args.digits.now in
+    let here : WordMatrix = g.S.DigitStore.digits c.loop-d.digits in
+    let v : ℕ = slice_index c.args.written.now c.loop-d.d in
+    let done : WordMatrix → Type 0 = λ m. WritesFirst old m c.args.first c.args.col (c.loop-d.d + 1) c.args.written.now in
+    let below : c.args.first + c.loop-d.d < here.rows = omega (arith, c.loop-d.invariant.written.rows, c.requires.rows) in
+    record {
+      written = subst done (sym c.set.ensures)
+          (one_written old here c.args.first c.args.col c.loop-d.d v c.args.written.now c.loop-d.invariant.written (omega (arith, c.requires.rows)) c.requires.col refl);
+      made = c.update_simple.ensures.follows here c.loop-d.invariant.written.whole (c.loop-d.invariant.written.cols ∙ c.requires.inner) below (sym c.get-old.ensures) c.loop-d.invariant.made
+          ∙ ap (λ m. product m c.args.a1.now) (sym c.set.ensures);
+    }
+
+pub returns-clause-digits : goal.returns-clause-digits
+returns-clause-digits g c =
+    let all : c.loop-d.d ≡ length c.args.written.now = omega arith in
+    let done : ℕ → Type 0 = λ n. WritesFirst (g.S.DigitStore.digits c.args.digits.now) (g.S.DigitStore.digits c.loop-d.digits) c.args.first c.args.col n c.args.written.now in
+    subst done all c.loop-d.invariant.written

@@ -1,0 +1,41 @@
+-- The draft: the records of the current version with the changes that no publication has taken yet.
+use Rattle.std.specs.Prelude.{◌≡◌, ℕ, ◌<◌, List, [], ◌∷◌, length, Bool, true, false, Option, Some, None, MatchOption}
+use Rattle.std.specs.declared.vec.Vec.{Vec}
+use Rattle.std.specs.declared.alloc.Global.{Global}
+use Rattle.std.specs.Map.{lookup}
+use Rattle.std.specs.BTreeMap.{is_at}
+use Rattle.std.specs.Ordering.{nat_cmp}
+use Rattle.matrix_u32.specs.Sum.{list_of}
+use Rattle.digit_pack.specs.Layout.{Shape, record_at}
+use Rattle.version_store.specs.Editions.{Records}
+
+-- changed records by their indices
+abbrev pub Changes : Type 0
+Changes = List (ℕ × Vec ℕ Global)
+
+-- the changed record at an index, where there is one
+abbrev pub change_at : Changes → ℕ → Option (Vec ℕ Global)
+change_at changes i = lookup (is_at (nat_cmp i)) changes
+
+-- the bytes of a change, and others where there is none
+abbrev pub bytes_or : Option (Vec ℕ Global) → List ℕ → List ℕ
+bytes_or None bytes = bytes
+bytes_or (Some v) bytes = v.items
+
+-- the records, each changed one with its new bytes
+abbrev pub draft_of : List (List ℕ) → Changes → List (List ℕ)
+draft_of records changes = list_of (length records) (λ i. bytes_or (change_at changes i) (record_at records i))
+
+-- every change is of a record that there is, with as many bytes
+abbrev pub FitRecords : Shape → Changes → Type 0
+FitRecords l changes = (i : ℕ) → MatchOption (change_at changes i) (Unit {0}) (λ v. (i < l.count) × (length v.items ≡ l.record_len))
+
+-- whether there is a change
+abbrev pub is_some_change : Changes → Bool
+is_some_change [] = false
+is_some_change (c ∷ cs) = true
+
+-- changes of the records of a version
+pub record AreChanges (e : Records) (changes : Changes) : Type 0 where
+  pub fit : FitRecords e.shape changes
+  pub count : length e.records ≡ e.shape.count

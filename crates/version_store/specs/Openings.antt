@@ -1,0 +1,59 @@
+-- What a store can be opened with.
+use Rattle.std.specs.Prelude.{◌≡◌, ◌≤◌, ◌*◌, ℕ, List, length, true, false}
+use Rattle.digit_pack.specs.Layout.{IsLayout, records_in}
+use Rattle.snapshot_file.specs.declared.snapshot.Header.{Header}
+use Rattle.std.specs.List.{flat_map}
+use Rattle.snapshot_file.specs.Snapshots.{shape_of, records_len, snapshot_bytes}
+use Rattle.version_store.specs.declared.opening.OpenError.{OpenError}
+use Rattle.version_store.specs.declared.opening.OpenError.TheVariants.{BadLayout, BadVersion, BadRecords, Memory}
+use Rattle.version_store.specs.Histories.{Held}
+
+-- a layout within its limits, and a dimension of 1 to 1024
+pub record HasSizes (h : Header) : Type 0 where
+  pub layout : IsLayout (shape_of h)
+  pub low : 1 ≤ h.dimension
+  pub high : h.dimension ≤ 1024
+
+-- a snapshot that a store is opened with
+pub record IsSound (h : Header) (records : List ℕ) : Type 0 where
+  pub sizes : HasSizes h
+  pub version : 1 ≤ h.version
+  pub len : length records ≡ records_len h
+
+-- the first cause that stands
+abbrev pub IsOpenFault : Header → List ℕ → OpenError → Type 0
+IsOpenFault h records BadLayout = ¬ HasSizes h
+IsOpenFault h records BadVersion = HasSizes h × (h.version ≡ 0)
+IsOpenFault h records BadRecords = HasSizes h × (1 ≤ h.version) × ¬ (length records ≡ records_len h)
+IsOpenFault h records Memory = IsSound h records
+
+-- what a store of a snapshot holds: its records as the only version, and as the draft
+abbrev pub held_of : Header → List ℕ → Held
+held_of h records = record {
+  version = h.version;
+  edition = record { shape = shape_of h; dimension = h.dimension; seed = h.seed; records = records_in (shape_of h) records };
+  draft = records_in (shape_of h) records;
+  marked = false;
+  publisher = h.publisher;
+}
+
+-- the fields of a snapshot of what a store holds
+abbrev pub header_of_held : Held → Header
+header_of_held s = record {
+  width = s.edition.shape.width;
+  record_len = s.edition.shape.record_len;
+  groups = s.edition.shape.groups;
+  count = s.edition.shape.count;
+  dimension = s.edition.dimension;
+  version = s.version;
+  seed = s.edition.seed;
+  publisher = s.publisher;
+}
+
+-- the bytes of records, one after another
+abbrev pub bytes_of_records : List (List ℕ) → List ℕ
+bytes_of_records records = flat_map (λ bytes. bytes) records
+
+-- the snapshot of a store's current version
+abbrev pub snapshot_of : Held → List ℕ
+snapshot_of s = snapshot_bytes (header_of_held s) (bytes_of_records s.edition.records)

@@ -1,0 +1,37 @@
+//! Digits of one record, written into their place of the digit matrix.
+
+ghost use Rattle.std.specs.Prelude.{◌≡◌, ◌+◌, ◌<◌, ◌≤◌, All, length};
+ghost use Rattle.matrix_u32.specs.Matrix.{product};
+ghost use Rattle.digit_pack.specs.Columns.{WritesColumn};
+
+use digit_pack::DigitStore;
+use hint_update::update_simple;
+use matrix_u32::{Kernel, Matrix};
+
+/// Writes digits into a column, from row `first` down, and keeps the hint the product of the digits and the
+/// public matrix.
+pub fn replace_digits<K: Kernel, S: DigitStore>(
+    kernel: K,
+    digits: &mut S,
+    hint: &mut Matrix,
+    a1: &Matrix,
+    first: usize,
+    col: usize,
+    written: &[u32],
+)
+    requires rows { first + length written.now ≤ (S.digits digits.old).rows }
+    requires col { col < (S.digits digits.old).cols }
+    requires small { All (λ d. d < 1024) written.now }
+    requires inner { (S.digits digits.old).cols ≡ a1.now.rows }
+    requires made { hint.old ≡ product (S.digits digits.old) a1.now }
+    ensures digits { WritesColumn (S.digits digits.old) (S.digits digits.new) first col written.now }
+    ensures made { hint.new ≡ product (S.digits digits.new) a1.now }
+{
+    digits.rows();
+    for d in 0..written.len() {
+        let row = first + d;
+        let old = digits.get(row, col);
+        update_simple(kernel, hint, a1, row, col, old, written[d]);
+        digits.set(row, col, written[d]);
+    }
+}

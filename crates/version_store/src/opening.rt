@@ -1,0 +1,54 @@
+//! What a store can be opened with.
+
+ghost use Rattle.std.specs.Prelude.{◌≡◌, ◌≤◌, ◌↔◌, IsTrue, length, IfOk, IfErr, OnOk};
+ghost use Rattle.digit_pack.specs.Layout.{IsLayout};
+ghost use Rattle.snapshot_file.specs.Snapshots.{header_of, shape_of};
+ghost use Rattle.version_store.specs.Openings.{IsSound, IsOpenFault};
+
+use digit_pack::Layout;
+use snapshot_file::{MAX_DIMENSION, Snapshot};
+use thiserror::Error;
+
+/// Why a store can't be opened: the first cause in the order of the variants.
+#[derive(Clone, Copy, Debug, PartialEq, Eq, Error)]
+pub enum OpenError {
+    /// The layout is refused, or the dimension is not in 1 to 1024.
+    #[error("the layout or the dimension is outside the limits")]
+    BadLayout,
+    /// The version is 0.
+    #[error("there is no version 0")]
+    BadVersion,
+    /// The bytes are not as many as the records have.
+    #[error("the records have another number of bytes")]
+    BadRecords,
+    /// There is no memory for what is made from the records.
+    #[error("out of memory")]
+    Memory,
+}
+
+/// The sizes of a snapshot's records, where a store can be opened with it.
+pub(crate) fn sizes_of(snapshot: &Snapshot) -> Result<Layout, OpenError>
+    ensures sizes { IfOk result (λ l. (l ≡ shape_of (header_of snapshot.now)) × IsLayout l) }
+    ensures sound { OnOk result (IsSound (header_of snapshot.now) snapshot.now.records.items) }
+    ensures refused { IfErr result (IsOpenFault (header_of snapshot.now) snapshot.now.records.items) }
+{
+    let layout = Layout::new(
+        u32::from(snapshot.width),
+        usize::from(snapshot.record_len),
+        usize::from(snapshot.groups),
+        snapshot.count as usize,
+    );
+    let Ok(layout) = layout else {
+        return Err(OpenError::BadLayout);
+    };
+    if snapshot.dimension < 1 || snapshot.dimension > MAX_DIMENSION {
+        return Err(OpenError::BadLayout);
+    }
+    if snapshot.version == 0 {
+        return Err(OpenError::BadVersion);
+    }
+    if snapshot.records.len() != layout.count() * layout.record_len() {
+        return Err(OpenError::BadRecords);
+    }
+    Ok(layout)
+}

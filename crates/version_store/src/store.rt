@@ -1,0 +1,344 @@
+//! The store: the current version, a draft, and their publication.
+
+ghost use Rattle.std.specs.Prelude.{ℕ, ◌≡◌, ◌≢◌, ◌+◌, ◌*◌, ◌^◌, ◌<◌, ◌≤◌, ◌↔◌, length, true, false, OnOk, OnErr, IfErr, IfOk, IfSome, IsNone, take, slice_set, IsErrOf};
+ghost use Rattle.matrix_u32.specs.Matrix.{row};
+ghost use Rattle.digit_pack.specs.Layout.{IsLayout, digits_per_record, digit_rows, digit_matrix, record_at, records_in};
+ghost use Rattle.simple_scheme.specs.Simple.{answer_of};
+ghost use Rattle.version_store.specs.Editions.{simple_hint};
+ghost use Rattle.snapshot_file.specs.Snapshots.{header_of, shape_of};
+ghost use Rattle.version_store.specs.Openings.{IsSound, IsOpenFault, held_of, header_of_held, bytes_of_records, snapshot_of};
+ghost use Rattle.std.specs.Io.KnownBytes.{Appends};
+ghost use Rattle.version_store.specs.Parts.{hint_list, part_of, query_count};
+ghost use Rattle.version_store.specs.Histories.{Held, History, StandsFor, opened, edited, published, held_edited, held_published};
+
+use crate::drafts::{Changes, apply_changes};
+use crate::edition::Edition;
+use crate::opening::{OpenError, sizes_of};
+use crate::scheme::Scheme;
+use digit_pack::Layout;
+use matrix_u32::Kernel;
+use snapshot_file::{Header, Snapshot, WriteFault, write_snapshot_bytes};
+use std::alloc::{AllocError, Global};
+use std::collections::BTreeMap;
+use std::io::Write;
+use std::marker::Model;
+use thiserror::Error;
+
+/// Why an edit is refused: the first cause in the order of the variants.
+#[derive(Clone, Copy, Debug, PartialEq, Eq, Error)]
+pub enum EditError {
+    /// There is no such record.
+    #[error("there is no such record")]
+    BadIndex,
+    /// The bytes are not as many as a record has.
+    #[error("a record has another number of bytes")]
+    BadLength,
+    /// There is no memory for the change.
+    #[error("out of memory")]
+    Memory,
+}
+
+/// Why a publication is refused: the first cause in the order of the variants.
+#[derive(Clone, Copy, Debug, PartialEq, Eq, Error)]
+pub enum PublishError {
+    /// No edit was accepted since the last publication.
+    #[error("nothing was edited since the last publication")]
+    NothingToPublish,
+    /// The current version is 2^64 - 1, the last that there is.
+    #[error("there is no further version number")]
+    VersionsUsedUp,
+    /// There is no memory for the publication.
+    #[error("out of memory")]
+    Memory,
+}
+
+/// The current version of the records, with its hint, and the draft of the next.
+///
+/// The draft is kept as its changes alone. Contracts see a store as what it holds, `Held`, and say what a
+/// call does to every history that the store stands for.
+#[derive(Drop)]
+pub struct Store<K: Kernel> {
+    edition: Edition<K>,
+    changes: Changes,
+    version: u64,
+    publisher: [u8; 32],
+}
+
+impl<K: Kernel> Model for Store<K> {
+    ghost use Rattle.version_store.specs.Histories.{Held};
+    ghost use Rattle.version_store.specs.Drafts.{draft_of, is_some_change, AreChanges};
+
+    ghost Value = { Held };
+
+    ghost view = { λ s. record {
+      version = s.version;
+      edition = s.edition;
+      draft = draft_of s.edition.records s.changes.entries;
+      marked = is_some_change s.changes.entries;
+      publisher = s.publisher;
+    } };
+
+    ghost invariant = { λ s. AreChanges s.edition s.changes.entries };
+}
+
+impl<K: Kernel> Store<K> {
+    /// The store of a snapshot's records, with an empty draft; its hint is made by `setup`.
+    ///
+    /// `BadLayout` exactly where the layout is refused or the dimension is not in 1 to 1024; else
+    /// `BadVersion` exactly where the version is 0; else `BadRecords` exactly where the bytes are not as many
+    /// as the records have; else it is opened, or `Memory`.
+    pub fn open(alloc: Global, kernel: K, snapshot: Snapshot) -> Result<Store<K>, OpenError>
+        ensures held { IfOk result (λ s. s ≡ held_of (header_of snapshot) snapshot.records.items) }
+        ensures history { IfOk result (λ s. StandsFor s (opened snapshot.version (records_in (shape_of (header_of snapshot)) snapshot.records.items))) }
+        ensures sound { OnOk result (IsSound (header_of snapshot) snapshot.records.items) }
+        ensures refused { IfErr result (IsOpenFault (header_of snapshot) snapshot.records.items) }
+    {
+        let layout = match sizes_of(&snapshot) {
+            Ok(layout) => layout,
+            Err(fault) => return Err(fault),
+        };
+        let Snapshot {
+            dimension,
+            version,
+            seed,
+            publisher,
+            records,
+            ..
+        } = snapshot;
+        let dimension = usize::from(dimension);
+        let Ok(edition) = Edition::open(alloc, kernel, layout, dimension, seed, records) else {
+            return Err(OpenError::Memory);
+        };
+        Ok(Store {
+            edition,
+            changes: Changes::new(alloc),
+            version,
+            publisher,
+        })
+    }
+
+    /// The fields of a snapshot of the current version, but its records.
+    pub fn header(&self) -> Header
+        ensures { result ≡ header_of_held self.now }
+    {
+        let layout = self.edition.layout();
+        let seed = *self.edition.seed();
+        let publisher = self.publisher;
+        Header {
+            width: layout.width() as u8,
+            record_len: layout.record_len() as u16,
+            groups: layout.groups() as u16,
+            count: layout.count() as u32,
+            dimension: self.edition.dimension() as u16,
+            version: self.version,
+            seed,
+            publisher,
+        }
+    }
+
+    /// The bytes of all records in the current version, record 0 first.
+    pub fn bytes(&self) -> &[u8]
+        ensures { result.now ≡ bytes_of_records self.now.edition.records }
+    {
+        self.edition.bytes()
+    }
+
+    /// The number of the current version.
+    pub fn version(&self) -> u64
+        ensures { result ≡ self.now.version }
+    {
+        self.version
+    }
+
+    /// The sizes of the records.
+    pub fn layout(&self) -> &Layout
+        ensures value { result.now ≡ self.now.edition.shape }
+        ensures layout { IsLayout self.now.edition.shape }
+    {
+        self.edition.layout()
+    }
+
+    /// The dimension n of the public matrices.
+    pub fn dimension(&self) -> usize
+        ensures value { result ≡ self.now.edition.dimension }
+        ensures low { 1 ≤ self.now.edition.dimension }
+        ensures high { self.now.edition.dimension ≤ 1024 }
+    {
+        self.edition.dimension()
+    }
+
+    /// The public seed.
+    pub fn seed(&self) -> &[u8; 32]
+        ensures { result.now ≡ self.now.edition.seed }
+    {
+        self.edition.seed()
+    }
+
+    /// The SHA-256 of the publisher's key.
+    pub fn publisher(&self) -> &[u8; 32]
+        ensures { result.now ≡ self.now.publisher }
+    {
+        &self.publisher
+    }
+
+    /// The bytes of record i in the current version.
+    pub fn bytes_of(&self, i: usize) -> &[u8]
+        requires { i < self.now.edition.shape.count }
+        ensures value { result.now ≡ record_at self.now.edition.records i }
+        ensures count { length result.now ≡ self.now.edition.shape.record_len }
+    {
+        self.edition.record(i)
+    }
+
+    /// How many words a query has: a word for each column of digits. 0 where the scheme isn't offered.
+    pub fn query_words(&self, scheme: Scheme) -> usize
+        ensures { result ≡ query_count scheme self.now.edition.shape }
+    {
+        match scheme {
+            Scheme::Simple => self.edition.layout().cols(),
+            Scheme::Double => 0,
+        }
+    }
+
+    /// Part `part` of the hint of the current version: its words from 65,536 part on, row by row, at most
+    /// 65,536 of them. `None` exactly where there is no such part, or the scheme isn't offered.
+    pub fn hint_words(&self, scheme: Scheme, part: usize) -> Option<&[u32]>
+        ensures none { IsNone result ↔ (length (hint_list scheme self.now.edition) ≤ 65536 * part) }
+        ensures words { IfSome result (λ words. words.now ≡ part_of (hint_list scheme self.now.edition) part) }
+    {
+        match scheme {
+            Scheme::Simple => part_words(self.edition.hint().words(), part),
+            Scheme::Double => None,
+        }
+    }
+
+    /// Row r of the SimplePIR hint of the current version.
+    pub fn hint_row(&self, r: usize) -> &[u32]
+        requires { r < digit_rows self.now.edition.shape }
+        ensures value { result.now ≡ row (simple_hint self.now.edition) r }
+        ensures count { length result.now ≡ self.now.edition.dimension }
+    {
+        self.edition.hint().row(r)
+    }
+
+    /// The answer to the words of a SimplePIR query on the current version: a word for each digit row. Only
+    /// want of memory gives an `Err`.
+    pub fn answer_simple(&self, alloc: Global, words: &[u32]) -> Result<Vec<u32>, AllocError>
+        requires { length words.now ≡ query_count Scheme.Simple self.now.edition.shape }
+        ensures { IfOk result (λ v. v.items ≡ answer_of (digit_matrix self.now.edition.shape self.now.edition.records) words.now) }
+    {
+        self.edition.answer(alloc, words)
+    }
+
+    /// Replaces record i of the draft: no reader sees it before its publication, and a later edit of the
+    /// same record replaces it.
+    ///
+    /// `BadIndex` exactly where there is no record i; else `BadLength` exactly where the bytes are not as
+    /// many as a record has; else it is accepted, or `Memory`. A refused edit changes nothing.
+    pub fn edit(&mut self, alloc: Global, i: usize, bytes: &[u8]) -> Result<(), EditError>
+        ensures accepted { OnOk result (self.new ≡ held_edited i bytes.now self.old) }
+        ensures history { OnOk result ((h : History) → StandsFor self.old h → StandsFor self.new (edited i bytes.now h)) }
+        ensures bad_index { IsErrOf result EditError.BadIndex ↔ (self.old.edition.shape.count ≤ i) }
+        ensures bad_length { IsErrOf result EditError.BadLength ↔
+            (i < self.old.edition.shape.count) × (length bytes.now ≢ self.old.edition.shape.record_len) }
+        ensures refused { OnErr result (self.new ≡ self.old) }
+    {
+        let layout = self.edition.layout();
+        if i >= layout.count() {
+            return Err(EditError::BadIndex);
+        }
+        if bytes.len() != layout.record_len() {
+            return Err(EditError::BadLength);
+        }
+        let Ok(copy) = copy_of(alloc, bytes) else {
+            return Err(EditError::Memory);
+        };
+        match self.changes.insert(i, copy) {
+            Ok(_) => Ok(()),
+            Err(_) => Err(EditError::Memory),
+        }
+    }
+
+    /// Makes the draft the current version, and answers its number.
+    ///
+    /// `NothingToPublish` exactly where no edit was accepted since the last publication; else
+    /// `VersionsUsedUp` exactly where the current version is 2^64 - 1; else it is done, or `Memory`. A refused
+    /// publication changes nothing. All memory is asked for before anything changes.
+    pub fn publish(&mut self, alloc: Global) -> Result<u64, PublishError>
+        ensures version { IfOk result (λ v. (v ≡ self.old.version + 1) × (v < 2 ^ 64)) }
+        ensures done { OnOk result (self.new ≡ held_published self.old) }
+        ensures history { OnOk result ((h : History) → StandsFor self.old h → StandsFor self.new (published h)) }
+        ensures nothing { IsErrOf result PublishError.NothingToPublish ↔ (self.old.marked ≡ false) }
+        ensures used_up { IsErrOf result PublishError.VersionsUsedUp ↔ (self.old.marked ≡ true) × (self.old.version + 1 ≡ 2 ^ 64) }
+        ensures refused { OnErr result (self.new ≡ self.old) }
+    {
+        if self.changes.is_empty() {
+            return Err(PublishError::NothingToPublish);
+        }
+        if self.version == u64::MAX {
+            return Err(PublishError::VersionsUsedUp);
+        }
+        let Ok(mut scratch) = scratch_for(alloc, self.edition.layout()) else {
+            return Err(PublishError::Memory);
+        };
+        apply_changes(&mut self.edition, &mut self.changes, &mut scratch);
+        self.version += 1;
+        Ok(self.version)
+    }
+}
+
+/// Writes the snapshot of the current version; edits that were not published are not in it.
+///
+/// After `Write`, where a write failed or took no byte, a part of it went out, and not the whole; `Memory`
+/// comes before the first byte.
+pub fn write_snapshot<K: Kernel, W: Write>(
+    alloc: Global,
+    store: &Store<K>,
+    writer: &mut W,
+) -> Result<(), WriteFault>
+    ensures whole { OnOk result (Appends (W.contents writer.old) (W.contents writer.new) (snapshot_of store.now)) }
+    ensures part { IfErr result (λ fault. (n : ℕ) × (n < length (snapshot_of store.now))
+        × Appends (W.contents writer.old) (W.contents writer.new) (take n (snapshot_of store.now))
+        × (fault ≡ WriteFault.Memory → n ≡ 0)) }
+{
+    write_snapshot_bytes(alloc, &store.header(), store.bytes(), writer)
+}
+
+// The most words of a part of a hint.
+const PART_WORDS: usize = 65_536;
+
+// A part of a hint's words.
+fn part_words(words: &[u32], part: usize) -> Option<&[u32]>
+    ensures none { IsNone result ↔ (length words.now ≤ 65536 * part) }
+    ensures words { IfSome result (λ some. some.now ≡ part_of words.now part) }
+{
+    let start = part.checked_mul(PART_WORDS)?;
+    if start >= words.len() {
+        return None;
+    }
+    Some(front(&words[start..]))
+}
+
+// The first words, as many as a part has.
+fn front(words: &[u32]) -> &[u32]
+    ensures { result.now ≡ take 65536 words.now }
+{
+    if words.len() < PART_WORDS {
+        words
+    } else {
+        &words[..PART_WORDS]
+    }
+}
+
+// Room for the digits of a record.
+fn scratch_for(alloc: Global, layout: &Layout) -> Result<Vec<u32>, AllocError>
+    ensures { IfOk result (λ v. length v.items ≡ digits_per_record layout.now) }
+{
+    vec![in alloc; 0; layout.digits_per_record()]
+}
+
+fn copy_of(alloc: Global, bytes: &[u8]) -> Result<Vec<u8>, AllocError>
+    ensures { IfOk result (λ v. v.items ≡ bytes.now) }
+{
+    bytes.to_vec(alloc)
+}

@@ -1,0 +1,251 @@
+//! The store of two records of one byte, edited, published, written and read back.
+
+use super::*;
+use matrix_u32::Plain;
+use std::alloc::Global;
+use std::process::Abort;
+use std::test::Fail;
+
+/// The SHA-256 digest of 32 bytes 01.
+const PUBLISHER: [u8; 32] = [
+    0x72, 0xcd, 0x6e, 0x84, 0x22, 0xc4, 0x07, 0xfb, 0x6d, 0x09, 0x86, 0x90, 0xf1, 0x13, 0x0b, 0x7d,
+    0xed, 0x7e, 0xc2, 0xf7, 0xf5, 0xe1, 0xd3, 0x0b, 0xd9, 0xd5, 0x21, 0xf0, 0x15, 0x36, 0x37, 0x93,
+];
+
+/// The fields of the store of records 0a and c8: digits of eight bits, one record to a column, secrets of
+/// one word, a seed of zeros.
+const STORE: Header = Header {
+    width: 8,
+    record_len: 1,
+    groups: 1,
+    count: 2,
+    dimension: 1,
+    version: 1,
+    seed: [0; 32],
+    publisher: PUBLISHER,
+};
+
+// The fault of opening a snapshot.
+fn refusal(alloc: Global, header: Header, bytes: &[u8]) -> Result<Option<OpenError>, Fail> {
+    let snapshot = header.with_records(bytes.to_vec(alloc)?);
+    match Store::open(alloc, Plain, snapshot) {
+        Ok(_) => Ok(None),
+        Err(fault) => Ok(Some(fault)),
+    }
+}
+
+// The store of two records, at some version.
+fn two_records(rt: &impl Abort, alloc: Global, version: u64) -> Result<Store<Plain>, Fail> {
+    let header = Header { version, ..STORE };
+    let snapshot = header.with_records([10u8, 200].to_vec(alloc)?);
+    let Ok(store) = Store::open(alloc, Plain, snapshot) else {
+        panic!(rt; "the store was not opened");
+    };
+    Ok(store)
+}
+
+#[test]
+fn a_store_tells_its_sizes(rt: HostRuntime) -> Result<(), Fail> {
+    let store = two_records(&rt, rt.alloc(), 1)?;
+    assert_eq!(rt; store.version(), 1);
+    assert_eq!(rt; store.layout().count(), 2);
+    assert_eq!(rt; store.dimension(), 1);
+    assert_eq!(rt; *store.seed(), [0; 32]);
+    assert_eq!(rt; *store.publisher(), PUBLISHER);
+    assert_eq!(rt; store.bytes_of(1), &[200u8][..]);
+    assert_eq!(rt; store.bytes(), &[10u8, 200][..]);
+    assert_eq!(rt; store.query_words(Scheme::Simple), 2);
+    assert_eq!(rt; store.query_words(Scheme::Double), 0);
+    assert_eq!(rt;
+        store.hint_words(Scheme::Simple, 0),
+        Some(&[2066479516u32][..])
+    );
+    assert_eq!(rt; store.hint_row(0), &[2066479516u32][..]);
+    assert_eq!(rt; store.hint_words(Scheme::Simple, 1), None);
+    assert_eq!(rt; store.hint_words(Scheme::Double, 0), None);
+    assert_eq!(rt; store.header(), STORE);
+    Ok(())
+}
+
+#[test]
+fn an_answer_is_of_the_current_version(rt: HostRuntime) -> Result<(), Fail> {
+    let store = two_records(&rt, rt.alloc(), 1)?;
+    let words = [22, 16777249];
+    assert_eq!(rt; store.query_words(Scheme::Simple), words.len());
+    let answer = store.answer_simple(rt.alloc(), &words)?;
+    assert_eq!(rt; answer.as_slice(), &[3355450020u32][..]);
+    Ok(())
+}
+
+#[test]
+fn an_edit_is_seen_after_its_publication(rt: HostRuntime) -> Result<(), Fail> {
+    let mut store = two_records(&rt, rt.alloc(), 1)?;
+    assert_eq!(rt;
+        store.publish(rt.alloc()),
+        Err(PublishError::NothingToPublish)
+    );
+    assert_eq!(rt; store.edit(rt.alloc(), 1, &[100]), Ok(()));
+    assert_eq!(rt; store.version(), 1);
+    assert_eq!(rt; store.bytes_of(1), &[200u8][..]);
+    assert_eq!(rt;
+        store.hint_words(Scheme::Simple, 0),
+        Some(&[2066479516u32][..])
+    );
+    assert_eq!(rt; store.publish(rt.alloc()), Ok(2));
+    assert_eq!(rt; store.version(), 2);
+    assert_eq!(rt; store.bytes_of(1), &[100u8][..]);
+    assert_eq!(rt;
+        store.hint_words(Scheme::Simple, 0),
+        Some(&[586782492u32][..])
+    );
+    assert_eq!(rt;
+        store.publish(rt.alloc()),
+        Err(PublishError::NothingToPublish)
+    );
+    Ok(())
+}
+
+#[test]
+fn the_later_of_two_edits_counts(rt: HostRuntime) -> Result<(), Fail> {
+    let mut store = two_records(&rt, rt.alloc(), 7)?;
+    assert_eq!(rt; store.edit(rt.alloc(), 0, &[1]), Ok(()));
+    assert_eq!(rt; store.edit(rt.alloc(), 0, &[10]), Ok(()));
+    assert_eq!(rt; store.publish(rt.alloc()), Ok(8));
+    assert_eq!(rt; store.bytes(), &[10u8, 200][..]);
+    assert_eq!(rt;
+        store.hint_words(Scheme::Simple, 0),
+        Some(&[2066479516u32][..])
+    );
+    Ok(())
+}
+
+#[test]
+fn edits_are_refused(rt: HostRuntime) -> Result<(), Fail> {
+    let mut store = two_records(&rt, rt.alloc(), 1)?;
+    assert_eq!(rt; store.edit(rt.alloc(), 2, &[]), Err(EditError::BadIndex));
+    assert_eq!(rt; store.edit(rt.alloc(), 1, &[]), Err(EditError::BadLength));
+    assert_eq!(rt;
+        store.edit(rt.alloc(), 0, &[1, 2]),
+        Err(EditError::BadLength)
+    );
+    assert_eq!(rt;
+        store.publish(rt.alloc()),
+        Err(PublishError::NothingToPublish)
+    );
+    Ok(())
+}
+
+#[test]
+fn the_last_version_stays(rt: HostRuntime) -> Result<(), Fail> {
+    let mut store = two_records(&rt, rt.alloc(), u64::MAX)?;
+    assert_eq!(rt; store.edit(rt.alloc(), 1, &[100]), Ok(()));
+    assert_eq!(rt;
+        store.publish(rt.alloc()),
+        Err(PublishError::VersionsUsedUp)
+    );
+    assert_eq!(rt;
+        store.publish(rt.alloc()),
+        Err(PublishError::VersionsUsedUp)
+    );
+    assert_eq!(rt; store.version(), u64::MAX);
+    assert_eq!(rt; store.bytes_of(1), &[200u8][..]);
+    Ok(())
+}
+
+#[test]
+fn snapshots_are_refused_by_their_first_cause(rt: HostRuntime) -> Result<(), Fail> {
+    let two = [10u8, 200];
+    let three = [10u8, 200, 3];
+    let alloc = rt.alloc();
+    assert_eq!(rt; refusal(alloc, STORE, &two)?, None);
+    for header in [
+        Header {
+            dimension: 1025,
+            ..STORE
+        },
+        Header {
+            dimension: 0,
+            version: 0,
+            ..STORE
+        },
+        Header {
+            width: 11,
+            version: 0,
+            ..STORE
+        },
+        Header { groups: 0, ..STORE },
+    ] {
+        assert_eq!(rt; refusal(alloc, header, &three)?, Some(OpenError::BadLayout));
+    }
+    let none = Header {
+        version: 0,
+        ..STORE
+    };
+    assert_eq!(rt; refusal(alloc, none, &two)?, Some(OpenError::BadVersion));
+    assert_eq!(rt; refusal(alloc, none, &three)?, Some(OpenError::BadVersion));
+    assert_eq!(rt; refusal(alloc, STORE, &three)?, Some(OpenError::BadRecords));
+    assert_eq!(rt; refusal(alloc, STORE, &[])?, Some(OpenError::BadRecords));
+    Ok(())
+}
+
+#[test]
+fn a_store_is_written_and_read_back(rt: HostRuntime) -> Result<(), Fail> {
+    let mut store = two_records(&rt, rt.alloc(), 1)?;
+    assert_eq!(rt; store.edit(rt.alloc(), 1, &[100]), Ok(()));
+    let mut file = Vec::new(rt.alloc());
+    assert_eq!(rt; write_snapshot(rt.alloc(), &store, &mut file), Ok(()));
+    assert_eq!(rt; file.len(), 125);
+    let mut reader = file.as_slice();
+    let Ok(snapshot) = read_snapshot(rt.alloc(), &mut reader) else {
+        panic!(rt; "not read back");
+    };
+    assert_eq!(rt; snapshot.header(), STORE);
+    assert_eq!(rt; snapshot.records.as_slice(), &[10u8, 200][..]);
+    Ok(())
+}
+
+#[test]
+fn edits_across_columns_keep_the_hint(rt: HostRuntime) -> Result<(), Fail> {
+    let header = Header {
+        width: 6,
+        record_len: 3,
+        groups: 2,
+        count: 7,
+        dimension: 5,
+        ..STORE
+    };
+    let mut before = Vec::new(rt.alloc());
+    let mut after = Vec::new(rt.alloc());
+    for i in 0..21u8 {
+        before.push(i * 11)?;
+        after.push(match i {
+            4 => 9,
+            9 => 0,
+            20 => 255,
+            _ => i * 11,
+        })?;
+    }
+    let first = header.with_records(before);
+    let second = header.with_records(after);
+    let (Ok(mut kept), Ok(made)) = (
+        Store::open(rt.alloc(), Plain, first),
+        Store::open(rt.alloc(), Plain, second),
+    ) else {
+        panic!(rt; "the stores were not opened");
+    };
+    for i in [1, 6, 3] {
+        assert_eq!(rt; kept.edit(rt.alloc(), i, made.bytes_of(i)), Ok(()));
+    }
+    assert_eq!(rt; kept.publish(rt.alloc()), Ok(2));
+    assert_eq!(rt; kept.bytes(), made.bytes());
+    assert_eq!(rt;
+        kept.hint_words(Scheme::Simple, 0),
+        made.hint_words(Scheme::Simple, 0)
+    );
+    Ok(())
+}
+
+#[test]
+fn the_laws_can_be_called() {
+    laws::each_run_stands();
+}
