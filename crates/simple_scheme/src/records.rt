@@ -19,7 +19,7 @@ use thiserror::Error;
 #[derive(Clone, Copy, Debug, PartialEq, Eq, Error)]
 pub enum RecoverError {
     /// The answer hasn't a word for each digit row.
-    #[error("the answer has another number of words than the layout has rows")]
+    #[error("the answer has another number of words than the layout wants")]
     BadLength,
     /// The digits that the answer reads as set a bit past the record's last byte.
     #[error("the answer's digits set a bit past the record's last byte")]

@@ -1,0 +1,124 @@
+-- DoublePIR: what its hints, a query and an answer say, and how an answer is read.
+use Rattle.std.specs.Prelude.{ℕ, ◌+◌, ◌*◌, ◌<◌, List, ◌++◌, ℤ, length, take, drop, slice_index, flat_map}
+use Rattle.std.specs.List.{range_with_len}
+use Rattle.matrix_u32.specs.Sum.{list_of}
+use Rattle.matrix_u32.specs.Matrix.{WordMatrix, row, product, transpose, times_vector}
+use Rattle.seed_expand.specs.Words.{words_from}
+use Rattle.noise_table.specs.Noise.{noise_from}
+use Rattle.noise_table.specs.Margin.{IsQuiet}
+use Rattle.regev_core.specs.Encryption.{cipher, stripped, nearest}
+use Rattle.digit_pack.specs.Digits.{split_count, decomposed, joined}
+use Rattle.digit_pack.specs.Layout.{Shape, digit_matrix, digit_rows, digit_cols, digits_per_record, first_row, column_of}
+use Rattle.simple_scheme.specs.Simple.{secret, query_noise, IsQuietRetrieval}
+
+-- the secret of part d: n words of the client's stream 4 number + 2, from place d n on
+abbrev pub part_secret : List ℕ → ℕ → ℕ → ℕ → List ℕ
+part_secret seed number n d = words_from seed (4 * number + 2) (d * n) n
+
+-- its noise: the noise of the stream after, from place d rows on
+abbrev pub part_noise : List ℕ → ℕ → ℕ → ℕ → List ℤ
+part_noise seed number rows d = noise_from seed (4 * number + 3) (d * rows) rows
+
+-- the digits of A1^T D^T: split_count rows to a word
+abbrev pub server_hint_of : ℕ → WordMatrix → WordMatrix → WordMatrix
+server_hint_of w digits a1 = decomposed w (product (transpose a1) (transpose digits))
+
+-- what a client keeps: the server's hint times the second public matrix
+abbrev pub client_hint_of : WordMatrix → WordMatrix → WordMatrix
+client_hint_of server_hint a2 = product server_hint a2
+
+-- words as a matrix of one row
+abbrev pub one_row : List ℕ → WordMatrix
+one_row words = record { rows = 1; cols = length words; words = words }
+
+-- the digits of c^T D^T, the first answer to the words c of a first query
+abbrev pub first_answer_of : ℕ → WordMatrix → List ℕ → WordMatrix
+first_answer_of w digits c = decomposed w (product (one_row c) (transpose digits))
+
+-- how many words a query has: one for each column, and for each digit of a record one for each row
+abbrev pub query_words : Shape → ℕ
+query_words l = digit_cols l + digits_per_record l * digit_rows l
+
+-- the front of the query for record i: the encryption of its column
+abbrev pub first_query_of : Shape → WordMatrix → List ℕ → ℕ → ℕ → List ℕ
+first_query_of l a1 seed number i = cipher l.width a1 (secret seed number a1.cols) (query_noise seed number a1.rows) (column_of l i)
+
+-- part d of it: the encryption of digit d's row
+abbrev pub part_query_of : Shape → WordMatrix → List ℕ → ℕ → ℕ → ℕ → List ℕ
+part_query_of l a2 seed number i d =
+    cipher l.width a2 (part_secret seed number a2.cols d) (part_noise seed number a2.rows d) (first_row l i + d)
+
+-- the query for record i
+unfoldable pub query_of : Shape → WordMatrix → WordMatrix → List ℕ → ℕ → ℕ → List ℕ
+query_of l a1 a2 seed number i =
+    first_query_of l a1 seed number i ++ flat_map (part_query_of l a2 seed number i) (range_with_len 0 (digits_per_record l))
+
+-- the words of part d of a query's words
+abbrev pub part_of_query : Shape → List ℕ → ℕ → List ℕ
+part_of_query l words d = take (digit_rows l) (drop (digit_cols l + d * digit_rows l) words)
+
+-- the answer to a part of a query: the server's hint and the first answer, each times the part
+abbrev pub part_answer_of : WordMatrix → WordMatrix → List ℕ → List ℕ
+part_answer_of server_hint first_answer part = times_vector server_hint part ++ times_vector first_answer part
+
+-- the answer to a query: the first answer's hint, and the answers to the parts
+unfoldable pub answer_of : Shape → WordMatrix → WordMatrix → WordMatrix → List ℕ → List ℕ
+answer_of l digits server_hint a2 words =
+    let first_answer = first_answer_of l.width digits (take (digit_cols l) words) in
+    (product first_answer a2).words
+    ++ flat_map (λ d. part_answer_of server_hint first_answer (part_of_query l words d)) (range_with_len 0 (digits_per_record l))
+
+-- ---- reading, from the words of an answer: the first answer's hint h, and of each part the words
+-- how many words a part of an answer has
+abbrev pub words_of_part : ℕ → ℕ → ℕ
+words_of_part w n = n * split_count w + split_count w
+
+-- how many words an answer has, where the public matrices have n columns
+abbrev pub answer_words : Shape → ℕ → ℕ
+answer_words l n = n * split_count l.width + digits_per_record l * words_of_part l.width n
+
+-- the hint of the first answer, row t of it for digit t
+abbrev pub answer_hint : ℕ → ℕ → List ℕ → WordMatrix
+answer_hint w n answer = record { rows = split_count w; cols = n; words = take (n * split_count w) answer }
+
+-- the words of part d of an answer
+abbrev pub answer_part : ℕ → ℕ → List ℕ → ℕ → List ℕ
+answer_part w n answer d = take (words_of_part w n) (drop (n * split_count w + d * words_of_part w n) answer)
+
+-- a digit of the second layer: a word of a part, less a row of a hint times the part's secret, rounded
+abbrev pub second_digit : ℕ → WordMatrix → List ℕ → List ℕ → ℕ → ℕ
+second_digit w hint s words r = nearest w (stripped (slice_index words r) (row hint r) s)
+
+-- the word whose digits stand from row k split_count on
+abbrev pub second_word : ℕ → WordMatrix → List ℕ → List ℕ → ℕ → ℕ
+second_word w hint s words k = joined w (list_of (split_count w) (λ t. second_digit w hint s words (k * split_count w + t)))
+
+-- the words that the front of a part gives: of the digit's row of D A1
+abbrev pub row_read : ℕ → ℕ → WordMatrix → List ℕ → List ℕ → List ℕ
+row_read w n client_hint s2 part = list_of n (second_word w client_hint s2 (take (n * split_count w) part))
+
+-- the word that the rest of a part gives: of D c1, in the digit's row
+abbrev pub word_read : ℕ → ℕ → WordMatrix → List ℕ → List ℕ → ℕ
+word_read w n h s2 part = second_word w h s2 (drop (n * split_count w) part) 0
+
+-- the digit that a part gives: this word, stripped by that row times the first secret, and rounded
+abbrev pub part_read : ℕ → ℕ → WordMatrix → WordMatrix → List ℕ → List ℕ → List ℕ → ℕ
+part_read w n client_hint h s1 s2 part = nearest w (stripped (word_read w n h s2 part) (row_read w n client_hint s2 part) s1)
+
+-- the digit that part d of an answer gives
+abbrev pub digit_read : Shape → WordMatrix → List ℕ → ℕ → List ℕ → ℕ → ℕ
+digit_read l client_hint seed number answer d =
+    part_read l.width client_hint.cols client_hint (answer_hint l.width client_hint.cols answer) (secret seed number client_hint.cols)
+    (part_secret seed number client_hint.cols d) (answer_part l.width client_hint.cols answer d)
+
+-- the digits that an answer gives
+unfoldable pub reading : Shape → WordMatrix → List ℕ → ℕ → List ℕ → List ℕ
+reading l client_hint seed number answer = list_of (digits_per_record l) (digit_read l client_hint seed number answer)
+
+-- the noise stays below half of delta in the rows of the record, and for each part in the rows of the server's hint and of the first answer
+pub record IsQuietDouble (l : Shape) (records : List (List ℕ)) (a1 : WordMatrix) (seed : List ℕ) (number i : ℕ) : Type 0 where
+  pub first : IsQuietRetrieval l records seed number a1.rows i
+  pub hint : (d r : ℕ) → d < digits_per_record l → r < a1.cols * split_count l.width →
+      IsQuiet l.width (row (server_hint_of l.width (digit_matrix l records) a1) r) (part_noise seed number (digit_rows l) d)
+  pub answer : (d r : ℕ) → d < digits_per_record l → r < split_count l.width →
+      IsQuiet l.width (row (first_answer_of l.width (digit_matrix l records) (first_query_of l a1 seed number i)) r) (part_noise seed number (digit_rows l) d)

@@ -1,0 +1,54 @@
+-- Laws of DoublePIR.
+use Rattle.std.specs.Prelude.{◌≡◌, ℕ, ◌+◌, ◌<◌, List, slice_index}
+use Rattle.matrix_u32.specs.Matrix.{WordMatrix, row, product, times_vector}
+use Rattle.noise_table.specs.Margin.{IsCertain}
+use Rattle.digit_pack.specs.Layout.{Shape, IsShape, digit_matrix, digit_cols, digit_rows, digits_per_record, first_row, record_at, record_digits}
+use Rattle.double_scheme.specs.Double.{
+  server_hint_of,
+  client_hint_of,
+  first_query_of,
+  query_of,
+  answer_of,
+  part_secret,
+  answer_hint,
+  answer_part,
+  row_read,
+  word_read,
+  reading,
+  IsQuietDouble,
+}
+
+-- what part d of the answer to a query gives: the row of D A1 and the word of D c1 that stand in the row of digit d
+pub record GivesRowOf (l : Shape) (records : List (List ℕ)) (a1 a2 : WordMatrix) (seed : List ℕ) (number i d : ℕ) : Type 0 where
+  pub row : let digits = digit_matrix l records in
+      let server_hint = server_hint_of l.width digits a1 in
+      let answer = answer_of l digits server_hint a2 (query_of l a1 a2 seed number i) in
+      row_read l.width a2.cols (client_hint_of server_hint a2) (part_secret seed number a2.cols d) (answer_part l.width a2.cols answer d)
+      ≡ row (product digits a1) (first_row l i + d)
+  pub word : let digits = digit_matrix l records in
+      let answer = answer_of l digits (server_hint_of l.width digits a1) a2 (query_of l a1 a2 seed number i) in
+      word_read l.width a2.cols (answer_hint l.width a2.cols answer) (part_secret seed number a2.cols d) (answer_part l.width a2.cols answer d)
+      ≡ slice_index (times_vector digits (first_query_of l a1 seed number i)) (first_row l i + d)
+
+-- each part of a quiet answer gives them
+abbrev pub QuietPartGivesItsRow : Type 0
+QuietPartGivesItsRow = (l : Shape) (records : List (List ℕ)) (a1 a2 : WordMatrix) (seed : List ℕ) (number i d : ℕ) →
+    IsShape l → i < l.count → d < digits_per_record l → a1.rows ≡ digit_cols l → a2.rows ≡ digit_rows l → a2.cols ≡ a1.cols →
+    IsQuietDouble l records a1 seed number i →
+    GivesRowOf l records a1 a2 seed number i d
+
+-- a quiet retrieval reads the record's digits
+abbrev pub QuietRetrievalReadsTheRecord : Type 0
+QuietRetrievalReadsTheRecord = (l : Shape) (records : List (List ℕ)) (a1 a2 : WordMatrix) (seed : List ℕ) (number i : ℕ) →
+    IsShape l → i < l.count → a1.rows ≡ digit_cols l → a2.rows ≡ digit_rows l → a2.cols ≡ a1.cols →
+    IsQuietDouble l records a1 seed number i →
+    let digits = digit_matrix l records in
+    let server_hint = server_hint_of l.width digits a1 in
+    reading l (client_hint_of server_hint a2) seed number (answer_of l digits server_hint a2 (query_of l a1 a2 seed number i))
+    ≡ record_digits l (record_at records i)
+
+-- on a certain shape every retrieval is quiet
+abbrev pub CertainShapeIsQuiet : Type 0
+CertainShapeIsQuiet = (l : Shape) (records : List (List ℕ)) (a1 : WordMatrix) (seed : List ℕ) (number i : ℕ) →
+    IsShape l → IsCertain l.width (digit_cols l) → IsCertain l.width (digit_rows l) →
+    IsQuietDouble l records a1 seed number i

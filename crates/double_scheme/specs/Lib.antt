@@ -1,0 +1,3 @@
+pub mod Double
+pub mod Laws
+pub mod Recovery

@@ -1,0 +1,103 @@
+//! Answers.
+
+ghost use Rattle.std.specs.Prelude.{◌≡◌, ◌+◌, ◌*◌, ◌≤◌, IfOk, length, take, drop};
+ghost use Rattle.digit_pack.specs.Digits.{split_count};
+ghost use Rattle.digit_pack.specs.Layout.{digit_rows, digit_cols};
+ghost use Rattle.double_scheme.specs.Double.{first_answer_of, part_answer_of, query_words, answer_words, answer_of};
+
+use crate::hints::decompose;
+use crate::queries::append;
+use digit_pack::{DigitStore, Layout};
+use matrix_u32::{Kernel, Matrix};
+use std::alloc::{AllocError, Global};
+
+// The digits of the first layer's answer to the words of a first query.
+fn first_answer<K: Kernel, S: DigitStore + Drop>(
+    alloc: Global,
+    kernel: K,
+    digits: &S,
+    w: u32,
+    words: &[u32],
+) -> Result<S, AllocError>
+    requires width { (6 ≤ w) × (w ≤ 10) }
+    requires words { length words.now ≡ (S.digits digits.now).cols }
+    requires rows { (S.digits digits.now).rows ≤ 4096 }
+    ensures { IfOk result (λ first. S.digits first ≡ first_answer_of w (S.digits digits.now) words.now) }
+{
+    let rows = digits.rows();
+    let column = simple_scheme::answer(alloc, kernel, digits, words)?;
+    let Ok(matrix) = Matrix::from_words(rows, 1, column) else {
+        return Err(AllocError);
+    };
+    let first = decompose(alloc, &matrix, w)?;
+    Ok(first)
+}
+
+// The answer to one part of a query.
+#[tactic(auto, unfolding(simple_scheme::specs::Simple::answer_of))]
+fn part_answer<K: Kernel, S: DigitStore>(
+    alloc: Global,
+    kernel: K,
+    server_hint: &S,
+    first: &S,
+    part: &[u32],
+) -> Result<Vec<u32>, AllocError>
+    requires server { length part.now ≡ (S.digits server_hint.now).cols }
+    requires first { length part.now ≡ (S.digits first.now).cols }
+    ensures { IfOk result (λ v. v.items ≡ part_answer_of (S.digits server_hint.now) (S.digits first.now) part.now) }
+{
+    let mut out = simple_scheme::answer(alloc, kernel, server_hint, part)?;
+    let more = simple_scheme::answer(alloc, kernel, first, part)?;
+    append(&mut out, &more)?;
+    Ok(out)
+}
+
+// Words from a place on.
+pub(crate) fn part_of(words: &[u32], start: usize, count: usize) -> &[u32]
+    requires { start + count ≤ length words.now }
+    ensures value { result.now ≡ take count (drop start words.now) }
+    ensures count { length result.now ≡ count }
+{
+    &words[start..start + count]
+}
+
+/// The answer to the words of a query: first h, the digits of the first layer's answer times A2, row by row;
+/// then for each digit of the record the server's hint, and after it the digits of the first layer's answer,
+/// times the query's words for that digit. The first layer is answered once.
+///
+/// `digits` and `a2` have the layout's rows, and the server's hint has a column for each of them and κ rows
+/// for each column of `a2`, of which there are at most 1024; the query has m + K ℓ words. Only memory can be
+/// wanting.
+pub fn answer<K: Kernel, S: DigitStore + Drop>(
+    alloc: Global,
+    kernel: K,
+    layout: &Layout,
+    digits: &S,
+    server_hint: &S,
+    a2: &Matrix,
+    words: &[u32],
+) -> Result<Vec<u32>, AllocError>
+    requires words { length words.now ≡ query_words layout.now }
+    requires rows { (S.digits digits.now).rows ≡ digit_rows layout.now }
+    requires cols { (S.digits digits.now).cols ≡ digit_cols layout.now }
+    requires server_rows { (S.digits server_hint.now).rows ≡ a2.now.cols * split_count layout.now.width }
+    requires server_cols { (S.digits server_hint.now).cols ≡ digit_rows layout.now }
+    requires second_rows { a2.now.rows ≡ digit_rows layout.now }
+    requires second_cols { a2.now.cols ≤ 1024 }
+    ensures words { IfOk result (λ v. v.items ≡
+        answer_of layout.now (S.digits digits.now) (S.digits server_hint.now) a2.now words.now) }
+    ensures count { IfOk result (λ v. length v.items ≡ answer_words layout.now a2.now.cols) }
+{
+    let cols = layout.cols();
+    let rows = layout.rows();
+    let front = part_of(words, 0, cols);
+    let first: S = first_answer(alloc, kernel, digits, layout.width(), front)?;
+    let hint = simple_scheme::setup(alloc, kernel, &first, a2)?;
+    let mut out = hint.words().to_vec(alloc)?;
+    for d in 0..layout.digits_per_record() {
+        let part = part_of(words, cols + d * rows, rows);
+        let more = part_answer(alloc, kernel, server_hint, &first, part)?;
+        append(&mut out, &more)?;
+    }
+    Ok(out)
+}

@@ -1,0 +1,71 @@
+//! The hints of both sides, and the digits of a matrix read across.
+
+ghost use Rattle.std.specs.Prelude.{◌≡◌, ◌*◌, ◌≤◌, IfOk};
+ghost use Rattle.matrix_u32.specs.Matrix.{WordMatrix, transpose};
+ghost use Rattle.digit_pack.specs.Digits.{decomposed, split_count};
+ghost use Rattle.simple_scheme.specs.Simple.{hint_of};
+ghost use Rattle.double_scheme.specs.Double.{server_hint_of, client_hint_of};
+
+use digit_pack::{DigitStore, split_count, word_digit};
+use matrix_u32::{Kernel, Matrix};
+use std::alloc::{AllocError, Global};
+
+// The columns of a matrix as rows, each word as a column of its digits.
+pub(crate) fn decompose<S: DigitStore + Drop>(
+    alloc: Global,
+    a: &Matrix,
+    w: u32,
+) -> Result<S, AllocError>
+    requires width { (6 ≤ w) × (w ≤ 10) }
+    requires size { a.now.cols * split_count w * a.now.rows ≤ 33554432 }
+    ensures { IfOk result (λ store. S.digits store ≡ decomposed w (transpose a.now)) }
+{
+    let count = split_count(w);
+    let Some(rows) = a.cols().checked_mul(count) else {
+        return Err(AllocError);
+    };
+    let Ok(mut store) = S::zeros(alloc, rows, a.rows()) else {
+        return Err(AllocError);
+    };
+    // Called for what it says of the store: there are rows * cols digits.
+    store.rows();
+    for r in 0..rows {
+        for j in 0..a.rows() {
+            let digit = word_digit(a.get(j, r / count), w, r % count);
+            store.set(r, j, digit);
+        }
+    }
+    Ok(store)
+}
+
+/// The hints of both sides, from the first layer's hint D A1 and the second public matrix A2, which have as
+/// many rows and columns as each other, ℓ and n: the server's, the κ n rows of digits of A1^T D^T, w bits to a digit, and the
+/// client's, the server's times A2.
+///
+/// The first layer's hint is read across: no transposed copy is made, and nothing is held but the two hints.
+/// There are at most 4096 rows and 1024 columns, so only memory can be wanting.
+pub fn setup<K: Kernel, S: DigitStore + Drop>(
+    alloc: Global,
+    kernel: K,
+    hint: &Matrix,
+    a2: &Matrix,
+    w: u32,
+) -> Result<(S, Matrix), AllocError>
+    requires width { (6 ≤ w) × (w ≤ 10) }
+    requires rows { a2.now.rows ≡ hint.now.rows }
+    requires cols { a2.now.cols ≡ hint.now.cols }
+    requires row_limit { hint.now.rows ≤ 4096 }
+    requires col_limit { hint.now.cols ≤ 1024 }
+    ensures server { IfOk result (λ hints. (digits a1 : WordMatrix) → a1.rows ≡ digits.cols → hint.now ≡ hint_of digits a1 →
+        S.digits hints.0 ≡ server_hint_of w digits a1) }
+    ensures read_across { IfOk result (λ hints. S.digits hints.0 ≡ decomposed w (transpose hint.now)) }
+    ensures client { IfOk result (λ hints. hints.1 ≡ client_hint_of (S.digits hints.0) a2.now) }
+    ensures server_sizes { IfOk result (λ hints.
+        ((S.digits hints.0).rows ≡ a2.now.cols * split_count w) × ((S.digits hints.0).cols ≡ hint.now.rows)) }
+    ensures client_sizes { IfOk result (λ hints. (hints.1.rows ≡ a2.now.cols * split_count w) × (hints.1.cols ≡ a2.now.cols)) }
+{
+    matrix_u32::laws::product_transposes();
+    let server: S = decompose(alloc, hint, w)?;
+    let client = simple_scheme::setup(alloc, kernel, &server, a2)?;
+    Ok((server, client))
+}

@@ -1,0 +1,264 @@
+//! How an answer is read.
+
+ghost use Rattle.std.specs.Prelude.{◌≡◌, ◌+◌, ◌*◌, ◌^◌, ◌<◌, ◌≤◌, ◌↔◌, IfOk, IsTrue, All, length, drop};
+ghost use Rattle.matrix_u32.specs.Sum.{list_of};
+ghost use Rattle.digit_pack.specs.Digits.{split_count};
+ghost use Rattle.digit_pack.specs.Layout.{digits_per_record};
+ghost use Rattle.double_scheme.specs.Double.{words_of_part, answer_words, answer_hint, second_word, part_read, digit_read, reading};
+ghost use Rattle.double_scheme.specs.Recovery.{ReadsRecord, GivesQuietRecord};
+
+use crate::answers::part_of;
+use crate::laws;
+use digit_pack::{Layout, join_word, split_count, unpack};
+use matrix_u32::{Kernel, Matrix};
+use seed_expand::stream_words;
+use simple_scheme::{RecoverError, read_digits};
+use std::alloc::{AllocError, Global};
+
+// The word whose digits the second layer's words give from row k κ of its hint on.
+fn read_word<K: Kernel>(
+    kernel: K,
+    w: u32,
+    hint: &Matrix,
+    s: &[u32],
+    words: &[u32],
+    k: usize,
+    digits: &mut [u32],
+) -> u32
+    requires width { (6 ≤ w) × (w ≤ 10) }
+    requires secret { length s.now ≡ hint.now.cols }
+    requires words { length words.now ≡ hint.now.rows }
+    requires inside { k * split_count w + split_count w ≤ hint.now.rows }
+    requires scratch { length digits.old ≡ split_count w }
+    ensures { result ≡ second_word w hint.now s.now words.now k }
+{
+    let _rows = hint.rows();
+    let first = k * split_count(w);
+    read_digits(kernel, w, hint, s, first, words, digits);
+    join_word(digits, w)
+}
+
+// The words that the second layer's words give, κ digits to a word: one for each place of `out`.
+fn read_words<K: Kernel>(
+    kernel: K,
+    w: u32,
+    hint: &Matrix,
+    s: &[u32],
+    words: &[u32],
+    digits: &mut [u32],
+    out: &mut [u32],
+)
+    requires width { (6 ≤ w) × (w ≤ 10) }
+    requires secret { length s.now ≡ hint.now.cols }
+    requires words { length words.now ≡ hint.now.rows }
+    requires rows { hint.now.rows ≡ length out.old * split_count w }
+    requires scratch { length digits.old ≡ split_count w }
+    ensures { out.new ≡ list_of (length out.old) (second_word w hint.now s.now words.now) }
+{
+    for k in 0..out.len() {
+        out[k] = read_word(kernel, w, hint, s, words, k, digits);
+    }
+}
+
+// The words from a place on.
+fn rest_of(words: &[u32], start: usize) -> &[u32]
+    requires { start ≤ length words.now }
+    ensures value { result.now ≡ drop start words.now }
+    ensures count { start + length result.now ≡ length words.now }
+{
+    &words[start..]
+}
+
+// The digit that a part of an answer reads as, with the first answer's hint and both secrets.
+fn read_part<K: Kernel>(
+    alloc: Global,
+    kernel: K,
+    w: u32,
+    client_hint: &Matrix,
+    first_hint: &Matrix,
+    first_secret: &[u32],
+    part_secret: &[u32],
+    part: &[u32],
+) -> Result<u32, AllocError>
+    requires width { (6 ≤ w) × (w ≤ 10) }
+    requires rows { client_hint.now.rows ≡ client_hint.now.cols * split_count w }
+    requires first_rows { first_hint.now.rows ≡ split_count w }
+    requires first_cols { first_hint.now.cols ≡ client_hint.now.cols }
+    requires first_words { length first_secret.now ≡ client_hint.now.cols }
+    requires part_words { length part_secret.now ≡ client_hint.now.cols }
+    requires part { length part.now ≡ words_of_part w client_hint.now.cols }
+    ensures { IfOk result (λ digit. digit ≡
+        part_read w client_hint.now.cols client_hint.now first_hint.now first_secret.now part_secret.now part.now) }
+{
+    let front = client_hint.rows();
+    let mut digits = vec![in alloc; 0; split_count(w)]?;
+    let mut row = vec![in alloc; 0; client_hint.cols()]?;
+    let row_words = part_of(part, 0, front);
+    read_words(
+        kernel,
+        w,
+        client_hint,
+        part_secret,
+        row_words,
+        &mut digits,
+        &mut row,
+    );
+    let rest = rest_of(part, front);
+    let word = read_word(kernel, w, first_hint, part_secret, rest, 0, &mut digits);
+    let stripped = regev_core::strip(kernel, word, &row, first_secret);
+    Ok(regev_core::round(stripped, w))
+}
+
+// The front of an answer: the hint of the first answer.
+fn first_hint(alloc: Global, w: u32, n: usize, answer: &[u32]) -> Result<Matrix, AllocError>
+    requires width { (6 ≤ w) × (w ≤ 10) }
+    requires cols { n ≤ 1024 }
+    requires words { n * split_count w ≤ length answer.now }
+    ensures { IfOk result (λ h. h ≡ answer_hint w n answer.now) }
+{
+    let count = split_count(w);
+    let words = part_of(answer, 0, n * count).to_vec(alloc)?;
+    let Ok(hint) = Matrix::from_words(count, n, words) else {
+        return Err(AllocError);
+    };
+    Ok(hint)
+}
+
+// The digits that an answer reads as: one for each place of `out`.
+fn read_parts<K: Kernel>(
+    alloc: Global,
+    kernel: K,
+    seed: &[u8; 32],
+    number: u64,
+    client_hint: &Matrix,
+    layout: &Layout,
+    answer: &[u32],
+    out: &mut [u32],
+) -> Result<(), AllocError>
+    requires number { number < 2 ^ 62 }
+    requires rows { client_hint.now.rows ≡ client_hint.now.cols * split_count layout.now.width }
+    requires cols { client_hint.now.cols ≤ 1024 }
+    requires words { length answer.now ≡ answer_words layout.now client_hint.now.cols }
+    requires room { length out.old ≡ digits_per_record layout.now }
+    ensures { IfOk result (λ _. out.new ≡ reading layout.now client_hint.now seed.now number answer.now) }
+{
+    let w = layout.width();
+    let n = client_hint.cols();
+    let front = client_hint.rows();
+    let count = front + split_count(w);
+    let hint = first_hint(alloc, w, n, answer)?;
+    let s = stream_words(alloc, seed, 4 * number, 0, n)?;
+    for d in 0..out.len() {
+        let part_s = stream_words(alloc, seed, 4 * number + 2, (d * n) as u64, n)?;
+        let part = part_of(answer, front + d * count, count);
+        out[d] = read_part(alloc, kernel, w, client_hint, &hint, &s, &part_s, part)?;
+    }
+    Ok(())
+}
+
+// The digits that an answer reads as.
+fn read_all<K: Kernel>(
+    alloc: Global,
+    kernel: K,
+    seed: &[u8; 32],
+    number: u64,
+    client_hint: &Matrix,
+    layout: &Layout,
+    answer: &[u32],
+) -> Result<Vec<u32>, AllocError>
+    requires number { number < 2 ^ 62 }
+    requires rows { client_hint.now.rows ≡ client_hint.now.cols * split_count layout.now.width }
+    requires cols { client_hint.now.cols ≤ 1024 }
+    requires words { length answer.now ≡ answer_words layout.now client_hint.now.cols }
+    ensures { IfOk result (λ digits.
+        (digits.items ≡ reading layout.now client_hint.now seed.now number answer.now)
+        × All (λ d. d < 2 ^ layout.now.width) digits.items
+        × (length digits.items ≡ digits_per_record layout.now)) }
+{
+    let _width = layout.width();
+    let mut digits = vec![in alloc; 0; layout.digits_per_record()]?;
+    read_parts(
+        alloc,
+        kernel,
+        seed,
+        number,
+        client_hint,
+        layout,
+        answer,
+        &mut digits,
+    )?;
+    Ok(digits)
+}
+
+// Whether an answer has the layout's count of words.
+fn is_whole(layout: &Layout, client_hint: &Matrix, answer: &[u32]) -> bool
+    requires rows { client_hint.now.rows ≡ client_hint.now.cols * split_count layout.now.width }
+    requires cols { client_hint.now.cols ≤ 1024 }
+    ensures { IsTrue result ↔ (length answer.now ≡ answer_words layout.now client_hint.now.cols) }
+{
+    let front = client_hint.rows();
+    let part = front + split_count(layout.width());
+    answer.len() == front + layout.digits_per_record() * part
+}
+
+// The record that an answer reads as.
+fn read_record<K: Kernel>(
+    alloc: Global,
+    kernel: K,
+    seed: &[u8; 32],
+    number: u64,
+    client_hint: &Matrix,
+    layout: &Layout,
+    answer: &[u32],
+) -> Result<Vec<u8>, RecoverError>
+    requires number { number < 2 ^ 62 }
+    requires rows { client_hint.now.rows ≡ client_hint.now.cols * split_count layout.now.width }
+    requires cols { client_hint.now.cols ≤ 1024 }
+    ensures { ReadsRecord layout.now client_hint.now seed.now number answer.now result }
+{
+    if !is_whole(layout, client_hint, answer) {
+        return Err(RecoverError::BadLength);
+    }
+    let Ok(digits) = read_all(alloc, kernel, seed, number, client_hint, layout, answer) else {
+        return Err(RecoverError::Memory);
+    };
+    let Ok(mut bytes) = vec![in alloc; 0; layout.record_len()] else {
+        return Err(RecoverError::Memory);
+    };
+    match unpack(layout, &digits, &mut bytes) {
+        Ok(()) => Ok(bytes),
+        Err(_) => Err(RecoverError::BadDigits),
+    }
+}
+
+/// The record that the answer to the query for record i gives, with the client's hint, seed and number of
+/// the retrieval. The hint has κ rows to a column, κ being the digits of a word, and at most 1024 columns.
+/// Which record was asked for stands in the query alone: the reading is the same for every i.
+///
+/// `BadLength` exactly where the answer hasn't κ n + K κ (n + 1) words, for a hint of n columns and records
+/// of K digits; else `Memory`, or the bytes that the answer's reading writes, `BadDigits` exactly where the
+/// digits read set a bit past the record's last byte. Where the hint and the answer are those of some
+/// records and the retrieval is quiet in both layers, it is the record.
+pub fn recover<K: Kernel>(
+    alloc: Global,
+    kernel: K,
+    seed: &[u8; 32],
+    number: u64,
+    client_hint: &Matrix,
+    layout: &Layout,
+    i: usize,
+    answer: &[u32],
+) -> Result<Vec<u8>, RecoverError>
+    requires number { number < 2 ^ 62 }
+    requires rows { client_hint.now.rows ≡ client_hint.now.cols * split_count layout.now.width }
+    requires cols { client_hint.now.cols ≤ 1024 }
+    requires record { i < layout.now.count }
+    ensures reading { ReadsRecord layout.now client_hint.now seed.now number answer.now result }
+    ensures quiet { GivesQuietRecord layout.now client_hint.now seed.now number i answer.now result }
+{
+    laws::quiet_retrieval_reads_the_record();
+    digit_pack::laws::pack_unpacks();
+    let _width = layout.width();
+    let record = read_record(alloc, kernel, seed, number, client_hint, layout, answer);
+    record
+}
