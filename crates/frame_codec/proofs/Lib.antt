@@ -1,5 +1,6 @@
 pub mod NumberBytes
 pub mod Payloads
+pub mod Feedings
 pub mod Fronts
 pub mod Unique
 pub mod Runs

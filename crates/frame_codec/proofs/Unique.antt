@@ -110,7 +110,7 @@ one_spelling f g x y ff gg e =
     let b = announced (spelling f ++ x) g y gg e in
     (one_frame (kind_at (spelling f ++ x)) (take (length_at (spelling f ++ x)) (drop 5 (spelling f ++ x))) f g a.stands b.stands, a.after ∙ sym b.after)
 
-regroup : (f : Frame) (fs : List Frame) (r : List ℕ) → flat_map spelling (f ∷ fs) ++ r ≡ spelling f ++ (flat_map spelling fs ++ r)
+pub regroup : (f : Frame) (fs : List Frame) (r : List ℕ) → flat_map spelling (f ∷ fs) ++ r ≡ spelling f ++ (flat_map spelling fs ++ r)
 regroup f fs r = ap (λ (x : List ℕ). x ++ r) (flat_map-cons spelling f fs) ∙ append_assoc (spelling f) (flat_map spelling fs) r
 
 -- the frames of one reading begin those of another that ends where no frame is whole
@@ -138,7 +138,7 @@ one_reading bytes frames others rest end a b last final = same_reading frames ot
 -- ---- frames that are on their way
 
 -- no fault stands at the front of a frame
-fault_of_frame : (fault : ReadFault) (bytes : List ℕ) → HasFault fault bytes → HasFrame bytes → ⊥
+pub fault_of_frame : (fault : ReadFault) (bytes : List ℕ) → HasFault fault bytes → HasFrame bytes → ⊥
 fault_of_frame TooLong bytes h w = let a = announced bytes w.0 w.1 w.2 w.3 in omega (arith, a.len, h.1)
 fault_of_frame UnknownKind bytes h w =
     let a = announced bytes w.0 w.1 w.2 w.3 in

@@ -5,6 +5,7 @@ ghost use Rattle.std.specs.List.{flat_map, AllByRecursion};
 ghost use Rattle.byteorder.specs.Endian.{little_bytes, little_number};
 ghost use Rattle.frame_codec.specs.declared.frame.Frame.{Frame};
 ghost use Rattle.frame_codec.specs.declared.reader.ReadFault.{ReadFault};
+ghost use Rattle.frame_codec.specs.Laws.{FaultsExcludeFrames, OneFault, FeedsDecide, FeedsBegin, FeedsAgree};
 ghost use Rattle.frame_codec.specs.Frames.{IsFrame, spelling, payload_of, payload_size};
 ghost use Rattle.frame_codec.specs.Streams.{Begins, HasFrame, Feeds, FeedsAll, Reads, Stops, Arrives, joined};
 
@@ -47,4 +48,18 @@ pub fn reads_what_was_sent()
     ensures { (old piece later : List ℕ) (sent : List Frame) (answer : Result (Unit {0}) ReadFault) (frames : List Frame) (new : Option (List ℕ)) →
         AllByRecursion IsFrame sent → (old ++ piece) ++ later ≡ flat_map spelling sent → Feeds (Some old) piece answer frames new →
         (more : List Frame) × (sent ≡ frames ++ more) × AllByRecursion IsFrame more × Arrives answer new later more }
+{}
+
+/// In one place stands a frame, or one fault, or neither.
+pub fn one_fault()
+    ensures frames { FaultsExcludeFrames }
+    ensures faults { OneFault }
+{}
+
+/// What a feed answers, the frames that it gives and what it leaves unfinished are decided by the bytes that were unfinished and
+/// the piece, unless memory is refused; then the frames are the first of those that it would have given.
+pub fn feeds_decide()
+    ensures same { FeedsDecide }
+    ensures front { FeedsBegin }
+    ensures either { FeedsAgree }
 {}

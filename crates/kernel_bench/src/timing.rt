@@ -1,6 +1,7 @@
 //! Each kernel, timed. A time is that of the quickest turn, in nanoseconds.
 
 ghost use Rattle.std.specs.Prelude.{◌≡◌, ◌<◌, ◌≤◌, ◌*◌, ◌^◌, length, All, OnOk};
+ghost use Rattle.matrix_u32.specs.Matrix.{product};
 ghost use Rattle.lane_kernels.specs.Packed.{packed_cols};
 
 use lane_kernels::{Lanes, packed_mul_vec, split_row};
@@ -89,6 +90,7 @@ pub fn product(rt: &impl Runtime, a: &Matrix, b: &Matrix, out: &mut Matrix) -> i
     requires fits { a.now.cols ≡ b.now.rows }
     requires rows { out.old.rows ≡ a.now.rows }
     requires cols { out.old.cols ≡ b.now.cols }
+    ensures { OnOk result (out.new ≡ product a.now b.now) }
 {
     let start = Instant::now(rt)?;
     Lanes.mul_into(a, b, out);

@@ -1,14 +1,10 @@
 -- Courses of frames, in two parts.
-use Rattle.std.proofs.Common.{◌≡◌, ℕ, List, [], ◌∷◌, ◌++◌, take, drop, true, false, Option, Some, None, arith, ap, ◌∙◌, sym, refl, append_assoc}
+use Rattle.std.proofs.Common.{◌≡◌, ℕ, List, [], ◌∷◌, ◌++◌, take, drop, Option, Some, None, ap, ◌∙◌, sym, refl, append_assoc}
 use Rattle.std.specs.Prelude.{option_to_list}
 use Rattle.std.proofs.lemmas.List.{append-nil, take-append-drop}
 use Rattle.std.proofs.lemmas.List.Concat.{flat_map-append}
 use Rattle.frame_codec.specs.declared.frame.Frame.{Frame}
-use Rattle.frame_codec.specs.declared.reader.ReadFault.{ReadFault}
-use Rattle.frame_codec.specs.declared.reader.ReadFault.TheVariants.{TooLong, UnknownKind, BadPayload, Memory, Failed}
 use Rattle.frame_codec.specs.Frames.{spelling}
-use Rattle.frame_codec.specs.Streams.{HasFrame, HasFault}
-use Rattle.frame_codec.proofs.Fronts.{announced}
 use Rattle.once_session.specs.declared.stage.Stage.{Stage}
 use Rattle.once_session.specs.Courses.{next, reply, replies_to, stage_after, spellings, reply_bytes}
 use Rattle.once_session.specs.Outputs.{IsFrontOf}
@@ -50,11 +46,3 @@ front_taken n xs = (drop n xs, sym (take-append-drop n xs))
 
 pub all_front : (xs : List ℕ) → IsFrontOf xs xs
 all_front xs = ([], sym (append-nil xs))
-
--- a fault stands where no frame does
-pub no_frame_at : (fault : ReadFault) (bytes : List ℕ) → HasFault fault bytes → HasFrame bytes → ⊥
-no_frame_at TooLong bytes h f = let a = announced bytes f.0 f.1 f.2 f.3 in absurd (omega (arith, h.1, a.len))
-no_frame_at UnknownKind bytes h f = let a = announced bytes f.0 f.1 f.2 f.3 in let no : false ≡ true = sym h.2 ∙ a.kind in cc
-no_frame_at BadPayload bytes h f = h.3 f
-no_frame_at Memory bytes h f = absurd h
-no_frame_at Failed bytes h f = absurd h

@@ -12,7 +12,8 @@ use Rattle.once_session.specs.declared.stage.Stage.{Stage}
 use Rattle.once_session.specs.declared.stage.Stage.TheVariants as stage
 use Rattle.once_session.specs.Courses.{replies_to, stage_after, spellings}
 use Rattle.once_session.specs.Outputs.{IsFrontOf, IsJudged, goes_on, rest_reply, is_well, is_done, Ends, Waits, Breaks, Turns}
-use Rattle.once_session.proofs.CourseLemmas.{no_frame_at, front_behind, front_taken, all_front}
+use Rattle.frame_codec.proofs.Unique.{fault_of_frame}
+use Rattle.once_session.proofs.CourseLemmas.{front_behind, front_taken, all_front}
 
 pub feeds_begins : (old piece : List ℕ) (answer : Result (Unit {0}) ReadFault) (frames : List Frame) (new : Option (List ℕ)) → Feeds (Some old) piece answer frames new → (rest : List ℕ) × Begins (old ++ piece) frames rest
 feeds_begins old piece (Ok d) frames new f = (f.0, f.1.begins)
@@ -90,7 +91,7 @@ turn_refused old new stream frames rest fault codec out begins stops judged goin
       frames = frames;
       rest = rest;
       begins = begins;
-      no_frame = λ _. no_frame_at fault rest has;
+      no_frame = λ _. fault_of_frame fault rest has;
       no_part = λ _ p. p.no_fault fault has;
       out_is = o ∙ owed_at old frames rest going some;
       well_is = ap is_done bad ∙ sym (ill_rest (stage_after old frames) rest going some);
@@ -115,7 +116,7 @@ turn_cut old stream frames rest fault n begins stops going (inr judged) =
       rest = rest;
       begins = begins;
       front = inr (
-        (λ _. no_frame_at fault rest has),
+        (λ _. fault_of_frame fault rest has),
         (λ _ p. p.no_fault fault has),
         subst (IsFrontOf (spellings (replies_to old frames) ++ take n (spelling (Refused 1)))) (owed_at old frames rest going some)
             (front_behind (spellings (replies_to old frames)) (take n (spelling (Refused 1))) (spelling (Refused 1)) (front_taken n (spelling (Refused 1)))),

@@ -1,6 +1,7 @@
 use crate::{OnceFault, once, once_with};
 use matrix_u32::Plain;
 use std::alloc::{AllocError, Global};
+use std::cell::Cell;
 use std::io;
 use std::io::{Read, Write};
 use std::process::Abort;
@@ -69,12 +70,13 @@ impl Write for Output {
     }
 }
 
-fn make_output(alloc: Global, room: usize) -> Output {
-    Output {
-        bytes: Vec::new(alloc),
+// An output that asks for no memory when it is written to, so that want of memory isn't told as a failed write.
+fn make_output(alloc: Global, room: usize, fails: bool) -> Result<Output, AllocError> {
+    Ok(Output {
+        bytes: Vec::with_capacity(alloc, room)?,
         room,
-        fails: false,
-    }
+        fails,
+    })
 }
 
 fn joined(alloc: Global, parts: &[&[u8]]) -> Result<Vec<u8>, AllocError> {
@@ -100,7 +102,7 @@ fn check(
             most,
             fails: false,
         };
-        let mut writer = make_output(alloc, PIECE);
+        let mut writer = make_output(alloc, PIECE, false)?;
         let result = once(alloc, &mut reader, &mut writer, TURNS);
         assert_eq!(rt; result, ended, "{most} bytes a read");
         assert_eq!(rt; writer.bytes.as_slice(), said, "{most} bytes a read");
@@ -128,7 +130,7 @@ fn one_query_is_answered(rt: HostRuntime) -> Result<(), Fail> {
 fn a_plain_kernel_answers_the_same(rt: HostRuntime) -> Result<(), Fail> {
     let bytes = joined(rt.alloc(), &[LOAD, QUERY])?;
     let mut reader = bytes.as_slice();
-    let mut writer = Vec::new(rt.alloc());
+    let mut writer = Vec::with_capacity(rt.alloc(), PIECE)?;
     let result = once_with(rt.alloc(), Plain, &mut reader, &mut writer, TURNS);
     assert_eq!(rt; result, Ok(()));
     assert_eq!(rt; writer.as_slice(), ANSWER);
@@ -332,7 +334,7 @@ fn a_reader_that_fails(rt: HostRuntime) -> Result<(), Fail> {
             most: 5,
             fails: true,
         };
-        let mut writer = make_output(rt.alloc(), PIECE);
+        let mut writer = make_output(rt.alloc(), PIECE, false)?;
         let result = once(rt.alloc(), &mut reader, &mut writer, TURNS);
         assert_eq!(rt; result, Err(OnceFault::Read), "{len}");
         let said: &[u8] = if len == bytes.len() {
@@ -352,11 +354,7 @@ fn a_writer_that_fails_or_takes_nothing(rt: HostRuntime) -> Result<(), Fail> {
     for room in [0, 1, 17, 18, 35] {
         for fails in [false, true] {
             let mut reader = bytes.as_slice();
-            let mut writer = Output {
-                bytes: Vec::new(rt.alloc()),
-                room,
-                fails,
-            };
+            let mut writer = make_output(rt.alloc(), room, fails)?;
             let result = once(rt.alloc(), &mut reader, &mut writer, TURNS);
             assert_eq!(rt; result, Err(OnceFault::Write), "{room}");
             assert_eq!(rt;
@@ -378,7 +376,7 @@ fn all_turns_are_used_up(rt: HostRuntime) -> Result<(), Fail> {
             most: 1,
             fails: false,
         };
-        let mut writer = make_output(rt.alloc(), PIECE);
+        let mut writer = make_output(rt.alloc(), PIECE, false)?;
         let result = once(rt.alloc(), &mut reader, &mut writer, turns);
         assert_eq!(rt; result, Err(OnceFault::TurnsUsedUp), "{turns}");
         assert_eq!(rt; writer.bytes.as_slice(), said, "{turns}");
@@ -388,5 +386,62 @@ fn all_turns_are_used_up(rt: HostRuntime) -> Result<(), Fail> {
             "{turns}"
         );
     }
+    Ok(())
+}
+
+// Gives a part a read, and notes how many bytes had been written before it.
+#[derive(Drop)]
+struct Listener<'a> {
+    parts: &'a [&'a [u8]],
+    at: usize,
+    written: &'a Cell<usize>,
+    before: Vec<usize>,
+}
+
+impl Read for Listener<'_> {
+    fn read(&mut self, buf: &mut [u8]) -> io::Result<usize> {
+        self.before.push(self.written.get())?;
+        let Some(part) = self.parts.get(self.at) else {
+            return Ok(0);
+        };
+        let n = part.len().min(buf.len());
+        buf[..n].copy_from_slice(&part[..n]);
+        self.at = self.at.saturating_add(1);
+        Ok(n)
+    }
+}
+
+// Counts the bytes that are written.
+#[derive(Drop)]
+struct Counter<'a> {
+    written: &'a Cell<usize>,
+}
+
+impl Write for Counter<'_> {
+    fn write(&mut self, buf: &[u8]) -> io::Result<usize> {
+        self.written
+            .set(self.written.get().saturating_add(buf.len()));
+        Ok(buf.len())
+    }
+
+    fn flush(&mut self) -> io::Result<()> {
+        Ok(())
+    }
+}
+
+#[test]
+fn each_reply_goes_out_before_the_next_read(rt: HostRuntime) -> Result<(), Fail> {
+    let written = Cell::new(0usize);
+    let parts: [&[u8]; 4] = [LOAD, QUERY, QUERY, BYE];
+    let mut reader = Listener {
+        parts: &parts,
+        at: 0,
+        written: &written,
+        before: Vec::with_capacity(rt.alloc(), 8)?,
+    };
+    let mut writer = Counter { written: &written };
+    let result = once(rt.alloc(), &mut reader, &mut writer, TURNS);
+    assert_eq!(rt; result, Ok(()));
+    assert_eq!(rt; reader.before.as_slice(), [0usize, 0, 18, 36].as_slice());
     Ok(())
 }

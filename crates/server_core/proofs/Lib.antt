@@ -1,3 +1,4 @@
+pub mod Agreement
 pub mod Courses
 pub mod Hints
 pub mod Pieces

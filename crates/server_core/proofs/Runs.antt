@@ -13,7 +13,7 @@ use Rattle.server_core.specs.declared.standing.Standing.TheVariants.{Stranger, R
 use Rattle.server_core.specs.Serving.{Setting, setting_of, Outcome, IsOutcome, ServesAll, ServedAll, Serves, HasOutcome, served, refuses, is_closed, reply_bytes, FitsReply}
 
 -- a closed session is not open
-not_both : {P : Type 0} (st : Standing) → is_closed st ≡ true → is_closed st ≡ false → P
+pub not_both : {P : Type 0} (st : Standing) → is_closed st ≡ true → is_closed st ≡ false → P
 not_both st shut open_ = absurd (let bad : true ≡ false = sym shut ∙ open_ in cc)
 
 -- one more frame

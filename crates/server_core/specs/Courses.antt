@@ -1,9 +1,11 @@
 -- What frames lead to where memory is never refused.
-use Rattle.std.specs.Prelude.{List, [], ◌∷◌, ◌++◌, Bool, false, ◌==◌, ◌||◌, cond, option_to_list}
+use Rattle.std.specs.Prelude.{List, [], ◌∷◌, ◌++◌, Bool, false, ◌==◌, ◌||◌, cond, option_to_list, Result, Ok, Err}
 use Rattle.frame_codec.specs.declared.frame.Frame.{Frame}
 use Rattle.frame_codec.specs.declared.frame.Frame.TheVariants.{Load, Hello, HintAsk, Query, Edit, Publish, Bye, Welcome, HintPart, Answer, Stale, Done, Refused}
+use Rattle.frame_codec.specs.declared.reader.ReadFault.{ReadFault}
 use Rattle.version_store.specs.Histories.{History}
 use Rattle.server_core.specs.declared.standing.Standing.{Standing}
+use Rattle.server_core.specs.declared.standing.Standing.TheVariants.{Closed}
 use Rattle.server_core.specs.Serving.{Setting, Outcome, served, is_closed}
 
 -- the history and the standing after some frames, and the replies
@@ -22,6 +24,16 @@ course_of x h st [] = record { history = h; standing = st; replies = [] }
 course_of x h st (f ∷ fs) =
     cond (is_closed st) (record { history = h; standing = st; replies = [] })
     (with_reply (served x h st f) (course_of x (served x h st f).history (served x h st f).standing fs))
+
+-- where the reading stops behind frames that leave the session open: a fault is refused, and closes it
+abbrev pub at_end : Result (Unit {0}) ReadFault → Course → Course
+at_end (Ok done) c = c
+at_end (Err fault) c = record { history = c.history; standing = Closed; replies = c.replies ++ Refused 1 ∷ [] }
+
+-- the frames that a piece completes, and then how its reading ended
+abbrev pub course_of_piece : Setting → History → Standing → List Frame → Result (Unit {0}) ReadFault → Course
+course_of_piece x h st frames answer =
+    cond (is_closed (course_of x h st frames).standing) (course_of x h st frames) (at_end answer (course_of x h st frames))
 
 -- whether a reply refuses for want of memory
 abbrev pub is_memory : Frame → Bool

@@ -4,6 +4,7 @@ ghost use Rattle.std.specs.Prelude.{◌≡◌, List, false};
 ghost use Rattle.frame_codec.specs.declared.frame.Frame.{Frame};
 ghost use Rattle.version_store.specs.Histories.{History};
 ghost use Rattle.server_core.specs.declared.standing.Standing.{Standing};
+ghost use Rattle.server_core.specs.Laws.{PiecesDecide, PiecesAgree, SessionsNeverMeet};
 ghost use Rattle.server_core.specs.Courses.{course_of, lacks_memory};
 ghost use Rattle.server_core.specs.Serving.{Setting, ServesAll};
 
@@ -13,3 +14,20 @@ pub fn frames_decide()
     ensures { (x : Setting) (h : History) (st : Standing) (frames : List Frame) (h2 : History) (st2 : Standing) (replies : List Frame) →
         ServesAll x h st frames h2 st2 replies → lacks_memory replies ≡ false → record { history = h2; standing = st2; replies = replies } ≡ course_of x h st frames }
 {}
+
+/// What a feed leads to is decided by the setting, the history, this session and the piece, where memory isn't refused: the frames that the
+/// session's stream completes are served in order, and then a fault of the stream is told. A closed session's bytes matter no more.
+pub fn pieces_decide()
+    ensures decided { PiecesDecide }
+    ensures alike { PiecesAgree }
+{
+    frame_codec::laws::feeds_decide();
+}
+
+/// Sessions don't meet: all that a session is told is decided by its own pieces and by the histories on which they are served,
+/// whatever other sessions send between them.
+pub fn sessions_never_meet()
+    ensures { SessionsNeverMeet }
+{
+    pieces_decide();
+}

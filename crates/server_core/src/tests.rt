@@ -1,6 +1,7 @@
-//! Replies byte by byte, refusals, streams cut anywhere, and sessions beside one another.
+//! Replies byte by byte, refusals, streams cut anywhere, and sessions beside one another. No reply is Refused 12:
+//! memory is ample in all of them.
 
-use crate::{FeedError, OpenError, ServerCore};
+use crate::{FeedError, OpenError, ServerCore, laws};
 use matrix_u32::Plain;
 use std::alloc::Global;
 use std::process::Abort;
@@ -13,10 +14,13 @@ const PUBLISHER: [u8; 32] = [
     0xed, 0x7e, 0xc2, 0xf7, 0xf5, 0xe1, 0xd3, 0x0b, 0xd9, 0xd5, 0x21, 0xf0, 0x15, 0x36, 0x37, 0x93,
 ];
 
-// Greetings of a reader, of the publisher, of another key and of another profile, but their keys.
+// The store of most tests.
+const RECORDS: &[u8] = &[0x0a, 0xc8];
+
+// A greeting, but its key, and one in another profile.
 const GREETING: &[u8] = &[0x22, 0, 0, 0, 0x02, 1, 0];
 
-const OTHER_PROFILE: &[u8] = &[0x22, 0, 0, 0, 0x02, 2, 0];
+const OTHER_PROFILE: &[u8] = &[0x22, 0, 0, 0, 0x02, 9, 0];
 
 // What an accepted greeting is answered at version 1, but the seed of zeros.
 const WELCOME: &[u8] = &[
@@ -37,37 +41,48 @@ const ANSWER: &[u8] = &[
     0x0d, 0, 0, 0, 0x85, 0, 1, 0, 0, 0, 0, 0, 0, 0, 0xa4, 0x1a, 0, 0xc8,
 ];
 
-const EDIT: &[u8] = &[5, 0, 0, 0, 0x06, 1, 0, 0, 0, 100];
+// Record 1 becomes the byte 100, which is 64 in hex.
+const EDIT: &[u8] = &[5, 0, 0, 0, 0x06, 1, 0, 0, 0, 0x64];
 
 const PUBLISH: &[u8] = &[0, 0, 0, 0, 0x07];
 
 const BYE: &[u8] = &[0, 0, 0, 0, 0x08];
 
+const LOAD: &[u8] = &[7, 0, 0, 0, 0x01, 1, 0, 1, 0, 8, 0x0a, 0xc8];
+
 const STALE: &[u8] = &[0x0c, 0, 0, 0, 0x86, 2, 0, 0, 0, 0, 0, 0, 0, 2, 0, 0, 0];
 
+// A refusal, but its code.
 const REFUSED: &[u8] = &[1, 0, 0, 0, 0x8f];
 
-const DONE: &[u8] = &[8, 0, 0, 0, 0x87];
+const DONE_1: &[u8] = &[8, 0, 0, 0, 0x87, 1, 0, 0, 0, 0, 0, 0, 0];
 
-const ZEROS: [u8; 32] = [0; 32];
+const DONE_2: &[u8] = &[8, 0, 0, 0, 0x87, 2, 0, 0, 0, 0, 0, 0, 0];
 
-const ONES: [u8; 32] = [1; 32];
+const ZEROS: &[u8] = &[0; 32];
 
-const TWOS: [u8; 32] = [2; 32];
+const ONES: &[u8] = &[1; 32];
 
-// A server of the records 0a and c8 at version 1, with a session 0.
-fn server(rt: &impl Abort, alloc: Global) -> Result<ServerCore<Plain>, Fail> {
+const TWOS: &[u8] = &[2; 32];
+
+// A server of records of one byte, each a column of its own, with a session 0.
+fn server(
+    rt: &impl Abort,
+    alloc: Global,
+    records: &[u8],
+    version: u64,
+) -> Result<ServerCore<Plain>, Fail> {
     let header = Header {
         width: 8,
         record_len: 1,
         groups: 1,
-        count: 2,
+        count: u32::try_from(records.len()).unwrap_or(0),
         dimension: 1,
-        version: 1,
+        version,
         seed: [0; 32],
         publisher: PUBLISHER,
     };
-    let snapshot = header.with_records([10u8, 200].to_vec(alloc)?);
+    let snapshot = header.with_records(records.to_vec(alloc)?);
     let Ok(store) = Store::open(alloc, Plain, snapshot) else {
         panic!(rt; "the store was not opened");
     };
@@ -76,199 +91,309 @@ fn server(rt: &impl Abort, alloc: Global) -> Result<ServerCore<Plain>, Fail> {
     Ok(server)
 }
 
-// Feeds pieces to session 0 in pieces of at most `most` bytes, and compares what was said to all of them.
+// Bytes one after another.
+fn joined(alloc: Global, parts: &[&[u8]]) -> Result<Vec<u8>, Fail> {
+    let mut whole = Vec::new(alloc);
+    for part in parts {
+        whole.extend_from_slice(part)?;
+    }
+    Ok(whole)
+}
+
+// Pieces of one session, each with what it is told.
+type Dialogue = &'static [(&'static [&'static [u8]], &'static [&'static [u8]])];
+
+// Feeds a session a piece, and compares what it is told.
 fn check(
     rt: &impl Abort,
     alloc: Global,
-    most: usize,
-    pieces: &[&[u8]],
-    said: &[&[u8]],
+    server: &mut ServerCore<Plain>,
+    id: u64,
+    asked: &[&[u8]],
+    told: &[&[u8]],
 ) -> Result<(), Fail> {
-    let mut server = server(rt, alloc)?;
+    let piece = joined(alloc, asked)?;
+    let wanted = joined(alloc, told)?;
     let mut out = Vec::new(alloc);
-    for piece in pieces {
-        for part in piece.chunks(most.max(1)) {
-            server.feed(0, part, &mut out)?;
-        }
+    server.feed(id, &piece, &mut out)?;
+    assert_eq!(rt; out.as_slice(), wanted.as_slice());
+    Ok(())
+}
+
+// A reader's session. Nothing is said once it has taken its leave.
+const RETRIEVAL: Dialogue = &[
+    (&[GREETING, ZEROS], &[WELCOME, ZEROS]),
+    (&[HINT_ASK], &[HINT_PART]),
+    (&[QUERY], &[ANSWER]),
+    (&[BYE, QUERY], &[]),
+    (&[GREETING, ZEROS, QUERY], &[]),
+];
+
+#[test]
+fn a_reader_gets_the_hint_and_answers(rt: HostRuntime) -> Result<(), Fail> {
+    let mut server = server(&rt, rt.alloc(), RECORDS, 1)?;
+    for (asked, told) in RETRIEVAL {
+        check(&rt, rt.alloc(), &mut server, 0, asked, told)?;
     }
-    let mut wanted = Vec::new(alloc);
-    for reply in said {
-        wanted.extend_from_slice(reply)?;
+    assert_eq!(rt; server.has_session(0), true);
+    Ok(())
+}
+
+#[test]
+fn a_stream_can_be_cut_anywhere(rt: HostRuntime) -> Result<(), Fail> {
+    let alloc = rt.alloc();
+    let stream = joined(alloc, &[GREETING, ZEROS, HINT_ASK, QUERY, BYE])?;
+    let wanted = joined(alloc, &[WELCOME, ZEROS, HINT_PART, ANSWER])?;
+    for cut in 0..=stream.len() {
+        let (piece, later) = stream.split_at(cut);
+        let mut server = server(&rt, alloc, RECORDS, 1)?;
+        let mut out = Vec::new(alloc);
+        server.feed(0, piece, &mut out)?;
+        server.feed(0, later, &mut out)?;
+        assert_eq!(rt; out.as_slice(), wanted.as_slice(), "cut at {cut}");
+    }
+    Ok(())
+}
+
+#[test]
+fn a_stream_can_come_byte_by_byte(rt: HostRuntime) -> Result<(), Fail> {
+    let alloc = rt.alloc();
+    let stream = joined(alloc, &[GREETING, ZEROS, HINT_ASK, QUERY, BYE])?;
+    let wanted = joined(alloc, &[WELCOME, ZEROS, HINT_PART, ANSWER])?;
+    let mut server = server(&rt, alloc, RECORDS, 1)?;
+    let mut out = Vec::new(alloc);
+    for byte in stream.chunks(1) {
+        server.feed(0, byte, &mut out)?;
     }
     assert_eq!(rt; out.as_slice(), wanted.as_slice());
     Ok(())
 }
 
-#[test]
-fn a_reader_gets_the_hint_and_answers(rt: HostRuntime) -> Result<(), Fail> {
-    check(
-        &rt,
-        rt.alloc(),
-        100,
-        &[GREETING, &ZEROS, HINT_ASK, QUERY, BYE, QUERY],
-        &[WELCOME, &ZEROS, HINT_PART, ANSWER],
-    )
-}
+// Frames of one session that are refused or done, in this order, each with its reply.
+const REFUSALS: Dialogue = &[
+    (&[QUERY], &[REFUSED, &[2]]),
+    (&[OTHER_PROFILE, ZEROS], &[REFUSED, &[3]]),
+    (&[GREETING, TWOS], &[REFUSED, &[4]]),
+    (&[HINT_ASK], &[REFUSED, &[2]]),
+    (&[EDIT], &[REFUSED, &[2]]),
+    (&[PUBLISH], &[REFUSED, &[2]]),
+    (&[GREETING, ZEROS], &[WELCOME, ZEROS]),
+    (&[EDIT], &[REFUSED, &[5]]),
+    (&[PUBLISH], &[REFUSED, &[5]]),
+    (&[GREETING, ONES], &[WELCOME, ZEROS]),
+    (&[GREETING, TWOS], &[REFUSED, &[4]]),
+    (&[&[5, 0, 0, 0, 0x06, 2, 0, 0, 0, 1]], &[REFUSED, &[6]]),
+    (&[&[6, 0, 0, 0, 0x06, 0, 0, 0, 0, 1, 1]], &[REFUSED, &[7]]),
+    (&[PUBLISH], &[REFUSED, &[8]]),
+    (&[EDIT], &[DONE_1]),
+    (&[QUERY], &[ANSWER]),
+    (&[PUBLISH], &[DONE_2]),
+    (&[PUBLISH], &[REFUSED, &[8]]),
+    (&[QUERY], &[STALE]),
+    (
+        &[&[0x0d, 0, 0, 0, 0x03, 0, 2, 0, 0, 0, 0, 0, 0, 0, 1, 0, 0, 0]],
+        &[REFUSED, &[10]],
+    ),
+    (
+        &[&[0x0d, 0, 0, 0, 0x03, 2, 2, 0, 0, 0, 0, 0, 0, 0, 1, 0, 0, 0]],
+        &[REFUSED, &[13]],
+    ),
+    (
+        &[&[9, 0, 0, 0, 0x05, 2, 2, 0, 0, 0, 0, 0, 0, 0]],
+        &[REFUSED, &[13]],
+    ),
+    (
+        &[&[
+            0x15, 0, 0, 0, 0x05, 0, 2, 0, 0, 0, 0, 0, 0, 0, 1, 0, 0, 0, 2, 0, 0, 0, 3, 0, 0, 0,
+        ]],
+        &[REFUSED, &[11]],
+    ),
+    (&[LOAD], &[REFUSED, &[1]]),
+    (&[GREETING, ZEROS], &[]),
+];
 
 #[test]
-fn a_stream_can_be_cut_anywhere(rt: HostRuntime) -> Result<(), Fail> {
-    check(
-        &rt,
-        rt.alloc(),
-        1,
-        &[GREETING, &ZEROS, HINT_ASK, QUERY, BYE],
-        &[WELCOME, &ZEROS, HINT_PART, ANSWER],
-    )
+fn refusals_come_in_this_order(rt: HostRuntime) -> Result<(), Fail> {
+    let mut server = server(&rt, rt.alloc(), RECORDS, 1)?;
+    for (asked, told) in REFUSALS {
+        check(&rt, rt.alloc(), &mut server, 0, asked, told)?;
+    }
+    Ok(())
 }
 
-#[test]
-fn nothing_is_served_before_the_greeting(rt: HostRuntime) -> Result<(), Fail> {
-    check(
-        &rt,
-        rt.alloc(),
-        100,
-        &[HINT_ASK, QUERY, EDIT, PUBLISH],
-        &[REFUSED, &[2], REFUSED, &[2], REFUSED, &[2], REFUSED, &[2]],
-    )
-}
+// Stale at version 3 of five records.
+const STALE_3: &[u8] = &[0x0c, 0, 0, 0, 0x86, 3, 0, 0, 0, 0, 0, 0, 0, 5, 0, 0, 0];
 
-#[test]
-fn the_publisher_edits_and_publishes(rt: HostRuntime) -> Result<(), Fail> {
-    check(
-        &rt,
-        rt.alloc(),
-        100,
-        &[GREETING, &ONES, EDIT, QUERY, PUBLISH, PUBLISH, QUERY],
+const FIVE_WORDS: &[u8] = &[0; 20];
+
+// Queries of versions 2 and 4, of 2 with no words, and of 3.
+const QUERIES: Dialogue = &[
+    (
         &[
-            WELCOME,
-            &ZEROS,
-            DONE,
-            &[1, 0, 0, 0, 0, 0, 0, 0],
-            ANSWER,
-            DONE,
-            &[2, 0, 0, 0, 0, 0, 0, 0],
-            REFUSED,
-            &[8],
+            &[0x1d, 0, 0, 0, 0x05, 0, 2, 0, 0, 0, 0, 0, 0, 0],
+            FIVE_WORDS,
+        ],
+        &[STALE_3],
+    ),
+    (
+        &[
+            &[0x1d, 0, 0, 0, 0x05, 0, 4, 0, 0, 0, 0, 0, 0, 0],
+            FIVE_WORDS,
+        ],
+        &[STALE_3],
+    ),
+    (
+        &[&[9, 0, 0, 0, 0x05, 0, 2, 0, 0, 0, 0, 0, 0, 0]],
+        &[STALE_3],
+    ),
+    (
+        &[
+            &[0x1d, 0, 0, 0, 0x05, 0, 3, 0, 0, 0, 0, 0, 0, 0],
+            FIVE_WORDS,
+        ],
+        &[&[0x0d, 0, 0, 0, 0x85, 0, 3, 0, 0, 0, 0, 0, 0, 0, 0, 0, 0, 0]],
+    ),
+];
+
+#[test]
+fn an_old_version_is_told_before_the_word_count(rt: HostRuntime) -> Result<(), Fail> {
+    let mut server = server(&rt, rt.alloc(), &[1, 2, 3, 4, 5], 3)?;
+    let mut out = Vec::new(rt.alloc());
+    server.feed(0, &joined(rt.alloc(), &[GREETING, ZEROS])?, &mut out)?;
+    for (asked, told) in QUERIES {
+        check(&rt, rt.alloc(), &mut server, 0, asked, told)?;
+    }
+    Ok(())
+}
+
+// The last version number.
+const LAST: &[u8] = &[0xff; 8];
+
+const TWO_WORDS: &[u8] = &[0x16, 0, 0, 0, 0x21, 0, 0, 1];
+
+// The publisher's session at the last version.
+const LAST_VERSION: Dialogue = &[
+    (
+        &[GREETING, ONES],
+        &[
+            &[0x35, 0, 0, 0, 0x82, 1, 0, 8, 1, 0, 1, 0, 2, 0, 0, 0],
+            LAST,
+            &[1, 0],
+            ZEROS,
+        ],
+    ),
+    (&[EDIT], &[&[8, 0, 0, 0, 0x87], LAST]),
+    (&[PUBLISH], &[REFUSED, &[9]]),
+    (
+        &[&[0x11, 0, 0, 0, 0x05, 0], LAST, TWO_WORDS],
+        &[&[0x0d, 0, 0, 0, 0x85, 0], LAST, &[0xa4, 0x1a, 0, 0xc8]],
+    ),
+];
+
+#[test]
+fn the_last_version_is_served_and_not_followed(rt: HostRuntime) -> Result<(), Fail> {
+    let mut server = server(&rt, rt.alloc(), RECORDS, u64::MAX)?;
+    for (asked, told) in LAST_VERSION {
+        check(&rt, rt.alloc(), &mut server, 0, asked, told)?;
+    }
+    Ok(())
+}
+
+// Sessions with a payload that is too long, a kind that there is not, and a question that lacks a byte.
+const FAULTS: &[(u64, &[u8])] = &[
+    (1, &[1, 0, 0, 1]),
+    (2, &[0, 0, 0, 0, 0x7f]),
+    (3, &[12, 0, 0, 0, 0x03, 0, 1, 0, 0, 0, 0, 0, 0, 0, 0, 0, 0]),
+];
+
+#[test]
+fn a_session_is_served_beside_closed_ones(rt: HostRuntime) -> Result<(), Fail> {
+    let mut server = server(&rt, rt.alloc(), RECORDS, 1)?;
+    check(
+        &rt,
+        rt.alloc(),
+        &mut server,
+        0,
+        &[GREETING, ZEROS],
+        &[WELCOME, ZEROS],
+    )?;
+    for (id, fault) in FAULTS {
+        let id = *id;
+        server.open_session(id)?;
+        check(&rt, rt.alloc(), &mut server, id, &[fault], &[REFUSED, &[1]])?;
+        check(&rt, rt.alloc(), &mut server, id, &[GREETING, ZEROS], &[])?;
+        assert_eq!(rt; server.has_session(id), true);
+        check(&rt, rt.alloc(), &mut server, 0, &[QUERY], &[ANSWER])?;
+    }
+    Ok(())
+}
+
+#[test]
+fn a_query_is_served_when_its_last_byte_comes(rt: HostRuntime) -> Result<(), Fail> {
+    let mut server = server(&rt, rt.alloc(), RECORDS, 1)?;
+    let (front, rest) = QUERY.split_at(11);
+    check(
+        &rt,
+        rt.alloc(),
+        &mut server,
+        0,
+        &[GREETING, ZEROS, front],
+        &[WELCOME, ZEROS],
+    )?;
+    server.open_session(1)?;
+    check(
+        &rt,
+        rt.alloc(),
+        &mut server,
+        1,
+        &[GREETING, ONES, EDIT, PUBLISH],
+        &[WELCOME, ZEROS, DONE_1, DONE_2],
+    )?;
+    check(&rt, rt.alloc(), &mut server, 0, &[rest], &[STALE])
+}
+
+#[test]
+fn sessions_are_opened_and_closed(rt: HostRuntime) -> Result<(), Fail> {
+    let mut server = server(&rt, rt.alloc(), RECORDS, 1)?;
+    let mut out = Vec::new(rt.alloc());
+    assert_eq!(rt; server.feed(9, QUERY, &mut out), Err(FeedError::NoSession));
+    assert_eq!(rt; out.is_empty(), true);
+    assert_eq!(rt; server.open_session(3), Ok(()));
+    assert_eq!(rt; server.open_session(3), Err(OpenError::IdInUse));
+    assert_eq!(rt; server.has_session(3), true);
+    assert_eq!(rt; server.close_session(3), true);
+    assert_eq!(rt; server.has_session(3), false);
+    assert_eq!(rt; server.close_session(3), false);
+    assert_eq!(rt; server.open_session(3), Ok(()));
+    assert_eq!(rt; server.has_session(0), true);
+    Ok(())
+}
+
+#[test]
+fn the_server_edits_its_store(rt: HostRuntime) -> Result<(), Fail> {
+    let mut server = server(&rt, rt.alloc(), RECORDS, 1)?;
+    assert_eq!(rt; server.edit(1, &[100]), Ok(()));
+    assert_eq!(rt; server.publish(), Ok(2));
+    assert_eq!(rt; server.store().version(), 2);
+    check(
+        &rt,
+        rt.alloc(),
+        &mut server,
+        0,
+        &[GREETING, ZEROS, QUERY],
+        &[
+            &[
+                0x35, 0, 0, 0, 0x82, 1, 0, 8, 1, 0, 1, 0, 2, 0, 0, 0, 2, 0, 0, 0, 0, 0, 0, 0, 1, 0,
+            ],
+            ZEROS,
             STALE,
         ],
     )
 }
 
 #[test]
-fn a_reader_can_not_edit(rt: HostRuntime) -> Result<(), Fail> {
-    check(
-        &rt,
-        rt.alloc(),
-        100,
-        &[
-            OTHER_PROFILE,
-            &ZEROS,
-            GREETING,
-            &TWOS,
-            GREETING,
-            &ZEROS,
-            EDIT,
-            PUBLISH,
-        ],
-        &[
-            REFUSED,
-            &[3],
-            REFUSED,
-            &[4],
-            WELCOME,
-            &ZEROS,
-            REFUSED,
-            &[5],
-            REFUSED,
-            &[5],
-        ],
-    )
-}
-
-#[test]
-fn edits_are_refused(rt: HostRuntime) -> Result<(), Fail> {
-    check(
-        &rt,
-        rt.alloc(),
-        100,
-        &[
-            GREETING,
-            &ONES,
-            &[4, 0, 0, 0, 0x06, 2, 0, 0, 0],
-            &[4, 0, 0, 0, 0x06, 1, 0, 0, 0],
-        ],
-        &[WELCOME, &ZEROS, REFUSED, &[6], REFUSED, &[7]],
-    )
-}
-
-#[test]
-fn asks_are_refused(rt: HostRuntime) -> Result<(), Fail> {
-    check(
-        &rt,
-        rt.alloc(),
-        100,
-        &[
-            GREETING,
-            &ZEROS,
-            &[0x0d, 0, 0, 0, 0x03, 1, 1, 0, 0, 0, 0, 0, 0, 0, 0, 0, 0, 0],
-            &[0x0d, 0, 0, 0, 0x03, 0, 1, 0, 0, 0, 0, 0, 0, 0, 1, 0, 0, 0],
-            &[9, 0, 0, 0, 0x05, 0, 1, 0, 0, 0, 0, 0, 0, 0],
-        ],
-        &[
-            WELCOME,
-            &ZEROS,
-            REFUSED,
-            &[13],
-            REFUSED,
-            &[10],
-            REFUSED,
-            &[11],
-        ],
-    )
-}
-
-#[test]
-fn what_can_not_be_read_closes_the_session(rt: HostRuntime) -> Result<(), Fail> {
-    let faults: [&[u8]; 4] = [
-        &[1, 0, 0, 1],
-        &[0, 0, 0, 0, 0x7f],
-        &[12, 0, 0, 0, 0x03, 0, 0, 0, 0, 0, 0, 0, 0, 0, 0, 0, 0],
-        ANSWER,
-    ];
-    for fault in faults {
-        check(
-            &rt,
-            rt.alloc(),
-            100,
-            &[GREETING, &ZEROS, fault, QUERY],
-            &[WELCOME, &ZEROS, REFUSED, &[1]],
-        )?;
-    }
-    Ok(())
-}
-
-#[test]
-fn sessions_are_opened_and_closed(rt: HostRuntime) -> Result<(), Fail> {
-    let mut server = server(&rt, rt.alloc())?;
-    assert_eq!(rt; server.open_session(0), Err(OpenError::IdInUse));
-    assert_eq!(rt; server.has_session(0), true);
-    assert_eq!(rt; server.close_session(0), true);
-    assert_eq!(rt; server.close_session(0), false);
-    let mut out = Vec::new(rt.alloc());
-    assert_eq!(rt; server.feed(9, QUERY, &mut out), Err(FeedError::NoSession));
-    Ok(())
-}
-
-#[test]
-fn the_server_edits_its_store(rt: HostRuntime) -> Result<(), Fail> {
-    let mut server = server(&rt, rt.alloc())?;
-    assert_eq!(rt; server.edit(1, &[100]), Ok(()));
-    assert_eq!(rt; server.publish(), Ok(2));
-    assert_eq!(rt; server.store().version(), 2);
-    Ok(())
-}
-
-#[test]
 fn the_laws_can_be_called() {
-    crate::laws::frames_decide();
+    laws::frames_decide();
+    laws::pieces_decide();
+    laws::sessions_never_meet();
 }

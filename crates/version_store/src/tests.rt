@@ -3,7 +3,6 @@
 use super::*;
 use matrix_u32::Plain;
 use std::alloc::Global;
-use std::process::Abort;
 use std::test::Fail;
 
 /// The SHA-256 digest of 32 bytes 01.
@@ -35,18 +34,16 @@ fn refusal(alloc: Global, header: Header, bytes: &[u8]) -> Result<Option<OpenErr
 }
 
 // The store of two records, at some version.
-fn two_records(rt: &impl Abort, alloc: Global, version: u64) -> Result<Store<Plain>, Fail> {
+fn two_records(alloc: Global, version: u64) -> Result<Store<Plain>, Fail> {
     let header = Header { version, ..STORE };
     let snapshot = header.with_records([10u8, 200].to_vec(alloc)?);
-    let Ok(store) = Store::open(alloc, Plain, snapshot) else {
-        panic!(rt; "the store was not opened");
-    };
+    let store = Store::open(alloc, Plain, snapshot)?;
     Ok(store)
 }
 
 #[test]
 fn a_store_tells_its_sizes(rt: HostRuntime) -> Result<(), Fail> {
-    let store = two_records(&rt, rt.alloc(), 1)?;
+    let store = two_records(rt.alloc(), 1)?;
     assert_eq!(rt; store.version(), 1);
     assert_eq!(rt; store.layout().count(), 2);
     assert_eq!(rt; store.dimension(), 1);
@@ -69,7 +66,7 @@ fn a_store_tells_its_sizes(rt: HostRuntime) -> Result<(), Fail> {
 
 #[test]
 fn an_answer_is_of_the_current_version(rt: HostRuntime) -> Result<(), Fail> {
-    let store = two_records(&rt, rt.alloc(), 1)?;
+    let store = two_records(rt.alloc(), 1)?;
     let words = [22, 16777249];
     assert_eq!(rt; store.query_words(Scheme::Simple), words.len());
     let answer = store.answer_simple(rt.alloc(), &words)?;
@@ -79,7 +76,7 @@ fn an_answer_is_of_the_current_version(rt: HostRuntime) -> Result<(), Fail> {
 
 #[test]
 fn an_edit_is_seen_after_its_publication(rt: HostRuntime) -> Result<(), Fail> {
-    let mut store = two_records(&rt, rt.alloc(), 1)?;
+    let mut store = two_records(rt.alloc(), 1)?;
     assert_eq!(rt;
         store.publish(rt.alloc()),
         Err(PublishError::NothingToPublish)
@@ -107,7 +104,7 @@ fn an_edit_is_seen_after_its_publication(rt: HostRuntime) -> Result<(), Fail> {
 
 #[test]
 fn the_later_of_two_edits_counts(rt: HostRuntime) -> Result<(), Fail> {
-    let mut store = two_records(&rt, rt.alloc(), 7)?;
+    let mut store = two_records(rt.alloc(), 7)?;
     assert_eq!(rt; store.edit(rt.alloc(), 0, &[1]), Ok(()));
     assert_eq!(rt; store.edit(rt.alloc(), 0, &[10]), Ok(()));
     assert_eq!(rt; store.publish(rt.alloc()), Ok(8));
@@ -121,7 +118,7 @@ fn the_later_of_two_edits_counts(rt: HostRuntime) -> Result<(), Fail> {
 
 #[test]
 fn edits_are_refused(rt: HostRuntime) -> Result<(), Fail> {
-    let mut store = two_records(&rt, rt.alloc(), 1)?;
+    let mut store = two_records(rt.alloc(), 1)?;
     assert_eq!(rt; store.edit(rt.alloc(), 2, &[]), Err(EditError::BadIndex));
     assert_eq!(rt; store.edit(rt.alloc(), 1, &[]), Err(EditError::BadLength));
     assert_eq!(rt;
@@ -137,7 +134,7 @@ fn edits_are_refused(rt: HostRuntime) -> Result<(), Fail> {
 
 #[test]
 fn the_last_version_stays(rt: HostRuntime) -> Result<(), Fail> {
-    let mut store = two_records(&rt, rt.alloc(), u64::MAX)?;
+    let mut store = two_records(rt.alloc(), u64::MAX)?;
     assert_eq!(rt; store.edit(rt.alloc(), 1, &[100]), Ok(()));
     assert_eq!(rt;
         store.publish(rt.alloc()),
@@ -190,15 +187,13 @@ fn snapshots_are_refused_by_their_first_cause(rt: HostRuntime) -> Result<(), Fai
 
 #[test]
 fn a_store_is_written_and_read_back(rt: HostRuntime) -> Result<(), Fail> {
-    let mut store = two_records(&rt, rt.alloc(), 1)?;
+    let mut store = two_records(rt.alloc(), 1)?;
     assert_eq!(rt; store.edit(rt.alloc(), 1, &[100]), Ok(()));
-    let mut file = Vec::new(rt.alloc());
+    let mut file = Vec::with_capacity(rt.alloc(), 125)?;
     assert_eq!(rt; write_snapshot(rt.alloc(), &store, &mut file), Ok(()));
     assert_eq!(rt; file.len(), 125);
     let mut reader = file.as_slice();
-    let Ok(snapshot) = read_snapshot(rt.alloc(), &mut reader) else {
-        panic!(rt; "not read back");
-    };
+    let snapshot = read_snapshot(rt.alloc(), &mut reader)?;
     assert_eq!(rt; snapshot.header(), STORE);
     assert_eq!(rt; snapshot.records.as_slice(), &[10u8, 200][..]);
     Ok(())
@@ -227,12 +222,8 @@ fn edits_across_columns_keep_the_hint(rt: HostRuntime) -> Result<(), Fail> {
     }
     let first = header.with_records(before);
     let second = header.with_records(after);
-    let (Ok(mut kept), Ok(made)) = (
-        Store::open(rt.alloc(), Plain, first),
-        Store::open(rt.alloc(), Plain, second),
-    ) else {
-        panic!(rt; "the stores were not opened");
-    };
+    let mut kept = Store::open(rt.alloc(), Plain, first)?;
+    let made = Store::open(rt.alloc(), Plain, second)?;
     for i in [1, 6, 3] {
         assert_eq!(rt; kept.edit(rt.alloc(), i, made.bytes_of(i)), Ok(()));
     }

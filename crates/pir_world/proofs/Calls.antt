@@ -1,0 +1,231 @@
+-- Calls that are accepted, and frames that arrive.
+use Rattle.std.proofs.Common.{◌≡◌, ℕ, ◌<◌, Bool, true, false, cond, List, [], ◌∷◌, ◌++◌, Option, Some, None, refl, sym, ap, subst, ◌∙◌, arith, inl, inr}
+use Rattle.std.specs.Prelude.{nat_lt, is_some, if◌then◌else◌}
+use Rattle.std.specs.List.{AllByRecursion}
+use Rattle.std.proofs.lemmas.List.{append-nil}
+use Rattle.std.proofs.lemmas.Bool.{ltb-true, eqb-true}
+use Rattle.digit_pack.specs.Layout.{Shape}
+use Rattle.frame_codec.specs.declared.frame.Frame.{Frame}
+use Rattle.version_store.specs.declared.scheme.Scheme.{Scheme}
+use Rattle.version_store.specs.declared.scheme.Scheme.TheVariants.{Simple, Double}
+use Rattle.version_store.specs.Histories.{History}
+use Rattle.server_core.specs.declared.standing.Standing.{Standing}
+use Rattle.server_core.specs.declared.standing.Standing.TheVariants.{Reader}
+use Rattle.server_core.specs.Serving.{Setting}
+use Rattle.client_core.specs.declared.state.ClientState.{ClientState}
+use Rattle.client_core.specs.declared.state.Known.{Known}
+use Rattle.client_core.specs.declared.state.Hint.{Hint}
+use Rattle.client_core.specs.declared.state.Call.{Call}
+use Rattle.client_core.specs.declared.state.Call.TheVariants.{Idle, Hello, Sync, Ask, Edit, Publish}
+use Rattle.client_core.specs.States.{is_idle, is_ready, known_version, known_count}
+use Rattle.client_core.specs.Calls.{refusal, called, call_frame}
+use Rattle.client_core.specs.Calls.{Hello as want_hello, Sync as want_sync, Ask as want_ask}
+use Rattle.client_core.specs.Replies.{takes}
+use Rattle.client_core.specs.Feeding.{takes_all, fault_of}
+use Rattle.pir_world.specs.Runs.{Wire, Link, Entry, arrived, behind, link_called, link_told, link_served, turn_of, told_by, reacts, reader_key}
+use Rattle.pir_world.specs.Headlines.{IsVersion, QuietRetrievalGivesItsRecord, IsRight, seed_of}
+use Rattle.pir_world.specs.Invariants.{IsSetting, GoodHistory, KnownIs, PartsAre, IsReply, InFlight, Phase, LinkInv}
+use Rattle.pir_world.proofs.Wires.{none_arrives, one_arrives, Split, IsFew, split_few}
+use Rattle.pir_world.proofs.Serves.{served_link}
+use Rattle.pir_world.proofs.Takes.{ClientInv, taken, hint_long}
+
+-- ---- an accepted call
+
+idle_is : (call : Call) → is_idle call ≡ true → call ≡ Idle
+idle_is Idle e = refl
+idle_is (Hello key) e = absurd cc
+idle_is (Sync scheme v p) e = absurd cc
+idle_is (Ask i v n) e = absurd cc
+idle_is (Edit i bytes) e = absurd cc
+idle_is Publish e = absurd cc
+
+-- a hint of the version known is held
+ready : (k : Option Known) (o : Option Hint) → is_ready k o ≡ true → (is_some k ≡ true) × ((y : Hint) × (o ≡ Some y) × (y.version ≡ known_version k))
+ready None o e = absurd cc
+ready (Some k) None e = absurd cc
+ready (Some k) (Some y) e = (refl, (y, refl, eqb-true y.version k.version e))
+
+-- an `if` that ends in None was taken there
+then_none : {A : Type 0} (b : Bool) (x : Option A) (y : A) → (if b then x else Some y) ≡ None → (b ≡ true) × (x ≡ None)
+then_none true x y e = (refl, e)
+then_none false x y e = absurd cc
+
+else_none : {A : Type 0} (b : Bool) (x : A) (y : Option A) → (if b then Some x else y) ≡ None → (b ≡ false) × (y ≡ None)
+else_none true x y e = absurd cc
+else_none false x y e = (refl, e)
+
+idle_phase : (x : Setting) (h : History) (st : Standing) (seed : List ℕ) (c : ClientState) (call : Call) (up down : List Frame) → call ≡ Idle → Phase x h st seed c call up down → (up ≡ []) × (down ≡ [])
+idle_phase x h st seed c call up down e p = let P : Call → Type 0 = λ y. Phase x h st seed c y up down in subst P e p
+
+flight : (x : Setting) (h : History) (st : Standing) (seed : List ℕ) (c : ClientState) (call : Call) (up down : List Frame) → (up ≡ []) × (down ≡ []) → InFlight x h st seed c call (up ++ call_frame c call ∷ []) down
+flight x h st seed c call up down p = inl (rw p.0 refl, p.1)
+
+known_of : (x : Setting) (h : History) (st : Standing) (k : Option Known) → KnownIs x h st k → is_some k ≡ true → IsVersion h (known_version k) × (known_count k ≡ x.shape.count)
+known_of x h st None k e = absurd cc
+known_of x h st (Some y) k e = (k.4, ap (λ (l : Shape). l.count) k.1)
+
+first_parts : (x : Setting) (h : History) (scheme : Scheme) (v : ℕ) → IsSetting x → IsVersion h v → PartsAre x h scheme v 0 []
+first_parts x h Simple v s p = record { records = p.0; version_is = p.1; parts_are = refl; further = hint_long x p.0 s }
+first_parts x h Double v s p = tt
+
+module _ (x : Setting) (h : History) (seed : List ℕ) (l : Link) (s : IsSetting x) (i : LinkInv x h seed l) where
+  nothing_waits : l.client.call ≡ Idle → (l.up.frames ≡ []) × (l.down.frames ≡ [])
+  nothing_waits e = idle_phase x h l.standing seed l.client l.client.call l.up.frames l.down.frames e i.phase
+
+  pub called_hello : refusal (want_hello reader_key) l.client ≡ None → LinkInv x h seed (link_called (want_hello reader_key) l)
+  called_hello e =
+      let a = else_none l.client.failed _ _ e in
+      let b = else_none (is_some l.client.known) _ _ a.1 in
+      let d = then_none (is_idle l.client.call) _ _ b.1 in
+      record {
+        seed_is = i.seed_is;
+        alive = i.alive;
+        unclosed = i.unclosed;
+        known = i.known;
+        hint = i.hint;
+        call = refl;
+        phase = flight x h l.standing seed (called (want_hello reader_key) l.client) (Hello reader_key) l.up.frames l.down.frames (nothing_waits (idle_is l.client.call d.0));
+      }
+
+  pub called_sync : (scheme : Scheme) → refusal (want_sync scheme) l.client ≡ None → LinkInv x h seed (link_called (want_sync scheme) l)
+  called_sync scheme e =
+      let a = else_none l.client.failed _ _ e in
+      let b = then_none (is_some l.client.known) _ _ a.1 in
+      let d = then_none (is_idle l.client.call) _ _ b.1 in
+      let r = known_of x h l.standing l.client.known i.known b.0 in
+      record {
+        seed_is = i.seed_is;
+        alive = i.alive;
+        unclosed = i.unclosed;
+        known = i.known;
+        hint = tt;
+        call = (b.0, first_parts x h scheme (known_version l.client.known) s r.0);
+        phase = flight x h l.standing seed (called (want_sync scheme) l.client) (Sync scheme (known_version l.client.known) 0) l.up.frames l.down.frames (nothing_waits (idle_is l.client.call d.0));
+      }
+
+  pub called_ask : (j : ℕ) → refusal (want_ask j) l.client ≡ None → LinkInv x h seed (link_called (want_ask j) l)
+  called_ask j e =
+      let a = else_none l.client.failed _ _ e in
+      let b = then_none (is_ready l.client.known l.client.hint) _ _ a.1 in
+      let d = then_none (is_idle l.client.call) _ _ b.1 in
+      let f = then_none (nat_lt j (known_count l.client.known)) _ _ d.1 in
+      let r = ready l.client.known l.client.hint b.0 in
+      let count = (known_of x h l.standing l.client.known i.known r.0).1 in
+      let lt : j < known_count l.client.known = ltb-true j (known_count l.client.known) f.0 in
+      record {
+        seed_is = i.seed_is;
+        alive = i.alive;
+        unclosed = i.unclosed;
+        known = i.known;
+        hint = i.hint;
+        call = (r.0, record { inside = omega (arith, lt, count); hint = r.1.0; hint_is = r.1.1; version_is = r.1.2 });
+        phase = flight x h l.standing seed (called (want_ask j) l.client) (Ask j (known_version l.client.known) l.client.number) l.up.frames l.down.frames (nothing_waits (idle_is l.client.call d.0));
+      }
+
+-- ---- a delivery to the client
+
+pub record ToldLink (x : Setting) (seeds : List (List ℕ)) (h : History) (k : ℕ) (l : Link) (es : List Entry) : Type 0 where
+  pub link : LinkInv x h (seed_of seeds k) l
+  pub right : AllByRecursion (IsRight x seeds h) es
+
+module _ (law : QuietRetrievalGivesItsRecord) (x : Setting) (seeds : List (List ℕ)) (k : ℕ) (h : History) (l : Link) (s : IsSetting x) (g : GoodHistory x h) (i : LinkInv x h (seed_of seeds k) l) where
+  client_inv : ClientInv x h (seed_of seeds k) l.standing l.client
+  client_inv = record { seed_is = i.seed_is; alive = i.alive; known = i.known; hint = i.hint; call = i.call }
+
+  -- the link where these replies arrive and this is behind them
+  abbrev with_replies : List Frame → Wire → Link
+  with_replies fs b = record { client = (takes_all l.client fs).state; standing = l.standing; up = record { frames = l.up.frames ++ (takes_all l.client fs).sends; got = l.up.got }; down = b }
+
+  no_reply : (fs : List Frame) (b : Wire) → fs ≡ [] → b.frames ≡ l.down.frames → ToldLink x seeds h k (with_replies fs b) (told_by k l.client fs)
+  no_reply fs b e d = rw e (record {
+    link = record { seed_is = i.seed_is; alive = i.alive; unclosed = i.unclosed; known = i.known; hint = i.hint; call = i.call; phase = rw (append-nil, d) i.phase };
+    right = tt;
+  })
+
+  -- behind a reply without a fault nothing more is told of none
+  abbrev told_one : Frame → List Entry
+  told_one r = told_by k l.client (r ∷ [])
+
+  told_one_is : (r : Frame) → fault_of (takes l.client r).reaction ≡ None → told_one r ≡ reacts k l.client.call r (takes l.client r).reaction
+  told_one_is r e = ap (λ (b : Bool). reacts k l.client.call r (takes l.client r).reaction ++ cond b [] []) (ap is_some e) ∙ append-nil _
+
+  one_reply : (fs : List Frame) (b : Wire) (r : Frame) → fs ≡ r ∷ [] → b.frames ≡ [] → l.up.frames ≡ [] → IsReply x h l.standing (seed_of seeds k) l.client.call r
+      → ToldLink x seeds h k (with_replies fs b) (told_by k l.client fs)
+  one_reply fs b r e d u p =
+      let t = taken law x seeds k h l.standing l.client s g client_inv r p in
+      rw e (record {
+        link = record { seed_is = t.client.seed_is; alive = t.client.alive; unclosed = i.unclosed; known = t.client.known; hint = t.client.hint; call = t.client.call; phase = rw (u, d) t.phase };
+        right = subst (λ (es : List Entry). AllByRecursion (IsRight x seeds h) es) (sym (told_one_is r t.no_fault)) t.right;
+      })
+
+  told_flight : (most : ℕ) (call : Call) → call ≡ l.client.call → InFlight x h l.standing (seed_of seeds k) l.client call l.up.frames l.down.frames → ToldLink x seeds h k (link_told most l) (told_by k l.client (arrived l.down most))
+  told_flight most call e (inl p) = let a = none_arrives l.down most p.1 in no_reply (arrived l.down most) (behind l.down most) a.0 (a.1 ∙ sym p.1)
+  told_flight most call e (inr p) = elim (one_arrives l.down most p.1.0 p.1.1) [
+    | inl a ↦ no_reply (arrived l.down most) (behind l.down most) a.0 (a.1 ∙ sym p.1.1)
+    | inr a ↦ one_reply (arrived l.down most) (behind l.down most) p.1.0 a.0 a.1 p.0 (subst (λ (y : Call). IsReply x h l.standing (seed_of seeds k) y p.1.0) e p.1.2)
+  ]
+
+  told_phase : (most : ℕ) (call : Call) → call ≡ l.client.call → Phase x h l.standing (seed_of seeds k) l.client call l.up.frames l.down.frames → ToldLink x seeds h k (link_told most l) (told_by k l.client (arrived l.down most))
+  told_phase most Idle e p = let a = none_arrives l.down most p.1 in no_reply (arrived l.down most) (behind l.down most) a.0 (a.1 ∙ sym p.1)
+  told_phase most (Hello key) e p = told_flight most (Hello key) e p
+  told_phase most (Sync scheme v q) e p = told_flight most (Sync scheme v q) e p
+  told_phase most (Ask j v m) e p = told_flight most (Ask j v m) e p
+  told_phase most (Edit j bytes) e p = absurd p
+  told_phase most Publish e p = absurd p
+
+  pub told_inv : (most : ℕ) → ToldLink x seeds h k (link_told most l) (told_by k l.client (arrived l.down most))
+  told_inv most = told_phase most l.client.call refl i.phase
+
+  -- no front of the replies on their way makes a fault
+  front_flight : (call : Call) (fs more : List Frame) → call ≡ l.client.call → Split l.down.frames fs more → InFlight x h l.standing (seed_of seeds k) l.client call l.up.frames l.down.frames → (takes_all l.client fs).fault ≡ None
+  front_flight call fs more e (inl a) p = rw a.0 refl
+  front_flight call fs more e (inr a) (inl p) = rw (a.0 ∙ p.1) refl
+  front_flight call fs more e (inr a) (inr p) =
+      let t = taken law x seeds k h l.standing l.client s g client_inv p.1.0 (subst (λ (y : Call). IsReply x h l.standing (seed_of seeds k) y p.1.0) e p.1.2) in
+      rw (a.0 ∙ p.1.1) t.no_fault
+
+  front_phase : (call : Call) (fs more : List Frame) → call ≡ l.client.call → Split l.down.frames fs more → Phase x h l.standing (seed_of seeds k) l.client call l.up.frames l.down.frames → (takes_all l.client fs).fault ≡ None
+  front_phase Idle fs more e (inl a) p = rw a.0 refl
+  front_phase Idle fs more e (inr a) p = rw (a.0 ∙ p.1) refl
+  front_phase (Hello key) fs more e a p = front_flight (Hello key) fs more e a p
+  front_phase (Sync scheme v q) fs more e a p = front_flight (Sync scheme v q) fs more e a p
+  front_phase (Ask j v m) fs more e a p = front_flight (Ask j v m) fs more e a p
+  front_phase (Edit j bytes) fs more e a p = absurd p
+  front_phase Publish fs more e a p = absurd p
+
+  pub front_good : (fs more : List Frame) → Split l.down.frames fs more → (takes_all l.client fs).fault ≡ None
+  front_good fs more a = front_phase l.client.call fs more refl a i.phase
+
+-- ---- a delivery to the server
+
+pub record ServedInv (x : Setting) (seeds : List (List ℕ)) (h : History) (seed : List ℕ) (l : Link) (h2 : History) (es : List Entry) : Type 0 where
+  pub link : LinkInv x h seed l
+  pub history_is : h2 ≡ h
+  pub right : AllByRecursion (IsRight x seeds h) es
+
+known_then : (x : Setting) (h : History) (st st2 : Standing) (k : Option Known) → (st ≡ Reader → st2 ≡ Reader) → KnownIs x h st k → KnownIs x h st2 k
+known_then x h st st2 None f k = tt
+known_then x h st st2 (Some y) f k = (f k.0, k.1, k.2, k.3, k.4)
+
+few_flight : (x : Setting) (h : History) (st : Standing) (seed : List ℕ) (c : ClientState) (call : Call) (up down : List Frame) → InFlight x h st seed c call up down → IsFew up × IsFew down
+few_flight x h st seed c call up down (inl p) = (inr (call_frame c call, p.0), inl p.1)
+few_flight x h st seed c call up down (inr p) = (inl p.0, inr (p.1.0, p.1.1))
+
+pub few_frames : (x : Setting) (h : History) (st : Standing) (seed : List ℕ) (c : ClientState) (call : Call) (up down : List Frame) → Phase x h st seed c call up down → IsFew up × IsFew down
+few_frames x h st seed c Idle up down p = (inl p.0, inl p.1)
+few_frames x h st seed c (Hello key) up down p = few_flight x h st seed c (Hello key) up down p
+few_frames x h st seed c (Sync scheme v q) up down p = few_flight x h st seed c (Sync scheme v q) up down p
+few_frames x h st seed c (Ask j v m) up down p = few_flight x h st seed c (Ask j v m) up down p
+few_frames x h st seed c (Edit j bytes) up down p = absurd p
+few_frames x h st seed c Publish up down p = absurd p
+
+pub served_inv : (short : Bool) (most : ℕ) (x : Setting) (seeds : List (List ℕ)) (k : ℕ) (h : History) (seed : List ℕ) (l : Link) → LinkInv x h seed l
+    → ServedInv x seeds h seed (link_served x short k most h l) (turn_of x short k most h l).history (turn_of x short k most h l).log
+served_inv short most x seeds k h seed l i =
+    let few = few_frames x h l.standing seed l.client l.client.call l.up.frames l.down.frames i.phase in
+    let s = served_link x seeds k h seed l.standing l.client short l.client.call l.up.frames (arrived l.up most) (behind l.up most).frames l.down.frames (split_few l.up most few.0) i.unclosed i.seed_is i.known i.hint i.call i.phase in
+    record {
+      link = record { seed_is = i.seed_is; alive = i.alive; unclosed = s.unclosed; known = known_then x h l.standing _ l.client.known s.reader i.known; hint = i.hint; call = i.call; phase = s.phase };
+      history_is = s.history_is;
+      right = s.right;
+    }

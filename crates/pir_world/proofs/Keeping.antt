@@ -1,0 +1,113 @@
+-- What each step keeps, and so each run.
+use Rattle.std.proofs.Common.{◌≡◌, ℕ, ◌+◌, ◌^◌, ◌<◌, All, Bool, true, false, List, [], ◌∷◌, ◌++◌, length, Option, Some, None, refl, sym, ap, subst, ◌∙◌, arith, inl, inr}
+use Rattle.std.specs.Prelude.{nat_lt, ◌==◌, slice_get, slice_set}
+use Rattle.std.specs.List.{AllByRecursion}
+use Rattle.std.proofs.lemmas.Bool.{cases_eq, cond_both, eqb-true}
+use Rattle.version_store.specs.Histories.{History, number, edited, published}
+use Rattle.server_core.specs.Serving.{Setting}
+use Rattle.client_core.specs.declared.state.CallFault.{CallFault}
+use Rattle.client_core.specs.Calls.{Want, refusal}
+use Rattle.client_core.specs.Calls.{Hello as want_hello, Sync as want_sync, Ask as want_ask}
+use Rattle.pir_world.specs.declared.steps.Step.{Step}
+use Rattle.pir_world.specs.declared.steps.Step.TheVariants.{Edit, Publish, Hello, Sync, Ask, ToServer, ToClient}
+use Rattle.pir_world.specs.declared.steps.Outcome.{Outcome}
+use Rattle.pir_world.specs.declared.steps.Outcome.TheVariants.{Edited, EditRefused, Published, PublishRefused, CallRefused}
+use Rattle.pir_world.specs.Runs.{State, Link, Entry, Plain, after, called_at, served_at, told_at, call_at, with_link, with_history, edit_after, publish_after, link_called, link_told, link_served, turn_of, told_by, arrived, reader_key, FitsStep, Steps, Run}
+use Rattle.pir_world.specs.Headlines.{QuietRetrievalGivesItsRecord, IsRight, IsRightOutcome, seed_of}
+use Rattle.pir_world.specs.Invariants.{GoodHistory, LinkInv, Inv}
+use Rattle.pir_world.proofs.Later.{IsLater, later_published, same_history, newest, good_published, good_edited, link_later, entries_later, get_same, get_other}
+use Rattle.pir_world.proofs.Calls.{called_hello, called_sync, called_ask, told_inv, served_inv}
+
+all_append : {X : Type 0} (P : X → Type 0) (xs ys : List X) → AllByRecursion P xs → AllByRecursion P ys → AllByRecursion P (xs ++ ys)
+all_append P [] ys a b = b
+all_append P (x ∷ xs) ys a b = (a.0, all_append P xs ys a.1 b)
+
+module _ (x : Setting) (seeds : List (List ℕ)) (s : State) (inv : Inv x seeds s) where
+  -- a client's link is replaced
+  at_one : (k : ℕ) (l m : Link) (h : History) (es : List Entry) → slice_get s.links k ≡ Some l → h ≡ s.history → LinkInv x s.history (seed_of seeds k) m → AllByRecursion (IsRight x seeds s.history) es
+      → Inv x seeds (with_link s h k m es)
+  at_one k l m h es at e i right = rw e (record {
+    setting = inv.setting;
+    history = inv.history;
+    links = λ j y f. elim (cases_eq j k) [
+      | inl same ↦ let g : Some m ≡ Some y = sym (get_same s.links k m l at) ∙ ap (λ (n : ℕ). slice_get (slice_set s.links k m) n) (sym same) ∙ f in
+          let my : m ≡ y = cc in
+          subst (λ (z : Link). LinkInv x s.history (seed_of seeds j) z) my (subst (λ (n : ℕ). LinkInv x s.history (seed_of seeds n) m) (sym same) i)
+      | inr other ↦ inv.links j y (sym (get_other s.links k j m other) ∙ f)
+    ];
+    entries = all_append (IsRight x seeds s.history) s.log es inv.entries right;
+  })
+
+  at_history : (h : History) (o : Outcome) → GoodHistory x h → IsLater s.history h → IsRightOutcome h o → Inv x seeds (with_history s h o)
+  at_history h o g later right = record {
+    setting = inv.setting;
+    history = g;
+    links = λ j y f. link_later x s.history h later (seed_of seeds j) y (inv.links j y f);
+    entries = all_append (IsRight x seeds h) s.log (Plain o ∷ []) (entries_later x s.history h later seeds s.log inv.entries) (right, tt);
+  }
+
+  call_inv : (k : ℕ) (w : Want) (l : Link) (f : Option CallFault) → slice_get s.links k ≡ Some l → refusal w l.client ≡ f
+      → (refusal w l.client ≡ None → LinkInv x s.history (seed_of seeds k) (link_called w l)) → Inv x seeds (call_at s k w l f)
+  call_inv k w l (Some fault) at e called = at_one k l l s.history (Plain (CallRefused k fault) ∷ []) at refl (inv.links k l at) (tt, tt)
+  call_inv k w l None at e called = at_one k l (link_called w l) s.history [] at refl (called e) tt
+
+  called_inv : (w : Want) (k : ℕ) (o : Option Link) → slice_get s.links k ≡ o
+      → ((l : Link) → LinkInv x s.history (seed_of seeds k) l → refusal w l.client ≡ None → LinkInv x s.history (seed_of seeds k) (link_called w l)) → Inv x seeds (called_at s w k o)
+  called_inv w k None at called = inv
+  called_inv w k (Some l) at called = call_inv k w l (refusal w l.client) at refl (called l (inv.links k l at))
+
+  served_at_inv : (short : Bool) (k most : ℕ) (o : Option Link) → slice_get s.links k ≡ o → Inv x seeds (served_at x short s k most o)
+  served_at_inv short k most None at = inv
+  served_at_inv short k most (Some l) at =
+      let d = served_inv short most x seeds k s.history (seed_of seeds k) l (inv.links k l at) in
+      at_one k l (link_served x short k most s.history l) (turn_of x short k most s.history l).history (turn_of x short k most s.history l).log at d.history_is d.link d.right
+
+  told_at_inv : QuietRetrievalGivesItsRecord → (k most : ℕ) (o : Option Link) → slice_get s.links k ≡ o → Inv x seeds (told_at s k most o)
+  told_at_inv law k most None at = inv
+  told_at_inv law k most (Some l) at =
+      let d = told_inv law x seeds k s.history l inv.setting inv.history (inv.links k l at) most in
+      at_one k l (link_told most l) s.history (told_by k l.client (arrived l.down most)) at refl d.link d.right
+
+  edit_inv : (i : ℕ) (bytes : List ℕ) → All (λ b. b < 2 ^ 8) bytes → Inv x seeds (edit_after x s i bytes)
+  edit_inv i bytes fits =
+      cond_both (nat_lt i x.shape.count) _ _ (λ t. Inv x seeds t)
+      (λ t. cond_both (length bytes == x.shape.record_len) _ _ (λ t. Inv x seeds t)
+      (λ u. at_history (edited i bytes s.history) (Edited i) (good_edited x s.history i bytes (record { len = eqb-true _ _ u; each = fits }) inv.history) (λ v records p. p) tt)
+      (λ u. at_history s.history (EditRefused i _) inv.history (same_history s.history) tt))
+      (λ t. at_history s.history (EditRefused i _) inv.history (same_history s.history) tt)
+
+  publish_inv : Inv x seeds (publish_after s)
+  publish_inv =
+      cond_both s.history.marked _ _ (λ t. Inv x seeds t)
+      (λ t. cond_both (number s.history + 1 == 2 ^ 64) _ _ (λ t. Inv x seeds t)
+      (λ u. at_history s.history (PublishRefused _) inv.history (same_history s.history) tt)
+      (λ u. at_history (published s.history) (Published (number s.history + 1)) (good_published x s.history inv.history) (later_published s.history) (new_version s.history)))
+      (λ t. at_history s.history (PublishRefused _) inv.history (same_history s.history) tt)
+    where
+      new_version : (h : History) → IsRightOutcome (published h) (Published (number h + 1))
+      new_version h = let e : number (published h) ≡ number h + 1 = omega arith in (h.draft, let n = newest (published h) in rw (← e) n)
+
+  pub after_inv : QuietRetrievalGivesItsRecord → (short : Bool) (step : Step) → FitsStep step → Inv x seeds (after x short s step)
+  after_inv law short (Edit i bytes) fits = edit_inv i bytes fits
+  after_inv law short Publish fits = publish_inv
+  after_inv law short (Hello k) fits = called_inv (want_hello reader_key) k (slice_get s.links k) refl (λ l i e. called_hello x s.history (seed_of seeds k) l inv.setting i e)
+  after_inv law short (Sync k scheme) fits = called_inv (want_sync scheme) k (slice_get s.links k) refl (λ l i e. called_sync x s.history (seed_of seeds k) l inv.setting i scheme e)
+  after_inv law short (Ask k j) fits = called_inv (want_ask j) k (slice_get s.links k) refl (λ l i e. called_ask x s.history (seed_of seeds k) l inv.setting i j e)
+  after_inv law short (ToServer k most) fits = served_at_inv short k most (slice_get s.links k) refl
+  after_inv law short (ToClient k most) fits = told_at_inv law k most (slice_get s.links k) refl
+
+pub step_inv : QuietRetrievalGivesItsRecord → (x : Setting) (seeds : List (List ℕ)) (s : State) (step : Step) (t : State) → Steps x s step t → Inv x seeds s → Inv x seeds t
+step_inv law x seeds s step t (f, inl e) inv = rw e (after_inv x seeds s inv law false step f)
+step_inv law x seeds s step t (f, inr e) inv = rw e (after_inv x seeds s inv law true step f)
+
+pub run_inv : QuietRetrievalGivesItsRecord → (x : Setting) (seeds : List (List ℕ)) (s : State) (steps : List Step) (t : State) → Run x s steps t → Inv x seeds s → Inv x seeds t
+run_inv law x seeds s [] t e inv = rw e inv
+run_inv law x seeds s (step ∷ steps) t r inv = run_inv law x seeds r.0 steps t r.2 (step_inv law x seeds s step r.0 r.1 inv)
+
+pub run_more : (x : Setting) (s : State) (steps : List Step) (t : State) (step : Step) (u : State) → Run x s steps t → Steps x t step u → Run x s (steps ++ step ∷ []) u
+run_more x s [] t step u e one = (u, subst (λ (a : State). Steps x a step u) e one, refl)
+run_more x s (y ∷ ys) t step u e one = (e.0, e.1, run_more x e.0 ys t step u e.2 one)
+
+pub stepped : (x : Setting) (short : Bool) (s : State) (step : Step) → FitsStep step → Steps x s step (after x short s step)
+stepped x false s step f = (f, inl refl)
+stepped x true s step f = (f, inr refl)

@@ -1,0 +1,202 @@
+-- What a later history keeps.
+use Rattle.std.proofs.Common.{◌≡◌, ℕ, zero, suc, ◌-◌, ◌<◌, ◌⊎◌, List, [], ◌∷◌, Option, Some, None, refl, sym, ap, ◌∙◌, arith, inl, inr}
+use Rattle.std.specs.Prelude.{slice_get, slice_set}
+use Rattle.std.specs.List.{AllByRecursion}
+use Rattle.std.proofs.lemmas.Bool.{cases_lt}
+use Rattle.std.proofs.lemmas.Option.{slice_get_within}
+use Rattle.std.proofs.lemmas.List.{length-set}
+use Rattle.digit_pack.specs.Layout.{Shape, IsRecord, record_at}
+use Rattle.frame_codec.specs.declared.frame.Frame.{Frame}
+use Rattle.frame_codec.specs.declared.frame.Frame.TheVariants.{Load, Hello as hello_frame, HintAsk, Query, Edit as edit_frame, Publish as publish_frame, Bye, Welcome, HintPart, Answer, Stale as stale_frame, Done as done_frame, Refused as refused_frame}
+use Rattle.version_store.specs.declared.scheme.Scheme.{Scheme}
+use Rattle.version_store.specs.declared.scheme.Scheme.TheVariants.{Simple, Double}
+use Rattle.version_store.specs.Histories.{History, number, edited, published}
+use Rattle.server_core.specs.declared.standing.Standing.{Standing}
+use Rattle.server_core.specs.Serving.{Setting}
+use Rattle.client_core.specs.declared.state.ClientState.{ClientState}
+use Rattle.client_core.specs.declared.state.Known.{Known}
+use Rattle.client_core.specs.declared.state.Hint.{Hint}
+use Rattle.client_core.specs.declared.state.Call.{Call}
+use Rattle.client_core.specs.declared.state.Call.TheVariants.{Idle, Hello, Sync, Ask, Edit, Publish}
+use Rattle.client_core.specs.declared.state.Event.{Event}
+use Rattle.client_core.specs.declared.state.Event.TheVariants.{Welcomed, Synced, Retrieved, Unreadable, Stale, Done, Refused}
+use Rattle.pir_world.specs.declared.steps.Outcome.{Outcome}
+use Rattle.pir_world.specs.declared.steps.Outcome.TheVariants.{Edited, EditRefused, Published, PublishRefused, Told, CallRefused, Failed}
+use Rattle.pir_world.specs.Runs.{Link, Retrieval, Entry, Served, Ended, Plain}
+use Rattle.pir_world.specs.Headlines.{HasVersion, IsVersion, HintIs, IsRightEnd, IsServed, IsRightEvent, IsRightOutcome, IsRight, seed_of}
+use Rattle.pir_world.specs.Invariants.{GoodHistory, KnownIs, PartsAre, CallIs, IsReplyOf, IsPartReply, IsReply, InFlight, Phase, LinkInv}
+
+-- each version of one history is one of the other
+abbrev pub IsLater : History → History → Type 0
+IsLater h h2 = (v : ℕ) (records : List (List ℕ)) → HasVersion h v records → HasVersion h2 v records
+
+pub later_published : (h : History) → IsLater h (published h)
+later_published h v records p =
+    let e : number (published h) - v ≡ suc (number h - v) = omega (arith, p.0) in
+    (omega (arith, p.0), rw e p.1)
+
+pub same_history : (h : History) → IsLater h h
+same_history h v records p = p
+
+pub newest : (h : History) → HasVersion h (number h) h.current
+newest h = let z : number h - number h ≡ 0 = omega arith in (omega arith, rw z refl)
+
+version_cases : (h : History) (v : ℕ) (records : List (List ℕ)) → HasVersion (published h) v records → HasVersion h v records ⊎ (records ≡ h.draft)
+version_cases h v records p = elim (cases_lt (number h) v) [
+  | inl lt ↦ let z : number (published h) - v ≡ 0 = omega (arith, lt) in let e : Some h.draft ≡ Some records = rw z at p.1 in inr (cc)
+  | inr le ↦ let e : number (published h) - v ≡ suc (number h - v) = omega (arith, le) in inl (le, rw e at p.1)
+]
+
+pub version_positive : (x : Setting) (h : History) (v : ℕ) (records : List (List ℕ)) → GoodHistory x h → HasVersion h v records → 0 < v
+version_positive x h v records g p = omega (arith, g.first, slice_get_within (h.current ∷ h.past) (number h - v) records p.1)
+
+pub one_version : (h : History) (v : ℕ) (xs ys : List (List ℕ)) → HasVersion h v xs → HasVersion h v ys → xs ≡ ys
+one_version h v xs ys p q = let e : Some xs ≡ Some ys = sym p.1 ∙ q.1 in cc
+
+pub good_published : (x : Setting) (h : History) → GoodHistory x h → GoodHistory x (published h)
+good_published x h g = record {
+  first = g.first;
+  versions = λ v records p. elim (version_cases h v records p) [ inl q ↦ g.versions v records q | inr e ↦ rw e g.draft ];
+  draft = g.draft;
+}
+
+record_set : (l : Shape) (records : List (List ℕ)) (i j : ℕ) (bytes : List ℕ) → IsRecord l bytes → IsRecord l (record_at records j) → IsRecord l (record_at (slice_set records i bytes) j)
+record_set l [] i j bytes new old = old
+record_set l (r ∷ rs) zero zero bytes new old = new
+record_set l (r ∷ rs) zero (suc j) bytes new old = old
+record_set l (r ∷ rs) (suc i) zero bytes new old = old
+record_set l (r ∷ rs) (suc i) (suc j) bytes new old = record_set l rs i j bytes new old
+
+pub good_edited : (x : Setting) (h : History) (i : ℕ) (bytes : List ℕ) → IsRecord x.shape bytes → GoodHistory x h → GoodHistory x (edited i bytes h)
+good_edited x h i bytes fits g = record {
+  first = g.first;
+  versions = λ v records p. g.versions v records p;
+  draft = record { count = length-set h.draft i bytes ∙ g.draft.count; each = λ j lt. record_set x.shape h.draft i j bytes fits (g.draft.each j lt) };
+}
+
+-- ---- what is said of versions
+
+module _ (x : Setting) (h h2 : History) (later : IsLater h h2) where
+  version_later : (v : ℕ) → IsVersion h v → IsVersion h2 v
+  version_later v p = (p.0, later _ _ p.1)
+
+  known_later : (st : Standing) (k : Option Known) → KnownIs x h st k → KnownIs x h2 st k
+  known_later st None k = tt
+  known_later st (Some y) k = (k.0, k.1, k.2, k.3, version_later _ k.4)
+
+  pub hint_later : (o : Option Hint) → HintIs x h o → HintIs x h2 o
+  hint_later None p = tt
+  hint_later (Some y) p = (p.0, later _ _ p.1, p.2)
+
+  parts_later : (scheme : Scheme) (v p : ℕ) (parts : List ℕ) → PartsAre x h scheme v p parts → PartsAre x h2 scheme v p parts
+  parts_later Simple v p parts a = record { records = a.records; version_is = later _ _ a.version_is; parts_are = a.parts_are; further = a.further }
+  parts_later Double v p parts a = tt
+
+  call_later : (c : ClientState) (call : Call) → CallIs x h c call → CallIs x h2 c call
+  call_later c Idle p = tt
+  call_later c (Hello key) p = p
+  call_later c (Sync scheme v p) q = (q.0, parts_later scheme v p c.parts q.1)
+  call_later c (Ask i v n) q = q
+  call_later c (Edit i bytes) q = q
+  call_later c Publish q = q
+
+  reply_of_later : (v : ℕ) (r : Frame) (answer : List (List ℕ) → Frame) → IsReplyOf x h v r answer → IsReplyOf x h2 v r answer
+  reply_of_later v r answer (inl e) = inl e
+  reply_of_later v r answer (inr (inl p)) = inr (inl (p.0, version_later _ p.1, p.2, p.3))
+  reply_of_later v r answer (inr (inr p)) = inr (inr (p.0, later _ _ p.1, p.2))
+
+  part_reply_later : (scheme : Scheme) (v p : ℕ) (r : Frame) → IsPartReply x h scheme v p r → IsPartReply x h2 scheme v p r
+  part_reply_later Simple v p r q = reply_of_later v r _ q
+  part_reply_later Double v p r q = q
+
+  reply_later : (st : Standing) (seed : List ℕ) (call : Call) (r : Frame) → IsReply x h st seed call r → IsReply x h2 st seed call r
+  reply_later st seed Idle r p = p
+  reply_later st seed (Hello key) r p = (p.0, (p.1.0, version_later _ p.1.1, p.1.2))
+  reply_later st seed (Sync scheme v p) r q = part_reply_later scheme v p r q
+  reply_later st seed (Ask i v n) r q = reply_of_later v r _ q
+  reply_later st seed (Edit i bytes) r q = q
+  reply_later st seed Publish r q = q
+
+  flight_later : (st : Standing) (seed : List ℕ) (c : ClientState) (call : Call) (up down : List Frame) → InFlight x h st seed c call up down → InFlight x h2 st seed c call up down
+  flight_later st seed c call up down (inl p) = inl p
+  flight_later st seed c call up down (inr p) = inr (p.0, (p.1.0, p.1.1, reply_later st seed call p.1.0 p.1.2))
+
+  phase_later : (st : Standing) (seed : List ℕ) (c : ClientState) (call : Call) (up down : List Frame) → Phase x h st seed c call up down → Phase x h2 st seed c call up down
+  phase_later st seed c Idle up down p = p
+  phase_later st seed c (Hello key) up down p = flight_later st seed c (Hello key) up down p
+  phase_later st seed c (Sync scheme v p) up down q = flight_later st seed c (Sync scheme v p) up down q
+  phase_later st seed c (Ask i v n) up down q = flight_later st seed c (Ask i v n) up down q
+  phase_later st seed c (Edit i bytes) up down q = q
+  phase_later st seed c Publish up down q = q
+
+  pub link_later : (seed : List ℕ) (l : Link) → LinkInv x h seed l → LinkInv x h2 seed l
+  link_later seed l i = record {
+    seed_is = i.seed_is;
+    alive = i.alive;
+    unclosed = i.unclosed;
+    known = known_later l.standing l.client.known i.known;
+    hint = hint_later l.client.hint i.hint;
+    call = call_later l.client l.client.call i.call;
+    phase = phase_later l.standing seed l.client l.client.call l.up.frames l.down.frames i.phase;
+  }
+
+  end_later : (seed : List ℕ) (r : Retrieval) (reply : Frame) (e : Event) → IsRightEnd x h seed r reply e → IsRightEnd x h2 seed r reply e
+  end_later seed r reply e (inl a) = inl (record { records = a.records; version_is = later _ _ a.version_is; inside = a.inside; answer_is = a.answer_is; event_is = a.event_is; quiet = a.quiet })
+  end_later seed r reply e (inr (inl s)) = inr (inl (record { now = s.now; version_is = version_later _ s.version_is; later = s.later; reply_is = s.reply_is; event_is = s.event_is }))
+  end_later seed r reply e (inr (inr p)) = inr (inr p)
+
+  event_later : (e : Event) → IsRightEvent h e → IsRightEvent h2 e
+  event_later (Retrieved i v bytes) p = p
+  event_later (Unreadable i v) p = p
+  event_later (Stale v) p = version_later v p
+  event_later (Synced scheme v) p = version_later v p
+  event_later (Welcomed v) p = version_later v p
+  event_later (Done v) p = p
+  event_later (Refused code) p = tt
+
+  outcome_later : (o : Outcome) → IsRightOutcome h o → IsRightOutcome h2 o
+  outcome_later (Told k e) p = event_later e p
+  outcome_later (Failed k fault) p = p
+  outcome_later (Edited i) p = tt
+  outcome_later (EditRefused i fault) p = tt
+  outcome_later (Published v) p = version_later v p
+  outcome_later (PublishRefused fault) p = tt
+  outcome_later (CallRefused k fault) p = tt
+
+  served_later : (now : ℕ) (f : Frame) (reply : Option Frame) → IsServed x h now f reply → IsServed x h2 now f reply
+  served_later now (Query scheme version words) reply p = record { records = p.records; version_is = later _ _ p.version_is; stale = p.stale; answered = p.answered }
+  served_later now (Load record_len groups width records) reply p = tt
+  served_later now (hello_frame profile key) reply p = tt
+  served_later now (HintAsk scheme version part) reply p = tt
+  served_later now (edit_frame index bytes) reply p = tt
+  served_later now publish_frame reply p = tt
+  served_later now Bye reply p = tt
+  served_later now (Welcome profile width record_len groups count version dimension seed) reply p = tt
+  served_later now (HintPart scheme version part words) reply p = tt
+  served_later now (Answer scheme version words) reply p = tt
+  served_later now (stale_frame version count) reply p = tt
+  served_later now (done_frame version) reply p = tt
+  served_later now (refused_frame code) reply p = tt
+
+  entry_later : (seeds : List (List ℕ)) (e : Entry) → IsRight x seeds h e → IsRight x seeds h2 e
+  entry_later seeds (Served k f now reply) p = served_later now f reply p
+  entry_later seeds (Ended k r reply event) p = end_later (seed_of seeds k) r reply event p
+  entry_later seeds (Plain o) p = outcome_later o p
+
+  pub entries_later : (seeds : List (List ℕ)) (es : List Entry) → AllByRecursion (IsRight x seeds h) es → AllByRecursion (IsRight x seeds h2) es
+  entries_later seeds [] p = tt
+  entries_later seeds (e ∷ es) p = (entry_later seeds e p.0, entries_later seeds es p.1)
+
+-- ---- an element replaced
+
+pub get_same : {X : Type 0} (xs : List X) (k : ℕ) (x y : X) → slice_get xs k ≡ Some y → slice_get (slice_set xs k x) k ≡ Some x
+get_same [] k x y e = absurd cc
+get_same (z ∷ xs) zero x y e = refl
+get_same (z ∷ xs) (suc k) x y e = get_same xs k x y e
+
+pub get_other : {X : Type 0} (xs : List X) (k j : ℕ) (x : X) → (j ≡ k → ⊥) → slice_get (slice_set xs k x) j ≡ slice_get xs j
+get_other [] k j x ne = refl
+get_other (z ∷ xs) zero zero x ne = absurd (ne refl)
+get_other (z ∷ xs) zero (suc j) x ne = refl
+get_other (z ∷ xs) (suc k) zero x ne = refl
+get_other (z ∷ xs) (suc k) (suc j) x ne = get_other xs k j x (λ e. ne (ap suc e))

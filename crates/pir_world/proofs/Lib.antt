@@ -1,0 +1,13 @@
+pub mod Reading
+pub mod Later
+pub mod Wires
+pub mod Serves
+pub mod Takes
+pub mod Calls
+pub mod Keeping
+pub mod Opening
+pub mod Bytes
+pub mod Deliveries
+pub mod Parts
+pub mod Sending
+pub mod Fresh

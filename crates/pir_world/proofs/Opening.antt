@@ -1,0 +1,90 @@
+-- A world as it begins, and so every run.
+use Rattle.std.proofs.Common.{◌≡◌, ℕ, zero, suc, ◌-◌, ◌*◌, ◌^◌, ◌<◌, ◌≤◌, List, [], ◌∷◌, length, map, take, drop, Option, Some, refl, sym, ap, subst, arith}
+use Rattle.std.specs.Prelude.{slice_get}
+use Rattle.std.proofs.lemmas.List.{length-take, length-drop}
+use Rattle.std.proofs.lemmas.List.Elements.{All-take, All-drop}
+use Rattle.std.proofs.Math.Nat.{mul-le-mul_right}
+use Rattle.matrix_u32.proofs.Products.{at-list_of_any, length-list_of}
+use Rattle.digit_pack.specs.Layout.{IsRecord, records_in, record_at}
+use Rattle.snapshot_file.specs.declared.snapshot.Header.{Header}
+use Rattle.snapshot_file.specs.Snapshots.{shape_of}
+use Rattle.version_store.specs.Histories.{number}
+use Rattle.pir_world.specs.Runs.{Link, opening, setting_in, fresh_link}
+use Rattle.pir_world.specs.Headlines.{IsOpening, QuietRetrievalGivesItsRecord, EveryRunIsRight, seed_of}
+use Rattle.pir_world.specs.Invariants.{AreRecords, LinkInv, Inv}
+use Rattle.version_store.specs.Histories.{Held, StandsFor, opened}
+use Rattle.version_store.specs.Openings.{held_of}
+use Rattle.server_core.specs.Cores.{Core, session_of}
+use Rattle.server_core.specs.Serving.{setting_of}
+use Rattle.server_core.specs.Sessions.{Session, new_session}
+use Rattle.pir_world.specs.declared.steps.Outcome.{Outcome}
+use Rattle.pir_world.specs.Runs.{silent}
+use Rattle.pir_world.specs.Sides.{Side, Carries, EndIs, Matched, IsParts, fresh_side}
+use Rattle.pir_world.specs.Worlds.{Kept, IsRunOf}
+use Rattle.pir_world.proofs.Keeping.{run_inv}
+
+only_one : {X : Type 0} (r s : X) (i : ℕ) → slice_get (r ∷ []) i ≡ Some s → r ≡ s
+only_one r s zero e = cc
+only_one r s (suc i) e = absurd cc
+
+link_of : (seeds : List (List ℕ)) (k : ℕ) (l : Link) → slice_get (map fresh_link seeds) k ≡ Some l → fresh_link (seed_of seeds k) ≡ l
+link_of [] k l e = absurd cc
+link_of (s ∷ seeds) zero l e = cc
+link_of (s ∷ seeds) (suc k) l e = link_of seeds k l e
+
+opening_records : (h : Header) (bytes : List ℕ) → IsOpening h bytes → AreRecords (shape_of h) (records_in (shape_of h) bytes)
+opening_records h bytes o = record { count = length-list_of h.count _; each = one }
+  where
+    one : (i : ℕ) → i < h.count → IsRecord (shape_of h) (record_at (records_in (shape_of h) bytes) i)
+    one i lt =
+        let e = at-list_of_any h.count (λ (j : ℕ). take h.record_len (drop (j * h.record_len) bytes)) i [] lt in
+        let room : suc i * h.record_len ≤ h.count * h.record_len = mul-le-mul_right h.record_len lt in
+        let size : length (take h.record_len (drop (i * h.record_len) bytes)) ≡ h.record_len =
+        omega (arith, length-take h.record_len (drop (i * h.record_len) bytes), length-drop (i * h.record_len) bytes, o.sound.len, room) in
+        subst (λ (b : List ℕ). IsRecord (shape_of h) b) (sym e) (record { len = size; each = All-take (λ (b : ℕ). b < 2 ^ 8) h.record_len (drop (i * h.record_len) bytes) (All-drop (λ (b : ℕ). b < 2 ^ 8) (i * h.record_len) bytes o.bytes) })
+
+pub opening_inv : (h : Header) (bytes : List ℕ) (seeds : List (List ℕ)) → IsOpening h bytes → Inv (setting_in h) seeds (opening h bytes seeds)
+opening_inv h bytes seeds o =
+    let all = opening_records h bytes o in
+    record {
+      setting = record { layout = o.sound.sizes.layout; low = o.sound.sizes.low; high = o.sound.sizes.high };
+      history = record {
+        first = o.sound.version;
+        versions = λ v records p. subst (λ (r : List (List ℕ)). AreRecords (shape_of h) r) (only_one (records_in (shape_of h) bytes) records (number (opening h bytes seeds).history - v) p.1) all;
+        draft = all;
+      };
+      links = λ k l e. subst (λ (m : Link). LinkInv (setting_in h) (opening h bytes seeds).history (seed_of seeds k) m) (link_of seeds k l e)
+          (record { seed_is = refl; alive = refl; unclosed = refl; known = tt; hint = tt; call = tt; phase = (refl, refl) });
+      entries = tt;
+    }
+
+pub headline : QuietRetrievalGivesItsRecord → EveryRunIsRight
+headline law h bytes seeds steps last o r =
+    let inv = run_inv law (setting_in h) seeds (opening h bytes seeds) steps last r (opening_inv h bytes seeds o) in
+    record { entries = inv.entries; hints = λ k l e. (inv.links k l e).hint }
+
+-- ---- its parts
+
+fresh_wire : Carries (Some []) [] silent
+fresh_wire = record { unfinished = []; reader_is = refl; bytes = refl; got = refl; each = tt }
+
+fresh_end : (seed : List ℕ) → EndIs (fresh_side seed) new_session (fresh_link seed)
+fresh_end seed = record { client_is = refl; standing_is = refl; up = fresh_wire; down = fresh_wire }
+
+fresh_matched : (seeds : List (List ℕ)) (k : ℕ) (o : Option Session) → (k < length seeds → o ≡ Some new_session) → Matched (slice_get (map fresh_side seeds) k) o (slice_get (map fresh_link seeds) k)
+fresh_matched [] k o e = tt
+fresh_matched (s ∷ seeds) zero o e = rw (e (omega arith)) (fresh_end s)
+fresh_matched (s ∷ seeds) (suc k) o e = fresh_matched seeds k o (λ lt. e (omega (arith, lt)))
+
+pub opening_parts : (h : Header) (bytes : List ℕ) (seeds : List (List ℕ)) (core : Core) (ends : List Side) (os : List Outcome) → core.store ≡ held_of h bytes → StandsFor core.store (opened h.version (records_in (shape_of h) bytes)) → ends ≡ map fresh_side seeds
+    → ((id : ℕ) → id < length seeds → session_of core.sessions id ≡ Some new_session) → os ≡ [] → IsParts (setting_in h) core ends os (opening h bytes seeds)
+opening_parts h bytes seeds core ends os held stands e at none = record {
+  setting_is = ap (λ (s : Held). setting_of s) held;
+  store_is = stands;
+  ends_are = λ k. rw e (fresh_matched seeds k (session_of core.sessions k) (at k));
+  outcomes_are = none;
+}
+
+pub opening_run : (h : Header) (bytes : List ℕ) (seeds : List (List ℕ)) (w : Kept) → IsOpening h bytes → w.header ≡ h → w.records ≡ bytes → w.seeds ≡ seeds → w.steps ≡ [] → IsParts (setting_in h) w.core w.ends w.outcomes (opening h bytes seeds)
+    → IsRunOf w (opening h bytes seeds)
+opening_run h bytes seeds w o a b d e parts = record { opens = rw (a, b) o; run = rw (a, b, d, e) refl; parts = rw a parts }

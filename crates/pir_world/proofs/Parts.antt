@@ -1,0 +1,203 @@
+-- From one client's end to all.
+use Rattle.std.proofs.Common.{◌≡◌, ◌≢◌, ℕ, ◌⊎◌, Bool, true, false, cond, List, [], ◌∷◌, ◌++◌, map, Option, Some, None, Ok, refl, sym, ap, subst, ◌∙◌, inl, inr}
+use Rattle.std.specs.Prelude.{slice_get, slice_set, is_some}
+use Rattle.std.specs.List.{flat_map}
+use Rattle.std.proofs.lemmas.List.{append-nil}
+use Rattle.std.proofs.lemmas.List.Concat.{flat_map-append}
+use Rattle.std.proofs.lemmas.Bool.{cases_eq}
+use Rattle.frame_codec.specs.declared.frame.Frame.{Frame}
+use Rattle.version_store.specs.Histories.{History, StandsFor}
+use Rattle.server_core.specs.Cores.{Core, session_of}
+use Rattle.server_core.specs.Serving.{Setting, setting_of}
+use Rattle.server_core.specs.Serving.{is_closed}
+use Rattle.server_core.specs.Sessions.{Session, Fed}
+use Rattle.client_core.specs.declared.state.ClientState.{ClientState}
+use Rattle.client_core.specs.declared.state.ClientFault.{ClientFault}
+use Rattle.client_core.specs.declared.state.ClientFault.TheVariants.{Memory}
+use Rattle.client_core.specs.declared.state.CallFault.{CallFault}
+use Rattle.client_core.specs.declared.state.Call.{Call}
+use Rattle.client_core.specs.declared.state.Call.TheVariants as call
+use Rattle.client_core.specs.declared.state.Event.{Event}
+use Rattle.client_core.specs.declared.state.Reaction.{Reaction}
+use Rattle.client_core.specs.declared.state.Reaction.TheVariants.{Asks, Tells, Fails}
+use Rattle.client_core.specs.Calls.{Want, Accepts, refusal, called, call_frame}
+use Rattle.client_core.specs.Replies.{takes}
+use Rattle.client_core.specs.Feeding.{takes_all, events_of, fault_of}
+use Rattle.frame_codec.specs.Frames.{IsFrame, spelling}
+use Rattle.pir_world.specs.declared.steps.Outcome.{Outcome}
+use Rattle.pir_world.specs.declared.steps.Outcome.TheVariants.{Told, CallRefused}
+use Rattle.pir_world.specs.Runs.{State, Link, Turn, turns, turn_more, sent, with_history, Entry, Plain, arrived, told_by, reacts, tells, link_told, link_served, link_called, turn_of, outcomes_of, outcome_of, called_at, served_at, told_at}
+use Rattle.pir_world.specs.Headlines.{QuietRetrievalGivesItsRecord, seed_of}
+use Rattle.pir_world.specs.Invariants.{Inv, LinkInv}
+use Rattle.pir_world.specs.Sides.{Side, Carries, EndIs, TakesDelivery, ServesDelivery, MakesCall, Matched, IsParts, front}
+use Rattle.pir_world.proofs.Later.{get_same, get_other}
+use Rattle.pir_world.proofs.Wires.{IsFew, split_few}
+use Rattle.pir_world.proofs.Bytes.{carries_more}
+use Rattle.pir_world.proofs.Calls.{few_frames}
+use Rattle.pir_world.proofs.Deliveries.{told_end, EndTold, served_end, few_of_split}
+
+-- a client's end has its session and its link
+pub record Met (core : Core) (k : ℕ) (e : Side) (s : State) : Type 0 where
+  pub session : Session
+  pub link : Link
+  pub session_is : session_of core.sessions k ≡ Some session
+  pub link_is : slice_get s.links k ≡ Some link
+  pub end_is : EndIs e session link
+
+met_at : (e : Side) (o : Option Session) (l : Option Link) → Matched (Some e) o l → (y : Session) × (m : Link) × (o ≡ Some y) × (l ≡ Some m) × EndIs e y m
+met_at e None l p = absurd p
+met_at e (Some y) None p = absurd p
+met_at e (Some y) (Some m) p = (y, m, refl, refl, p)
+
+pub met : (x : Setting) (core : Core) (ends : List Side) (os : List Outcome) (s : State) (k : ℕ) (e : Side) → IsParts x core ends os s → slice_get ends k ≡ Some e → Met core k e s
+met x core ends os s k e p at =
+    let P : Option Side → Type 0 = λ o. Matched o (session_of core.sessions k) (slice_get s.links k) in
+    let q = met_at e (session_of core.sessions k) (slice_get s.links k) (subst P at (p.ends_are k)) in
+    record { session = q.0; link = q.1; session_is = q.2; link_is = q.3; end_is = q.4 }
+
+-- one end, its session and its link are replaced
+one_replaced : (x : Setting) (core core2 : Core) (ends : List Side) (os : List Outcome) (s : State) (k : ℕ) (e e2 : Side) (l l2 : Link) (y2 : Session) → IsParts x core ends os s → slice_get ends k ≡ Some e → slice_get s.links k ≡ Some l
+    → session_of core2.sessions k ≡ Some y2 → ((other : ℕ) → other ≢ k → session_of core2.sessions other ≡ session_of core.sessions other) → EndIs e2 y2 l2
+    → (j : ℕ) → Matched (slice_get (slice_set ends k e2) j) (session_of core2.sessions j) (slice_get (slice_set s.links k l2) j)
+one_replaced x core core2 ends os s k e e2 l l2 y2 p at lat yat others i j = elim (cases_eq j k) [
+  | inl same ↦ subst (λ (n : ℕ). Matched (slice_get (slice_set ends k e2) n) (session_of core2.sessions n) (slice_get (slice_set s.links k l2) n)) (sym same) (rw (get_same ends k e2 e at, yat, get_same s.links k l2 l lat) i)
+  | inr other ↦ rw (get_other ends k j e2 other, others j other, get_other s.links k j l2 other) (p.ends_are j)
+]
+
+-- ---- what is written down tells the outcomes
+
+tells_event : (k : ℕ) (c : Call) (reply : Frame) (e : Event) → outcome_of (tells k c reply e) ≡ Told k e ∷ []
+tells_event k call.Idle reply e = refl
+tells_event k (call.Hello key) reply e = refl
+tells_event k (call.Sync scheme version part) reply e = refl
+tells_event k (call.Ask i v n) reply e = refl
+tells_event k (call.Edit i bytes) reply e = refl
+tells_event k call.Publish reply e = refl
+
+reacts_events : (k : ℕ) (c : Call) (reply : Frame) (r : Reaction) → fault_of r ≡ None → outcomes_of (reacts k c reply r) ≡ map (Told k) (events_of r)
+reacts_events k c reply (Asks version part) e = refl
+reacts_events k c reply (Tells event) e = append-nil _ ∙ tells_event k c reply event
+reacts_events k c reply (Fails fault) e = absurd cc
+
+one_told : (k : ℕ) (c : ClientState) (r : Frame) → fault_of (takes c r).reaction ≡ None → outcomes_of (told_by k c (r ∷ [])) ≡ map (Told k) (takes_all c (r ∷ [])).events
+one_told k c r e =
+    ap (λ (b : Bool). outcomes_of (reacts k c.call r (takes c r).reaction ++ cond b [] [])) (ap is_some e)
+    ∙ ap (λ (es : List Entry). outcomes_of es) (append-nil (reacts k c.call r (takes c r).reaction))
+    ∙ reacts_events k c.call r (takes c r).reaction e
+
+few_told : (k : ℕ) (c : ClientState) (fs : List Frame) → IsFew fs → (takes_all c fs).fault ≡ None → outcomes_of (told_by k c fs) ≡ map (Told k) (takes_all c fs).events
+few_told k c fs (inl e) good = rw e refl
+few_told k c fs (inr p) good =
+    let g : (takes_all c (p.0 ∷ [])).fault ≡ None = subst (λ (f : List Frame). (takes_all c f).fault ≡ None) p.1 good in
+    subst (λ (f : List Frame). outcomes_of (told_by k c f) ≡ map (Told k) (takes_all c f).events) (sym p.1) (one_told k c p.0 g)
+
+outcomes_more : (log es : List Entry) (os more : List Outcome) → os ≡ outcomes_of log → outcomes_of es ≡ more → os ++ more ≡ outcomes_of (log ++ es)
+outcomes_more log es os more a b = rw (a, ← b) (sym (flat_map-append outcome_of log es))
+
+-- what the server does tells no outcome
+serves_silent : (x : Setting) (short : Bool) (k : ℕ) (t : Turn) (fs : List Frame) → outcomes_of t.log ≡ [] → outcomes_of (turns x short k t fs).log ≡ []
+serves_silent x short k t [] e = e
+serves_silent x short k t (f ∷ fs) e = serves_silent x short k (turn_more x short k t f) fs (one (is_closed t.standing) refl)
+  where
+    one : (b : Bool) → is_closed t.standing ≡ b → outcomes_of (turn_more x short k t f).log ≡ []
+    one true c = rw c e
+    one false c = rw c (flat_map-append outcome_of t.log _ ∙ rw e refl)
+
+-- ---- the three kinds of step at a client
+
+module _ (x : Setting) (core : Core) (ends : List Side) (os : List Outcome) (s : State) (k : ℕ) (e e2 : Side) (p : IsParts x core ends os s) (at : slice_get ends k ≡ Some e) where
+  pub parts_told : QuietRetrievalGivesItsRecord → (seeds : List (List ℕ)) (most : ℕ) (out : List ℕ) (events : List Event) (fault : Option ClientFault) → Inv x seeds s → TakesDelivery most e out events fault e2
+      → (fault ≡ Some Memory) ⊎ ((fault ≡ None) × IsParts x core (slice_set ends k e2) (os ++ map (Told k) events) (told_at s k most (slice_get s.links k)))
+  parts_told law seeds most out events fault inv d =
+      let m = met x core ends os s k e p at in
+      let i = inv.links k m.link m.link_is in
+      elim (told_end law x seeds k s.history m.link inv.setting inv.history i e e2 m.session most m.end_is out events fault d) [
+        | inl none ↦ inl none
+        | inr t ↦ inr (t.0, go m i t.1)
+      ]
+    where
+      go : (m : Met core k e s) → LinkInv x s.history (seed_of seeds k) m.link → EndTold e2 m.session m.link most events → IsParts x core (slice_set ends k e2) (os ++ map (Told k) events) (told_at s k most (slice_get s.links k))
+      go m i t =
+          let few = (few_frames x s.history m.link.standing (seed_of seeds k) m.link.client m.link.client.call m.link.up.frames m.link.down.frames i.phase).1 in
+          let arrives = few_of_split m.link.down.frames (arrived m.link.down most) _ few (split_few m.link.down most few) in
+          let events_told : outcomes_of (told_by k m.link.client (arrived m.link.down most)) ≡ map (Told k) events = few_told k m.link.client (arrived m.link.down most) arrives t.good ∙ ap (λ (es : List Event). map (Told k) es) (sym t.events_are) in
+          rw m.link_is (record {
+            setting_is = p.setting_is;
+            store_is = p.store_is;
+            ends_are = one_replaced x core core ends os s k e e2 m.link (link_told most m.link) m.session p at m.link_is m.session_is (λ j ne. refl) t.end_is;
+            outcomes_are = outcomes_more s.log (told_by k m.link.client (arrived m.link.down most)) os (map (Told k) events) p.outcomes_are events_told;
+          })
+
+  pub parts_served : (core2 : Core) (seeds : List (List ℕ)) (most : ℕ) → Inv x seeds s
+      → ((other : ℕ) → other ≢ k → session_of core2.sessions other ≡ session_of core.sessions other)
+      → ((h : History) (session : Session) → StandsFor core.store h → session_of core.sessions k ≡ Some session →
+      (then_ : Session) × (session_of core2.sessions k ≡ Some then_) × ServesDelivery most h core.store e session core2.store e2 then_)
+      → (short : Bool) × IsParts x core2 (slice_set ends k e2) os (served_at x short s k most (slice_get s.links k))
+  parts_served core2 seeds most inv others f =
+      let m = met x core ends os s k e p at in
+      let r = f s.history m.session p.store_is m.session_is in
+      let fed = subst (λ (y : Setting). Fed y s.history m.session (front most e.up) (Ok tt) core2.store r.0 [] r.2.replies) p.setting_is r.2.fed in
+      let t = served_end x seeds k s.history m.link (inv.links k m.link m.link_is) e e2 m.session r.0 core2.store most r.2.replies m.end_is fed r.2.client r.2.up r.2.down in
+      let silent_ : outcomes_of (turn_of x t.short k most s.history m.link).log ≡ [] = serves_silent x t.short k _ (arrived m.link.up most) refl in (
+        t.short,
+        rw m.link_is (record {
+          setting_is = t.setting_is;
+          store_is = t.store_is;
+          ends_are = one_replaced x core core2 ends os s k e e2 m.link (link_served x t.short k most s.history m.link) r.0 p at m.link_is r.1 others t.end_is;
+          outcomes_are = sym (append-nil os) ∙ outcomes_more s.log (turn_of x t.short k most s.history m.link).log os [] p.outcomes_are silent_;
+        }),
+      )
+
+  -- what a call that is refused tells
+  abbrev pub refused : Option CallFault → List Outcome
+  refused None = []
+  refused (Some fault) = CallRefused k fault ∷ []
+
+  accepted_end : (w : Want) (session : Session) (l : Link) → EndIs e session l → (bytes : List ℕ) → Accepts e.client.state w e2.client.state bytes → e2.client.reader ≡ e.client.reader → e2.up ≡ e.up ++ bytes → e2.down ≡ e.down
+      → (refusal w l.client ≡ None) × EndIs e2 session (link_called w l)
+  accepted_end w session l i bytes a reader up down =
+      let c : ClientState = called w l.client in
+      let state : e2.client.state ≡ c = a.state ∙ ap (λ (y : ClientState). called w y) i.client_is in
+      let fits : IsFrame (call_frame c c.call) = subst (λ (y : ClientState). IsFrame (call_frame y y.call)) state a.fits in
+      let written : e2.up ≡ e.up ++ flat_map spelling (call_frame c c.call ∷ []) =
+      up ∙ ap (λ (b : List ℕ). e.up ++ b) (a.written ∙ ap (λ (y : ClientState). spelling (call_frame y y.call)) state ∙ sym (append-nil (spelling (call_frame c c.call)))) in (
+        ap (λ (y : ClientState). refusal w y) (sym i.client_is) ∙ a.may,
+        record {
+          client_is = state;
+          standing_is = i.standing_is;
+          up = subst (λ (b : List ℕ). Carries session.unfinished b (sent l.up (call_frame c c.call ∷ []))) (sym written) (carries_more session.unfinished e.up l.up (call_frame c c.call ∷ []) (fits, tt) i.up);
+          down = subst (λ (b : List ℕ). Carries e2.client.reader b l.down) (sym down) (subst (λ (r : Option (List ℕ)). Carries r e.down l.down) (sym reader) i.down);
+        },
+      )
+
+  pub parts_called : (w : Want) (o : Option CallFault) → MakesCall w e o e2 → IsParts x core (slice_set ends k e2) (os ++ refused o) (called_at s w k (slice_get s.links k))
+  parts_called w None c =
+      let m = met x core ends os s k e p at in
+      let t = accepted_end w m.session m.link m.end_is c.0 c.1 c.2 c.3 c.4 in
+      rw (m.link_is, t.0) (record {
+        setting_is = p.setting_is;
+        store_is = p.store_is;
+        ends_are = one_replaced x core core ends os s k e e2 m.link (link_called w m.link) m.session p at m.link_is m.session_is (λ j ne. refl) t.1;
+        outcomes_are = outcomes_more s.log [] os [] p.outcomes_are refl;
+      })
+  parts_called w (Some fault) c =
+      let m = met x core ends os s k e p at in
+      let why : refusal w m.link.client ≡ Some fault = ap (λ (y : ClientState). refusal w y) (sym m.end_is.client_is) ∙ c.0 in
+      let same : EndIs e2 m.session m.link = subst (λ (y : Side). EndIs y m.session m.link) (sym c.1) m.end_is in
+      rw (m.link_is, why) (record {
+        setting_is = p.setting_is;
+        store_is = p.store_is;
+        ends_are = one_replaced x core core ends os s k e e2 m.link m.link m.session p at m.link_is m.session_is (λ j ne. refl) same;
+        outcomes_are = outcomes_more s.log (Plain (CallRefused k fault) ∷ []) os (CallRefused k fault ∷ []) p.outcomes_are refl;
+      })
+
+-- ---- the publisher's steps
+
+pub parts_plain : (x : Setting) (core core2 : Core) (ends : List Side) (os : List Outcome) (s : State) (h : History) (o : Outcome) → IsParts x core ends os s → setting_of core2.store ≡ x → StandsFor core2.store h → core2.sessions ≡ core.sessions
+    → IsParts x core2 ends (os ++ o ∷ []) (with_history s h o)
+parts_plain x core core2 ends os s h o p setting stands same = record {
+  setting_is = setting;
+  store_is = stands;
+  ends_are = λ j. subst (λ (ss : List (ℕ × Session)). Matched (slice_get ends j) (session_of ss j) (slice_get s.links j)) (sym same) (p.ends_are j);
+  outcomes_are = outcomes_more s.log (Plain o ∷ []) os (o ∷ []) p.outcomes_are refl;
+}

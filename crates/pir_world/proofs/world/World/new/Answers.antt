@@ -1,0 +1,37 @@
+use Rattle.std.proofs.Common.{◌≡◌, ◌<◌, ◌^◌, All, ℕ, List, length, map, Some, refl, sym, ap, subst, ◌∙◌}
+use Rattle.std.proofs.lemmas.List.{length-map}
+use Rattle.digit_pack.specs.Layout.{records_in}
+use Rattle.snapshot_file.specs.Snapshots.{header_of, shape_of}
+use Rattle.version_store.specs.Histories.{Held, StandsFor, opened}
+use Rattle.server_core.specs.Cores.{session_of}
+use Rattle.server_core.specs.Sessions.{new_session}
+use Rattle.pir_world.specs.Runs.{opening}
+use Rattle.pir_world.specs.Sides.{fresh_side}
+use Rattle.pir_world.proofs.Opening.{opening_parts, opening_run}
+use Rattle.pir_world.proofs.world.World.new.Goals as goal
+
+pub invariant_of-result : goal.invariant_of-result
+invariant_of-result g c alive =
+    let h = header_of c.args.snapshot in
+    let bytes = c.args.snapshot.records.items in
+    let seeds = c.args.seeds.items in
+    let same = c.open_ends.ensures.store ∙ c.new-server.ensures.store in
+    let stands = subst (λ (s : Held). StandsFor s (opened c.args.snapshot.version (records_in (shape_of h) bytes))) (sym same) c.in-Ok.ensures.history in
+    let all = subst (λ (b : List ℕ). All (λ (x : ℕ). x < 2 ^ 8) b) c.as_slice.ensures.value c.copy_of-copied.ensures.bytes in
+    let ends = c.in-Ok-open_ends.ensures.ends ∙ ap (λ (s : List (List ℕ)). map fresh_side s) c.as_slice-2.ensures.value in
+    let at = subst (λ (s : List (List ℕ)). (id : ℕ) → id < length s → session_of c.open_ends.new.server.sessions id ≡ Some new_session) c.as_slice-2.ensures.value c.in-Ok-open_ends.ensures.opened in (
+      opening h bytes seeds,
+      opening_run h bytes seeds _ (record { sound = c.in-Ok.ensures.sound; bytes = all }) c.header-header.ensures (c.in-Ok-copied.ensures.items ∙ c.as_slice.ensures.value) refl c.new.ensures.items
+          (opening_parts h bytes seeds c.open_ends.new.server c.in-Ok-open_ends.ends.items c.new-2.result.items (same ∙ c.in-Ok.ensures.held) stands ends at c.new-2.ensures.items),
+    )
+
+pub returns-clause-opened : goal.returns-clause-opened
+returns-clause-opened g c = record {
+  header = c.header-header.ensures;
+  records_are = c.in-Ok-copied.ensures.items ∙ c.as_slice.ensures.value;
+  seeds_are = refl;
+  clients = ap length (c.in-Ok-open_ends.ensures.ends ∙ ap (λ (s : List (List ℕ)). map fresh_side s) c.as_slice-2.ensures.value) ∙ length-map c.args.seeds.items fresh_side;
+  steps = c.new.ensures.items;
+  outcomes = c.new-2.ensures.items;
+  unbroken = refl;
+}

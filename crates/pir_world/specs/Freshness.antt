@@ -1,0 +1,44 @@
+-- How old an answer may be.
+use Rattle.std.specs.Prelude.{◌≡◌, ◌≤◌, ℕ, List, Bool, Some, slice_get}
+use Rattle.std.specs.List.{AllByRecursion}
+use Rattle.snapshot_file.specs.declared.snapshot.Header.{Header}
+use Rattle.version_store.specs.Histories.{History, number}
+use Rattle.client_core.specs.declared.state.Event.{Event}
+use Rattle.client_core.specs.declared.state.Event.TheVariants.{Welcomed, Synced, Retrieved, Unreadable, Stale, Done, Refused}
+use Rattle.pir_world.specs.declared.steps.Step.{Step}
+use Rattle.pir_world.specs.declared.steps.Outcome.TheVariants.{Edited, EditRefused, Published, PublishRefused, Told, CallRefused, Failed}
+use Rattle.pir_world.specs.Runs.{State, Link, Entry, Served, Ended, Plain, Run, opening, setting_in, turn_of}
+use Rattle.pir_world.specs.Headlines.{IsOpening}
+
+-- an event names no version above this one
+abbrev pub NamesUpTo : ℕ → Event → Type 0
+NamesUpTo n (Welcomed v) = v ≤ n
+NamesUpTo n (Synced scheme v) = v ≤ n
+NamesUpTo n (Retrieved i v bytes) = v ≤ n
+NamesUpTo n (Unreadable i v) = v ≤ n
+NamesUpTo n (Stale v) = v ≤ n
+NamesUpTo n (Done v) = v ≤ n
+NamesUpTo n (Refused code) = Unit {0}
+
+-- nor does any outcome, nor what ended a retrieval
+abbrev pub ToldUpTo : ℕ → Entry → Type 0
+ToldUpTo n (Served k f now reply) = Unit {0}
+ToldUpTo n (Ended k r reply event) = NamesUpTo n event
+ToldUpTo n (Plain (Told k event)) = NamesUpTo n event
+ToldUpTo n (Plain (Published v)) = v ≤ n
+ToldUpTo n (Plain (Edited i)) = Unit {0}
+ToldUpTo n (Plain (EditRefused i fault)) = Unit {0}
+ToldUpTo n (Plain (PublishRefused fault)) = Unit {0}
+ToldUpTo n (Plain (CallRefused k fault)) = Unit {0}
+ToldUpTo n (Plain (Failed k fault)) = Unit {0}
+
+-- a frame is served while the version that is current then is `now`, and nobody was told of a later one before
+abbrev pub IsFresh : History → List Entry → Entry → Type 0
+IsFresh h before (Served k f now reply) = (now ≡ number h) × AllByRecursion (ToldUpTo now) before
+IsFresh h before (Ended k r reply event) = Unit {0}
+IsFresh h before (Plain o) = Unit {0}
+
+-- So it is at every delivery to the server in every run. An answer is of the version that is current when its query is served, so it is never older than a version that anybody had been told of before.
+abbrev pub AnswersAreFresh : Type 0
+AnswersAreFresh = (h : Header) (records : List ℕ) (seeds : List (List ℕ)) (steps : List Step) (s : State) → IsOpening h records → Run (setting_in h) (opening h records seeds) steps s →
+    (short : Bool) (k most : ℕ) (l : Link) → slice_get s.links k ≡ Some l → AllByRecursion (IsFresh s.history s.log) (turn_of (setting_in h) short k most s.history l).log

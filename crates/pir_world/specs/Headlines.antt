@@ -1,0 +1,134 @@
+-- What is right of a run.
+use Rattle.std.specs.Prelude.{◌≡◌, ◌≢◌, ◌≤◌, ◌<◌, ◌⊎◌, ℕ, List, [], length, All, ◌^◌, Option, Some, None, slice_get, slice_index_or}
+use Rattle.std.specs.List.{AllByRecursion}
+use Rattle.digit_pack.specs.Layout.{IsLayout, IsRecord, digit_cols, digit_matrix, record_at}
+use Rattle.simple_scheme.specs.Simple.{hint_of, query_of, reading, IsQuietRetrieval}
+use Rattle.frame_codec.specs.declared.frame.Frame.{Frame}
+use Rattle.frame_codec.specs.declared.frame.Frame.TheVariants as frame
+use Rattle.snapshot_file.specs.declared.snapshot.Header.{Header}
+use Rattle.version_store.specs.Editions.{public_matrix}
+use Rattle.version_store.specs.Openings.{IsSound}
+use Rattle.version_store.specs.Histories.{History, number, records_of}
+use Rattle.matrix_u32.specs.Matrix.{WordMatrix}
+use Rattle.server_core.specs.Serving.{Setting, answer_words}
+use Rattle.client_core.specs.declared.state.Hint.{Hint}
+use Rattle.client_core.specs.declared.state.Event.{Event}
+use Rattle.client_core.specs.declared.state.Event.TheVariants.{Welcomed, Synced, Retrieved, Unreadable, Stale, Done, Refused}
+use Rattle.client_core.specs.Replies.{record_event}
+use Rattle.pir_world.specs.declared.steps.Step.{Step}
+use Rattle.pir_world.specs.declared.steps.Outcome.{Outcome}
+use Rattle.pir_world.specs.declared.steps.Outcome.TheVariants.{Edited, EditRefused, Published, PublishRefused, Told, CallRefused, Failed}
+use Rattle.pir_world.specs.Runs.{State, Link, Retrieval, Entry, Served, Ended, Plain, Run, opening, setting_in}
+
+-- these are the records of a version
+abbrev pub HasVersion : History → ℕ → List (List ℕ) → Type 0
+HasVersion h v records = (v ≤ number h) × (records_of h v ≡ Some records)
+
+-- a version that there is
+abbrev pub IsVersion : History → ℕ → Type 0
+IsVersion h v = (records : List (List ℕ)) × HasVersion h v records
+
+-- the words of a retrieval's query, for the client's seed
+abbrev pub asked_words : Setting → List ℕ → Retrieval → List ℕ
+asked_words x seed r = query_of x.shape (public_matrix x.shape x.dimension x.seed) seed r.number r.index
+
+-- the hint of some records, made from scratch
+abbrev pub hint_matrix : Setting → List (List ℕ) → WordMatrix
+hint_matrix x records = hint_of (digit_matrix x.shape records) (public_matrix x.shape x.dimension x.seed)
+
+-- the digits that a retrieval's answer on some records gives under their hint
+abbrev pub digits_read : Setting → List (List ℕ) → List ℕ → Retrieval → List ℕ
+digits_read x records seed r = reading x.shape (hint_matrix x records) seed r.number r.index (answer_words x records (asked_words x seed r))
+
+-- the noise sums of a retrieval on some records stay below half of delta
+abbrev pub IsQuietOn : Setting → List (List ℕ) → List ℕ → Retrieval → Type 0
+IsQuietOn x records seed r = IsQuietRetrieval x.shape records seed r.number (digit_cols x.shape) r.index
+
+-- An answered retrieval: the answer is that of the version named, and the event is what it says. Where the retrieval is quiet, that is the record's bytes in this version.
+pub record IsAnswered (x : Setting) (h : History) (seed : List ℕ) (r : Retrieval) (reply : Frame) (event : Event) : Type 0 where
+  pub records : List (List ℕ)
+  pub version_is : HasVersion h r.version records
+  pub inside : r.index < length records
+  pub answer_is : reply ≡ frame.Answer 0 r.version (answer_words x records (asked_words x seed r))
+  pub event_is : event ≡ record_event x.shape r.index r.version (digits_read x records seed r)
+  pub quiet : IsQuietOn x records seed r → event ≡ Retrieved r.index r.version (record_at records r.index)
+
+-- A stale retrieval: a later version than the one named was current, and the client was told which.
+pub record IsStale (x : Setting) (h : History) (r : Retrieval) (reply : Frame) (event : Event) : Type 0 where
+  pub now : ℕ
+  pub version_is : IsVersion h now
+  pub later : r.version < now
+  pub reply_is : reply ≡ frame.Stale now x.shape.count
+  pub event_is : event ≡ Stale now
+
+-- a record of its bytes that stands in the records is what a quiet retrieval's answer gives
+abbrev pub QuietRetrievalGivesItsRecord : Type 0
+QuietRetrievalGivesItsRecord = (x : Setting) (records : List (List ℕ)) (seed : List ℕ) (r : Retrieval) →
+    IsLayout x.shape → r.index < x.shape.count → IsRecord x.shape (record_at records r.index) → IsQuietOn x records seed r →
+    record_event x.shape r.index r.version (digits_read x records seed r) ≡ Retrieved r.index r.version (record_at records r.index)
+
+-- how a retrieval ends: with its answer, as stale, or refused because the server had no memory
+abbrev pub IsRightEnd : Setting → History → List ℕ → Retrieval → Frame → Event → Type 0
+IsRightEnd x h seed r reply event =
+    IsAnswered x h seed r reply event ⊎ IsStale x h r reply event ⊎ ((reply ≡ frame.Refused 12) × (event ≡ Refused 12))
+
+-- A query was served while `now` was current: it is refused as stale, with the current version, exactly where it names another. Else it is answered on that version's records, or refused for want of memory.
+pub record IsRightReply (x : Setting) (h : History) (version now : ℕ) (words : List ℕ) (reply : Option Frame) : Type 0 where
+  pub records : List (List ℕ)
+  pub version_is : HasVersion h now records
+  pub stale : version ≢ now → reply ≡ Some (frame.Stale now x.shape.count)
+  pub answered : version ≡ now → (reply ≡ Some (frame.Answer 0 now (answer_words x records words))) ⊎ (reply ≡ Some (frame.Refused 12))
+
+-- how a frame was served, where it is a query
+abbrev pub IsServed : Setting → History → ℕ → Frame → Option Frame → Type 0
+IsServed x h now (frame.Query scheme version words) reply = IsRightReply x h version now words reply
+IsServed x h now f reply = Unit {0}
+
+-- an event of another call names a version that there is, and no retrieval ends so
+abbrev pub IsRightEvent : History → Event → Type 0
+IsRightEvent h (Welcomed v) = IsVersion h v
+IsRightEvent h (Synced scheme v) = IsVersion h v
+IsRightEvent h (Stale v) = IsVersion h v
+IsRightEvent h (Refused code) = Unit {0}
+IsRightEvent h (Retrieved i v bytes) = ⊥
+IsRightEvent h (Unreadable i v) = ⊥
+IsRightEvent h (Done v) = ⊥
+
+-- no client fails
+abbrev pub IsRightOutcome : History → Outcome → Type 0
+IsRightOutcome h (Told k e) = IsRightEvent h e
+IsRightOutcome h (Failed k fault) = ⊥
+IsRightOutcome h (Published v) = IsVersion h v
+IsRightOutcome h (Edited i) = Unit {0}
+IsRightOutcome h (EditRefused i fault) = Unit {0}
+IsRightOutcome h (PublishRefused fault) = Unit {0}
+IsRightOutcome h (CallRefused k fault) = Unit {0}
+
+-- the seed of client k
+abbrev pub seed_of : List (List ℕ) → ℕ → List ℕ
+seed_of seeds k = slice_index_or seeds k []
+
+abbrev pub IsRight : Setting → List (List ℕ) → History → Entry → Type 0
+IsRight x seeds h (Served k f now reply) = IsServed x h now f reply
+IsRight x seeds h (Ended k r reply event) = IsRightEnd x h (seed_of seeds k) r reply event
+IsRight x seeds h (Plain o) = IsRightOutcome h o
+
+-- the hint that a client holds is that of a version, made from scratch
+abbrev pub HintIs : Setting → History → Option Hint → Type 0
+HintIs x h None = Unit {0}
+HintIs x h (Some hint) = (records : List (List ℕ)) × HasVersion h hint.version records × (hint.matrix ≡ hint_matrix x records)
+
+-- In a run from an opening: all that was written down is right, and so is every hint.
+pub record Headline (x : Setting) (seeds : List (List ℕ)) (s : State) : Type 0 where
+  pub entries : AllByRecursion (IsRight x seeds s.history) s.log
+  pub hints : (k : ℕ) (l : Link) → slice_get s.links k ≡ Some l → HintIs x s.history l.client.hint
+
+-- a snapshot that a store accepts, with bytes for its records
+pub record IsOpening (h : Header) (records : List ℕ) : Type 0 where
+  pub sound : IsSound h records
+  pub bytes : All (λ b. b < 2 ^ 8) records
+
+-- so it is in every run from every snapshot that a store accepts, for all seeds
+abbrev pub EveryRunIsRight : Type 0
+EveryRunIsRight = (h : Header) (records : List ℕ) (seeds : List (List ℕ)) (steps : List Step) (last : State) →
+    IsOpening h records → Run (setting_in h) (opening h records seeds) steps last → Headline (setting_in h) seeds last

@@ -1,0 +1,12 @@
+-- What a world keeps.
+use Rattle.std.specs.Prelude.{◌≡◌, false}
+use Rattle.pir_world.specs.declared.world.World.TheInside.{Inside}
+use Rattle.pir_world.specs.Runs.{State}
+use Rattle.pir_world.specs.Worlds.{Kept, IsRunOf}
+
+abbrev pub shown : {K : Type 0} → Inside K → Kept
+shown w = record { header = w.header; records = w.records.items; seeds = w.seeds.items; core = w.server; ends = w.ends.items; steps = w.steps.items; outcomes = w.outcomes.items; broken = w.broken }
+
+-- until memory was refused, it is what a run of its steps leaves
+abbrev pub IsKept : {K : Type 0} → Inside K → Type 0
+IsKept w = w.broken ≡ false → (s : State) × IsRunOf (shown w) s

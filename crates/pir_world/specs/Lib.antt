@@ -1,0 +1,7 @@
+pub mod Runs
+pub mod Headlines
+pub mod Invariants
+pub mod Sides
+pub mod Worlds
+pub mod Inside
+pub mod Freshness

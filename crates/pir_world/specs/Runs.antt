@@ -1,0 +1,258 @@
+-- Runs of a publisher, a server and clients over links that carry frames byte by byte.
+use Rattle.std.specs.Prelude.{◌≡◌, ◌<◌, ◌+◌, ◌-◌, ◌^◌, ◌⊎◌, ℕ, List, [], ◌∷◌, ◌++◌, length, min, map, replicate, All, Bool, true, false, Option, Some, None, slice_set, slice_get, nat_lt, nat_le, ◌==◌, cond, is_some, if◌then◌else◌, option_to_list}
+use Rattle.std.specs.List.{flat_map}
+use Rattle.digit_pack.specs.Layout.{records_in}
+use Rattle.frame_codec.specs.declared.frame.Frame.{Frame}
+use Rattle.frame_codec.specs.Frames.{spelling}
+use Rattle.snapshot_file.specs.declared.snapshot.Header.{Header}
+use Rattle.snapshot_file.specs.Snapshots.{shape_of}
+use Rattle.version_store.specs.declared.store.EditError.TheVariants as edit_error
+use Rattle.version_store.specs.declared.store.PublishError.TheVariants as publish_error
+use Rattle.version_store.specs.Histories.{History, opened, number, edited, published}
+use Rattle.server_core.specs.declared.standing.Standing.{Standing}
+use Rattle.server_core.specs.declared.standing.Standing.TheVariants.{Stranger}
+use Rattle.server_core.specs.Serving.{Setting, served, takes_memory, refuses, is_closed}
+use Rattle.server_core.specs.Serving.{Outcome as Reply}
+use Rattle.client_core.specs.declared.state.ClientState.{ClientState}
+use Rattle.client_core.specs.declared.state.Call.{Call}
+use Rattle.client_core.specs.declared.state.Call.TheVariants as call
+use Rattle.client_core.specs.declared.state.CallFault.{CallFault}
+use Rattle.client_core.specs.declared.state.Event.{Event}
+use Rattle.client_core.specs.declared.state.Reaction.{Reaction}
+use Rattle.client_core.specs.declared.state.Reaction.TheVariants.{Asks, Tells, Fails}
+use Rattle.client_core.specs.States.{fresh}
+use Rattle.client_core.specs.Calls.{Want, refusal, called, call_frame}
+use Rattle.client_core.specs.Calls.{Hello as want_hello, Sync as want_sync, Ask as want_ask}
+use Rattle.client_core.specs.Replies.{takes}
+use Rattle.client_core.specs.Feeding.{takes_all, fault_of}
+use Rattle.pir_world.specs.declared.steps.Step.{Step}
+use Rattle.pir_world.specs.declared.steps.Step.TheVariants.{Edit, Publish, Hello, Sync, Ask, ToServer, ToClient}
+use Rattle.pir_world.specs.declared.steps.Outcome.{Outcome}
+use Rattle.pir_world.specs.declared.steps.Outcome.TheVariants.{Edited, EditRefused, Published, PublishRefused, Told, CallRefused, Failed}
+
+-- ---- one direction of a link
+
+-- the frames that were sent and have not wholly arrived, in order, and how many bytes of the first have
+pub record Wire : Type 0 where
+  pub frames : List Frame
+  pub got : ℕ
+
+abbrev pub silent : Wire
+silent = record { frames = []; got = 0 }
+
+abbrev pub sent : Wire → List Frame → Wire
+sent w fs = record { frames = w.frames ++ fs; got = w.got }
+
+-- the frames that are whole within the first n bytes, and what is behind them
+abbrev pub whole : List Frame → ℕ → List Frame
+whole [] n = []
+whole (f ∷ fs) n = if nat_le (length (spelling f)) n then f ∷ whole fs (n - length (spelling f)) else []
+
+abbrev pub unread : List Frame → ℕ → Wire
+unread [] n = silent
+unread (f ∷ fs) n = if nat_le (length (spelling f)) n then unread fs (n - length (spelling f)) else record { frames = f ∷ fs; got = n }
+
+-- how far a delivery of at most some bytes comes
+abbrev pub reach : Wire → ℕ → ℕ
+reach w most = w.got + min most (length (flat_map spelling w.frames) - w.got)
+
+-- the frames whose last byte it hands over, and what stays on its way
+abbrev pub arrived : Wire → ℕ → List Frame
+arrived w most = whole w.frames (reach w most)
+
+abbrev pub behind : Wire → ℕ → Wire
+behind w most = unread w.frames (reach w most)
+
+-- ---- what is written down of a run
+
+-- an accepted call that asks for a record: its index, the version that the client's hint names, the number spent
+pub record Retrieval : Type 0 where
+  pub index : ℕ
+  pub version : ℕ
+  pub number : ℕ
+
+-- A frame was served while `now` was the current version; a reply ended a retrieval with an event; any other outcome.
+pub data Entry : Type 0 where
+  Served : (client : ℕ) (frame : Frame) (now : ℕ) (reply : Option Frame) → Entry
+  Ended : (client : ℕ) (retrieval : Retrieval) (reply : Frame) (event : Event) → Entry
+  Plain : (outcome : Outcome) → Entry
+
+-- what the publisher and the clients are told of it
+abbrev pub outcome_of : Entry → List Outcome
+outcome_of (Served k frame now reply) = []
+outcome_of (Ended k r reply event) = Told k event ∷ []
+outcome_of (Plain o) = o ∷ []
+
+abbrev pub outcomes_of : List Entry → List Outcome
+outcomes_of log = flat_map outcome_of log
+
+-- ---- the server's side of a link
+
+-- what a frame leads to; short says that the server finds no memory where the checks end with memory
+abbrev pub served_or : Bool → Setting → History → Standing → Frame → Reply
+served_or false x h st f = served x h st f
+served_or true x h st f = if takes_memory x h st f then refuses 12 st h else served x h st f
+
+pub record Turn : Type 0 where
+  pub history : History
+  pub standing : Standing
+  pub replies : List Frame
+  pub log : List Entry
+
+-- a frame is served; behind a closing one none is
+abbrev pub turn_more : Setting → Bool → ℕ → Turn → Frame → Turn
+turn_more x short k t f =
+    if is_closed t.standing then t
+    else (
+    let o = served_or short x t.history t.standing f in
+    record { history = o.history; standing = o.standing; replies = t.replies ++ option_to_list o.reply; log = t.log ++ Served k f (number t.history) o.reply ∷ [] })
+
+abbrev pub turns : Setting → Bool → ℕ → Turn → List Frame → Turn
+turns x short k t [] = t
+turns x short k t (f ∷ fs) = turns x short k (turn_more x short k t f) fs
+
+-- frames of client k, one after another
+abbrev pub serves : Setting → Bool → ℕ → History → Standing → List Frame → Turn
+serves x short k h st fs = turns x short k (record { history = h; standing = st; replies = []; log = [] }) fs
+
+-- ---- links
+
+-- a client, its session's standing, and the frames on their way to the server (up) and to the client (down)
+pub record Link : Type 0 where
+  pub client : ClientState
+  pub standing : Standing
+  pub up : Wire
+  pub down : Wire
+
+-- a delivery to the server: it serves each frame at the delivery of its last byte
+abbrev pub turn_of : Setting → Bool → ℕ → ℕ → History → Link → Turn
+turn_of x short k most h l = serves x short k h l.standing (arrived l.up most)
+
+abbrev pub link_served : Setting → Bool → ℕ → ℕ → History → Link → Link
+link_served x short k most h l =
+    let t = turn_of x short k most h l in
+    record { client = l.client; standing = t.standing; up = behind l.up most; down = sent l.down t.replies }
+
+-- a delivery to the client
+abbrev pub link_told : ℕ → Link → Link
+link_told most l =
+    let t = takes_all l.client (arrived l.down most) in
+    record { client = t.state; standing = l.standing; up = sent l.up t.sends; down = behind l.down most }
+
+-- an event ends the outstanding call
+abbrev pub tells : ℕ → Call → Frame → Event → Entry
+tells k call.Idle reply e = Plain (Told k e)
+tells k (call.Hello key) reply e = Plain (Told k e)
+tells k (call.Sync scheme version part) reply e = Plain (Told k e)
+tells k (call.Ask i v n) reply e = Ended k (record { index = i; version = v; number = n }) reply e
+tells k (call.Edit i bytes) reply e = Plain (Told k e)
+tells k call.Publish reply e = Plain (Told k e)
+
+abbrev pub reacts : ℕ → Call → Frame → Reaction → List Entry
+reacts k c reply (Asks version part) = []
+reacts k c reply (Tells e) = tells k c reply e ∷ []
+reacts k c reply (Fails fault) = Plain (Failed k fault) ∷ []
+
+-- what client k tells of replies, one after another, up to a fault
+abbrev pub told_by : ℕ → ClientState → List Frame → List Entry
+told_by k c [] = []
+told_by k c (f ∷ fs) = reacts k c.call f (takes c f).reaction ++ cond (is_some (fault_of (takes c f).reaction)) [] (told_by k (takes c f).state fs)
+
+-- an accepted call
+abbrev pub link_called : Want → Link → Link
+link_called w l =
+    let c = called w l.client in
+    record { client = c; standing = l.standing; up = sent l.up (call_frame c c.call ∷ []); down = l.down }
+
+-- ---- runs
+
+-- all versions, the links of the clients in their order, and what was written down
+pub record State : Type 0 where
+  pub history : History
+  pub links : List Link
+  pub log : List Entry
+
+abbrev pub with_link : State → History → ℕ → Link → List Entry → State
+with_link s h k l es = record { history = h; links = slice_set s.links k l; log = s.log ++ es }
+
+abbrev pub with_history : State → History → Outcome → State
+with_history s h o = record { history = h; links = s.links; log = s.log ++ Plain o ∷ [] }
+
+abbrev pub call_at : State → ℕ → Want → Link → Option CallFault → State
+call_at s k w l (Some fault) = with_link s s.history k l (Plain (CallRefused k fault) ∷ [])
+call_at s k w l None = with_link s s.history k (link_called w l) []
+
+-- a call at client k, and the two deliveries; nothing where there is no such client
+abbrev pub called_at : State → Want → ℕ → Option Link → State
+called_at s w k None = s
+called_at s w k (Some l) = call_at s k w l (refusal w l.client)
+
+abbrev pub served_at : Setting → Bool → State → ℕ → ℕ → Option Link → State
+served_at x short s k most None = s
+served_at x short s k most (Some l) =
+    let t = turn_of x short k most s.history l in
+    with_link s t.history k (link_served x short k most s.history l) t.log
+
+abbrev pub told_at : State → ℕ → ℕ → Option Link → State
+told_at s k most None = s
+told_at s k most (Some l) = with_link s s.history k (link_told most l) (told_by k l.client (arrived l.down most))
+
+-- the key of a reader
+abbrev pub reader_key : List ℕ
+reader_key = replicate 32 0
+
+-- the publisher's edits and publications
+abbrev pub edit_after : Setting → State → ℕ → List ℕ → State
+edit_after x s i bytes =
+    if nat_lt i x.shape.count then (
+    if length bytes == x.shape.record_len then with_history s (edited i bytes s.history) (Edited i)
+    else with_history s s.history (EditRefused i edit_error.BadLength))
+    else with_history s s.history (EditRefused i edit_error.BadIndex)
+
+abbrev pub publish_after : State → State
+publish_after s =
+    if s.history.marked then (
+    if number s.history + 1 == 2 ^ 64 then with_history s s.history (PublishRefused publish_error.VersionsUsedUp)
+    else with_history s (published s.history) (Published (number s.history + 1)))
+    else with_history s s.history (PublishRefused publish_error.NothingToPublish)
+
+-- what a step leads to
+abbrev pub after : Setting → Bool → State → Step → State
+after x short s (Edit i bytes) = edit_after x s i bytes
+after x short s Publish = publish_after s
+after x short s (Hello k) = called_at s (want_hello reader_key) k (slice_get s.links k)
+after x short s (Sync k scheme) = called_at s (want_sync scheme) k (slice_get s.links k)
+after x short s (Ask k i) = called_at s (want_ask i) k (slice_get s.links k)
+after x short s (ToServer k most) = served_at x short s k most (slice_get s.links k)
+after x short s (ToClient k most) = told_at s k most (slice_get s.links k)
+
+-- an edit's bytes are bytes
+abbrev pub FitsStep : Step → Type 0
+FitsStep (Edit i bytes) = All (λ b. b < 2 ^ 8) bytes
+FitsStep Publish = Unit {0}
+FitsStep (Hello k) = Unit {0}
+FitsStep (Sync k scheme) = Unit {0}
+FitsStep (Ask k i) = Unit {0}
+FitsStep (ToServer k most) = Unit {0}
+FitsStep (ToClient k most) = Unit {0}
+
+-- one step: the server has memory for its reply, or has none
+abbrev pub Steps : Setting → State → Step → State → Type 0
+Steps x s step t = FitsStep step × ((t ≡ after x false s step) ⊎ (t ≡ after x true s step))
+
+-- these steps, one after another, lead from a state to another
+abbrev pub Run : Setting → State → List Step → State → Type 0
+Run x s [] t = t ≡ s
+Run x s (step ∷ steps) t = (mid : State) × Steps x s step mid × Run x mid steps t
+
+-- a link as it begins
+abbrev pub fresh_link : List ℕ → Link
+fresh_link seed = record { client = fresh seed 0; standing = Stranger; up = silent; down = silent }
+
+-- what a snapshot fixes for every version
+abbrev pub setting_in : Header → Setting
+setting_in h = record { shape = shape_of h; dimension = h.dimension; seed = h.seed; publisher = h.publisher }
+
+-- one version of some records, with a client for each seed
+abbrev pub opening : Header → List ℕ → List (List ℕ) → State
+opening h records seeds = record { history = opened h.version (records_in (shape_of h) records); links = map fresh_link seeds; log = [] }

@@ -1,0 +1,30 @@
+//! Laws of runs, over the definitions alone. A caller that calls one of these functions has its law at hand
+//! in its proof; the call costs nothing.
+
+ghost use Rattle.pir_world.specs.Freshness.{AnswersAreFresh};
+ghost use Rattle.pir_world.specs.Headlines.{EveryRunIsRight, QuietRetrievalGivesItsRecord};
+
+/// A quiet retrieval's answer reads as its record's bytes.
+pub fn quiet_retrieval_gives_its_record()
+    ensures { QuietRetrievalGivesItsRecord }
+{
+    simple_scheme::laws::quiet_retrieval_reads_the_record();
+    digit_pack::laws::pack_unpacks();
+}
+
+/// In every run of every list of steps, for all seeds: an answered retrieval whose noise sums stay below half
+/// of delta gives its record's bytes in the version that its hint names, a query is refused as stale exactly
+/// where it names another version than the current one, and no client fails.
+pub fn every_run_is_right()
+    ensures { EveryRunIsRight }
+{
+    quiet_retrieval_gives_its_record();
+}
+
+/// An answer is of the version that is current when its query is served, and nobody had been told of a later
+/// one before.
+pub fn answers_are_fresh()
+    ensures { AnswersAreFresh }
+{
+    quiet_retrieval_gives_its_record();
+}

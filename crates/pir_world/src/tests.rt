@@ -1,0 +1,324 @@
+//! Scripts of steps, and what comes of them.
+
+use crate::{Outcome, Step, StepFault, World};
+use client_core::{Event, Scheme};
+use frame_codec::Bytes;
+use matrix_u32::Plain;
+use std::alloc::Global;
+use std::process::Abort;
+use std::test::Fail;
+use version_store::{OpenError, Snapshot};
+
+/// A store of records of one byte.
+#[derive(Clone, Copy)]
+struct Sizes {
+    groups: u16,
+    count: u32,
+    dimension: u16,
+    version: u64,
+}
+
+/// More bytes than ever wait.
+const ALL: usize = 1_000_000;
+
+/// Two records, 0a and c8.
+const TWO: Sizes = Sizes {
+    groups: 1,
+    count: 2,
+    dimension: 1,
+    version: 1,
+};
+
+/// The store of these sizes, whose records are 0a and c8 in turn.
+fn snapshot(rt: &impl AllocGlobal, sizes: Sizes) -> Result<Snapshot, Fail> {
+    let mut records = Vec::new(rt.alloc());
+    for i in 0..sizes.count {
+        records.push(if i % 2 == 0 { 0x0a } else { 0xc8 })?;
+    }
+    Ok(Snapshot {
+        width: 8,
+        record_len: 1,
+        groups: sizes.groups,
+        count: sizes.count,
+        dimension: sizes.dimension,
+        version: sizes.version,
+        seed: [0; 32],
+        publisher: [0; 32],
+        records,
+    })
+}
+
+/// A world with two clients, whose seeds are 32 bytes 11 and 32 bytes 22.
+fn world(rt: &impl AllocGlobal, sizes: Sizes) -> Result<World<Plain>, Fail> {
+    let mut seeds = Vec::new(rt.alloc());
+    seeds.push([0x11; 32])?;
+    seeds.push([0x22; 32])?;
+    Ok(World::new(rt.alloc(), Plain, snapshot(rt, sizes)?, seeds)?)
+}
+
+fn edit(rt: &impl AllocGlobal, index: u32, bytes: &[u8]) -> Result<Step, Fail> {
+    let mut copy = Vec::new(rt.alloc());
+    copy.extend_from_slice(bytes)?;
+    Ok(Step::Edit {
+        index,
+        bytes: Bytes::new(copy),
+    })
+}
+
+/// Makes a step. It has no clause, so that no test carries those of all its steps.
+fn go(world: &mut World<Plain>, step: Step) -> Result<(), Fail> {
+    world.step(step)?;
+    Ok(())
+}
+
+fn ask(world: &mut World<Plain>, client: usize, index: u32) -> Result<(), Fail> {
+    go(world, Step::Ask { client, index })
+}
+
+fn to_server(world: &mut World<Plain>, client: usize, most: usize) -> Result<(), Fail> {
+    go(world, Step::ToServer { client, most })
+}
+
+fn to_client(world: &mut World<Plain>, client: usize, most: usize) -> Result<(), Fail> {
+    go(world, Step::ToClient { client, most })
+}
+
+/// An edit of a record of one byte, and its publication.
+fn publish(
+    rt: &impl AllocGlobal,
+    world: &mut World<Plain>,
+    index: u32,
+    byte: u8,
+) -> Result<(), Fail> {
+    let step = edit(rt, index, &[byte])?;
+    go(world, step)?;
+    go(world, Step::Publish)
+}
+
+/// Client k's bytes to the server, and then the server's bytes to it.
+fn exchange(world: &mut World<Plain>, client: usize) -> Result<(), Fail> {
+    to_server(world, client, ALL)?;
+    to_client(world, client, ALL)
+}
+
+fn greet(world: &mut World<Plain>, client: usize) -> Result<(), Fail> {
+    go(world, Step::Hello { client })?;
+    exchange(world, client)
+}
+
+/// A sync whose hint has this many parts.
+fn sync(world: &mut World<Plain>, client: usize, scheme: Scheme, parts: usize) -> Result<(), Fail> {
+    go(world, Step::Sync { client, scheme })?;
+    for _ in 0..parts {
+        exchange(world, client)?;
+    }
+    Ok(())
+}
+
+fn add_event(rt: &impl AllocGlobal, text: &mut String, event: &Event) -> Result<(), Fail> {
+    let line = match event {
+        Event::Welcomed(version) => format!(in rt.alloc(); "welcomed {version}")?,
+        Event::Synced(Scheme::Simple, version) => format!(in rt.alloc(); "simple {version}")?,
+        Event::Synced(Scheme::Double, version) => format!(in rt.alloc(); "double {version}")?,
+        Event::Retrieved {
+            index,
+            version,
+            bytes,
+        } => {
+            let mut number = 0u64;
+            for byte in bytes.as_slice() {
+                number = (number % 65_536) * 256 + *byte as u64;
+            }
+            format!(in rt.alloc(); "retrieved {index} {version} {number:x}")?
+        }
+        Event::Unreadable { index, version } => {
+            format!(in rt.alloc(); "unreadable {index} {version}")?
+        }
+        Event::Stale(version) => format!(in rt.alloc(); "stale {version}")?,
+        Event::Done(version) => format!(in rt.alloc(); "done {version}")?,
+        Event::Refused(code) => format!(in rt.alloc(); "refused {code}")?,
+    };
+    text.push_str(&line)?;
+    Ok(())
+}
+
+/// What came of the steps so far, with a semicolon behind each.
+fn told(rt: &impl AllocGlobal, world: &World<Plain>) -> Result<String, Fail> {
+    let mut text = String::new(rt.alloc());
+    for outcome in world.outcomes() {
+        match outcome {
+            Outcome::Edited { index } => text.push_str(&format!(in rt.alloc(); "edited {index}")?)?,
+            Outcome::EditRefused { index, .. } => {
+                text.push_str(&format!(in rt.alloc(); "edit {index} refused")?)?
+            }
+            Outcome::Published { version } => {
+                text.push_str(&format!(in rt.alloc(); "version {version}")?)?
+            }
+            Outcome::PublishRefused { .. } => text.push_str("not published")?,
+            Outcome::Told { client, event } => {
+                text.push_str(&format!(in rt.alloc(); "{client} ")?)?;
+                add_event(rt, &mut text, event)?;
+            }
+            Outcome::CallRefused { client, .. } => {
+                text.push_str(&format!(in rt.alloc(); "{client} call refused")?)?
+            }
+            Outcome::Failed { client, .. } => {
+                text.push_str(&format!(in rt.alloc(); "{client} failed")?)?
+            }
+        }
+        text.push(';')?;
+    }
+    Ok(text)
+}
+
+fn cut_query(rt: &(impl Abort + AllocGlobal), world: &mut World<Plain>) -> Result<(), Fail> {
+    greet(world, 0)?;
+    greet(world, 1)?;
+    sync(world, 0, Scheme::Simple, 1)?;
+    sync(world, 1, Scheme::Simple, 1)?;
+    ask(world, 0, 1)?;
+    to_server(world, 0, 11)?;
+    ask(world, 1, 1)?;
+    to_server(world, 1, ALL)?;
+    publish(rt, world, 1, 0x64)?;
+    exchange(world, 0)?;
+    to_client(world, 1, ALL)?;
+    sync(world, 0, Scheme::Simple, 1)?;
+    ask(world, 0, 1)?;
+    exchange(world, 0)?;
+    assert_eq!(rt;
+        told(rt, world)?.as_str(),
+        "0 welcomed 1;1 welcomed 1;0 simple 1;1 simple 1;edited 1;version 2;0 stale 2;1 retrieved 1 1 c8;0 simple 2;0 retrieved 1 2 64;"
+    );
+    Ok(())
+}
+
+#[test]
+fn a_query_cut_by_a_publication(rt: HostRuntime) -> Result<(), Fail> {
+    let mut world = world(&rt, TWO)?;
+    cut_query(&rt, &mut world)
+}
+
+fn single_bytes(rt: &(impl Abort + AllocGlobal), world: &mut World<Plain>) -> Result<(), Fail> {
+    greet(world, 0)?;
+    sync(world, 0, Scheme::Simple, 1)?;
+    ask(world, 0, 0)?;
+    for _ in 0..22 {
+        to_server(world, 0, 1)?;
+    }
+    to_server(world, 0, 1)?;
+    assert_eq!(rt; count(world), 2);
+    for _ in 0..17 {
+        to_client(world, 0, 1)?;
+    }
+    assert_eq!(rt; count(world), 2);
+    to_client(world, 0, 1)?;
+    assert_eq!(rt;
+        told(rt, world)?.as_str(),
+        "0 welcomed 1;0 simple 1;0 retrieved 0 1 a;"
+    );
+    Ok(())
+}
+
+#[test]
+fn byte_by_byte(rt: HostRuntime) -> Result<(), Fail> {
+    let mut world = world(&rt, TWO)?;
+    single_bytes(&rt, &mut world)
+}
+
+/// How many outcomes there are.
+fn count(world: &World<Plain>) -> usize {
+    world.outcomes().len()
+}
+
+fn two_parts(rt: &(impl Abort + AllocGlobal), world: &mut World<Plain>) -> Result<(), Fail> {
+    greet(world, 0)?;
+    sync(world, 0, Scheme::Simple, 1)?;
+    publish(rt, world, 3, 0x11)?;
+    exchange(world, 0)?;
+    ask(world, 0, 0)?;
+    sync(world, 0, Scheme::Simple, 2)?;
+    publish(rt, world, 5, 0x22)?;
+    publish(rt, world, 7, 0x33)?;
+    ask(world, 0, 0)?;
+    exchange(world, 0)?;
+    sync(world, 0, Scheme::Simple, 2)?;
+    ask(world, 0, 7)?;
+    exchange(world, 0)?;
+    assert_eq!(rt;
+        told(rt, world)?.as_str(),
+        "0 welcomed 1;edited 3;version 2;0 stale 2;0 call refused;0 simple 2;edited 5;version 3;edited 7;version 4;0 stale 4;0 simple 4;0 retrieved 7 4 33;"
+    );
+    Ok(())
+}
+
+#[test]
+fn a_hint_of_two_parts_between_publications(rt: HostRuntime) -> Result<(), Fail> {
+    let sizes = Sizes {
+        groups: 66,
+        count: 66,
+        dimension: 1024,
+        version: 1,
+    };
+    let mut world = world(&rt, sizes)?;
+    two_parts(&rt, &mut world)
+}
+
+/// What a step is refused for.
+fn refusal(world: &mut World<Plain>, step: Step) -> Option<StepFault> {
+    world.step(step).err()
+}
+
+fn refusals(rt: &(impl Abort + AllocGlobal), world: &mut World<Plain>) -> Result<(), Fail> {
+    let refused = refusal(world, Step::Hello { client: 5 });
+    assert_eq!(rt; refused, Some(StepFault::NoClient));
+    assert_eq!(rt; steps(world), 0);
+    go(world, Step::Publish)?;
+    let other = edit(rt, 2, &[1])?;
+    go(world, other)?;
+    let long = edit(rt, 0, &[1, 2])?;
+    go(world, long)?;
+    ask(world, 1, 0)?;
+    greet(world, 1)?;
+    sync(world, 1, Scheme::Double, 1)?;
+    assert_eq!(rt;
+        told(rt, world)?.as_str(),
+        "not published;edit 2 refused;edit 0 refused;1 call refused;1 welcomed 1;1 refused 13;"
+    );
+    assert_eq!(rt; steps(world), 10);
+    Ok(())
+}
+
+#[test]
+fn refused_steps(rt: HostRuntime) -> Result<(), Fail> {
+    let mut world = world(&rt, TWO)?;
+    refusals(&rt, &mut world)
+}
+
+/// How many steps were made.
+fn steps(world: &World<Plain>) -> usize {
+    world.steps().len()
+}
+
+#[test]
+fn refused_worlds(rt: HostRuntime) -> Result<(), Fail> {
+    for (sizes, fault) in [
+        (
+            Sizes {
+                dimension: 1025,
+                ..TWO
+            },
+            OpenError::BadLayout,
+        ),
+        (Sizes { version: 0, ..TWO }, OpenError::BadVersion),
+    ] {
+        let opened = World::new(
+            rt.alloc(),
+            Plain,
+            snapshot(&rt, sizes)?,
+            Vec::new(rt.alloc()),
+        );
+        assert!(rt; opened.err() == Some(fault));
+    }
+    Ok(())
+}

@@ -1,0 +1,38 @@
+-- Laws of sessions.
+use Rattle.std.specs.Prelude.{◌≡◌, ◌≢◌, ℕ, List, [], ◌∷◌, false, Option, Result, Ok, Err}
+use Rattle.frame_codec.specs.declared.frame.Frame.{Frame}
+use Rattle.frame_codec.specs.declared.reader.ReadFault.{ReadFault}
+use Rattle.frame_codec.specs.declared.reader.ReadFault.TheVariants.{Memory}
+use Rattle.frame_codec.specs.Streams.{Feeds}
+use Rattle.version_store.specs.Histories.{History}
+use Rattle.server_core.specs.Courses.{course_of_piece, lacks_memory}
+use Rattle.server_core.specs.Serving.{Setting, is_closed}
+use Rattle.server_core.specs.Sessions.{Session, FeedsSession}
+
+-- Sessions that nobody can tell apart: the same standing and the same unfinished bytes, of which a closed session reads no more.
+abbrev pub IsAlike : Session → Session → Type 0
+IsAlike a b = (a.standing ≡ b.standing) × (is_closed a.standing ≡ false → a.unfinished ≡ b.unfinished)
+
+-- What a piece leads to in an open session is the course of the frames that the session's own stream completes with it, served on the history, and of the end of its reading.
+abbrev pub PiecesDecide : Type 0
+PiecesDecide = (x : Setting) (h : History) (old : Session) (piece : List ℕ) (done : Unit {0}) (h2 : History) (new : Session) (replies : List Frame) (answer : Result (Unit {0}) ReadFault) (frames : List Frame) (rest : Option (List ℕ))
+    → is_closed old.standing ≡ false → FeedsSession x h old piece (Ok done) h2 new replies → lacks_memory replies ≡ false → Feeds old.unfinished piece answer frames rest → answer ≢ Err Memory
+    → (record { history = h2; standing = new.standing; replies = replies } ≡ course_of_piece x h old.standing frames answer) × (is_closed new.standing ≡ false → new.unfinished ≡ rest)
+
+-- The setting, the history, a session and a piece of its stream decide the history after the piece, the session then and the replies, where none of these is refused for want of memory.
+abbrev pub PiecesAgree : Type 0
+PiecesAgree = (x : Setting) (h : History) (old old2 : Session) (piece : List ℕ) (done done2 : Unit {0}) (after after2 : History) (new new2 : Session) (replies replies2 : List Frame)
+    → IsAlike old old2 → FeedsSession x h old piece (Ok done) after new replies → FeedsSession x h old2 piece (Ok done2) after2 new2 replies2 → lacks_memory replies ≡ false → lacks_memory replies2 ≡ false
+    → (after ≡ after2) × IsAlike new new2 × (replies ≡ replies2)
+
+-- A session's pieces one after another, each with the history on which it is served, whatever others did between them: the history after each and its replies, and the session behind them all. Memory is never refused.
+abbrev pub FeedsInTurn : Setting → Session → List (History × List ℕ) → List (History × List Frame) → Session → Type 0
+FeedsInTurn x old [] outcomes new = (outcomes ≡ []) × (new ≡ old)
+FeedsInTurn x old (fed ∷ later) outcomes new =
+    (done : Unit {0}) × (after : History) × (between : Session) × (replies : List Frame) × (others : List (History × List Frame))
+    × FeedsSession x fed.0 old fed.1 (Ok done) after between replies × (lacks_memory replies ≡ false) × (outcomes ≡ (after, replies) ∷ others) × FeedsInTurn x between later others new
+
+-- All that a session is told, and what it does to the history, is decided by its own pieces and by the histories on which they are served.
+abbrev pub SessionsNeverMeet : Type 0
+SessionsNeverMeet = (x : Setting) (pieces : List (History × List ℕ)) (old old2 : Session) (outcomes outcomes2 : List (History × List Frame)) (new new2 : Session)
+    → IsAlike old old2 → FeedsInTurn x old pieces outcomes new → FeedsInTurn x old2 pieces outcomes2 new2 → (outcomes ≡ outcomes2) × IsAlike new new2
