@@ -1,11 +1,11 @@
 -- What callers see of a server.
-use Rattle.std.specs.Prelude.{◌≡◌, ℕ, List, Option, Some, None, Result, Ok, Err}
+use Rattle.std.specs.Prelude.{◌≡◌, ℕ, List, Bool, false, not, Option, Some, None, Result, Ok, Err}
 use Rattle.std.specs.Map.{lookup}
 use Rattle.std.specs.BTreeMap.{is_at}
 use Rattle.std.specs.Ordering.{nat_cmp}
 use Rattle.std.specs.declared.alloc.AllocError.{AllocError}
 use Rattle.version_store.specs.Histories.{Held, History}
-use Rattle.server_core.specs.Serving.{Setting}
+use Rattle.server_core.specs.Serving.{Setting, is_closed}
 use Rattle.server_core.specs.Sessions.{Session, Fed}
 use Rattle.server_core.specs.declared.server.FeedError.{FeedError}
 use Rattle.server_core.specs.declared.server.FeedError.TheVariants.{NoSession, Memory}
@@ -18,6 +18,11 @@ pub record Core : Type 0 where
 -- the session of a number
 abbrev pub session_of : List (ℕ × Session) → ℕ → Option Session
 session_of sessions id = lookup (is_at (nat_cmp id)) sessions
+
+-- there is a session, and it is not closed
+abbrev pub is_open : Option Session → Bool
+is_open None = false
+is_open (Some s) = not (is_closed s.standing)
 
 -- a session's stream has failed: no later byte of it is read
 abbrev pub HasFailed : Option Session → Type 0

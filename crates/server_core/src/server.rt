@@ -2,7 +2,7 @@
 
 ghost use Rattle.std.specs.Prelude.{◌≡◌, ◌≢◌, ◌⊎◌, ◌≤◌, ◌<◌, ◌^◌, ◌+◌, ◌↔◌, ℕ, length, OnOk, OnErr, IfOk, IsSome, Some, None, IsErrOf, is_some, slice_set, true, false};
 ghost use Rattle.version_store.specs.Histories.{History, StandsFor, edited, published};
-ghost use Rattle.server_core.specs.Cores.{session_of, FeedsCore, HasFailed, OnNoSession};
+ghost use Rattle.server_core.specs.Cores.{session_of, is_open, FeedsCore, HasFailed, OnNoSession};
 ghost use Rattle.server_core.specs.Serving.{setting_of, IsFull};
 ghost use Rattle.server_core.specs.Sessions as sessions;
 
@@ -103,6 +103,16 @@ impl<K: Kernel> ServerCore<K> {
         ensures { result ≡ is_some (session_of self.now.sessions id) }
     {
         self.sessions.contains_key(&id)
+    }
+
+    /// Whether there is a session of this number that is not closed.
+    pub fn is_open(&self, id: u64) -> bool
+        ensures { result ≡ is_open (session_of self.now.sessions id) }
+    {
+        match self.sessions.get(&id) {
+            Some(session) => !session.is_closed(),
+            None => false,
+        }
     }
 
     /// The store.

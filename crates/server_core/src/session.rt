@@ -4,7 +4,7 @@ ghost use Rattle.std.specs.Prelude.{◌≡◌, ◌⊎◌, ◌++◌, IfOk, IsErr,
 ghost use Rattle.frame_codec.specs.declared.frame.Frame.TheVariants.{Refused};
 ghost use Rattle.frame_codec.specs.Frames.{IsFrame, spelling};
 ghost use Rattle.version_store.specs.Histories.{History, StandsFor};
-ghost use Rattle.server_core.specs.Serving.{setting_of, IsFull};
+ghost use Rattle.server_core.specs.Serving.{setting_of, is_closed, IsFull};
 ghost use Rattle.server_core.specs.Sessions.{new_session, Ended, Fed, ServedFrames, StoppedFrames};
 
 use crate::refusal::BAD_FRAME;
@@ -43,6 +43,13 @@ impl Session {
             standing: Standing::Stranger,
             reader: Reader::new(alloc),
         }
+    }
+
+    /// Whether nothing more is served.
+    pub fn is_closed(&self) -> bool
+        ensures { result ≡ is_closed self.now.standing }
+    {
+        self.standing.is_closed()
     }
 
     /// Takes the next piece of the stream, and adds the replies to the frames that are whole now. A closed

@@ -370,6 +370,18 @@ fn sessions_are_opened_and_closed(rt: HostRuntime) -> Result<(), Fail> {
 }
 
 #[test]
+fn a_session_is_open_until_it_is_closed(rt: HostRuntime) -> Result<(), Fail> {
+    let mut server = server(&rt, rt.alloc(), RECORDS, 1)?;
+    let mut out = Vec::new(rt.alloc());
+    assert_eq!(rt; server.is_open(0), true);
+    assert_eq!(rt; server.is_open(1), false);
+    server.feed(0, BYE, &mut out)?;
+    assert_eq!(rt; server.is_open(0), false);
+    assert_eq!(rt; server.has_session(0), true);
+    Ok(())
+}
+
+#[test]
 fn the_server_edits_its_store(rt: HostRuntime) -> Result<(), Fail> {
     let mut server = server(&rt, rt.alloc(), RECORDS, 1)?;
     assert_eq!(rt; server.edit(1, &[100]), Ok(()));

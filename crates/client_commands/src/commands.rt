@@ -1,0 +1,112 @@
+//! The commands.
+
+ghost use Rattle.std.specs.Prelude.{◌≤◌, length};
+
+use crate::connection::event_of;
+use client_core::{ClientCore, Event, Scheme};
+use command_words::Failure;
+use frame_codec::Bytes;
+use matrix_u32::Kernel;
+use std::alloc::Global;
+use std::io::{Read, Write};
+
+/// The key of a reader.
+const READER: [u8; 32] = [0; 32];
+
+/// A failure that no client brings: the reply to a call is one of another.
+const OUT_OF_PLACE: Failure = Failure::Fault("BadReply");
+
+/// A record that was retrieved.
+#[derive(Drop)]
+pub struct Retrieved {
+    /// Which record it is.
+    pub index: u32,
+    /// The version that it is of.
+    pub version: u64,
+    /// Its bytes.
+    pub bytes: Bytes,
+}
+
+/// Retrieves record `index` privately: hello as a reader, sync, ask.
+///
+/// # Errors
+///
+/// The first failure ends it: `Refused`, `Stale` or `Unreadable` where the server's reply says so, a `Fault`
+/// by the name of the refusal of the call or of the conversation, and `Memory`.
+pub fn get<K: Kernel, R: Read, W: Write>(
+    alloc: Global,
+    client: &mut ClientCore<K>,
+    reader: &mut R,
+    writer: &mut W,
+    scheme: Scheme,
+    index: u32,
+) -> Result<Retrieved, Failure> {
+    let sent = client.hello(READER);
+    event_of(alloc, client, sent, reader, writer)?;
+    let sent = client.sync(scheme);
+    event_of(alloc, client, sent, reader, writer)?;
+    let sent = client.ask(index);
+    match event_of(alloc, client, sent, reader, writer)? {
+        Event::Retrieved {
+            index,
+            version,
+            bytes,
+        } => Ok(Retrieved {
+            index,
+            version,
+            bytes,
+        }),
+        _ => Err(OUT_OF_PLACE),
+    }
+}
+
+/// Gives the server these bytes for record `index` of the next version: the publisher's hello, edit. Answers
+/// the current version.
+///
+/// # Errors
+///
+/// As those of [`get`].
+pub fn put<K: Kernel, R: Read, W: Write>(
+    alloc: Global,
+    client: &mut ClientCore<K>,
+    reader: &mut R,
+    writer: &mut W,
+    key: [u8; 32],
+    index: u32,
+    bytes: &[u8],
+) -> Result<u64, Failure>
+    requires { length bytes.now ≤ 65535 }
+{
+    let sent = client.hello(key);
+    event_of(alloc, client, sent, reader, writer)?;
+    let sent = client.edit(index, bytes);
+    let event = event_of(alloc, client, sent, reader, writer)?;
+    done_version(&event)
+}
+
+/// Makes the edits the next version: the publisher's hello, publish. Answers the new version.
+///
+/// # Errors
+///
+/// As those of [`get`].
+pub fn publish<K: Kernel, R: Read, W: Write>(
+    alloc: Global,
+    client: &mut ClientCore<K>,
+    reader: &mut R,
+    writer: &mut W,
+    key: [u8; 32],
+) -> Result<u64, Failure> {
+    let sent = client.hello(key);
+    event_of(alloc, client, sent, reader, writer)?;
+    let sent = client.publish();
+    let event = event_of(alloc, client, sent, reader, writer)?;
+    done_version(&event)
+}
+
+// The version that a Done names.
+fn done_version(event: &Event) -> Result<u64, Failure> {
+    match event {
+        Event::Done(version) => Ok(*version),
+        _ => Err(OUT_OF_PLACE),
+    }
+}

@@ -1,0 +1,58 @@
+//! Command lines that ask for nothing that can be done.
+
+use clap::Error;
+use clap::error::ErrorKind;
+use std::alloc::{AllocError, AllocFailed};
+
+/// Why a command line asks for nothing that can be done.
+#[derive(Drop)]
+pub enum BadLine {
+    /// It is not of the program's form, or asks for help: the text that says so.
+    Form(Error),
+    /// A value is not one that its option or word takes: what that takes.
+    Value(&'static str),
+    /// There was no memory to read it.
+    Memory,
+}
+
+impl From<Error> for BadLine {
+    fn from(error: Error) -> BadLine {
+        if error.kind() == ErrorKind::OutOfMemory {
+            return BadLine::Memory;
+        }
+        BadLine::Form(error)
+    }
+}
+
+impl From<AllocError> for BadLine {
+    fn from(_error: AllocError) -> BadLine {
+        BadLine::Memory
+    }
+}
+
+impl<T: Drop> From<AllocFailed<T>> for BadLine {
+    fn from(_error: AllocFailed<T>) -> BadLine {
+        BadLine::Memory
+    }
+}
+
+impl BadLine {
+    /// Prints what is to be said, and answers the exit status: 0 for help, 2 for a bad command line and 4 for
+    /// want of memory.
+    pub fn tell<R: Print + Eprint>(&self, rt: &R) -> u8 {
+        match self {
+            BadLine::Form(error) => {
+                let _ = error.print(rt);
+                if error.use_stderr() { 2 } else { 0 }
+            }
+            BadLine::Value(takes) => {
+                let _ = eprintln!(rt; "error: {takes}\n\nFor more information, try '--help'.");
+                2
+            }
+            BadLine::Memory => {
+                let _ = eprintln!(rt; "fault: Memory");
+                4
+            }
+        }
+    }
+}

@@ -1,0 +1,34 @@
+//! How a command failed.
+
+use thiserror::Error;
+
+/// How a command failed. It prints as the line that tells it.
+#[derive(Clone, Copy, Debug, PartialEq, Eq, Error)]
+pub enum Failure {
+    /// The server refused a call, with this code.
+    #[error("refused {0}")]
+    Refused(u8),
+    /// The version asked is not current any more, and this one is.
+    #[error("stale {0}")]
+    Stale(u64),
+    /// The record's digits set a bit past its last byte.
+    #[error("unreadable {index} {version}")]
+    Unreadable { index: u32, version: u64 },
+    /// A store, a file, input or a connection was refused, or failed: the name of it.
+    #[error("fault: {0}")]
+    Fault(&'static str),
+    /// There was no memory.
+    #[error("fault: Memory")]
+    Memory,
+}
+
+impl Failure {
+    /// The exit status that tells it: 1 for what the server said, 3 for a fault, 4 for want of memory.
+    pub fn status(self) -> u8 {
+        match self {
+            Failure::Refused(_) | Failure::Stale(_) | Failure::Unreadable { .. } => 1,
+            Failure::Fault(_) => 3,
+            Failure::Memory => 4,
+        }
+    }
+}

@@ -1,0 +1,109 @@
+//! Words that are taken and refused, and the lines of failures.
+
+use crate::{Failure, decimal, key_of, record_bytes, thirty_two};
+use std::alloc::Global;
+use std::process::Abort;
+use std::test::Fail;
+
+const ZEROS: &str = "0000000000000000000000000000000000000000000000000000000000000000";
+
+const ONES: &str = "0101010101010101010101010101010101010101010101010101010101010101";
+
+#[test]
+fn numbers_are_digits_alone(rt: HostRuntime) {
+    let taken: [(&str, u64); 5] = [
+        ("0", 0),
+        ("7", 7),
+        ("007", 7),
+        ("65536", 65_536),
+        ("18446744073709551615", u64::MAX),
+    ];
+    for (text, number) in taken {
+        assert_eq!(rt; decimal(text), Some(number), "{text}");
+    }
+    for text in [
+        "",
+        "+5",
+        "-5",
+        " 5",
+        "5 ",
+        "5.",
+        "0x5",
+        "five",
+        "18446744073709551616",
+    ] {
+        assert_eq!(rt; decimal(text), None, "{text}");
+    }
+}
+
+#[test]
+fn seeds_and_keys_are_64_digits(rt: HostRuntime) {
+    assert_eq!(rt; thirty_two(ZEROS), Some([0; 32]));
+    assert_eq!(rt; thirty_two(ONES), Some([1; 32]));
+    assert_eq!(rt; key_of(ONES), Some([1; 32]));
+    assert_eq!(rt; key_of(ZEROS), None);
+    let mixed = "abCDef0101010101010101010101010101010101010101010101010101010101";
+    assert_eq!(rt;
+        key_of(mixed).map(|key| [key[0], key[1], key[2]]),
+        Some([0xab, 0xcd, 0xef])
+    );
+    for text in [
+        "",
+        "01",
+        "0101010101010101010101010101010101010101010101010101010101010g01",
+    ] {
+        assert_eq!(rt; thirty_two(text), None, "{text}");
+        assert_eq!(rt; key_of(text), None, "{text}");
+    }
+}
+
+// Compares the bytes of a word with those wanted.
+fn check(rt: &impl Abort, alloc: Global, text: &str, wanted: Option<&[u8]>) -> Result<(), Fail> {
+    let bytes = record_bytes(alloc, text)?;
+    assert_eq!(rt;
+        bytes.as_ref().map(|bytes| bytes.as_slice()),
+        wanted,
+        "{text}"
+    );
+    Ok(())
+}
+
+#[test]
+fn records_are_pairs_of_digits(rt: HostRuntime) -> Result<(), Fail> {
+    check(&rt, rt.alloc(), "64", Some(&[100]))?;
+    check(&rt, rt.alloc(), "0aFF", Some(&[10, 255]))?;
+    for text in ["", "6", "6g", "-", "0x64", " 64"] {
+        check(&rt, rt.alloc(), text, None)?;
+    }
+    Ok(())
+}
+
+#[test]
+fn records_have_at_most_65535_bytes(rt: HostRuntime) -> Result<(), Fail> {
+    let longest = "64".repeat(rt.alloc(), 65_535)?;
+    let bytes = record_bytes(rt.alloc(), &longest)?;
+    assert_eq!(rt; bytes.map(|bytes| bytes.len()), Some(65_535));
+    let longer = "64".repeat(rt.alloc(), 65_536)?;
+    check(&rt, rt.alloc(), &longer, None)
+}
+
+#[test]
+fn each_failure_has_its_line_and_status(rt: HostRuntime) -> Result<(), Fail> {
+    let unreadable = Failure::Unreadable {
+        index: 3,
+        version: 7,
+    };
+    let failures: [(Failure, &str, u8); 5] = [
+        (Failure::Refused(4), "refused 4", 1),
+        (Failure::Stale(2), "stale 2", 1),
+        (unreadable, "unreadable 3 7", 1),
+        (Failure::Fault("BadIndex"), "fault: BadIndex", 3),
+        (Failure::Memory, "fault: Memory", 4),
+    ];
+    for (failure, line, status) in failures {
+        let said = format!(in rt.alloc(); "{failure}")?;
+        assert_eq!(rt; said.as_str(), line);
+        assert_eq!(rt; failure.status(), status, "{line}");
+    }
+    Ok(())
+}

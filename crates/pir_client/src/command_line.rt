@@ -1,0 +1,194 @@
+//! The command line.
+
+ghost use Rattle.std.specs.Prelude.{IfOk};
+ghost use Rattle.pir_client.specs.Tasks.{TaskFits};
+
+use clap::{ArgMatches, Command};
+use client_core::Scheme;
+use command_words::{
+    BadLine, key_at, number_at, option, record_bytes, text_at, thirty_two_at, word,
+};
+use std::alloc::{AllocError, Global};
+
+/// The numbers of retrievals are below this one.
+const NUMBERS: u64 = 1 << 62;
+
+const PORT_TAKES: &str = "--port takes a number from 0 to 65535";
+
+const SEED_TAKES: &str = "--seed takes 32 bytes as 64 hex digits";
+
+const KEY_TAKES: &str = "--key takes 32 bytes as 64 hex digits that are not all 0";
+
+const NUMBER_TAKES: &str = "--number takes a number below 4611686018427387904";
+
+const SCHEME_TAKES: &str = "--scheme takes simple or double";
+
+const INDEX_TAKES: &str = "INDEX is a number from 0 to 4294967295";
+
+const HEX_TAKES: &str = "HEX is 1 to 65535 bytes as two hex digits each";
+
+/// What the words ask for.
+#[derive(Drop)]
+pub enum Task {
+    /// One private retrieval.
+    Get {
+        port: u16,
+        seed: [u8; 32],
+        number: u64,
+        scheme: Scheme,
+        index: u32,
+    },
+    /// One edit by the publisher.
+    Put {
+        port: u16,
+        key: [u8; 32],
+        index: u32,
+        bytes: Vec<u8>,
+    },
+    /// A publication.
+    Publish {
+        port: u16,
+        key: [u8; 32],
+    },
+}
+
+// The command `get`.
+fn get_command<'a>(alloc: Global) -> Result<Command<'a>, AllocError> {
+    Command::new(alloc, "get")
+        .about("Retrieves a record without telling the server which")
+        .after_help(GET_EXAMPLE)
+        .arg(option(alloc, "port", "P", "The server's port on 127.0.0.1"))?
+        .arg(option(
+            alloc,
+            "seed",
+            "HEX",
+            "Your secret: 32 bytes as 64 hex digits, all that hides INDEX",
+        ))?
+        .arg(option(
+            alloc,
+            "number",
+            "N",
+            "The number of this retrieval, below 2^62: one that this seed has never been used with",
+        ))?
+        .arg(option(alloc, "scheme", "NAME", "simple or double"))?
+        .arg(word(alloc, "INDEX", "Which record, counted from 0"))
+}
+
+const GET_EXAMPLE: &str =
+    "Prints 'retrieved INDEX VERSION HEX', HEX being the record's bytes. Two retrievals with one seed and one\nnumber can tell the server what they ask, so count N up and keep the seed to yourself.\n\nExample: pir_client get --port 7000 --seed 1111111111111111111111111111111111111111111111111111111111111111 --number 0 --scheme simple 1";
+
+// The command `put`.
+fn put_command<'a>(alloc: Global) -> Result<Command<'a>, AllocError> {
+    Command::new(alloc, "put")
+        .about("Replaces a record in the publisher's draft, which no reader sees before publish")
+        .after_help(PUT_EXAMPLE)
+        .arg(option(alloc, "port", "P", "The server's port on 127.0.0.1"))?
+        .arg(option(
+            alloc,
+            "key",
+            "HEX",
+            "The publisher's key: 32 bytes as 64 hex digits, as given to pir_server make",
+        ))?
+        .arg(word(alloc, "INDEX", "Which record, counted from 0"))?
+        .arg(word(alloc, "HEX", "The record's new bytes, two hex digits each"))
+}
+
+const PUT_EXAMPLE: &str =
+    "Prints 'done VERSION', VERSION being the current one.\n\nExample: pir_client put --port 7000 --key 0101010101010101010101010101010101010101010101010101010101010101 1 64";
+
+// The command `publish`.
+fn publish_command<'a>(alloc: Global) -> Result<Command<'a>, AllocError> {
+    Command::new(alloc, "publish")
+        .about("Makes the publisher's draft the next version")
+        .after_help(PUBLISH_EXAMPLE)
+        .arg(option(alloc, "port", "P", "The server's port on 127.0.0.1"))?
+        .arg(option(
+            alloc,
+            "key",
+            "HEX",
+            "The publisher's key: 32 bytes as 64 hex digits, as given to pir_server make",
+        ))
+}
+
+const PUBLISH_EXAMPLE: &str =
+    "Prints 'published VERSION', VERSION being the new one.\n\nExample: pir_client publish --port 7000 --key 0101010101010101010101010101010101010101010101010101010101010101";
+
+// The whole command line.
+fn whole_command<'a>(alloc: Global) -> Result<Command<'a>, AllocError> {
+    Command::new(alloc, "pir_client")
+        .about("A client of one pir_server on this machine")
+        .after_help(EXIT_STATUSES)
+        .subcommand_required(true)
+        .subcommand(get_command(alloc)?)?
+        .subcommand(put_command(alloc)?)?
+        .subcommand(publish_command(alloc)?)
+}
+
+const EXIT_STATUSES: &str =
+    "Exit status: 0 done, 1 refused by the server (or stale, or unreadable), 2 a bad command line,\n3 a fault of a file, a store or a connection, 4 out of memory.";
+
+// What the words of `get` ask for.
+fn get_task(found: &ArgMatches<'_>) -> Result<Task, BadLine>
+    ensures { IfOk result TaskFits }
+{
+    let port = number_at(found, "port", u64::from(u16::MAX), PORT_TAKES)? as u16;
+    let seed = thirty_two_at(found, "seed", SEED_TAKES)?;
+    let number = number_at(found, "number", NUMBERS - 1, NUMBER_TAKES)?;
+    let scheme = match text_at(found, "scheme", SCHEME_TAKES)? {
+        "simple" => Scheme::Simple,
+        "double" => Scheme::Double,
+        _ => return Err(BadLine::Value(SCHEME_TAKES)),
+    };
+    let index = number_at(found, "INDEX", u64::from(u32::MAX), INDEX_TAKES)? as u32;
+    Ok(Task::Get {
+        port,
+        seed,
+        number,
+        scheme,
+        index,
+    })
+}
+
+// What the words of `put` ask for.
+fn put_task(alloc: Global, found: &ArgMatches<'_>) -> Result<Task, BadLine>
+    ensures { IfOk result TaskFits }
+{
+    let port = number_at(found, "port", u64::from(u16::MAX), PORT_TAKES)? as u16;
+    let key = key_at(found, "key", KEY_TAKES)?;
+    let index = number_at(found, "INDEX", u64::from(u32::MAX), INDEX_TAKES)? as u32;
+    match record_bytes(alloc, text_at(found, "HEX", HEX_TAKES)?)? {
+        Some(bytes) => Ok(Task::Put {
+            port,
+            key,
+            index,
+            bytes,
+        }),
+        None => Err(BadLine::Value(HEX_TAKES)),
+    }
+}
+
+// What the words of `publish` ask for.
+fn publish_task(found: &ArgMatches<'_>) -> Result<Task, BadLine>
+    ensures { IfOk result TaskFits }
+{
+    let port = number_at(found, "port", u64::from(u16::MAX), PORT_TAKES)? as u16;
+    let key = key_at(found, "key", KEY_TAKES)?;
+    Ok(Task::Publish { port, key })
+}
+
+/// What the program's words ask for, its name first.
+pub fn task_of<'a>(alloc: Global, words: &'a [String]) -> Result<Task, BadLine>
+    ensures { IfOk result TaskFits }
+{
+    let matches = whole_command(alloc)?.try_get_matches_from(words)?;
+    if let Some(found) = matches.subcommand_matches("get") {
+        return get_task(found);
+    }
+    if let Some(found) = matches.subcommand_matches("put") {
+        return put_task(alloc, found);
+    }
+    match matches.subcommand_matches("publish") {
+        Some(found) => publish_task(found),
+        None => Err(BadLine::Value("a command is wanted: get, put or publish")),
+    }
+}

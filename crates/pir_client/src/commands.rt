@@ -1,0 +1,144 @@
+//! The commands over a connection.
+
+ghost use Rattle.std.specs.Prelude.{◌≤◌, ◌<◌, ◌^◌, length};
+ghost use Rattle.pir_client.specs.Tasks.{TaskFits};
+
+use crate::command_line::{Task, task_of};
+use client_commands::{get, publish, put};
+use client_core::{ClientCore, Scheme};
+use command_words::{BadLine, Failure};
+use lane_kernels::Lanes;
+use std::net::{Ipv4Addr, TcpStream};
+use std::{env, io};
+
+/// The status of a bad command line.
+const BAD_LINE: u8 = 2;
+
+/// The program: reads its command line, does what it asks for, and answers the exit status.
+pub fn run(rt: &HostRuntime) -> u8 {
+    let mut words = Vec::new(rt.alloc());
+    let Ok(arguments) = env::args(rt) else {
+        let _ = eprintln!(rt; "error: the command line is not text");
+        return BAD_LINE;
+    };
+    for word in arguments {
+        if words.push(word).is_err() {
+            return BadLine::Memory.tell(rt);
+        }
+    }
+    let task = match task_of(rt.alloc(), &words) {
+        Ok(task) => task,
+        Err(bad) => return bad.tell(rt),
+    };
+    match done(rt, task) {
+        Ok(()) => 0,
+        Err(failure) => {
+            let _ = eprintln!(rt; "{failure}");
+            failure.status()
+        }
+    }
+}
+
+// Does what was asked for, and prints what came of it.
+fn done(rt: &HostRuntime, task: Task) -> Result<(), Failure>
+    requires { TaskFits task }
+{
+    match task {
+        Task::Get {
+            port,
+            seed,
+            number,
+            scheme,
+            index,
+        } => get_record(rt, port, seed, number, scheme, index),
+        Task::Put {
+            port,
+            key,
+            index,
+            bytes,
+        } => put_record(rt, port, key, index, &bytes),
+        Task::Publish { port, key } => publish_draft(rt, port, key),
+    }
+}
+
+// The connection to the server at a port.
+fn connect(rt: &HostRuntime, port: u16) -> Result<TcpStream, Failure> {
+    match TcpStream::connect(rt, (Ipv4Addr::LOCALHOST, port)) {
+        Ok(stream) => Ok(stream),
+        Err(_) => Err(Failure::Fault("Connect")),
+    }
+}
+
+// What printing a line came to.
+fn printed(said: io::Result<()>) -> Result<(), Failure> {
+    match said {
+        Ok(()) => Ok(()),
+        Err(_) => Err(Failure::Fault("Write")),
+    }
+}
+
+// Retrieves a record, and prints it.
+fn get_record(
+    rt: &HostRuntime,
+    port: u16,
+    seed: [u8; 32],
+    number: u64,
+    scheme: Scheme,
+    index: u32,
+) -> Result<(), Failure>
+    requires { number < 2 ^ 62 }
+{
+    let stream = connect(rt, port)?;
+    let mut client = ClientCore::new(rt.alloc(), Lanes, seed, number);
+    let got = get(
+        rt.alloc(),
+        &mut client,
+        &mut &stream,
+        &mut &stream,
+        scheme,
+        index,
+    )?;
+    let Ok(record) = hex::encode(rt.alloc(), got.bytes.as_slice()) else {
+        return Err(Failure::Memory);
+    };
+    let index = got.index;
+    let version = got.version;
+    printed(println!(rt; "retrieved {index} {version} {record}"))
+}
+
+// Replaces a record of the draft, and prints the current version.
+fn put_record(
+    rt: &HostRuntime,
+    port: u16,
+    key: [u8; 32],
+    index: u32,
+    bytes: &[u8],
+) -> Result<(), Failure>
+    requires { length bytes.now ≤ 65535 }
+{
+    let stream = connect(rt, port)?;
+    let mut client = publisher(rt);
+    let version = put(
+        rt.alloc(),
+        &mut client,
+        &mut &stream,
+        &mut &stream,
+        key,
+        index,
+        bytes,
+    )?;
+    printed(println!(rt; "done {version}"))
+}
+
+// Publishes the draft, and prints the new version.
+fn publish_draft(rt: &HostRuntime, port: u16, key: [u8; 32]) -> Result<(), Failure> {
+    let stream = connect(rt, port)?;
+    let mut client = publisher(rt);
+    let version = publish(rt.alloc(), &mut client, &mut &stream, &mut &stream, key)?;
+    printed(println!(rt; "published {version}"))
+}
+
+// A client that asks for no record, so that any seed serves.
+fn publisher(rt: &HostRuntime) -> ClientCore<Lanes> {
+    ClientCore::new(rt.alloc(), Lanes, [0; 32], 0)
+}

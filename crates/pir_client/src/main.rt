@@ -1,0 +1,14 @@
+//! A client of one server on this machine: it retrieves a record privately, replaces one, or publishes.
+//!
+//! Exit statuses: 0 done, 1 refused by the server, 2 a bad command line, 3 a fault, 4 out of memory. What was
+//! done is one line on standard output; a failure is one line on standard error.
+#![tactic(auto)]
+
+mod command_line;
+mod commands;
+
+use std::process::ExitCode;
+
+fn main(rt: HostRuntime) -> ExitCode {
+    ExitCode::from(commands::run(&rt))
+}

@@ -1,0 +1,193 @@
+//! The command line.
+
+use clap::{ArgMatches, Command};
+use command_words::{BadLine, key_at, number_at, option, text_at, thirty_two_at};
+use std::alloc::{AllocError, Global};
+
+const OUT_TAKES: &str = "--out takes a file's name";
+
+const FILE_TAKES: &str = "--file takes a file's name";
+
+const WIDTH_TAKES: &str = "--width takes a number from 0 to 255";
+
+const RECORD_TAKES: &str = "--record takes a number from 0 to 65535";
+
+const GROUPS_TAKES: &str = "--groups takes a number from 0 to 65535";
+
+const SEED_TAKES: &str = "--seed takes 32 bytes as 64 hex digits";
+
+const KEY_TAKES: &str = "--key takes 32 bytes as 64 hex digits that are not all 0";
+
+const PORT_TAKES: &str = "--port takes a number from 0 to 65535";
+
+const CONNECTIONS_TAKES: &str = "--connections takes a number from 0 to 4294967295";
+
+/// What `make` is to make.
+#[derive(Clone, Copy)]
+pub struct Making<'a> {
+    /// The file that is written.
+    pub out: &'a str,
+    /// How many bits a digit has.
+    pub width: u8,
+    /// How many bytes a record has.
+    pub record_len: u16,
+    /// How many records stand in a column of the digit matrix.
+    pub groups: u16,
+    /// The key of the public matrix.
+    pub seed: [u8; 32],
+    /// The publisher's key.
+    pub key: [u8; 32],
+}
+
+/// What `serve` is to serve.
+#[derive(Clone, Copy)]
+pub struct Serving<'a> {
+    /// The snapshot file.
+    pub file: &'a str,
+    /// The port on 127.0.0.1, where 0 is any that is free.
+    pub port: u16,
+    /// How many connections are served before the end.
+    pub connections: u32,
+}
+
+/// What the words ask for.
+#[derive(Clone, Copy)]
+pub enum Task<'a> {
+    /// A snapshot file of records on standard input.
+    Make(Making<'a>),
+    /// A snapshot file served over connections.
+    Serve(Serving<'a>),
+    /// One database served over standard input and output.
+    Once,
+}
+
+// The command `make`.
+fn make_command<'a>(alloc: Global) -> Result<Command<'a>, AllocError> {
+    Command::new(alloc, "make")
+        .about("Makes a snapshot file, at version 1, of the record bytes on standard input")
+        .after_help(MAKE_EXAMPLE)
+        .arg(option(alloc, "out", "FILE", "The snapshot file to write"))?
+        .arg(option(
+            alloc,
+            "width",
+            "W",
+            "How many bits a digit has, 6 to 10: more make it faster and leave less room for noise",
+        ))?
+        .arg(option(
+            alloc,
+            "record",
+            "R",
+            "How many bytes a record has, 1 to 256",
+        ))?
+        .arg(option(
+            alloc,
+            "groups",
+            "G",
+            "How many records stand in one column, so that the digit matrix has G * ceil(8 R / W) rows (at most 4096)",
+        ))?
+        .arg(option(
+            alloc,
+            "seed",
+            "HEX",
+            "The public seed of the matrix that all clients use: 32 bytes as 64 hex digits",
+        ))?
+        .arg(option(
+            alloc,
+            "key",
+            "HEX",
+            "The publisher's key: 32 bytes as 64 hex digits, not all 0; the file keeps its SHA-256 alone",
+        ))
+}
+
+const MAKE_EXAMPLE: &str =
+    "Prints 'made COUNT 1', COUNT being how many records there are. Secrets will have 1024 words.\n\nExample, two records of one byte:\n  printf '\\012\\310' | pir_server make --out two.pir --width 8 --record 1 --groups 1 \\\n    --seed 0000000000000000000000000000000000000000000000000000000000000000 \\\n    --key 0101010101010101010101010101010101010101010101010101010101010101";
+
+// The command `serve`.
+fn serve_command<'a>(alloc: Global) -> Result<Command<'a>, AllocError> {
+    Command::new(alloc, "serve")
+        .about("Serves a snapshot file on 127.0.0.1, one connection after the other")
+        .after_help(SERVE_EXAMPLE)
+        .arg(option(
+            alloc,
+            "file",
+            "FILE",
+            "The snapshot file; it is written anew at the end where a version was published",
+        ))?
+        .arg(option(
+            alloc,
+            "port",
+            "P",
+            "The port to listen on, 0 to 65535; 0 takes any that is free",
+        ))?
+        .arg(option(
+            alloc,
+            "connections",
+            "C",
+            "How many connections to serve before the end",
+        ))
+}
+
+const SERVE_EXAMPLE: &str =
+    "Prints 'listening PORT' once it listens. A connection that ends with a fault is told on standard error,\nas 'connection: NAME', and the next one is served. Edits that were not published are lost at the end.\n\nExample: pir_server serve --file two.pir --port 7000 --connections 3";
+
+// The command `once`.
+fn once_command<'a>(alloc: Global) -> Command<'a> {
+    Command::new(alloc, "once")
+        .about(
+            "Serves one database over standard input and output: its frames are a Load, Queries, a Bye",
+        )
+        .after_help(ONCE_EXAMPLE)
+}
+
+const ONCE_EXAMPLE: &str = "The same as no command.\n\nExample: pir_server once < frames > replies";
+
+// The whole command line.
+fn whole_command<'a>(alloc: Global) -> Result<Command<'a>, AllocError> {
+    Command::new(alloc, "pir_server")
+        .about("A server of private information retrieval on this machine")
+        .after_help(EXIT_STATUSES)
+        .subcommand(make_command(alloc)?)?
+        .subcommand(serve_command(alloc)?)?
+        .subcommand(once_command(alloc))
+}
+
+const EXIT_STATUSES: &str =
+    "Without a command: once.\n\nExit status: 0 done, 2 a bad command line, 3 a fault of a file, a store, input or a port, 4 out of memory.";
+
+// What the words of `make` ask for.
+fn making_of<'a>(found: &ArgMatches<'a>) -> Result<Making<'a>, BadLine> {
+    Ok(Making {
+        out: text_at(found, "out", OUT_TAKES)?,
+        width: number_at(found, "width", u64::from(u8::MAX), WIDTH_TAKES)? as u8,
+        record_len: number_at(found, "record", u64::from(u16::MAX), RECORD_TAKES)? as u16,
+        groups: number_at(found, "groups", u64::from(u16::MAX), GROUPS_TAKES)? as u16,
+        seed: thirty_two_at(found, "seed", SEED_TAKES)?,
+        key: key_at(found, "key", KEY_TAKES)?,
+    })
+}
+
+// What the words of `serve` ask for.
+fn serving_of<'a>(found: &ArgMatches<'a>) -> Result<Serving<'a>, BadLine> {
+    Ok(Serving {
+        file: text_at(found, "file", FILE_TAKES)?,
+        port: number_at(found, "port", u64::from(u16::MAX), PORT_TAKES)? as u16,
+        connections: number_at(
+            found,
+            "connections",
+            u64::from(u32::MAX),
+            CONNECTIONS_TAKES,
+        )? as u32,
+    })
+}
+
+/// What the program's words ask for, its name first. Without others it is `once`.
+pub fn task_of<'a>(alloc: Global, words: &'a [String]) -> Result<Task<'a>, BadLine> {
+    let matches = whole_command(alloc)?.try_get_matches_from(words)?;
+    if let Some(found) = matches.subcommand_matches("make") {
+        return Ok(Task::Make(making_of(found)?));
+    }
+    if let Some(found) = matches.subcommand_matches("serve") {
+        return Ok(Task::Serve(serving_of(found)?));
+    }
+    Ok(Task::Once)
+}

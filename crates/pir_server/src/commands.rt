@@ -1,0 +1,71 @@
+//! The commands, and how each ends.
+
+use crate::command_line::{Making, Task, task_of};
+use crate::making::make;
+use crate::serving::serve_file;
+use command_words::{BadLine, Failure};
+use once_session::{OnceFault, once};
+use std::{env, io};
+
+/// The status of a bad command line.
+const BAD_LINE: u8 = 2;
+
+/// The most reads that `once` makes.
+const TURNS: u64 = 1_000_000;
+
+/// The program: reads its command line, does what it asks for, and answers the exit status.
+pub fn run(rt: &HostRuntime) -> u8 {
+    let mut words = Vec::new(rt.alloc());
+    let Ok(arguments) = env::args(rt) else {
+        let _ = eprintln!(rt; "error: the command line is not text");
+        return BAD_LINE;
+    };
+    for word in arguments {
+        if words.push(word).is_err() {
+            return BadLine::Memory.tell(rt);
+        }
+    }
+    let task = match task_of(rt.alloc(), &words) {
+        Ok(task) => task,
+        Err(bad) => return bad.tell(rt),
+    };
+    match done(rt, task) {
+        Ok(()) => 0,
+        Err(failure) => {
+            let _ = eprintln!(rt; "{failure}");
+            failure.status()
+        }
+    }
+}
+
+// Does what was asked for.
+fn done(rt: &HostRuntime, task: Task<'_>) -> Result<(), Failure> {
+    match task {
+        Task::Make(making) => make_file(rt, &making),
+        Task::Serve(serving) => serve_file(rt, &serving),
+        Task::Once => serve_once(rt),
+    }
+}
+
+// Makes a snapshot file, and tells how many records it has and its version.
+fn make_file(rt: &HostRuntime, making: &Making<'_>) -> Result<(), Failure> {
+    let count = make(rt, making)?;
+    match println!(rt; "made {count} 1") {
+        Ok(()) => Ok(()),
+        Err(_) => Err(Failure::Fault("Write")),
+    }
+}
+
+// Serves one database over standard input and output.
+fn serve_once(rt: &HostRuntime) -> Result<(), Failure> {
+    let mut reader = rt.reader();
+    let mut writer = io::writer(rt);
+    match once(rt.alloc(), &mut reader, &mut writer, TURNS) {
+        Ok(()) => Ok(()),
+        Err(OnceFault::BadInput) => Err(Failure::Fault("BadInput")),
+        Err(OnceFault::Read) => Err(Failure::Fault("Read")),
+        Err(OnceFault::Write) => Err(Failure::Fault("Write")),
+        Err(OnceFault::Memory) => Err(Failure::Memory),
+        Err(OnceFault::TurnsUsedUp) => Err(Failure::Fault("TurnsUsedUp")),
+    }
+}

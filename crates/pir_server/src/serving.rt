@@ -1,0 +1,116 @@
+//! The command `serve`.
+
+use crate::command_line::Serving;
+use crate::files::{store_of, write_file};
+use command_words::Failure;
+use engine_io::{piece_buffer, read_piece};
+use lane_kernels::Lanes;
+use server_core::ServerCore;
+use session_engines::{ServeFault, serve};
+use std::io;
+use std::net::{Ipv4Addr, Shutdown, TcpListener, TcpStream};
+use std::time::Duration;
+
+/// The most reads that one connection's session makes.
+const TURNS: u64 = 1_000_000;
+
+/// The most reads of what a peer sent behind the end of its session: those of one frame of the largest size.
+const DRAIN_READS: u32 = 257;
+
+/// How many milliseconds one of these reads waits at most.
+const DRAIN_WAIT: u64 = 100;
+
+/// The failure of a port or a connection that can't be opened.
+const NO_CONNECTION: Failure = Failure::Fault("Connect");
+
+/// Serves a snapshot file over connections, one after the other, and writes the file anew where a version was
+/// published.
+///
+/// # Errors
+///
+/// In this order: those of the file, the snapshot and the store, `Connect` where the port can't be listened
+/// on, and at the end `File` where the file can't be written. `Memory` where there was none. A connection that
+/// ends with a fault is told on standard error, and ends nothing else.
+pub fn serve_file(rt: &HostRuntime, serving: &Serving<'_>) -> Result<(), Failure> {
+    let store = store_of(rt, serving.file)?;
+    let opened = store.version();
+    let mut core = ServerCore::new(rt.alloc(), store);
+    let listener = listen(rt, serving.port)?;
+    for id in 0..serving.connections {
+        if let Err(fault) = serve_next(rt, &listener, &mut core, u64::from(id)) {
+            let name = fault_name(fault);
+            let _ = eprintln!(rt; "connection: {name}");
+        }
+    }
+    if core.store().version() == opened {
+        return Ok(());
+    }
+    match write_file(rt, serving.file, core.store()) {
+        Err(Failure::Fault(_)) => Err(Failure::Fault("File")),
+        other => other,
+    }
+}
+
+// Listens on a port of 127.0.0.1, and tells which one it is.
+fn listen(rt: &HostRuntime, port: u16) -> Result<TcpListener, Failure> {
+    let Ok(listener) = TcpListener::bind(rt, (Ipv4Addr::LOCALHOST, port)) else {
+        return Err(NO_CONNECTION);
+    };
+    let Ok(address) = listener.local_addr() else {
+        return Err(NO_CONNECTION);
+    };
+    let port = address.port();
+    match println!(rt; "listening {port}") {
+        Ok(()) => Ok(listener),
+        Err(_) => Err(Failure::Fault("Write")),
+    }
+}
+
+// Why a connection did not come to a good end; None where it was not accepted.
+type ConnectionFault = Option<ServeFault>;
+
+// Accepts the next connection, and serves its session.
+fn serve_next(
+    rt: &HostRuntime,
+    listener: &TcpListener,
+    core: &mut ServerCore<Lanes>,
+    id: u64,
+) -> Result<(), ConnectionFault> {
+    let Ok((stream, _)) = listener.accept() else {
+        return Err(None);
+    };
+    let ended = serve(rt.alloc(), core, id, &mut &stream, &mut &stream, TURNS);
+    // What is left of the connection can't change how its session ended.
+    let _ = drain(rt, &stream);
+    match ended {
+        Ok(_) => Ok(()),
+        Err(fault) => Err(Some(fault)),
+    }
+}
+
+// Ends the writing, and reads what the peer still sends, so that the last reply isn't lost with it.
+fn drain(rt: &HostRuntime, stream: &TcpStream) -> io::Result<()> {
+    stream.shutdown(Shutdown::Write)?;
+    stream.set_read_timeout(Some(Duration::from_millis(DRAIN_WAIT)))?;
+    let mut buffer = piece_buffer(rt.alloc())?;
+    let mut reader = stream;
+    for _ in 0..DRAIN_READS {
+        match read_piece(&mut reader, &mut buffer) {
+            Ok(0) | Err(_) => return Ok(()),
+            Ok(_) => {}
+        }
+    }
+    Ok(())
+}
+
+// The name that tells it.
+fn fault_name(fault: ConnectionFault) -> &'static str {
+    match fault {
+        None => "Connect",
+        Some(ServeFault::IdInUse) => "IdInUse",
+        Some(ServeFault::Read) => "Read",
+        Some(ServeFault::Write) => "Write",
+        Some(ServeFault::Memory) => "Memory",
+        Some(ServeFault::TurnsUsedUp) => "TurnsUsedUp",
+    }
+}

@@ -1,0 +1,88 @@
+-- The lines that a rehearsal prints.
+use Rattle.std.specs.Prelude.{ℕ, List, ◌++◌, ◌==◌, cond, codes, length}
+use Rattle.std.specs.Fmt.{decimal}
+use Rattle.hex.specs.Hex.{encode_lower}
+use Rattle.client_core.specs.declared.state.CallFault.{CallFault}
+use Rattle.client_core.specs.declared.state.CallFault.TheVariants as call
+use Rattle.client_core.specs.declared.state.ClientFault.{ClientFault}
+use Rattle.client_core.specs.declared.state.ClientFault.TheVariants as fault
+use Rattle.client_core.specs.declared.state.Event.{Event}
+use Rattle.client_core.specs.declared.state.Event.TheVariants as event
+use Rattle.version_store.specs.declared.scheme.Scheme.{Scheme}
+use Rattle.version_store.specs.declared.scheme.Scheme.TheVariants.{Simple, Double}
+use Rattle.version_store.specs.declared.store.EditError.{EditError}
+use Rattle.version_store.specs.declared.store.EditError.TheVariants as edit
+use Rattle.version_store.specs.declared.store.PublishError.{PublishError}
+use Rattle.version_store.specs.declared.store.PublishError.TheVariants as publish
+use Rattle.version_store.specs.declared.opening.OpenError.{OpenError}
+use Rattle.version_store.specs.declared.opening.OpenError.TheVariants as opening
+use Rattle.pir_world.specs.declared.steps.Outcome.{Outcome}
+use Rattle.pir_world.specs.declared.steps.Outcome.TheVariants.{Edited, EditRefused, Published, PublishRefused, Told, CallRefused, Failed}
+
+unfoldable pub scheme_name : Scheme → List ℕ
+scheme_name Simple = codes "simple"
+scheme_name Double = codes "double"
+
+unfoldable pub edit_fault_name : EditError → List ℕ
+edit_fault_name edit.BadIndex = codes "BadIndex"
+edit_fault_name edit.BadLength = codes "BadLength"
+edit_fault_name edit.Memory = codes "Memory"
+
+unfoldable pub publish_fault_name : PublishError → List ℕ
+publish_fault_name publish.NothingToPublish = codes "NothingToPublish"
+publish_fault_name publish.VersionsUsedUp = codes "VersionsUsedUp"
+publish_fault_name publish.Memory = codes "Memory"
+
+unfoldable pub call_fault_name : CallFault → List ℕ
+call_fault_name call.NotReady = codes "NotReady"
+call_fault_name call.Busy = codes "Busy"
+call_fault_name call.BadIndex = codes "BadIndex"
+call_fault_name call.SeedUsedUp = codes "SeedUsedUp"
+call_fault_name call.Memory = codes "Memory"
+call_fault_name call.Failed = codes "Failed"
+call_fault_name call.AlreadyWelcome = codes "AlreadyWelcome"
+
+unfoldable pub client_fault_name : ClientFault → List ℕ
+client_fault_name fault.BadWelcome = codes "BadWelcome"
+client_fault_name fault.BadReply = codes "BadReply"
+client_fault_name fault.Memory = codes "Memory"
+client_fault_name fault.Failed = codes "Failed"
+
+unfoldable pub open_fault_name : OpenError → List ℕ
+open_fault_name opening.BadLayout = codes "BadLayout"
+open_fault_name opening.BadVersion = codes "BadVersion"
+open_fault_name opening.BadRecords = codes "BadRecords"
+open_fault_name opening.Memory = codes "Memory"
+
+-- a record's bytes in hex, or a dash where there are none
+unfoldable pub shown_bytes : List ℕ → List ℕ
+shown_bytes bytes = cond (length bytes == 0) (codes "-") (encode_lower bytes)
+
+-- a line about a client
+abbrev pub about_client : ℕ → List ℕ → List ℕ
+about_client client text = codes "client " ++ (decimal client ++ text)
+
+abbrev pub retrieved_text : ℕ → ℕ → ℕ → List ℕ → List ℕ
+retrieved_text client index version shown =
+    about_client client (codes ": retrieved " ++ (decimal index ++ (codes " " ++ (decimal version ++ (codes " " ++ (shown ++ codes "\n"))))))
+
+abbrev pub event_text : ℕ → Event → List ℕ
+event_text client (event.Welcomed version) = about_client client (codes ": welcomed " ++ (decimal version ++ codes "\n"))
+event_text client (event.Synced scheme version) = about_client client (codes ": synced " ++ (scheme_name scheme ++ (codes " " ++ (decimal version ++ codes "\n"))))
+event_text client (event.Retrieved index version bytes) = retrieved_text client index version (shown_bytes bytes)
+event_text client (event.Unreadable index version) = about_client client (codes ": unreadable " ++ (decimal index ++ (codes " " ++ (decimal version ++ codes "\n"))))
+event_text client (event.Stale version) = about_client client (codes ": stale " ++ (decimal version ++ codes "\n"))
+event_text client (event.Done version) = about_client client (codes ": done " ++ (decimal version ++ codes "\n"))
+event_text client (event.Refused code) = about_client client (codes ": server refused " ++ (decimal code ++ codes "\n"))
+
+abbrev pub call_refused_text : ℕ → List ℕ → List ℕ
+call_refused_text client name = about_client client (codes ": call refused " ++ (name ++ codes "\n"))
+
+abbrev pub outcome_text : Outcome → List ℕ
+outcome_text (Edited index) = codes "edit " ++ (decimal index ++ codes ": accepted\n")
+outcome_text (EditRefused index e) = codes "edit " ++ (decimal index ++ (codes ": refused " ++ (edit_fault_name e ++ codes "\n")))
+outcome_text (Published version) = codes "publish: version " ++ (decimal version ++ codes "\n")
+outcome_text (PublishRefused e) = codes "publish: refused " ++ (publish_fault_name e ++ codes "\n")
+outcome_text (Told client e) = event_text client e
+outcome_text (CallRefused client e) = call_refused_text client (call_fault_name e)
+outcome_text (Failed client e) = about_client client (codes ": failed " ++ (client_fault_name e ++ codes "\n"))

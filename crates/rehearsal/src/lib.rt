@@ -1,0 +1,22 @@
+//! Rehearsals: a script of steps on a world of one publisher, one server and its clients, and what comes of
+//! them, line by line.
+//!
+//! A script says in its header what the world is opened with, and then the steps, one a line. Each line is
+//! read and played before the next one is looked at, and what comes of it is printed at once.
+#![tactic(auto)]
+
+mod input;
+mod line;
+mod number;
+mod outcome;
+mod play;
+mod stage;
+mod stop;
+
+pub use input::SCRIPT_LIMIT;
+pub use number::number_of_text;
+pub use outcome::outcome_line;
+pub use play::{RehearseFault, rehearse};
+
+#[cfg(test)]
+mod tests;

@@ -1,0 +1,166 @@
+//! What is printed.
+
+ghost use Rattle.std.specs.Prelude.{◌≡◌, IfOk};
+ghost use Rattle.std.specs.String.{string_bytes};
+ghost use Rattle.rehearsal.specs.Texts.{outcome_text, call_fault_name, call_refused_text, client_fault_name, edit_fault_name, event_text, open_fault_name, publish_fault_name, retrieved_text, scheme_name, shown_bytes};
+
+use client_core::{CallFault, ClientFault, Event, Scheme};
+use pir_world::Outcome;
+use std::alloc::{AllocError, Global};
+use version_store::{EditError, OpenError, PublishError};
+
+/// The line that tells an outcome, with its end.
+pub fn outcome_line(alloc: Global, outcome: &Outcome) -> Result<String, AllocError>
+    ensures { IfOk result (λ line. string_bytes line ≡ outcome_text outcome.now) }
+{
+    match outcome {
+        Outcome::Edited { index } => format!(in alloc; "edit {index}: accepted\n"),
+        Outcome::EditRefused { index, fault } => {
+            let name = edit_fault_name(*fault);
+            format!(in alloc; "edit {index}: refused {name}\n")
+        }
+        Outcome::Published { version } => format!(in alloc; "publish: version {version}\n"),
+        Outcome::PublishRefused { fault } => {
+            let name = publish_fault_name(*fault);
+            format!(in alloc; "publish: refused {name}\n")
+        }
+        Outcome::Told { client, event } => event_line(alloc, *client, event),
+        Outcome::CallRefused { client, fault } => {
+            call_refused_line(alloc, *client, call_fault_name(*fault))
+        }
+        Outcome::Failed { client, fault } => {
+            let name = client_fault_name(*fault);
+            format!(in alloc; "client {client}: failed {name}\n")
+        }
+    }
+}
+
+/// The line that tells a refused call.
+fn call_refused_line(alloc: Global, client: usize, name: &str) -> Result<String, AllocError>
+    ensures { IfOk result (λ line. string_bytes line ≡ call_refused_text client name.now) }
+{
+    format!(in alloc; "client {client}: call refused {name}\n")
+}
+
+/// The line that tells a client's event.
+fn event_line(alloc: Global, client: usize, event: &Event) -> Result<String, AllocError>
+    ensures { IfOk result (λ line. string_bytes line ≡ event_text client event.now) }
+{
+    match event {
+        Event::Welcomed(version) => format!(in alloc; "client {client}: welcomed {version}\n"),
+        Event::Synced(scheme, version) => {
+            let scheme = scheme_name(*scheme);
+            format!(in alloc; "client {client}: synced {scheme} {version}\n")
+        }
+        Event::Retrieved {
+            index,
+            version,
+            bytes,
+        } => {
+            let shown = shown_bytes(alloc, bytes.as_slice())?;
+            retrieved_line(alloc, client, *index, *version, shown.as_str())
+        }
+        Event::Unreadable { index, version } => {
+            format!(in alloc; "client {client}: unreadable {index} {version}\n")
+        }
+        Event::Stale(version) => format!(in alloc; "client {client}: stale {version}\n"),
+        Event::Done(version) => format!(in alloc; "client {client}: done {version}\n"),
+        Event::Refused(code) => format!(in alloc; "client {client}: server refused {code}\n"),
+    }
+}
+
+/// The line that tells a record.
+fn retrieved_line(
+    alloc: Global,
+    client: usize,
+    index: u32,
+    version: u64,
+    shown: &str,
+) -> Result<String, AllocError>
+    ensures { IfOk result (λ line. string_bytes line ≡ retrieved_text client index version shown.now) }
+{
+    format!(in alloc; "client {client}: retrieved {index} {version} {shown}\n")
+}
+
+/// A record's bytes in hex, or a dash where there are none.
+#[tactic(auto, unfolding(crate::specs::Texts::shown_bytes))]
+fn shown_bytes(alloc: Global, bytes: &[u8]) -> Result<String, AllocError>
+    ensures { IfOk result (λ text. string_bytes text ≡ shown_bytes bytes.now) }
+{
+    if bytes.is_empty() {
+        return String::from_str(alloc, "-");
+    }
+    hex::encode(alloc, bytes)
+}
+
+#[tactic(auto, unfolding(crate::specs::Texts::scheme_name))]
+fn scheme_name(scheme: Scheme) -> &'static str
+    ensures { result.now ≡ scheme_name scheme }
+{
+    match scheme {
+        Scheme::Simple => "simple",
+        Scheme::Double => "double",
+    }
+}
+
+#[tactic(auto, unfolding(crate::specs::Texts::edit_fault_name))]
+fn edit_fault_name(fault: EditError) -> &'static str
+    ensures { result.now ≡ edit_fault_name fault }
+{
+    match fault {
+        EditError::BadIndex => "BadIndex",
+        EditError::BadLength => "BadLength",
+        EditError::Memory => "Memory",
+    }
+}
+
+#[tactic(auto, unfolding(crate::specs::Texts::publish_fault_name))]
+fn publish_fault_name(fault: PublishError) -> &'static str
+    ensures { result.now ≡ publish_fault_name fault }
+{
+    match fault {
+        PublishError::NothingToPublish => "NothingToPublish",
+        PublishError::VersionsUsedUp => "VersionsUsedUp",
+        PublishError::Memory => "Memory",
+    }
+}
+
+#[tactic(auto, unfolding(crate::specs::Texts::call_fault_name))]
+fn call_fault_name(fault: CallFault) -> &'static str
+    ensures { result.now ≡ call_fault_name fault }
+{
+    match fault {
+        CallFault::NotReady => "NotReady",
+        CallFault::Busy => "Busy",
+        CallFault::BadIndex => "BadIndex",
+        CallFault::SeedUsedUp => "SeedUsedUp",
+        CallFault::Memory => "Memory",
+        CallFault::Failed => "Failed",
+        CallFault::AlreadyWelcome => "AlreadyWelcome",
+    }
+}
+
+#[tactic(auto, unfolding(crate::specs::Texts::client_fault_name))]
+fn client_fault_name(fault: ClientFault) -> &'static str
+    ensures { result.now ≡ client_fault_name fault }
+{
+    match fault {
+        ClientFault::BadWelcome => "BadWelcome",
+        ClientFault::BadReply => "BadReply",
+        ClientFault::Memory => "Memory",
+        ClientFault::Failed => "Failed",
+    }
+}
+
+/// Why a world can't be opened.
+#[tactic(auto, unfolding(crate::specs::Texts::open_fault_name))]
+pub fn open_fault_name(fault: OpenError) -> &'static str
+    ensures { result.now ≡ open_fault_name fault }
+{
+    match fault {
+        OpenError::BadLayout => "BadLayout",
+        OpenError::BadVersion => "BadVersion",
+        OpenError::BadRecords => "BadRecords",
+        OpenError::Memory => "Memory",
+    }
+}

@@ -1,0 +1,34 @@
+//! Why a rehearsal ends before its script does.
+
+use std::alloc::AllocError;
+use thiserror::Error;
+use version_store::OpenError;
+
+/// Why a rehearsal ends before its script does.
+#[derive(Clone, Copy, Debug, PartialEq, Eq, Error)]
+pub enum Stop {
+    /// A read failed.
+    #[error("a read failed")]
+    Read,
+    /// A write failed, or took no byte.
+    #[error("a write failed")]
+    Write,
+    /// The script has more bytes than a script may have.
+    #[error("the script is too long")]
+    TooLong,
+    /// A line, counted from 1, doesn't fit its place.
+    #[error("line {number} is bad")]
+    BadLine { number: u64 },
+    /// The world can't be opened.
+    #[error("the world is refused")]
+    World(OpenError),
+    /// Memory was refused.
+    #[error("out of memory")]
+    Memory,
+}
+
+impl From<AllocError> for Stop {
+    fn from(_: AllocError) -> Stop {
+        Stop::Memory
+    }
+}

@@ -1,0 +1,4 @@
+pub mod Streams
+pub mod Sessions
+pub mod Clients
+pub mod Conversations

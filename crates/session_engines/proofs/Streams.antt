@@ -1,0 +1,54 @@
+-- Two pieces of a stream are one.
+use Rattle.std.proofs.Common.{◌≡◌, ◌≢◌, ◌<◌, ◌≤◌, ◌+◌, ◌*◌, min, suc, ℕ, List, [], ◌∷◌, ◌++◌, length, take, drop, Option, Some, None, Result, Ok, Err, refl, sym, ap, subst, ◌∙◌, append_assoc, arith}
+use Rattle.std.specs.List.{AllByRecursion}
+use Rattle.std.proofs.lemmas.List.{take-append-drop, length-drop, length-append, length-take}
+use Rattle.frame_codec.specs.declared.frame.Frame.{Frame}
+use Rattle.frame_codec.specs.declared.reader.ReadFault.{ReadFault}
+use Rattle.frame_codec.specs.declared.reader.ReadFault.TheVariants.{Failed}
+use Rattle.frame_codec.specs.Frames.{IsFrame}
+use Rattle.frame_codec.specs.Streams.{Feeds}
+use Rattle.frame_codec.proofs.Runs.{begins_ahead, reads_on, stops_on}
+use Rattle.session_engines.specs.Fronts.{IsCutOff}
+
+-- frames that are all frames, and others
+pub each_both : (fs gs : List Frame) → AllByRecursion IsFrame fs → AllByRecursion IsFrame gs → AllByRecursion IsFrame (fs ++ gs)
+each_both [] gs all others = others
+each_both (f ∷ fs) gs all others = (all.0, each_both fs gs all.1 others)
+
+-- the first of both, where the first of them are whole
+pub take_both : {X : Type 0} (n : ℕ) (xs ys : List X) → take (length xs + n) (xs ++ ys) ≡ xs ++ take n ys
+take_both n [] ys = ap (λ k. take k ys) (omega arith)
+take_both n (x ∷ xs) ys =
+    let e : length (x ∷ xs) + n ≡ suc (length xs + n) = omega arith in
+    ap (λ k. take k (x ∷ xs ++ ys)) e ∙ ap (λ t. x ∷ t) (take_both n xs ys)
+
+-- a reader that is fed two pieces, the first without a fault, is fed both at once
+pub feeds_both : (old : Option (List ℕ)) (p q : List ℕ) (answer : Result (Unit {0}) ReadFault) (fs gs : List Frame) (mid new : Option (List ℕ)) → Feeds old p (Ok tt) fs mid → Feeds mid q answer gs new → Feeds old (p ++ q) answer (fs ++ gs) new
+feeds_both None p q answer fs gs mid new a b = let no : Ok tt ≡ Err Failed = a.0 in absurd cc
+feeds_both (Some o) p q (Ok d) fs gs mid new a b =
+    let second : Feeds (Some a.0) q (Ok d) gs new = subst (λ (m : Option (List ℕ)). Feeds m q (Ok d) gs new) a.2 b in
+    (second.0, rw (sym (append_assoc o p q)) (reads_on ((o ++ p) ++ q) fs gs (a.0 ++ q) second.0 (begins_ahead (o ++ p) fs a.0 q a.1.begins) second.1), second.2)
+feeds_both (Some o) p q (Err fault) fs gs mid new a b =
+    let second : Feeds (Some a.0) q (Err fault) gs new = subst (λ (m : Option (List ℕ)). Feeds m q (Err fault) gs new) a.2 b in
+    (rw (sym (append_assoc o p q)) (stops_on ((o ++ p) ++ q) fs gs (a.0 ++ q) fault (begins_ahead (o ++ p) fs a.0 q a.1.begins) second.0), second.1)
+
+-- what was cut off of the second part of what was owed was cut off of all
+pub cut_behind : (a b c : List ℕ) → IsCutOff b c → IsCutOff (a ++ b) (a ++ c)
+cut_behind a b c f = (f.0, ap (λ (x : List ℕ). a ++ x) f.1 ∙ sym (append_assoc a b f.0), f.2)
+
+pub cut_taken : (n : ℕ) (xs : List ℕ) → n < length xs → IsCutOff (take n xs) xs
+cut_taken n xs lt = (drop n xs, sym (take-append-drop n xs), omega (arith, length-drop n xs))
+
+-- ---- how many bytes so many reads give
+
+-- none of them gives more than a piece
+pub piece_most : (read buffer : List ℕ) (n turn turns : ℕ) → length read ≤ 65536 * turn → turn < turns → length buffer ≡ 65536 → length (read ++ take n buffer) ≤ 65536 * turns
+piece_most read buffer n turn turns most lt room =
+    omega (arith, length-append read (take n buffer), length-take n buffer, room, most, lt)
+
+-- and each gives one at least, but at the end
+pub piece_least : (read buffer : List ℕ) (n turn : ℕ) → turn ≤ length read → n ≢ 0 → n ≤ length buffer → turn + 1 ≤ length (read ++ take n buffer)
+piece_least read buffer n turn least some within = omega (arith, length-append read (take n buffer), length-take n buffer, least, some, within)
+
+pub whole_most : (read : List ℕ) (turn turns : ℕ) → length read ≤ 65536 * turn → turn ≤ turns → length read ≤ 65536 * turns
+whole_most read turn turns most le = omega (arith, most, le)

@@ -1,0 +1,147 @@
+//! The server's side.
+
+ghost use Rattle.std.specs.Prelude.{◌≡◌, ◌≢◌, ◌≤◌, ◌<◌, ◌*◌, ◌↔◌, ℕ, List, length, IsErrOf, IsSome, Some, None, Err};
+ghost use Rattle.std.specs.Io.KnownBytes.{Appends, Consumes};
+ghost use Rattle.version_store.specs.Histories.{History, StandsFor};
+ghost use Rattle.server_core.specs.Cores.{session_of};
+ghost use Rattle.server_core.specs.Serving.{setting_of};
+ghost use Rattle.server_core.specs.Sessions.{Session, new_session};
+ghost use Rattle.session_engines.specs.Serving.{ServesPiece, ServesStream};
+
+use engine_io::{piece_buffer, read_piece, write_out};
+use matrix_u32::Kernel;
+use server_core::{FeedError, OpenError, ServerCore};
+use std::alloc::Global;
+use std::io::{Read, Write};
+use thiserror::Error;
+
+/// How a session came to its end.
+#[derive(Clone, Copy, Debug, PartialEq, Eq)]
+pub enum Ending {
+    /// A frame or what could not be read closed it: nothing behind the piece was read.
+    Closed,
+    /// The input ended, and the session was open until then.
+    EndOfInput,
+}
+
+/// Why a session was not served to its end.
+#[derive(Clone, Copy, Debug, PartialEq, Eq, Error)]
+pub enum ServeFault {
+    /// There is a session of this number.
+    #[error("there is a session of this number")]
+    IdInUse,
+    /// A read failed.
+    #[error("a read failed")]
+    Read,
+    /// A write failed, or took no byte.
+    #[error("a write failed")]
+    Write,
+    /// There was no memory.
+    #[error("out of memory")]
+    Memory,
+    /// All turns were used before the session came to its end.
+    #[error("all turns are used up")]
+    TurnsUsedUp,
+}
+
+// Gives the session a piece, and writes what it is replied, also where there was no memory for all of it.
+fn serve_piece<K: Kernel, W: Write>(
+    core: &mut ServerCore<K>,
+    id: u64,
+    piece: &[u8],
+    out: &mut Vec<u8>,
+    writer: &mut W,
+) -> Result<(), ServeFault>
+    ensures served { (bytes : List ℕ) × Appends (W.contents writer.old) (W.contents writer.new) bytes
+        × ((h : History) → StandsFor core.old.store h → (old : Session) → session_of core.old.sessions id ≡ Some old →
+        ServesPiece (setting_of core.old.store) h old piece.now result core.new.store (session_of core.new.sessions id) bytes) }
+    ensures opened { result ≢ Err ServeFault.IdInUse }
+    ensures others { (other : ℕ) → other ≢ id → session_of core.new.sessions other ≡ session_of core.old.sessions other }
+{
+    out.clear();
+    let fed = core.feed(id, piece, out);
+    let Ok(()) = write_out(writer, out) else {
+        return Err(ServeFault::Write);
+    };
+    match fed {
+        Ok(()) => Ok(()),
+        Err(FeedError::Memory | FeedError::NoSession) => Err(ServeFault::Memory),
+    }
+}
+
+// Serves a session that was opened just now, until it is closed or the input ends.
+fn serve_opened<K: Kernel, R: Read, W: Write>(
+    alloc: Global,
+    core: &mut ServerCore<K>,
+    id: u64,
+    reader: &mut R,
+    writer: &mut W,
+    turns: u64,
+) -> Result<Ending, ServeFault>
+    requires { session_of core.old.sessions id ≡ Some new_session }
+    ensures served { (read : List ℕ) × (out : List ℕ) × Consumes (R.remaining reader.old) (R.remaining reader.new) read
+        × Appends (W.contents writer.old) (W.contents writer.new) out × (length read ≤ 65536 * turns)
+        × ((h : History) → StandsFor core.old.store h → ServesStream (setting_of core.old.store) h turns result read out (R.remaining reader.new) core.new.store) }
+    ensures opened { result ≢ Err ServeFault.IdInUse }
+    ensures others { (other : ℕ) → other ≢ id → session_of core.new.sessions other ≡ session_of core.old.sessions other }
+{
+    let Ok(mut buffer) = piece_buffer(alloc) else {
+        return Err(ServeFault::Memory);
+    };
+    let mut out = Vec::new(alloc);
+    'turns: for _ in 0..turns {
+        let Ok(n) = read_piece(reader, &mut buffer) else {
+            return Err(ServeFault::Read);
+        };
+        if n == 0 {
+            return Ok(Ending::EndOfInput);
+        }
+        if let Err(fault) = serve_piece(core, id, &buffer[..n], &mut out, writer) {
+            return Err(fault);
+        }
+        if !core.is_open(id) {
+            return Ok(Ending::Closed);
+        }
+    }
+    Err(ServeFault::TurnsUsedUp)
+}
+
+/// Opens session `id`, serves it from a reader to a writer in at most `turns` reads of at most 65,536 bytes
+/// each, and takes it away at the end, whatever happened. The replies to each piece are written before the
+/// next is read, and no other session changes.
+///
+/// `Closed` in the turn whose piece closed the session, without another read; `EndOfInput` where the reader
+/// has no more. At both, exactly the replies to what was read were written.
+///
+/// # Errors
+///
+/// `IdInUse` exactly where there was a session of this number: it is left alone, and nothing is read.
+/// `Read` where a read failed, and `TurnsUsedUp` where the session was open after all turns: the replies to
+/// what was read were written. `Write` where a write failed or took no byte: a part of the replies was
+/// written, from their start on. `Memory` where there was none for the session or for a reply: the replies
+/// before it were written. A turn's faults come in the order `Read`, `Write`, `Memory`.
+pub fn serve<K: Kernel, R: Read, W: Write>(
+    alloc: Global,
+    core: &mut ServerCore<K>,
+    id: u64,
+    reader: &mut R,
+    writer: &mut W,
+    turns: u64,
+) -> Result<Ending, ServeFault>
+    ensures served { (read : List ℕ) × (out : List ℕ) × Consumes (R.remaining reader.old) (R.remaining reader.new) read
+        × Appends (W.contents writer.old) (W.contents writer.new) out × (length read ≤ 65536 * turns)
+        × ((h : History) → StandsFor core.old.store h → ServesStream (setting_of core.old.store) h turns result read out (R.remaining reader.new) core.new.store) }
+    ensures in_use { IsErrOf result ServeFault.IdInUse ↔ IsSome (session_of core.old.sessions id) }
+    ensures unchanged { IsErrOf result ServeFault.IdInUse → core.new ≡ core.old }
+    ensures closed { session_of core.old.sessions id ≡ None → session_of core.new.sessions id ≡ None }
+    ensures others { (other : ℕ) → other ≢ id → session_of core.new.sessions other ≡ session_of core.old.sessions other }
+{
+    match core.open_session(id) {
+        Ok(()) => {}
+        Err(OpenError::IdInUse) => return Err(ServeFault::IdInUse),
+        Err(OpenError::Memory) => return Err(ServeFault::Memory),
+    }
+    let ended = serve_opened(alloc, core, id, reader, writer, turns);
+    core.close_session(id);
+    ended
+}

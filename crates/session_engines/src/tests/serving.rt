@@ -1,0 +1,191 @@
+//! The server's side.
+
+use super::*;
+use crate::{Ending, ServeFault, serve};
+
+// Serves the parts as session 0, whole and a few bytes at a time, and compares what was said and how it ended.
+fn check(
+    rt: &impl Abort,
+    alloc: Global,
+    parts: &[&[u8]],
+    said: &[&[u8]],
+    ended: Result<Ending, ServeFault>,
+) -> Result<(), Fail> {
+    let bytes = joined(alloc, parts)?;
+    let wanted = joined(alloc, said)?;
+    for most in [1, 7, PIECE] {
+        let mut server = server(rt, alloc)?;
+        let mut reader = Input {
+            bytes: &bytes,
+            most,
+            fails: false,
+        };
+        let mut writer = Output {
+            bytes: Vec::new(alloc),
+            room: PIECE,
+            fails: false,
+        };
+        let result = serve(alloc, &mut server, 0, &mut reader, &mut writer, TURNS);
+        assert_eq!(rt; result, ended, "{most} bytes a read");
+        assert_eq!(rt;
+            writer.bytes.as_slice(),
+            wanted.as_slice(),
+            "{most} bytes a read"
+        );
+        assert_eq!(rt; server.has_session(0), false, "{most} bytes a read");
+    }
+    Ok(())
+}
+
+#[test]
+fn a_greeting_is_answered_and_a_bye_closes(rt: HostRuntime) -> Result<(), Fail> {
+    check(
+        &rt,
+        rt.alloc(),
+        &[GREETING, &ZEROS, BYE],
+        &[WELCOME, &ZEROS],
+        Ok(Ending::Closed),
+    )
+}
+
+#[test]
+fn the_input_may_end_anywhere(rt: HostRuntime) -> Result<(), Fail> {
+    check(&rt, rt.alloc(), &[], &[], Ok(Ending::EndOfInput))?;
+    check(
+        &rt,
+        rt.alloc(),
+        &[GREETING, &ZEROS, HINT_ASK, &HINT_ASK[..17]],
+        &[WELCOME, &ZEROS, HINT_PART],
+        Ok(Ending::EndOfInput),
+    )
+}
+
+#[test]
+fn what_can_not_be_read_closes(rt: HostRuntime) -> Result<(), Fail> {
+    let faults: [&[u8]; 3] = [&[1, 0, 0, 1], &[0, 0, 0, 0, 0x7f], DONE];
+    for fault in faults {
+        check(
+            &rt,
+            rt.alloc(),
+            &[GREETING, &ZEROS, fault],
+            &[WELCOME, &ZEROS, REFUSED],
+            Ok(Ending::Closed),
+        )?;
+    }
+    Ok(())
+}
+
+#[test]
+fn nothing_is_read_behind_the_piece_that_closes(rt: HostRuntime) -> Result<(), Fail> {
+    let mut server = server(&rt, rt.alloc())?;
+    let mut reader = Input {
+        bytes: BYE,
+        most: PIECE,
+        fails: true,
+    };
+    let mut writer = Vec::new(rt.alloc());
+    let result = serve(rt.alloc(), &mut server, 0, &mut reader, &mut writer, 1);
+    assert_eq!(rt; result, Ok(Ending::Closed));
+    Ok(())
+}
+
+#[test]
+fn a_reader_that_fails(rt: HostRuntime) -> Result<(), Fail> {
+    let greeting = joined(rt.alloc(), &[GREETING, &ZEROS])?;
+    let welcome = joined(rt.alloc(), &[WELCOME, &ZEROS])?;
+    let cases: [(&[u8], &[u8]); 3] = [
+        (&[], &[]),
+        (greeting.as_slice(), welcome.as_slice()),
+        (greeting.get(..38).unwrap_or(&[]), &[]),
+    ];
+    for (input, said) in cases {
+        let mut server = server(&rt, rt.alloc())?;
+        let mut reader = Input {
+            bytes: input,
+            most: 5,
+            fails: true,
+        };
+        let mut writer = Vec::new(rt.alloc());
+        let result = serve(rt.alloc(), &mut server, 0, &mut reader, &mut writer, TURNS);
+        assert_eq!(rt; result, Err(ServeFault::Read));
+        assert_eq!(rt; writer.as_slice(), said);
+        assert_eq!(rt; server.has_session(0), false);
+    }
+    Ok(())
+}
+
+#[test]
+fn all_turns_are_used_up(rt: HostRuntime) -> Result<(), Fail> {
+    let bytes = joined(rt.alloc(), &[GREETING, &ZEROS, HINT_ASK])?;
+    let welcome = joined(rt.alloc(), &[WELCOME, &ZEROS])?;
+    for (turns, said) in [(0, &[][..]), (38, &[][..]), (39, welcome.as_slice())] {
+        let mut server = server(&rt, rt.alloc())?;
+        let mut reader = Input {
+            bytes: &bytes,
+            most: 1,
+            fails: false,
+        };
+        let mut writer = Vec::new(rt.alloc());
+        let result = serve(rt.alloc(), &mut server, 0, &mut reader, &mut writer, turns);
+        assert_eq!(rt; result, Err(ServeFault::TurnsUsedUp), "{turns}");
+        assert_eq!(rt; writer.as_slice(), said, "{turns}");
+        assert_eq!(rt;
+            reader.bytes.len() as u64 + turns,
+            bytes.len() as u64,
+            "{turns}"
+        );
+        assert_eq!(rt; server.has_session(0), false, "{turns}");
+    }
+    Ok(())
+}
+
+#[test]
+fn a_writer_that_fails_leaves_the_edit_accepted(rt: HostRuntime) -> Result<(), Fail> {
+    let input = joined(rt.alloc(), &[GREETING, &ONES, EDIT])?;
+    let said = joined(rt.alloc(), &[WELCOME, &ZEROS, &DONE[..2]])?;
+    for fails in [false, true] {
+        let mut server = server(&rt, rt.alloc())?;
+        let mut reader = input.as_slice();
+        let mut writer = Output {
+            bytes: Vec::new(rt.alloc()),
+            room: 60,
+            fails,
+        };
+        let result = serve(rt.alloc(), &mut server, 7, &mut reader, &mut writer, TURNS);
+        assert_eq!(rt; result, Err(ServeFault::Write));
+        assert_eq!(rt; writer.bytes.as_slice(), said.as_slice());
+        assert_eq!(rt; server.has_session(7), false);
+        assert_eq!(rt; server.publish(), Ok(2));
+    }
+    Ok(())
+}
+
+#[test]
+fn a_writer_that_takes_nothing(rt: HostRuntime) -> Result<(), Fail> {
+    let input = joined(rt.alloc(), &[GREETING, &ZEROS])?;
+    let mut server = server(&rt, rt.alloc())?;
+    let mut reader = input.as_slice();
+    let mut writer = Output {
+        bytes: Vec::new(rt.alloc()),
+        room: 0,
+        fails: false,
+    };
+    let result = serve(rt.alloc(), &mut server, 0, &mut reader, &mut writer, TURNS);
+    assert_eq!(rt; result, Err(ServeFault::Write));
+    Ok(())
+}
+
+#[test]
+fn a_session_of_this_number_is_left_alone(rt: HostRuntime) -> Result<(), Fail> {
+    for turns in [0, TURNS] {
+        let mut server = server(&rt, rt.alloc())?;
+        server.open_session(3)?;
+        let mut reader = BYE;
+        let mut writer = Vec::new(rt.alloc());
+        let result = serve(rt.alloc(), &mut server, 3, &mut reader, &mut writer, turns);
+        assert_eq!(rt; result, Err(ServeFault::IdInUse));
+        assert_eq!(rt; reader, BYE);
+        assert_eq!(rt; server.is_open(3), true);
+    }
+    Ok(())
+}
