@@ -50,6 +50,8 @@ pub enum Task {
         port: u16,
         key: [u8; 32],
     },
+    /// A script of a world on standard input.
+    Rehearse,
 }
 
 // The command `get`.
@@ -113,15 +115,27 @@ fn publish_command<'a>(alloc: Global) -> Result<Command<'a>, AllocError> {
 const PUBLISH_EXAMPLE: &str =
     "Prints 'published VERSION', VERSION being the new one.\n\nExample: pir_client publish --port 7000 --key 0101010101010101010101010101010101010101010101010101010101010101";
 
+// The command `rehearse`.
+fn rehearse_command<'a>(alloc: Global) -> Command<'a> {
+    Command::new(alloc, "rehearse")
+        .about(
+            "Plays a script of a publisher, a server and its clients in this process (the default)",
+        )
+        .after_help(REHEARSE_EXAMPLE)
+}
+
+const REHEARSE_EXAMPLE: &str =
+    "Reads the script from standard input and prints what comes of each line.\n\nExample: pir_client rehearse < script";
+
 // The whole command line.
 fn whole_command<'a>(alloc: Global) -> Result<Command<'a>, AllocError> {
     Command::new(alloc, "pir_client")
         .about("A client of one pir_server on this machine")
         .after_help(EXIT_STATUSES)
-        .subcommand_required(true)
         .subcommand(get_command(alloc)?)?
         .subcommand(put_command(alloc)?)?
-        .subcommand(publish_command(alloc)?)
+        .subcommand(publish_command(alloc)?)?
+        .subcommand(rehearse_command(alloc))
 }
 
 const EXIT_STATUSES: &str =
@@ -189,6 +203,6 @@ pub fn task_of<'a>(alloc: Global, words: &'a [String]) -> Result<Task, BadLine>
     }
     match matches.subcommand_matches("publish") {
         Some(found) => publish_task(found),
-        None => Err(BadLine::Value("a command is wanted: get, put or publish")),
+        None => Ok(Task::Rehearse),
     }
 }

@@ -8,6 +8,7 @@ use client_commands::{get, publish, put};
 use client_core::{ClientCore, Scheme};
 use command_words::{BadLine, Failure};
 use lane_kernels::Lanes;
+use rehearsal::{RehearseFault, rehearse};
 use std::net::{Ipv4Addr, TcpStream};
 use std::{env, io};
 
@@ -31,7 +32,7 @@ pub fn run(rt: &HostRuntime) -> u8 {
         Err(bad) => return bad.tell(rt),
     };
     match done(rt, task) {
-        Ok(()) => 0,
+        Ok(status) => status,
         Err(failure) => {
             let _ = eprintln!(rt; "{failure}");
             failure.status()
@@ -39,8 +40,8 @@ pub fn run(rt: &HostRuntime) -> u8 {
     }
 }
 
-// Does what was asked for, and prints what came of it.
-fn done(rt: &HostRuntime, task: Task) -> Result<(), Failure>
+// Does what was asked for, prints what came of it, and answers the exit status.
+fn done(rt: &HostRuntime, task: Task) -> Result<u8, Failure>
     requires { TaskFits task }
 {
     match task {
@@ -50,14 +51,25 @@ fn done(rt: &HostRuntime, task: Task) -> Result<(), Failure>
             number,
             scheme,
             index,
-        } => get_record(rt, port, seed, number, scheme, index),
+        } => get_record(rt, port, seed, number, scheme, index)?,
         Task::Put {
             port,
             key,
             index,
             bytes,
-        } => put_record(rt, port, key, index, &bytes),
-        Task::Publish { port, key } => publish_draft(rt, port, key),
+        } => put_record(rt, port, key, index, &bytes)?,
+        Task::Publish { port, key } => publish_draft(rt, port, key)?,
+        Task::Rehearse => return rehearsed(rt),
+    }
+    Ok(0)
+}
+
+// Plays the script on standard input.
+fn rehearsed(rt: &HostRuntime) -> Result<u8, Failure> {
+    match rehearse(rt.alloc(), &mut rt.reader(), &mut io::writer(rt)) {
+        Ok(status) => Ok(status),
+        Err(RehearseFault::Read) => Err(Failure::Fault("Read")),
+        Err(RehearseFault::Write) => Err(Failure::Fault("Write")),
     }
 }
 
