@@ -1,13 +1,16 @@
 //! Scripts of steps, and what comes of them.
 
 use crate::{Outcome, Step, StepFault, World};
-use client_core::{Event, Scheme};
+use client_core::{CallFault, ClientCore, Event, Scheme};
 use frame_codec::Bytes;
 use matrix_u32::Plain;
+use server_core::ServerCore;
 use std::alloc::Global;
 use std::process::Abort;
 use std::test::Fail;
-use version_store::{OpenError, Snapshot};
+use version_store::{OpenError, Snapshot, Store};
+
+mod by_hand;
 
 /// A store of records of one byte.
 #[derive(Clone, Copy)]

@@ -1,0 +1,201 @@
+//! A world beside its cores, driven by hand.
+
+use super::*;
+
+/// A step of the one client, or of the publisher.
+#[derive(Clone, Copy)]
+enum Move {
+    Hello,
+    Sync,
+    Ask(u32),
+    Up(usize),
+    Down(usize),
+    Edit(u32, u8),
+    Publish,
+}
+
+/// A query is cut by a publication, the hint is asked for anew, and calls are made out of turn.
+const SCRIPT: &[Move] = &[
+    Move::Ask(0),
+    Move::Hello,
+    Move::Sync,
+    Move::Up(20),
+    Move::Up(ALL),
+    Move::Down(3),
+    Move::Down(ALL),
+    Move::Hello,
+    Move::Sync,
+    Move::Up(ALL),
+    Move::Down(ALL),
+    Move::Ask(2),
+    Move::Ask(1),
+    Move::Ask(1),
+    Move::Up(11),
+    Move::Publish,
+    Move::Edit(1, 0x64),
+    Move::Edit(2, 0x64),
+    Move::Publish,
+    Move::Up(ALL),
+    Move::Down(7),
+    Move::Down(ALL),
+    Move::Ask(1),
+    Move::Sync,
+    Move::Up(ALL),
+    Move::Down(ALL),
+    Move::Ask(1),
+    Move::Up(ALL),
+    Move::Down(17),
+    Move::Down(1),
+];
+
+/// The cores, the bytes that wait, and what came of the moves so far.
+#[derive(Drop)]
+struct Hand {
+    server: ServerCore<Plain>,
+    client: ClientCore<Plain>,
+    up: Vec<u8>,
+    down: Vec<u8>,
+    text: String,
+}
+
+fn opened_hand(rt: &impl AllocGlobal) -> Result<Hand, Fail> {
+    let store = Store::open(rt.alloc(), Plain, snapshot(rt, TWO)?)?;
+    let mut server = ServerCore::new(rt.alloc(), store);
+    server.open_session(0)?;
+    Ok(Hand {
+        server,
+        client: ClientCore::new(rt.alloc(), Plain, [0x11; 32], 0),
+        up: Vec::new(rt.alloc()),
+        down: Vec::new(rt.alloc()),
+        text: String::new(rt.alloc()),
+    })
+}
+
+/// What a call gives is on its way, or the call is refused.
+fn call(hand: &mut Hand, called: Result<Vec<u8>, CallFault>) -> Result<(), Fail> {
+    match called {
+        Ok(bytes) => hand.up.extend_from_slice(bytes.as_slice())?,
+        Err(_) => hand.text.push_str("0 call refused;")?,
+    }
+    Ok(())
+}
+
+/// Takes at most so many bytes from the front.
+fn front(rt: &impl AllocGlobal, bytes: &mut Vec<u8>, most: usize) -> Result<Vec<u8>, Fail> {
+    let n = most.min(bytes.len());
+    let front = bytes[..n].to_vec(rt.alloc())?;
+    let rest = bytes[n..].to_vec(rt.alloc())?;
+    *bytes = rest;
+    Ok(front)
+}
+
+fn up(rt: &impl AllocGlobal, hand: &mut Hand, most: usize) -> Result<(), Fail> {
+    let piece = front(rt, &mut hand.up, most)?;
+    hand.server.feed(0, piece.as_slice(), &mut hand.down)?;
+    Ok(())
+}
+
+fn down(rt: &impl AllocGlobal, hand: &mut Hand, most: usize) -> Result<(), Fail> {
+    let piece = front(rt, &mut hand.down, most)?;
+    let fed = hand.client.feed(piece.as_slice());
+    hand.up.extend_from_slice(fed.out.as_slice())?;
+    for event in fed.events.as_slice() {
+        hand.text.push_str("0 ")?;
+        add_event(rt, &mut hand.text, event)?;
+        hand.text.push(';')?;
+    }
+    Ok(())
+}
+
+fn published(rt: &impl AllocGlobal, hand: &mut Hand) -> Result<(), Fail> {
+    match hand.server.publish() {
+        Ok(version) => hand
+            .text
+            .push_str(&format!(in rt.alloc(); "version {version};")?)?,
+        Err(_) => hand.text.push_str("not published;")?,
+    }
+    Ok(())
+}
+
+fn edited(rt: &impl AllocGlobal, hand: &mut Hand, index: u32, byte: u8) -> Result<(), Fail> {
+    let line = match hand.server.edit(index as usize, &[byte]) {
+        Ok(()) => format!(in rt.alloc(); "edited {index};")?,
+        Err(_) => format!(in rt.alloc(); "edit {index} refused;")?,
+    };
+    hand.text.push_str(&line)?;
+    Ok(())
+}
+
+fn move_hand(rt: &impl AllocGlobal, hand: &mut Hand, one: Move) -> Result<(), Fail> {
+    match one {
+        Move::Hello => {
+            let called = hand.client.hello([0; 32]);
+            call(hand, called)
+        }
+        Move::Sync => {
+            let called = hand.client.sync(Scheme::Simple);
+            call(hand, called)
+        }
+        Move::Ask(index) => {
+            let called = hand.client.ask(index);
+            call(hand, called)
+        }
+        Move::Up(most) => up(rt, hand, most),
+        Move::Down(most) => down(rt, hand, most),
+        Move::Edit(index, byte) => edited(rt, hand, index, byte),
+        Move::Publish => published(rt, hand),
+    }
+}
+
+fn step_of(rt: &impl AllocGlobal, one: Move) -> Result<Step, Fail> {
+    let client = 0;
+    Ok(match one {
+        Move::Hello => Step::Hello { client },
+        Move::Sync => Step::Sync {
+            client,
+            scheme: Scheme::Simple,
+        },
+        Move::Ask(index) => Step::Ask { client, index },
+        Move::Up(most) => Step::ToServer { client, most },
+        Move::Down(most) => Step::ToClient { client, most },
+        Move::Edit(index, byte) => edit(rt, index, &[byte])?,
+        Move::Publish => Step::Publish,
+    })
+}
+
+/// One move of both, and what came of it.
+fn both(
+    rt: &(impl Abort + AllocGlobal),
+    world: &mut World<Plain>,
+    hand: &mut Hand,
+    one: Move,
+) -> Result<(), Fail> {
+    let step = step_of(rt, one)?;
+    go(world, step)?;
+    move_hand(rt, hand, one)?;
+    assert_eq!(rt; told(rt, world)?.as_str(), hand.text.as_str());
+    Ok(())
+}
+
+fn each_move(
+    rt: &(impl Abort + AllocGlobal),
+    world: &mut World<Plain>,
+    hand: &mut Hand,
+) -> Result<(), Fail> {
+    for one in SCRIPT {
+        both(rt, world, hand, *one)?;
+    }
+    Ok(())
+}
+
+#[test]
+fn a_world_is_its_cores_driven_by_hand(rt: HostRuntime) -> Result<(), Fail> {
+    let mut world = world(&rt, TWO)?;
+    let mut hand = opened_hand(&rt)?;
+    each_move(&rt, &mut world, &mut hand)?;
+    assert_eq!(rt;
+        hand.text.as_str(),
+        "0 call refused;0 call refused;0 welcomed 1;0 call refused;0 simple 1;0 call refused;0 call refused;not published;edited 1;edit 2 refused;version 2;0 stale 2;0 call refused;0 simple 2;0 retrieved 1 2 64;"
+    );
+    Ok(())
+}
