@@ -1,6 +1,7 @@
 //! The commands.
 
-ghost use Rattle.std.specs.Prelude.{◌≤◌, length};
+ghost use Rattle.std.specs.Prelude.{◌≡◌, ◌≤◌, ◌+◌, ◌⊎◌, length, IfOk, IfErr};
+ghost use Rattle.client_core.specs.declared.state.Event.TheVariants.{Done};
 
 use crate::connection::event_of;
 use client_core::{ClientCore, Event, Scheme};
@@ -27,7 +28,8 @@ pub struct Retrieved {
     pub bytes: Bytes,
 }
 
-/// Retrieves record `index` privately: hello as a reader, sync, ask.
+/// Retrieves record `index` privately: hello as a reader, sync, ask. One number of the client is spent with a
+/// record, and one at most with a failure, whatever the server says.
 ///
 /// # Errors
 ///
@@ -40,7 +42,11 @@ pub fn get<K: Kernel, R: Read, W: Write>(
     writer: &mut W,
     scheme: Scheme,
     index: u32,
-) -> Result<Retrieved, Failure> {
+) -> Result<Retrieved, Failure>
+    ensures record { IfOk result (λ r. r.index ≡ index) }
+    ensures spends { IfOk result (λ _. client.new.state.number ≡ client.old.state.number + 1) }
+    ensures spends_no_more { IfErr result (λ _. (client.new.state.number ≡ client.old.state.number) ⊎ (client.new.state.number ≡ client.old.state.number + 1)) }
+{
     let sent = client.hello(READER);
     event_of(alloc, client, sent, reader, writer)?;
     let sent = client.sync(scheme);
@@ -61,7 +67,7 @@ pub fn get<K: Kernel, R: Read, W: Write>(
 }
 
 /// Gives the server these bytes for record `index` of the next version: the publisher's hello, edit. Answers
-/// the current version.
+/// the current version, and spends no number.
 ///
 /// # Errors
 ///
@@ -76,6 +82,7 @@ pub fn put<K: Kernel, R: Read, W: Write>(
     bytes: &[u8],
 ) -> Result<u64, Failure>
     requires { length bytes.now ≤ 65535 }
+    ensures { client.new.state.number ≡ client.old.state.number }
 {
     let sent = client.hello(key);
     event_of(alloc, client, sent, reader, writer)?;
@@ -84,7 +91,8 @@ pub fn put<K: Kernel, R: Read, W: Write>(
     done_version(&event)
 }
 
-/// Makes the edits the next version: the publisher's hello, publish. Answers the new version.
+/// Makes the edits the next version: the publisher's hello, publish. Answers the new version,
+/// and spends no number.
 ///
 /// # Errors
 ///
@@ -95,7 +103,9 @@ pub fn publish<K: Kernel, R: Read, W: Write>(
     reader: &mut R,
     writer: &mut W,
     key: [u8; 32],
-) -> Result<u64, Failure> {
+) -> Result<u64, Failure>
+    ensures { client.new.state.number ≡ client.old.state.number }
+{
     let sent = client.hello(key);
     event_of(alloc, client, sent, reader, writer)?;
     let sent = client.publish();
@@ -104,7 +114,9 @@ pub fn publish<K: Kernel, R: Read, W: Write>(
 }
 
 // The version that a Done names.
-fn done_version(event: &Event) -> Result<u64, Failure> {
+fn done_version(event: &Event) -> Result<u64, Failure>
+    ensures { IfOk result (λ version. event.now ≡ Done version) }
+{
     match event {
         Event::Done(version) => Ok(*version),
         _ => Err(OUT_OF_PLACE),

@@ -1,5 +1,9 @@
 //! One call over a connection, and how it failed.
 
+ghost use Rattle.std.specs.Prelude.{◌≡◌, IfOk, IsOk};
+ghost use Rattle.client_core.specs.Endings.{Ends};
+ghost use Rattle.client_commands.specs.Done.{IsDone, failure_of};
+
 use client_core::{CallFault, ClientCore, Event};
 use command_words::Failure;
 use matrix_u32::Kernel;
@@ -18,17 +22,37 @@ pub(crate) fn event_of<K: Kernel, R: Read, W: Write>(
     sent: Result<Vec<u8>, CallFault>,
     reader: &mut R,
     writer: &mut W,
-) -> Result<Event, Failure> {
+) -> Result<Event, Failure>
+    ensures made { IfOk result (λ _. IsOk sent) }
+    ensures ends { IfOk result (λ event. Ends client.old.state.call event × IsDone event) }
+    ensures number { client.new.state.number ≡ client.old.state.number }
+{
     let first = match sent {
         Ok(first) => first,
         Err(fault) => return Err(call_failure(fault)),
     };
-    match converse(alloc, client, &first, reader, writer, TURNS) {
-        Ok(Event::Refused(code)) => Err(Failure::Refused(code)),
-        Ok(Event::Stale(version)) => Err(Failure::Stale(version)),
-        Ok(Event::Unreadable { index, version }) => Err(Failure::Unreadable { index, version }),
-        Ok(event) => Ok(event),
-        Err(fault) => Err(converse_failure(fault)),
+    let event = match converse(alloc, client, &first, reader, writer, TURNS) {
+        Ok(event) => event,
+        Err(fault) => return Err(converse_failure(fault)),
+    };
+    match said_against(&event) {
+        None => Ok(event),
+        Some(failure) => Err(failure),
+    }
+}
+
+/// The failure that an event tells of.
+fn said_against(event: &Event) -> Option<Failure>
+    ensures { result ≡ failure_of event.now }
+{
+    match event {
+        Event::Refused(code) => Some(Failure::Refused(*code)),
+        Event::Stale(version) => Some(Failure::Stale(*version)),
+        Event::Unreadable { index, version } => Some(Failure::Unreadable {
+            index: *index,
+            version: *version,
+        }),
+        Event::Welcomed(_) | Event::Synced(..) | Event::Retrieved { .. } | Event::Done(_) => None,
     }
 }
 

@@ -6,3 +6,6 @@ mod commands;
 mod connection;
 
 pub use commands::{Retrieved, get, publish, put};
+
+#[cfg(test)]
+mod tests;

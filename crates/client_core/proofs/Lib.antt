@@ -4,3 +4,4 @@ pub mod Keeping
 pub mod Courses
 pub mod NumberLaws
 pub mod HintLaws
+pub mod EndingLaws

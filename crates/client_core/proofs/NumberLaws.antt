@@ -82,7 +82,7 @@ refused_number (call.Ask i v m) c code = refl
 refused_number (call.Edit i b) c code = refl
 refused_number call.Publish c code = refl
 
-takes_number : (c : ClientState) (f : Frame) → (takes c f).state.number ≡ c.number
+pub takes_number : (c : ClientState) (f : Frame) → (takes c f).state.number ≡ c.number
 takes_number c (frame.Welcome profile width record_len groups count version dimension seed) = welcome_number c.call c profile (shape width record_len groups count) dimension version seed
 takes_number c (frame.HintPart scheme version part words) = part_number c.call c scheme version part words
 takes_number c (frame.Answer scheme version words) = answer_number c.call c scheme version words

@@ -3,3 +3,4 @@ pub mod Calls
 pub mod Replies
 pub mod Feeding
 pub mod Laws
+pub mod Endings

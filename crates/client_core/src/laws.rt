@@ -1,6 +1,7 @@
 //! Laws of clients, over the definitions alone. A caller that calls one of these functions has its law at
 //! hand in its proof; the call costs nothing.
 
+ghost use Rattle.client_core.specs.Endings.{FirstEventEndsTheCall, FeedingSpendsNoNumber};
 ghost use Rattle.client_core.specs.Laws.{NoNumberTwice, SyncedHintIsMadeOfParts, PartsOfAHintMakeIt};
 
 /// The numbers of the queries that a client sends grow, whatever calls and replies come: no number is used
@@ -17,4 +18,15 @@ pub fn synced_hint_is_made_of_parts()
 /// Where these are the parts of a hint of the right size, it is that hint.
 pub fn parts_of_a_hint_make_it()
     ensures { PartsOfAHintMakeIt }
+{}
+
+/// The first event that comes of a piece is one that the outstanding call can end with: of the record, the
+/// version and the scheme that were asked for.
+pub fn first_event_ends_the_call()
+    ensures { FirstEventEndsTheCall }
+{}
+
+/// What a client is fed spends none of its numbers.
+pub fn feeding_spends_no_number()
+    ensures { FeedingSpendsNoNumber }
 {}

@@ -164,6 +164,81 @@ fn told(rt: &impl AllocGlobal, fed: &Fed) -> Result<String, Fail> {
     Ok(text)
 }
 
+/// A call of a client.
+#[derive(Clone, Copy)]
+enum Wanted {
+    /// With this first byte of the key, and zeros behind it.
+    Hello(u8),
+    Sync(Scheme),
+    Ask(u32),
+    /// Of a record, to this one byte.
+    Edit(u32, u8),
+    Publish,
+}
+
+// Has no contract, so that a test of many calls carries none of their clauses.
+fn call(client: &mut ClientCore<Plain>, wanted: Wanted) -> Result<Vec<u8>, CallFault> {
+    match wanted {
+        Wanted::Hello(first) => {
+            let mut key = ZEROS;
+            key[0] = first;
+            client.hello(key)
+        }
+        Wanted::Sync(scheme) => client.sync(scheme),
+        Wanted::Ask(index) => client.ask(index),
+        Wanted::Edit(index, byte) => client.edit(index, &[byte]),
+        Wanted::Publish => client.publish(),
+    }
+}
+
+/// A call that is made and refused so.
+fn refuses(rt: &impl Abort, client: &mut ClientCore<Plain>, wanted: Wanted, fault: CallFault) {
+    match call(client, wanted) {
+        Ok(_) => panic!(rt; "the call was made"),
+        Err(refusal) => assert!(rt; refusal == fault),
+    }
+}
+
+/// A call that is made and sends that many bytes, the first of them these.
+fn sends(
+    rt: &impl Abort,
+    client: &mut ClientCore<Plain>,
+    wanted: Wanted,
+    len: usize,
+    front: &[u8],
+) -> Result<(), Fail> {
+    let sent = call(client, wanted)?;
+    assert_eq!(rt; sent.len(), len);
+    assert!(rt; front.len() <= sent.len());
+    assert_eq!(rt; &sent[..front.len()], front);
+    Ok(())
+}
+
+/// A call that is made, whatever it sends.
+fn makes(client: &mut ClientCore<Plain>, wanted: Wanted) -> Result<(), Fail> {
+    call(client, wanted)?;
+    Ok(())
+}
+
+/// Compares the number of the next retrieval.
+fn counts(rt: &impl Abort, client: &ClientCore<Plain>, number: u64) {
+    assert_eq!(rt; client.next_number(), number);
+}
+
+/// Feeds a piece, and compares what comes of it and the bytes that are then to be sent.
+fn asks_on(
+    rt: &(impl Abort + AllocGlobal),
+    client: &mut ClientCore<Plain>,
+    piece: &[u8],
+    wanted: &str,
+    sent: &[u8],
+) -> Result<(), Fail> {
+    let fed = client.feed(piece);
+    assert_eq!(rt; told(rt, &fed)?.as_str(), wanted);
+    assert_eq!(rt; fed.out.as_slice(), sent);
+    Ok(())
+}
+
 /// Feeds a piece, after which nothing is to be sent, and compares what comes of it.
 fn feeds(
     rt: &(impl Abort + AllocGlobal),
@@ -171,10 +246,7 @@ fn feeds(
     piece: &[u8],
     wanted: &str,
 ) -> Result<(), Fail> {
-    let fed = client.feed(piece);
-    assert_eq!(rt; told(rt, &fed)?.as_str(), wanted);
-    assert_eq!(rt; fed.out.len(), 0);
-    Ok(())
+    asks_on(rt, client, piece, wanted, &[])
 }
 
 /// A client with the zero seed.
@@ -190,10 +262,19 @@ fn guest(
     number: u64,
 ) -> Result<ClientCore<Plain>, Fail> {
     let mut client = newcomer(rt, number);
-    client.hello(ZEROS)?;
-    let fed = client.feed(welcome(rt, store)?.as_slice());
-    assert_eq!(rt; (fed.out.len(), fed.events.len(), fed.fault), (0, 1, None));
+    let_in(rt, &mut client, store)?;
     Ok(client)
+}
+
+// Greets, and takes the Welcome of a store of version 1.
+fn let_in(
+    rt: &(impl Abort + AllocGlobal),
+    client: &mut ClientCore<Plain>,
+    store: Store,
+) -> Result<(), Fail> {
+    makes(client, Wanted::Hello(0))?;
+    let frame = welcome(rt, store)?;
+    feeds(rt, client, frame.as_slice(), "welcomed 1 ")
 }
 
 /// A client that holds the hint of version 1, which has these words.
@@ -204,20 +285,19 @@ fn synced(
     hint: &[u32],
 ) -> Result<ClientCore<Plain>, Fail> {
     let mut client = guest(rt, store, number)?;
-    client.sync(Scheme::Simple)?;
-    feeds(
-        rt,
-        &mut client,
-        part(rt, 0, 1, 0, hint)?.as_slice(),
-        "synced simple 1 ",
-    )?;
+    fetches(rt, &mut client, 1, hint)?;
     Ok(client)
 }
 
-/// Whether a call was refused so.
-fn is_refused(answer: Result<Vec<u8>, CallFault>, fault: CallFault) -> bool {
-    match answer {
-        Ok(_) => false,
-        Err(e) => e == fault,
-    }
+// Asks for a hint of one part, and takes it.
+fn fetches(
+    rt: &(impl Abort + AllocGlobal),
+    client: &mut ClientCore<Plain>,
+    version: u64,
+    hint: &[u32],
+) -> Result<(), Fail> {
+    makes(client, Wanted::Sync(Scheme::Simple))?;
+    let frame = part(rt, 0, version, 0, hint)?;
+    let wanted = format!(in rt.alloc(); "synced simple {version} ")?;
+    feeds(rt, client, frame.as_slice(), &wanted)
 }

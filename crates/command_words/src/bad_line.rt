@@ -1,5 +1,7 @@
 //! Command lines that ask for nothing that can be done.
 
+ghost use Rattle.command_words.specs.Statuses.{Tells};
+
 use clap::Error;
 use clap::error::ErrorKind;
 use std::alloc::{AllocError, AllocFailed};
@@ -39,7 +41,9 @@ impl<T: Drop> From<AllocFailed<T>> for BadLine {
 impl BadLine {
     /// Prints what is to be said, and answers the exit status: 0 for help, 2 for a bad command line and 4 for
     /// want of memory.
-    pub fn tell<R: Print + Eprint>(&self, rt: &R) -> u8 {
+    pub fn tell<R: Print + Eprint>(&self, rt: &R) -> u8
+        ensures { Tells self.now result }
+    {
         match self {
             BadLine::Form(error) => {
                 let _ = error.print(rt);

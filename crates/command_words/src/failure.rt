@@ -1,5 +1,8 @@
 //! How a command failed.
 
+ghost use Rattle.std.specs.Prelude.{◌≡◌};
+ghost use Rattle.command_words.specs.Statuses.{status_of};
+
 use thiserror::Error;
 
 /// How a command failed. It prints as the line that tells it.
@@ -24,7 +27,9 @@ pub enum Failure {
 
 impl Failure {
     /// The exit status that tells it: 1 for what the server said, 3 for a fault, 4 for want of memory.
-    pub fn status(self) -> u8 {
+    pub fn status(self) -> u8
+        ensures { result ≡ status_of self }
+    {
         match self {
             Failure::Refused(_) | Failure::Stale(_) | Failure::Unreadable { .. } => 1,
             Failure::Fault(_) => 3,

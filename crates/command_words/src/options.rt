@@ -1,6 +1,10 @@
 //! Options and words of a command, and their values.
 
-ghost use Rattle.std.specs.Prelude.{◌≤◌, IfOk};
+ghost use Rattle.std.specs.Prelude.{◌≡◌, ◌≢◌, ◌≤◌, true, None, Some, replicate, Ok, IfOk, IfErr, IfSome};
+ghost use Rattle.std.specs.Str.Parse.{IsNumeral, digits_value};
+ghost use Rattle.clap.specs.declared.builder.action.ArgAction.{ArgAction};
+ghost use Rattle.clap.specs.Matches.{first_value, found_of};
+ghost use Rattle.hex.specs.Hex.{decode_of};
 
 use crate::bad_line::BadLine;
 use crate::words::{decimal, key_of, thirty_two};
@@ -8,7 +12,11 @@ use clap::{Arg, ArgAction, ArgMatches};
 use std::alloc::Global;
 
 /// A required option `--name VALUE`.
-pub fn option<'a>(alloc: Global, name: &'a str, value: &'a str, help: &'a str) -> Arg<'a> {
+pub fn option<'a>(alloc: Global, name: &'a str, value: &'a str, help: &'a str) -> Arg<'a>
+    ensures long { result.long ≡ Some name.entry }
+    ensures required { result.required ≡ true }
+    ensures takes_a_value { result.action ≡ Some ArgAction.Set }
+{
     Arg::new(alloc, name)
         .long(name)
         .value_name(value)
@@ -18,7 +26,11 @@ pub fn option<'a>(alloc: Global, name: &'a str, value: &'a str, help: &'a str) -
 }
 
 /// A required word that stands by its place.
-pub fn word<'a>(alloc: Global, name: &'a str, help: &'a str) -> Arg<'a> {
+pub fn word<'a>(alloc: Global, name: &'a str, help: &'a str) -> Arg<'a>
+    ensures by_place { (result.long ≡ None) × (result.short ≡ None) }
+    ensures required { result.required ≡ true }
+    ensures takes_a_value { result.action ≡ Some ArgAction.Set }
+{
     Arg::new(alloc, name)
         .value_name(name)
         .help(help)
@@ -26,12 +38,19 @@ pub fn word<'a>(alloc: Global, name: &'a str, help: &'a str) -> Arg<'a> {
         .action(ArgAction::Set)
 }
 
-/// The text given for an option or a word. It takes `takes`.
+/// The text given for an option or a word.
+///
+/// # Errors
+///
+/// `Value`, with what it takes, where none was given.
 pub fn text_at<'a>(
     found: &ArgMatches<'a>,
     name: &str,
     takes: &'static str,
-) -> Result<&'a str, BadLine> {
+) -> Result<&'a str, BadLine>
+    ensures found { IfOk result (λ text. first_value (found_of found.now) name.now ≡ Some text.now) }
+    ensures missing { IfErr result (λ _. first_value (found_of found.now) name.now ≡ None) }
+{
     match found.get_str(name) {
         Some(text) => Ok(text),
         None => Err(BadLine::Value(takes)),
@@ -39,13 +58,18 @@ pub fn text_at<'a>(
 }
 
 /// The number given for an option or a word, at most `most`.
+///
+/// # Errors
+///
+/// `Value`, with what it takes, where none was given, and where it is no number or a larger one.
 pub fn number_at(
     found: &ArgMatches<'_>,
     name: &str,
     most: u64,
     takes: &'static str,
 ) -> Result<u64, BadLine>
-    ensures { IfOk result (λ n. n ≤ most) }
+    ensures most { IfOk result (λ n. n ≤ most) }
+    ensures value { IfOk result (λ n. IfSome (first_value (found_of found.now) name.now) (λ text. IsNumeral 10 text × (digits_value 10 text ≡ n))) }
 {
     match decimal(text_at(found, name, takes)?) {
         Some(number) if number <= most => Ok(number),
@@ -54,11 +78,17 @@ pub fn number_at(
 }
 
 /// The 32 bytes given for an option.
+///
+/// # Errors
+///
+/// `Value`, with what it takes, where none were given, and where they are not 64 hex digits.
 pub fn thirty_two_at(
     found: &ArgMatches<'_>,
     name: &str,
     takes: &'static str,
-) -> Result<[u8; 32], BadLine> {
+) -> Result<[u8; 32], BadLine>
+    ensures { IfOk result (λ bytes. IfSome (first_value (found_of found.now) name.now) (λ text. decode_of text ≡ Ok bytes)) }
+{
     match thirty_two(text_at(found, name, takes)?) {
         Some(bytes) => Ok(bytes),
         None => Err(BadLine::Value(takes)),
@@ -66,11 +96,14 @@ pub fn thirty_two_at(
 }
 
 /// The publisher's key given for an option.
-pub fn key_at(
-    found: &ArgMatches<'_>,
-    name: &str,
-    takes: &'static str,
-) -> Result<[u8; 32], BadLine> {
+///
+/// # Errors
+///
+/// As those of [`thirty_two_at`], and where all bytes are zero.
+pub fn key_at(found: &ArgMatches<'_>, name: &str, takes: &'static str) -> Result<[u8; 32], BadLine>
+    ensures value { IfOk result (λ key. IfSome (first_value (found_of found.now) name.now) (λ text. decode_of text ≡ Ok key)) }
+    ensures not_zero { IfOk result (λ key. key ≢ replicate 32 0) }
+{
     match key_of(text_at(found, name, takes)?) {
         Some(key) => Ok(key),
         None => Err(BadLine::Value(takes)),

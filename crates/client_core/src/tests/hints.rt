@@ -13,99 +13,103 @@ const ONE_COLUMN: Store = Store {
     dimension: 1024,
 };
 
-fn zeros(rt: &impl AllocGlobal, count: usize) -> Result<Vec<u32>, Fail> {
-    Ok(vec![in rt.alloc(); 0; count]?)
+/// The frame that asks for a part of a hint of a scheme, of a version below 256.
+fn asking(scheme: u8, version: u8, part: u8) -> [u8; 18] {
+    [
+        13, 0, 0, 0, 3, scheme, version, 0, 0, 0, 0, 0, 0, 0, part, 0, 0, 0,
+    ]
+}
+
+/// A part of a hint whose words are all 0.
+fn zeros(
+    rt: &(impl Abort + AllocGlobal),
+    version: u64,
+    number: u32,
+    count: usize,
+) -> Result<Vec<u8>, Fail> {
+    let words = vec![in rt.alloc(); 0u32; count]?;
+    part(rt, 0, version, number, words.as_slice())
+}
+
+/// Takes the first of two parts, which is followed by the question for the second.
+fn first_of_two(
+    rt: &(impl Abort + AllocGlobal),
+    client: &mut ClientCore<Plain>,
+    version: u8,
+) -> Result<(), Fail> {
+    let asked = asking(0, version, 0);
+    sends(rt, client, Wanted::Sync(Scheme::Simple), 18, &asked)?;
+    let frame = zeros(rt, u64::from(version), 0, 65_536)?;
+    asks_on(rt, client, frame.as_slice(), "", &asking(0, version, 1))
+}
+
+fn becomes_stale_between(
+    rt: &(impl Abort + AllocGlobal),
+    client: &mut ClientCore<Plain>,
+) -> Result<(), Fail> {
+    first_of_two(rt, client, 1)?;
+    let frame = stale(rt, 2, 66)?;
+    feeds(rt, client, frame.as_slice(), "stale 2 ")?;
+    refuses(rt, client, Wanted::Ask(0), CallFault::NotReady);
+    first_of_two(rt, client, 2)?;
+    let frame = zeros(rt, 2, 1, 2_048)?;
+    feeds(rt, client, frame.as_slice(), "synced simple 2 ")?;
+    makes(client, Wanted::Ask(65))
 }
 
 #[test]
 fn a_publication_between_two_parts(rt: HostRuntime) -> Result<(), Fail> {
-    let first = zeros(&rt, 65_536)?;
-    let second = zeros(&rt, 2_048)?;
     let mut client = guest(&rt, ONE_COLUMN, 0)?;
-    let asked = client.sync(Scheme::Simple)?;
-    assert_eq!(rt;
-        asked.as_slice(),
-        [13, 0, 0, 0, 3, 0, 1, 0, 0, 0, 0, 0, 0, 0, 0, 0, 0, 0].as_slice()
-    );
-    let fed = client.feed(part(&rt, 0, 1, 0, first.as_slice())?.as_slice());
-    assert_eq!(rt; told(&rt, &fed)?.as_str(), "");
-    assert_eq!(rt;
-        fed.out.as_slice(),
-        [13, 0, 0, 0, 3, 0, 1, 0, 0, 0, 0, 0, 0, 0, 1, 0, 0, 0].as_slice()
-    );
-    feeds(&rt, &mut client, stale(&rt, 2, 66)?.as_slice(), "stale 2 ")?;
-    assert!(rt; is_refused(client.ask(0), CallFault::NotReady));
-    let asked = client.sync(Scheme::Simple)?;
-    assert_eq!(rt;
-        asked.as_slice(),
-        [13, 0, 0, 0, 3, 0, 2, 0, 0, 0, 0, 0, 0, 0, 0, 0, 0, 0].as_slice()
-    );
-    let fed = client.feed(part(&rt, 0, 2, 0, first.as_slice())?.as_slice());
-    assert_eq!(rt;
-        fed.out.as_slice(),
-        [13, 0, 0, 0, 3, 0, 2, 0, 0, 0, 0, 0, 0, 0, 1, 0, 0, 0].as_slice()
-    );
-    feeds(
-        &rt,
-        &mut client,
-        part(&rt, 0, 2, 1, second.as_slice())?.as_slice(),
-        "synced simple 2 ",
-    )?;
-    client.ask(65)?;
-    Ok(())
+    becomes_stale_between(&rt, &mut client)
 }
 
 #[test]
 fn a_sync_drops_the_hint(rt: HostRuntime) -> Result<(), Fail> {
     let mut client = synced(&rt, ONE_RECORD, 0, &[0, 0, 0])?;
-    client.sync(Scheme::Simple)?;
+    makes(&mut client, Wanted::Sync(Scheme::Simple))?;
     // not ready comes before busy
-    assert!(rt; is_refused(client.ask(0), CallFault::NotReady));
-    feeds(
-        &rt,
-        &mut client,
-        refused(&rt, 12)?.as_slice(),
-        "refused 12 ",
-    )?;
-    assert!(rt; is_refused(client.ask(0), CallFault::NotReady));
+    refuses(&rt, &mut client, Wanted::Ask(0), CallFault::NotReady);
+    let frame = refused(&rt, 12)?;
+    feeds(&rt, &mut client, frame.as_slice(), "refused 12 ")?;
+    refuses(&rt, &mut client, Wanted::Ask(0), CallFault::NotReady);
     Ok(())
+}
+
+fn asks_for_the_other_scheme(
+    rt: &(impl Abort + AllocGlobal),
+    client: &mut ClientCore<Plain>,
+) -> Result<(), Fail> {
+    let asked = asking(1, 1, 0);
+    sends(rt, client, Wanted::Sync(Scheme::Double), 18, &asked)?;
+    let frame = refused(rt, 13)?;
+    feeds(rt, client, frame.as_slice(), "refused 13 ")?;
+    makes(client, Wanted::Sync(Scheme::Double))?;
+    let frame = part(rt, 1, 1, 0, &[0, 0, 0])?;
+    feeds(rt, client, frame.as_slice(), "BadReply ")
 }
 
 #[test]
 fn the_other_scheme_is_asked_for_and_refused(rt: HostRuntime) -> Result<(), Fail> {
     let mut client = guest(&rt, ONE_RECORD, 0)?;
-    let asked = client.sync(Scheme::Double)?;
-    assert_eq!(rt;
-        asked.as_slice(),
-        [13, 0, 0, 0, 3, 1, 1, 0, 0, 0, 0, 0, 0, 0, 0, 0, 0, 0].as_slice()
-    );
-    feeds(
-        &rt,
-        &mut client,
-        refused(&rt, 13)?.as_slice(),
-        "refused 13 ",
-    )?;
-    client.sync(Scheme::Double)?;
-    feeds(
-        &rt,
-        &mut client,
-        part(&rt, 1, 1, 0, &[0, 0, 0])?.as_slice(),
-        "BadReply ",
-    )?;
-    Ok(())
+    asks_for_the_other_scheme(&rt, &mut client)
 }
 
-#[test]
-fn replies_cut_after_each_byte(rt: HostRuntime) -> Result<(), Fail> {
-    let mut client = newcomer(&rt, 0);
-    client.hello(ZEROS)?;
-    let frame = welcome(&rt, ONE_RECORD)?;
+/// Feeds one byte after another, of which the last alone brings an event.
+fn feeds_each_byte(rt: &impl Abort, client: &mut ClientCore<Plain>, bytes: &[u8]) {
     let mut events = 0;
-    for byte in frame.as_slice() {
+    for byte in bytes {
         let fed = client.feed(&[*byte]);
         assert!(rt; fed.fault.is_none() && events == 0);
         events = fed.events.len();
     }
     assert_eq!(rt; events, 1);
+}
+
+#[test]
+fn replies_cut_after_each_byte(rt: HostRuntime) -> Result<(), Fail> {
+    let frame = welcome(&rt, ONE_RECORD)?;
+    let mut client = newcomer(&rt, 0);
+    makes(&mut client, Wanted::Hello(0))?;
+    feeds_each_byte(&rt, &mut client, frame.as_slice());
     Ok(())
 }

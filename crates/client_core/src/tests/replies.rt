@@ -3,71 +3,63 @@
 use super::*;
 
 fn bad_welcome(rt: &(impl Abort + AllocGlobal), store: Store) -> Result<(), Fail> {
+    let frame = welcome(rt, store)?;
     let mut client = newcomer(rt, 0);
-    client.hello(ZEROS)?;
-    feeds(
-        rt,
-        &mut client,
-        welcome(rt, store)?.as_slice(),
-        "BadWelcome ",
-    )?;
-    assert!(rt; is_refused(client.hello(ZEROS), CallFault::Failed));
+    makes(&mut client, Wanted::Hello(0))?;
+    feeds(rt, &mut client, frame.as_slice(), "BadWelcome ")?;
+    refuses(rt, &mut client, Wanted::Hello(0), CallFault::Failed);
+    Ok(())
+}
+
+// A Welcome that is good but for one field of each of these.
+fn bad_welcomes(rt: &(impl Abort + AllocGlobal), stores: &[Store]) -> Result<(), Fail> {
+    for store in stores {
+        bad_welcome(rt, *store)?;
+    }
     Ok(())
 }
 
 #[test]
-fn each_bad_welcome(rt: HostRuntime) -> Result<(), Fail> {
+fn welcomes_of_bad_sizes(rt: HostRuntime) -> Result<(), Fail> {
     let good = TWO_RECORDS;
-    bad_welcome(&rt, Store { profile: 2, ..good })?;
-    bad_welcome(&rt, Store { profile: 0, ..good })?;
-    bad_welcome(&rt, Store { width: 5, ..good })?;
-    bad_welcome(&rt, Store { width: 11, ..good })?;
-    bad_welcome(
-        &rt,
-        Store {
-            record_len: 0,
-            ..good
-        },
-    )?;
-    bad_welcome(
-        &rt,
-        Store {
-            record_len: 257,
-            ..good
-        },
-    )?;
-    bad_welcome(&rt, Store { groups: 0, ..good })?;
-    bad_welcome(
-        &rt,
-        Store {
-            groups: 4097,
-            ..good
-        },
-    )?;
-    bad_welcome(&rt, Store { count: 0, ..good })?;
-    bad_welcome(
-        &rt,
-        Store {
-            count: 4097,
-            ..good
-        },
-    )?;
-    bad_welcome(
-        &rt,
-        Store {
-            dimension: 0,
-            ..good
-        },
-    )?;
-    bad_welcome(
-        &rt,
-        Store {
-            dimension: 1025,
-            ..good
-        },
-    )?;
-    bad_welcome(&rt, Store { version: 0, ..good })?;
-    Ok(())
+    let none = Store { count: 0, ..good };
+    let many = Store {
+        count: 4097,
+        ..good
+    };
+    let empty = Store {
+        record_len: 0,
+        ..good
+    };
+    let long = Store {
+        record_len: 257,
+        ..good
+    };
+    let flat = Store { groups: 0, ..good };
+    let high = Store {
+        groups: 4097,
+        ..good
+    };
+    bad_welcomes(&rt, &[none, many, empty, long, flat, high])
+}
+
+#[test]
+fn welcomes_of_bad_parameters(rt: HostRuntime) -> Result<(), Fail> {
+    let good = TWO_RECORDS;
+    let below = Store { profile: 0, ..good };
+    let above = Store { profile: 2, ..good };
+    let narrow = Store { width: 5, ..good };
+    let wide = Store { width: 11, ..good };
+    let none = Store {
+        dimension: 0,
+        ..good
+    };
+    let large = Store {
+        dimension: 1025,
+        ..good
+    };
+    let unborn = Store { version: 0, ..good };
+    bad_welcomes(&rt, &[below, above, narrow, wide, none, large, unborn])
 }
 
 /// What a client has outstanding.
@@ -81,6 +73,18 @@ enum Outstanding {
     Publish,
 }
 
+/// The call of a client of a store of one record that is then outstanding.
+fn made(outstanding: Outstanding) -> Option<Wanted> {
+    match outstanding {
+        Outstanding::Nothing => None,
+        Outstanding::Hello => Some(Wanted::Hello(0)),
+        Outstanding::Sync => Some(Wanted::Sync(Scheme::Simple)),
+        Outstanding::Ask => Some(Wanted::Ask(0)),
+        Outstanding::Edit => Some(Wanted::Edit(0, 1)),
+        Outstanding::Publish => Some(Wanted::Publish),
+    }
+}
+
 /// A client of a store of one record, in this state.
 fn waiting(
     rt: &(impl Abort + AllocGlobal),
@@ -91,28 +95,13 @@ fn waiting(
         Outstanding::Ask => synced(rt, ONE_RECORD, 0, &[0, 0, 0])?,
         _ => guest(rt, ONE_RECORD, 0)?,
     };
-    match outstanding {
-        Outstanding::Nothing => {}
-        Outstanding::Hello => {
-            client.hello(ZEROS)?;
-        }
-        Outstanding::Sync => {
-            client.sync(Scheme::Simple)?;
-        }
-        Outstanding::Ask => {
-            client.ask(0)?;
-        }
-        Outstanding::Edit => {
-            client.edit(0, &[1, 2])?;
-        }
-        Outstanding::Publish => {
-            client.publish()?;
-        }
+    if let Some(wanted) = made(outstanding) {
+        makes(&mut client, wanted)?;
     }
     Ok(client)
 }
 
-/// Whether a piece is a bad reply there.
+/// A piece that is a bad reply there.
 fn is_bad(
     rt: &(impl Abort + AllocGlobal),
     outstanding: Outstanding,
@@ -120,67 +109,58 @@ fn is_bad(
 ) -> Result<(), Fail> {
     let mut client = waiting(rt, outstanding)?;
     feeds(rt, &mut client, piece, "BadReply ")?;
-    assert!(rt; is_refused(client.publish(), CallFault::Failed));
+    refuses(rt, &mut client, Wanted::Publish, CallFault::Failed);
+    Ok(())
+}
+
+/// A reply that one call at least takes.
+#[derive(Clone, Copy)]
+enum Reply {
+    Welcome,
+    HintPart,
+    Answer,
+    Stale,
+    Done,
+    Refused,
+}
+
+fn spelled_reply(rt: &(impl Abort + AllocGlobal), reply: Reply) -> Result<Vec<u8>, Fail> {
+    match reply {
+        Reply::Welcome => welcome(rt, ONE_RECORD),
+        Reply::HintPart => part(rt, 0, 1, 0, &[0, 0, 0]),
+        Reply::Answer => answer(rt, 0, 1, &[0, 0, 0]),
+        Reply::Stale => stale(rt, 2, 1),
+        Reply::Done => done(rt, 1),
+        Reply::Refused => refused(rt, 1),
+    }
+}
+
+/// A reply that none of these calls takes.
+fn is_bad_for(
+    rt: &(impl Abort + AllocGlobal),
+    reply: Reply,
+    calls: &[Outstanding],
+) -> Result<(), Fail> {
+    let frame = spelled_reply(rt, reply)?;
+    for call in calls {
+        is_bad(rt, *call, frame.as_slice())?;
+    }
     Ok(())
 }
 
 #[test]
 fn replies_to_other_calls(rt: HostRuntime) -> Result<(), Fail> {
-    let greeting = welcome(&rt, ONE_RECORD)?;
-    let hint = part(&rt, 0, 1, 0, &[0, 0, 0])?;
-    let answered = answer(&rt, 0, 1, &[0, 0, 0])?;
-    let other = stale(&rt, 2, 1)?;
-    let edited = done(&rt, 1)?;
-    let code = refused(&rt, 1)?;
-    for call in [
-        Outstanding::Nothing,
-        Outstanding::Sync,
-        Outstanding::Ask,
-        Outstanding::Edit,
-        Outstanding::Publish,
-    ] {
-        is_bad(&rt, call, greeting.as_slice())?;
-    }
-    for call in [
-        Outstanding::Nothing,
-        Outstanding::Hello,
-        Outstanding::Ask,
-        Outstanding::Edit,
-        Outstanding::Publish,
-    ] {
-        is_bad(&rt, call, hint.as_slice())?;
-    }
-    for call in [
-        Outstanding::Nothing,
-        Outstanding::Hello,
-        Outstanding::Sync,
-        Outstanding::Edit,
-        Outstanding::Publish,
-    ] {
-        is_bad(&rt, call, answered.as_slice())?;
-    }
-    for call in [
-        Outstanding::Nothing,
-        Outstanding::Hello,
-        Outstanding::Edit,
-        Outstanding::Publish,
-    ] {
-        is_bad(&rt, call, other.as_slice())?;
-    }
-    for call in [
-        Outstanding::Nothing,
-        Outstanding::Hello,
-        Outstanding::Sync,
-        Outstanding::Ask,
-    ] {
-        is_bad(&rt, call, edited.as_slice())?;
-    }
-    is_bad(&rt, Outstanding::Nothing, code.as_slice())?;
-    Ok(())
+    use Outstanding::{Ask, Edit, Hello, Nothing, Publish, Sync};
+    is_bad_for(&rt, Reply::Welcome, &[Nothing, Sync, Ask, Edit, Publish])?;
+    is_bad_for(&rt, Reply::HintPart, &[Nothing, Hello, Ask, Edit, Publish])?;
+    is_bad_for(&rt, Reply::Answer, &[Nothing, Hello, Sync, Edit, Publish])?;
+    is_bad_for(&rt, Reply::Stale, &[Nothing, Hello, Edit, Publish])?;
+    is_bad_for(&rt, Reply::Done, &[Nothing, Hello, Sync, Ask])?;
+    is_bad_for(&rt, Reply::Refused, &[Nothing])
 }
 
 #[test]
-fn parts_and_answers_that_were_not_asked(rt: HostRuntime) -> Result<(), Fail> {
+fn parts_that_were_not_asked(rt: HostRuntime) -> Result<(), Fail> {
     let words = [0, 0, 0, 0];
     for (scheme, version, number, count) in [
         (1u8, 1u64, 0u32, 3usize),
@@ -191,12 +171,15 @@ fn parts_and_answers_that_were_not_asked(rt: HostRuntime) -> Result<(), Fail> {
         (0, 1, 0, 0),
     ] {
         assert!(rt; count <= 4);
-        is_bad(
-            &rt,
-            Outstanding::Sync,
-            part(&rt, scheme, version, number, &words[..count])?.as_slice(),
-        )?;
+        let frame = part(&rt, scheme, version, number, &words[..count])?;
+        is_bad(&rt, Outstanding::Sync, frame.as_slice())?;
     }
+    Ok(())
+}
+
+#[test]
+fn answers_that_were_not_asked(rt: HostRuntime) -> Result<(), Fail> {
+    let words = [0, 0, 0, 0];
     for (scheme, version, count) in [
         (1u8, 1u64, 3usize),
         (0, 2, 3),
@@ -205,11 +188,8 @@ fn parts_and_answers_that_were_not_asked(rt: HostRuntime) -> Result<(), Fail> {
         (0, 1, 0),
     ] {
         assert!(rt; count <= 4);
-        is_bad(
-            &rt,
-            Outstanding::Ask,
-            answer(&rt, scheme, version, &words[..count])?.as_slice(),
-        )?;
+        let frame = answer(&rt, scheme, version, &words[..count])?;
+        is_bad(&rt, Outstanding::Ask, frame.as_slice())?;
     }
     Ok(())
 }
@@ -217,16 +197,9 @@ fn parts_and_answers_that_were_not_asked(rt: HostRuntime) -> Result<(), Fail> {
 #[test]
 fn stale_with_a_version_or_count_that_can_not_be(rt: HostRuntime) -> Result<(), Fail> {
     for (version, count) in [(1u64, 1u32), (0, 1), (2, 0), (2, 4097)] {
-        is_bad(
-            &rt,
-            Outstanding::Sync,
-            stale(&rt, version, count)?.as_slice(),
-        )?;
-        is_bad(
-            &rt,
-            Outstanding::Ask,
-            stale(&rt, version, count)?.as_slice(),
-        )?;
+        let frame = stale(&rt, version, count)?;
+        is_bad(&rt, Outstanding::Sync, frame.as_slice())?;
+        is_bad(&rt, Outstanding::Ask, frame.as_slice())?;
     }
     Ok(())
 }
@@ -239,36 +212,38 @@ fn frames_that_are_no_replies(rt: HostRuntime) -> Result<(), Fail> {
     // too long, an unknown kind, a bad payload
     is_bad(&rt, Outstanding::Edit, &[1, 0, 0, 1])?;
     is_bad(&rt, Outstanding::Edit, &[0, 0, 0, 0, 0x7f])?;
-    is_bad(&rt, Outstanding::Edit, &[0, 0, 0, 0, 0x87])?;
-    Ok(())
+    is_bad(&rt, Outstanding::Edit, &[0, 0, 0, 0, 0x87])
+}
+
+/// Feeds a client that waits for Done that reply and more bytes behind it.
+fn told_before(rt: &(impl Abort + AllocGlobal), behind: &[u8]) -> Result<(), Fail> {
+    let mut piece = done(rt, 1)?;
+    piece.extend_from_slice(behind)?;
+    let mut client = waiting(rt, Outstanding::Edit)?;
+    feeds(rt, &mut client, piece.as_slice(), "done 1 BadReply ")
 }
 
 #[test]
 fn what_came_before_a_fault_is_told(rt: HostRuntime) -> Result<(), Fail> {
-    let mut client = waiting(&rt, Outstanding::Edit)?;
-    let mut piece = done(&rt, 1)?;
-    piece.extend_from_slice(done(&rt, 1)?.as_slice())?;
-    feeds(&rt, &mut client, piece.as_slice(), "done 1 BadReply ")?;
-    let mut client = waiting(&rt, Outstanding::Edit)?;
-    let mut piece = done(&rt, 1)?;
-    piece.extend_from_slice(&[0, 0, 0, 0, 0x7f])?;
-    feeds(&rt, &mut client, piece.as_slice(), "done 1 BadReply ")?;
-    Ok(())
+    let again = done(&rt, 1)?;
+    told_before(&rt, again.as_slice())?;
+    told_before(&rt, &[0, 0, 0, 0, 0x7f])
+}
+
+fn takes_another_count(
+    rt: &(impl Abort + AllocGlobal),
+    client: &mut ClientCore<Plain>,
+) -> Result<(), Fail> {
+    let frame = stale(rt, 2, 3)?;
+    feeds(rt, client, frame.as_slice(), "stale 2 ")?;
+    fetches(rt, client, 2, &[0, 0, 0])?;
+    refuses(rt, client, Wanted::Ask(3), CallFault::BadIndex);
+    // a word for each of the three columns
+    sends(rt, client, Wanted::Ask(2), 26, &[])
 }
 
 #[test]
 fn another_count_comes_with_stale(rt: HostRuntime) -> Result<(), Fail> {
     let mut client = waiting(&rt, Outstanding::Sync)?;
-    feeds(&rt, &mut client, stale(&rt, 2, 3)?.as_slice(), "stale 2 ")?;
-    client.sync(Scheme::Simple)?;
-    feeds(
-        &rt,
-        &mut client,
-        part(&rt, 0, 2, 0, &[0, 0, 0])?.as_slice(),
-        "synced simple 2 ",
-    )?;
-    assert!(rt; is_refused(client.ask(3), CallFault::BadIndex));
-    // a word for each of the three columns
-    assert_eq!(rt; client.ask(2)?.len(), 26);
-    Ok(())
+    takes_another_count(&rt, &mut client)
 }

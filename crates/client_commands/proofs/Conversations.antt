@@ -1,0 +1,88 @@
+-- What a conversation leaves, whatever the server says.
+use Rattle.std.proofs.Common.{◌≡◌, ℕ, List, [], Option, Result, Ok, Err, refl, ap, ◌∙◌, inl, inr}
+use Rattle.std.specs.Prelude.{IfOk, IfErr}
+use Rattle.client_core.specs.declared.state.ClientState.{ClientState}
+use Rattle.client_core.specs.declared.state.Event.{Event}
+use Rattle.client_core.specs.declared.state.CallFault.{CallFault}
+use Rattle.client_core.specs.Calls.{Want, Hello, Sync, Ask, Edit, Publish, Accepts, Refuses}
+use Rattle.client_core.specs.Feeding.{Client}
+use Rattle.client_core.specs.Endings.{Ends}
+use Rattle.client_core.proofs.EndingLaws.{first_event_ends_the_call, feeding_spends_no_number}
+use Rattle.session_engines.specs.declared.conversing.ConverseFault.{ConverseFault}
+use Rattle.session_engines.specs.declared.conversing.ConverseFault.TheVariants.{Ended, Read, Write, BadWelcome, BadReply, Memory, TurnsUsedUp, Failed}
+use Rattle.session_engines.specs.Conversing.{Waits, Hears, NeverHears, Converses}
+
+same_number : (old new : Client) → new ≡ old → new.state.number ≡ old.state.number
+same_number old new e = ap (λ (c : Client). c.state.number) e
+
+waits_number : (old : Client) (read out : List ℕ) (new : Client) → Waits old read out new → new.state.number ≡ old.state.number
+waits_number old read out new (inl none) = same_number old new none.2
+waits_number old read out new (inr fed) = feeding_spends_no_number old new read out [] _ fed
+
+hears_number : (old : Client) (turns : ℕ) (result : Result Event ConverseFault) (read out : List ℕ) (left : Option (List ℕ)) (new : Client) → Hears old turns result read out left new → new.state.number ≡ old.state.number
+hears_number old turns (Ok event) read out left new h = feeding_spends_no_number old new read out _ _ h.2
+hears_number old turns (Err Ended) read out left new h = waits_number old read out new h.0
+hears_number old turns (Err Read) read out left new h = waits_number old read out new h
+hears_number old turns (Err Write) read out left new h = feeding_spends_no_number old new read _ _ _ h.3
+hears_number old turns (Err BadWelcome) read out left new h = feeding_spends_no_number old new read out _ _ h
+hears_number old turns (Err BadReply) read out left new h = feeding_spends_no_number old new read out _ _ h
+hears_number old turns (Err Memory) read out left new h = feeding_spends_no_number old new read out _ _ h
+hears_number old turns (Err TurnsUsedUp) read out left new h = waits_number old read out new h.0
+hears_number old turns (Err Failed) read out left new h = feeding_spends_no_number old new read out _ _ h
+
+never_number : (old : Client) (first : List ℕ) (result : Result Event ConverseFault) (read out : List ℕ) (new : Client) → NeverHears old first result read out new → new.state.number ≡ old.state.number
+never_number old first (Err Write) read out new h = same_number old new h.2
+never_number old first (Err Memory) read out new h = same_number old new h.2
+never_number old first (Ok event) read out new h = absurd h
+never_number old first (Err Ended) read out new h = absurd h
+never_number old first (Err Read) read out new h = absurd h
+never_number old first (Err BadWelcome) read out new h = absurd h
+never_number old first (Err BadReply) read out new h = absurd h
+never_number old first (Err TurnsUsedUp) read out new h = absurd h
+never_number old first (Err Failed) read out new h = absurd h
+
+-- no conversation spends a number
+pub conversing_spends_no_number : (old : Client) (first : List ℕ) (turns : ℕ) (result : Result Event ConverseFault) (read out : List ℕ) (left : Option (List ℕ)) (new : Client)
+    → Converses old first turns result read out left new → new.state.number ≡ old.state.number
+conversing_spends_no_number old first turns result read out left new (inl h) = never_number old first result read out new h
+conversing_spends_no_number old first turns result read out left new (inr h) = hears_number old turns result read h.0 left new h.2
+
+-- the event of a conversation is one that its call can end with
+pub event_ends_the_call : (old : Client) (first : List ℕ) (turns : ℕ) (event : Event) (read out : List ℕ) (left : Option (List ℕ)) (new : Client)
+    → Converses old first turns (Ok event) read out left new → Ends old.state.call event
+event_ends_the_call old first turns event read out left new (inl h) = absurd h
+event_ends_the_call old first turns event read out left new (inr h) = let hears = h.2 in first_event_ends_the_call old new read h.0 event hears.0 hears.1 hears.2
+
+-- ---- calls
+
+-- a call of this kind asks for no record
+abbrev pub IsNoAsk : Want → Type 0
+IsNoAsk (Hello key) = Unit {0}
+IsNoAsk (Sync scheme) = Unit {0}
+IsNoAsk (Ask i) = ⊥
+IsNoAsk (Edit i bytes) = Unit {0}
+IsNoAsk Publish = Unit {0}
+
+number_after : (old new other : ClientState) → new ≡ other → other.number ≡ old.number → new.number ≡ old.number
+number_after old new other e n = ap (λ (c : ClientState). c.number) e ∙ n
+
+accepted_number : (want : Want) (old new : ClientState) (bytes : List ℕ) → IsNoAsk want → Accepts old want new bytes → new.number ≡ old.number
+accepted_number (Hello key) old new bytes calm a = number_after old new _ a.state refl
+accepted_number (Sync scheme) old new bytes calm a = number_after old new _ a.state refl
+accepted_number (Ask i) old new bytes calm a = absurd calm
+accepted_number (Edit i b) old new bytes calm a = number_after old new _ a.state refl
+accepted_number Publish old new bytes calm a = number_after old new _ a.state refl
+
+refused_number : (want : Want) (old new : ClientState) (fault : CallFault) → IsNoAsk want → Refuses old want fault new → new.number ≡ old.number
+refused_number want old new fault calm (inl r) = number_after old new old r.1 refl
+refused_number (Hello key) old new fault calm (inr r) = number_after old new _ r.2 refl
+refused_number (Sync scheme) old new fault calm (inr r) = number_after old new _ r.2 refl
+refused_number (Ask i) old new fault calm (inr r) = absurd calm
+refused_number (Edit i b) old new fault calm (inr r) = number_after old new _ r.2 refl
+refused_number Publish old new fault calm (inr r) = number_after old new _ r.2 refl
+
+-- a call that asks for no record spends no number
+pub calling_spends_no_number : {V : Type 0} → (items : V → List ℕ) (want : Want) (old new : ClientState) (result : Result V CallFault) → IsNoAsk want
+    → IfOk result (λ v. Accepts old want new (items v)) → IfErr result (λ e. Refuses old want e new) → new.number ≡ old.number
+calling_spends_no_number items want old new (Ok v) calm a r = accepted_number want old new (items v) calm a
+calling_spends_no_number items want old new (Err e) calm a r = refused_number want old new e calm r

@@ -1,0 +1,16 @@
+use Rattle.std.proofs.Common.{None, sym, ◌∙◌}
+use Rattle.client_commands.proofs.Conversations.{conversing_spends_no_number, event_ends_the_call}
+use Rattle.client_commands.proofs.connection.event_of.Goals as goal
+
+pub returns-in-Err-converse-clause-number : goal.returns-in-Err-converse-clause-number
+returns-in-Err-converse-clause-number g c = conversing_spends_no_number _ _ _ _ _ _ _ _ c.converse.ensures.5
+
+pub returns-in-None-clause-ends : goal.returns-in-None-clause-ends
+returns-in-None-clause-ends g c =
+    (event_ends_the_call _ _ 0 c.in-Ok-converse.event _ _ None _ c.in-Ok-converse.ensures.5, sym c.said_against.ensures ∙ c.in-None.is)
+
+pub returns-in-None-clause-number : goal.returns-in-None-clause-number
+returns-in-None-clause-number g c = conversing_spends_no_number _ _ _ _ _ _ _ _ c.converse.ensures.5
+
+pub returns-clause-number : goal.returns-clause-number
+returns-clause-number g c = conversing_spends_no_number _ _ _ _ _ _ _ _ c.converse.ensures.5

@@ -1,0 +1,33 @@
+-- How a call ends.
+use Rattle.std.specs.Prelude.{◌≡◌, ◌≢◌, ℕ, List, ◌∷◌, Option}
+use Rattle.client_core.specs.declared.state.Call.{Call}
+use Rattle.client_core.specs.declared.state.Call.TheVariants.{Hello, Sync, Ask, Edit, Publish}
+use Rattle.client_core.specs.declared.state.Event.{Event}
+use Rattle.client_core.specs.declared.state.Event.TheVariants.{Welcomed, Synced, Retrieved, Unreadable, Stale, Done, Refused}
+use Rattle.client_core.specs.declared.state.ClientFault.{ClientFault}
+use Rattle.client_core.specs.Feeding.{Client, FeedsClient}
+
+-- the events that a call can end with: those of its own kind, for what was asked; or a refusal
+abbrev pub Ends : Call → Event → Type 0
+Ends (Hello key) (Welcomed version) = Unit {0}
+Ends (Hello key) (Refused code) = Unit {0}
+Ends (Sync scheme asked part) (Synced of version) = (of ≡ scheme) × (version ≡ asked)
+Ends (Sync scheme asked part) (Stale version) = version ≢ asked
+Ends (Sync scheme asked part) (Refused code) = Unit {0}
+Ends (Ask i asked number) (Retrieved index version bytes) = (index ≡ i) × (version ≡ asked)
+Ends (Ask i asked number) (Unreadable index version) = (index ≡ i) × (version ≡ asked)
+Ends (Ask i asked number) (Stale version) = version ≢ asked
+Ends (Ask i asked number) (Refused code) = Unit {0}
+Ends (Edit i bytes) (Done version) = Unit {0}
+Ends (Edit i bytes) (Refused code) = Unit {0}
+Ends Publish (Done version) = Unit {0}
+Ends Publish (Refused code) = Unit {0}
+Ends _ _ = ⊥
+
+-- the first event of what a client is fed is one that its call can end with
+abbrev pub FirstEventEndsTheCall : Type 0
+FirstEventEndsTheCall = (old new : Client) (piece out : List ℕ) (event : Event) (later : List Event) (fault : Option ClientFault) → FeedsClient old piece out (event ∷ later) fault new → Ends old.state.call event
+
+-- what a client is fed spends none of its numbers
+abbrev pub FeedingSpendsNoNumber : Type 0
+FeedingSpendsNoNumber = (old new : Client) (piece out : List ℕ) (events : List Event) (fault : Option ClientFault) → FeedsClient old piece out events fault new → new.state.number ≡ old.state.number

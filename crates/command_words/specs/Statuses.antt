@@ -1,0 +1,27 @@
+-- What a program's exit status says of a command that was not done.
+use Rattle.std.specs.Prelude.{◌≡◌, ◌⊎◌, ℕ}
+use Rattle.clap.specs.declared.error.kind.ErrorKind.TheVariants.{DisplayHelp, DisplayVersion}
+use Rattle.clap.specs.declared.error.kind.ErrorKind.{ErrorKind}
+use Rattle.clap.specs.Values.{kind_of}
+use Rattle.command_words.specs.declared.failure.Failure.{Failure}
+use Rattle.command_words.specs.declared.failure.Failure.TheVariants.{Refused, Stale, Unreadable, Fault, Memory}
+use Rattle.command_words.specs.declared.bad_line.BadLine.{BadLine}
+use Rattle.command_words.specs.declared.bad_line.BadLine.TheVariants as line
+
+-- 1 for what the server said, 3 for a fault, 4 for want of memory
+abbrev pub status_of : Failure → ℕ
+status_of (Refused code) = 1
+status_of (Stale version) = 1
+status_of (Unreadable index version) = 1
+status_of (Fault name) = 3
+status_of Memory = 4
+
+-- the text is what was asked for, and tells of no mistake
+abbrev pub AsksForHelp : ErrorKind → Type 0
+AsksForHelp kind = (kind ≡ DisplayHelp) ⊎ (kind ≡ DisplayVersion)
+
+-- 0 where help was asked for, 2 for a bad command line, 4 for want of memory
+abbrev pub Tells : BadLine → ℕ → Type 0
+Tells (line.Form e) status = ((status ≡ 0) × AsksForHelp (kind_of e)) ⊎ ((status ≡ 2) × (AsksForHelp (kind_of e) → ⊥))
+Tells (line.Value takes) status = status ≡ 2
+Tells line.Memory status = status ≡ 4
