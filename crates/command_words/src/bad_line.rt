@@ -1,5 +1,8 @@
 //! Command lines that ask for nothing that can be done.
 
+ghost use Rattle.std.specs.Prelude.{◌≡◌, ◌⊎◌};
+ghost use Rattle.clap.specs.Values.{kind_of};
+ghost use Rattle.clap.specs.declared.error.kind.ErrorKind.TheVariants.{OutOfMemory};
 ghost use Rattle.command_words.specs.Statuses.{Tells};
 
 use clap::Error;
@@ -18,6 +21,10 @@ pub enum BadLine {
 }
 
 impl From<Error> for BadLine {
+    ghost use Rattle.command_words.specs.declared.bad_line.BadLine.{BadLine};
+
+    ghost from_gives = { λ error bad. (bad ≡ BadLine.Form error) ⊎ ((bad ≡ BadLine.Memory) × (kind_of error ≡ OutOfMemory)) };
+
     fn from(error: Error) -> BadLine {
         if error.kind() == ErrorKind::OutOfMemory {
             return BadLine::Memory;
@@ -27,12 +34,20 @@ impl From<Error> for BadLine {
 }
 
 impl From<AllocError> for BadLine {
+    ghost use Rattle.command_words.specs.declared.bad_line.BadLine.{BadLine};
+
+    ghost from_gives = { λ _ bad. bad ≡ BadLine.Memory };
+
     fn from(_error: AllocError) -> BadLine {
         BadLine::Memory
     }
 }
 
 impl<T: Drop> From<AllocFailed<T>> for BadLine {
+    ghost use Rattle.command_words.specs.declared.bad_line.BadLine.{BadLine};
+
+    ghost from_gives = { λ _ bad. bad ≡ BadLine.Memory };
+
     fn from(_error: AllocFailed<T>) -> BadLine {
         BadLine::Memory
     }

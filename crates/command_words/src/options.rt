@@ -1,10 +1,11 @@
 //! Options and words of a command, and their values.
 
-ghost use Rattle.std.specs.Prelude.{◌≡◌, ◌≢◌, ◌≤◌, true, None, Some, replicate, Ok, IfOk, IfErr, IfSome};
+ghost use Rattle.std.specs.Prelude.{◌≡◌, ◌≢◌, ◌≤◌, true, None, Some, replicate, Ok, IfOk, IfErr, MatchOption};
 ghost use Rattle.std.specs.Str.Parse.{IsNumeral, digits_value};
 ghost use Rattle.clap.specs.declared.builder.action.ArgAction.{ArgAction};
 ghost use Rattle.clap.specs.Matches.{first_value, found_of};
 ghost use Rattle.hex.specs.Hex.{decode_of};
+ghost use Rattle.command_words.specs.Values.{IsNoNumber, IsNoThirtyTwo, IsNoKey};
 
 use crate::bad_line::BadLine;
 use crate::words::{decimal, key_of, thirty_two};
@@ -13,7 +14,8 @@ use std::alloc::Global;
 
 /// A required option `--name VALUE`.
 pub fn option<'a>(alloc: Global, name: &'a str, value: &'a str, help: &'a str) -> Arg<'a>
-    ensures long { result.long ≡ Some name.entry }
+    ensures long { (result.id ≡ name.entry) × (result.long ≡ Some name.entry) }
+    ensures shown { result.help ≡ Some help.entry }
     ensures required { result.required ≡ true }
     ensures takes_a_value { result.action ≡ Some ArgAction.Set }
 {
@@ -27,7 +29,8 @@ pub fn option<'a>(alloc: Global, name: &'a str, value: &'a str, help: &'a str) -
 
 /// A required word that stands by its place.
 pub fn word<'a>(alloc: Global, name: &'a str, help: &'a str) -> Arg<'a>
-    ensures by_place { (result.long ≡ None) × (result.short ≡ None) }
+    ensures by_place { (result.id ≡ name.entry) × (result.long ≡ None) × (result.short ≡ None) }
+    ensures shown { result.help ≡ Some help.entry }
     ensures required { result.required ≡ true }
     ensures takes_a_value { result.action ≡ Some ArgAction.Set }
 {
@@ -49,7 +52,7 @@ pub fn text_at<'a>(
     takes: &'static str,
 ) -> Result<&'a str, BadLine>
     ensures found { IfOk result (λ text. first_value (found_of found.now) name.now ≡ Some text.now) }
-    ensures missing { IfErr result (λ _. first_value (found_of found.now) name.now ≡ None) }
+    ensures missing { IfErr result (λ bad. (bad ≡ BadLine.Value takes.entry) × (first_value (found_of found.now) name.now ≡ None)) }
 {
     match found.get_str(name) {
         Some(text) => Ok(text),
@@ -69,7 +72,8 @@ pub fn number_at(
     takes: &'static str,
 ) -> Result<u64, BadLine>
     ensures most { IfOk result (λ n. n ≤ most) }
-    ensures value { IfOk result (λ n. IfSome (first_value (found_of found.now) name.now) (λ text. IsNumeral 10 text × (digits_value 10 text ≡ n))) }
+    ensures value { IfOk result (λ n. MatchOption (first_value (found_of found.now) name.now) ⊥ (λ text. IsNumeral 10 text × (digits_value 10 text ≡ n))) }
+    ensures refused { IfErr result (λ bad. (bad ≡ BadLine.Value takes.entry) × IsNoNumber most (first_value (found_of found.now) name.now)) }
 {
     match decimal(text_at(found, name, takes)?) {
         Some(number) if number <= most => Ok(number),
@@ -87,7 +91,8 @@ pub fn thirty_two_at(
     name: &str,
     takes: &'static str,
 ) -> Result<[u8; 32], BadLine>
-    ensures { IfOk result (λ bytes. IfSome (first_value (found_of found.now) name.now) (λ text. decode_of text ≡ Ok bytes)) }
+    ensures value { IfOk result (λ bytes. MatchOption (first_value (found_of found.now) name.now) ⊥ (λ text. decode_of text ≡ Ok bytes)) }
+    ensures refused { IfErr result (λ bad. (bad ≡ BadLine.Value takes.entry) × IsNoThirtyTwo (first_value (found_of found.now) name.now)) }
 {
     match thirty_two(text_at(found, name, takes)?) {
         Some(bytes) => Ok(bytes),
@@ -101,8 +106,9 @@ pub fn thirty_two_at(
 ///
 /// As those of [`thirty_two_at`], and where all bytes are zero.
 pub fn key_at(found: &ArgMatches<'_>, name: &str, takes: &'static str) -> Result<[u8; 32], BadLine>
-    ensures value { IfOk result (λ key. IfSome (first_value (found_of found.now) name.now) (λ text. decode_of text ≡ Ok key)) }
+    ensures value { IfOk result (λ key. MatchOption (first_value (found_of found.now) name.now) ⊥ (λ text. decode_of text ≡ Ok key)) }
     ensures not_zero { IfOk result (λ key. key ≢ replicate 32 0) }
+    ensures refused { IfErr result (λ bad. (bad ≡ BadLine.Value takes.entry) × IsNoKey (first_value (found_of found.now) name.now)) }
 {
     match key_of(text_at(found, name, takes)?) {
         Some(key) => Ok(key),

@@ -1,9 +1,10 @@
 //! Words as values.
 
-ghost use Rattle.std.specs.Prelude.{◌≡◌, ◌≢◌, ◌↔◌, ◌<◌, ◌≤◌, ◌^◌, ◌*◌, length, replicate, SomeIff, IsSome, IfSome, IfOk, Ok};
+ghost use Rattle.std.specs.Prelude.{◌≡◌, ◌≢◌, ◌↔◌, ◌<◌, ◌≤◌, ◌^◌, ◌*◌, length, replicate, SomeIff, IsSome, IfSome, MatchOption, IfOk, Ok};
 ghost use Rattle.std.specs.List.{AllPass};
 ghost use Rattle.std.specs.Str.Parse.{IsNumeral, digits_value};
 ghost use Rattle.hex.specs.Hex.{decode_of, is_hex_digit};
+ghost use Rattle.command_words.specs.Values.{IsNoRecord, IsRecordLen};
 
 use hex::{FromHex, FromHexError};
 use std::alloc::{AllocError, Global};
@@ -34,6 +35,7 @@ pub fn thirty_two(text: &str) -> Option<[u8; 32]>
 pub fn key_of(text: &str) -> Option<[u8; 32]>
     ensures value { IfSome result (λ key. decode_of text.now ≡ Ok key) }
     ensures not_zero { IfSome result (λ key. key ≢ replicate 32 0) }
+    ensures found { IsSome result ↔ ((length text.now ≡ 64) × AllPass is_hex_digit text.now × (decode_of text.now ≢ Ok (replicate 32 0))) }
 {
     let key = thirty_two(text)?;
     if key == [0; 32] {
@@ -44,7 +46,7 @@ pub fn key_of(text: &str) -> Option<[u8; 32]>
 
 /// 1 to 65,535 bytes as two hex digits each. Only want of memory gives an `Err`.
 pub fn record_bytes(alloc: Global, text: &str) -> Result<Option<Vec<u8>>, AllocError>
-    ensures { IfOk result (λ found. IfSome found (λ bytes. (decode_of text.now ≡ Ok bytes.items) × (length bytes.items ≤ 65535))) }
+    ensures { IfOk result (λ found. MatchOption found (IsNoRecord text.now) (λ bytes. (decode_of text.now ≡ Ok bytes.items) × IsRecordLen (length bytes.items))) }
 {
     let bytes = match hex::decode(alloc, text) {
         Ok(bytes) => bytes,
