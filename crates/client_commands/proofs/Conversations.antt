@@ -1,8 +1,13 @@
 -- What a conversation leaves, whatever the server says.
-use Rattle.std.proofs.Common.{◌≡◌, ℕ, List, [], Option, Result, Ok, Err, refl, ap, ◌∙◌, inl, inr}
-use Rattle.std.specs.Prelude.{IfOk, IfErr}
+use Rattle.std.proofs.Common.{◌≡◌, ℕ, List, [], Option, Result, Ok, Err, refl, ap, ◌∙◌, inl, inr, subst}
+use Rattle.std.specs.Prelude.{IfOk, IfErr, IsOk}
 use Rattle.client_core.specs.declared.state.ClientState.{ClientState}
+use Rattle.client_core.specs.declared.state.Call.{Call}
+use Rattle.client_core.specs.declared.state.Call.TheVariants as call
 use Rattle.client_core.specs.declared.state.Event.{Event}
+use Rattle.client_core.specs.declared.state.Event.TheVariants.{Retrieved}
+use Rattle.client_core.specs.States.{known_version}
+use Rattle.client_commands.specs.Done.{EndedWith, Asked}
 use Rattle.client_core.specs.declared.state.CallFault.{CallFault}
 use Rattle.client_core.specs.Calls.{Want, Hello, Sync, Ask, Edit, Publish, Accepts, Refuses}
 use Rattle.client_core.specs.Feeding.{Client}
@@ -86,3 +91,15 @@ pub calling_spends_no_number : {V : Type 0} → (items : V → List ℕ) (want :
     → IfOk result (λ v. Accepts old want new (items v)) → IfErr result (λ e. Refuses old want e new) → new.number ≡ old.number
 calling_spends_no_number items want old new (Ok v) calm a r = accepted_number want old new (items v) calm a
 calling_spends_no_number items want old new (Err e) calm a r = refused_number want old new e calm r
+
+-- the record that an ask ends with is the one asked for
+pub asked_and_retrieved : {V : Type 0} → (items : V → List ℕ) (i : ℕ) (old mid : ClientState) (new : Client) (result : Result V CallFault) (e : Event) (index version : ℕ) (bytes : List ℕ) → IsOk result
+    → IfOk result (λ v. Accepts old (Ask i) mid (items v)) → e ≡ Retrieved index version bytes → Ends mid.call e → EndedWith mid.call e new → (index ≡ i) × Asked i (Retrieved index version bytes) new
+asked_and_retrieved items i old mid new (Err fault) e index version bytes ok a is ends came = absurd cc
+asked_and_retrieved items i old mid new (Ok v) e index version bytes ok a is ends came =
+    let asked : mid.call ≡ call.Ask i (known_version old.known) old.number = ap (λ (c : ClientState). c.call) a.state in
+    let here : Ends mid.call (Retrieved index version bytes) = let P : Event → Type 0 = λ x. Ends mid.call x in subst P is ends in
+    let own : Ends (call.Ask i (known_version old.known) old.number) (Retrieved index version bytes) = let P : Call → Type 0 = λ x. Ends x (Retrieved index version bytes) in subst P asked here in
+    let left : EndedWith mid.call (Retrieved index version bytes) new = let P : Event → Type 0 = λ x. EndedWith mid.call x new in subst P is came in
+    let ended : EndedWith (call.Ask i (known_version old.known) old.number) (Retrieved index version bytes) new = let P : Call → Type 0 = λ x. EndedWith x (Retrieved index version bytes) new in subst P asked left in
+    (own.0, (known_version old.known, old.number, ended))

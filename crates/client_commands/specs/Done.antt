@@ -1,7 +1,11 @@
 -- Calls that were done, and those that were not.
-use Rattle.std.specs.Prelude.{◌≡◌, Option, Some, None}
+use Rattle.std.specs.Prelude.{◌≡◌, ℕ, List, Option, Some, None, Ok}
+use Rattle.client_core.specs.declared.state.Call.{Call}
+use Rattle.client_core.specs.declared.state.Call.TheVariants as call
 use Rattle.client_core.specs.declared.state.Event.{Event}
 use Rattle.client_core.specs.declared.state.Event.TheVariants.{Unreadable, Stale, Refused}
+use Rattle.client_core.specs.Feeding.{Client}
+use Rattle.session_engines.specs.Conversing.{Converses}
 use Rattle.command_words.specs.declared.failure.Failure.{Failure}
 use Rattle.command_words.specs.declared.failure.Failure.TheVariants as failure
 
@@ -15,3 +19,16 @@ failure_of _ = None
 -- nothing was said against it
 abbrev pub IsDone : Event → Type 0
 IsDone event = failure_of event ≡ None
+
+-- the client stands where a conversation left it that one with this call outstanding had, and this event came of it
+pub record EndedWith (call : Call) (event : Event) (new : Client) : Type 0 where
+  pub old : Client
+  pub outstanding : old.state.call ≡ call
+  pub first : List ℕ
+  pub read : List ℕ
+  pub out : List ℕ
+  pub came : Converses old first 0 (Ok event) read out None new
+
+-- the same for the ask for a record, whatever its version and number
+abbrev pub Asked : ℕ → Event → Client → Type 0
+Asked index event new = (version : ℕ) × (number : ℕ) × EndedWith (call.Ask index version number) event new

@@ -1,7 +1,10 @@
 //! The commands.
 
 ghost use Rattle.std.specs.Prelude.{◌≡◌, ◌≤◌, ◌+◌, ◌⊎◌, length, IfOk, IfErr};
+ghost use Rattle.client_core.specs.declared.state.Call.TheVariants as Call;
 ghost use Rattle.client_core.specs.declared.state.Event.TheVariants.{Done};
+ghost use Rattle.client_core.specs.declared.state.Event.TheVariants as event;
+ghost use Rattle.client_commands.specs.Done.{EndedWith, Asked};
 
 use crate::connection::event_of;
 use client_core::{ClientCore, Event, Scheme};
@@ -43,7 +46,7 @@ pub fn get<K: Kernel, R: Read, W: Write>(
     scheme: Scheme,
     index: u32,
 ) -> Result<Retrieved, Failure>
-    ensures record { IfOk result (λ r. r.index ≡ index) }
+    ensures record { IfOk result (λ r. (r.index ≡ index) × Asked index (event.Retrieved r.index r.version r.bytes) client.new) }
     ensures spends { IfOk result (λ _. client.new.state.number ≡ client.old.state.number + 1) }
     ensures spends_no_more { IfErr result (λ _. (client.new.state.number ≡ client.old.state.number) ⊎ (client.new.state.number ≡ client.old.state.number + 1)) }
 {
@@ -82,7 +85,8 @@ pub fn put<K: Kernel, R: Read, W: Write>(
     bytes: &[u8],
 ) -> Result<u64, Failure>
     requires { length bytes.now ≤ 65535 }
-    ensures { client.new.state.number ≡ client.old.state.number }
+    ensures version { IfOk result (λ version. EndedWith (Call.Edit index bytes.now) (Done version) client.new) }
+    ensures number { client.new.state.number ≡ client.old.state.number }
 {
     let sent = client.hello(key);
     event_of(alloc, client, sent, reader, writer)?;
@@ -104,7 +108,8 @@ pub fn publish<K: Kernel, R: Read, W: Write>(
     writer: &mut W,
     key: [u8; 32],
 ) -> Result<u64, Failure>
-    ensures { client.new.state.number ≡ client.old.state.number }
+    ensures version { IfOk result (λ version. EndedWith Call.Publish (Done version) client.new) }
+    ensures number { client.new.state.number ≡ client.old.state.number }
 {
     let sent = client.hello(key);
     event_of(alloc, client, sent, reader, writer)?;

@@ -2,7 +2,7 @@
 
 ghost use Rattle.std.specs.Prelude.{◌≡◌, IfOk, IsOk};
 ghost use Rattle.client_core.specs.Endings.{Ends};
-ghost use Rattle.client_commands.specs.Done.{IsDone, failure_of};
+ghost use Rattle.client_commands.specs.Done.{IsDone, failure_of, EndedWith};
 
 use client_core::{CallFault, ClientCore, Event};
 use command_words::Failure;
@@ -25,6 +25,7 @@ pub(crate) fn event_of<K: Kernel, R: Read, W: Write>(
 ) -> Result<Event, Failure>
     ensures made { IfOk result (λ _. IsOk sent) }
     ensures ends { IfOk result (λ event. Ends client.old.state.call event × IsDone event) }
+    ensures came { IfOk result (λ event. EndedWith client.old.state.call event client.new) }
     ensures number { client.new.state.number ≡ client.old.state.number }
 {
     let first = match sent {

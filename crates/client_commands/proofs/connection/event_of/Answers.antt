@@ -1,4 +1,4 @@
-use Rattle.std.proofs.Common.{None, sym, ◌∙◌}
+use Rattle.std.proofs.Common.{None, refl, sym, ◌∙◌}
 use Rattle.client_commands.proofs.Conversations.{conversing_spends_no_number, event_ends_the_call}
 use Rattle.client_commands.proofs.connection.event_of.Goals as goal
 
@@ -14,3 +14,13 @@ returns-in-None-clause-number g c = conversing_spends_no_number _ _ _ _ _ _ _ _ 
 
 pub returns-clause-number : goal.returns-clause-number
 returns-clause-number g c = conversing_spends_no_number _ _ _ _ _ _ _ _ c.converse.ensures.5
+
+pub returns-in-None-clause-came : goal.returns-in-None-clause-came
+returns-in-None-clause-came g c = record {
+  old = c.args.client.now;
+  outstanding = refl;
+  first = c.deref.result.now;
+  read = c.in-Ok-converse.ensures.0;
+  out = c.in-Ok-converse.ensures.1;
+  came = c.in-Ok-converse.ensures.5;
+}
