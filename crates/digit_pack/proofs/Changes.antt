@@ -7,7 +7,8 @@ use Rattle.std.specs.Prelude.{slice_set}
 use Rattle.matrix_u32.specs.Sum.{sum_below}
 use Rattle.matrix_u32.specs.Matrix.{entry}
 use Rattle.matrix_u32.proofs.Products.{entry-matrix_of}
-use Rattle.digit_pack.specs.Digits.{digit, number_of}
+use Rattle.lane_kernels.specs.Digit.{digit}
+use Rattle.digit_pack.specs.Digits.{number_of}
 use Rattle.digit_pack.specs.Layout.{Shape, IsShape, digit_matrix, digit_at, digit_rows, digit_cols, digits_per_record, first_row, column_of}
 use Rattle.digit_pack.specs.Laws.{IsPlaceOf, RecordChange}
 use Rattle.digit_pack.proofs.Records.{entry-record}

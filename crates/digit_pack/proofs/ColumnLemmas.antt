@@ -1,11 +1,11 @@
 -- A column that is written from its top down.
-use Rattle.std.proofs.Common.{◌≡◌, ◌≢◌, ℕ, ◌+◌, ◌*◌, ◌<◌, ◌≤◌, arith, ap, ◌∙◌, sym, refl, subst, inl, inr, List, length}
+use Rattle.std.proofs.Common.{◌≡◌, ℕ, ◌+◌, ◌<◌, arith, ap, ◌∙◌, sym, refl, subst, inl, inr, List}
 use Rattle.std.proofs.lemmas.Bool.{cases_eq}
 use Rattle.std.proofs.lemmas.List.{length-set}
 use Rattle.std.specs.Prelude.{slice_index}
 use Rattle.matrix_u32.specs.Matrix.{WordMatrix, IsWhole, entry, with_entry}
 use Rattle.matrix_u32.proofs.Changes.{entry_kept, entry_set}
-use Rattle.digit_pack.specs.Columns.{IsWithin, WritesFirst, WritesColumn}
+use Rattle.digit_pack.specs.Columns.{WritesFirst, WritesColumn}
 
 pub none_written : (m : WordMatrix) (first col : ℕ) (words : List ℕ) → IsWhole m → WritesFirst m m first col 0 words
 none_written m first col words whole = record {

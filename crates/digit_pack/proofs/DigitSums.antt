@@ -6,7 +6,8 @@ use Rattle.std.proofs.lemmas.Bool.{cases_eq}
 use Rattle.matrix_u32.specs.Sum.{sum_below}
 use Rattle.matrix_u32.proofs.Sums.{sum_same}
 use Rattle.matrix_u32.proofs.Products.{length-list_of, at-list_of}
-use Rattle.digit_pack.specs.Digits.{digit, digits_of, number_of, split_count, joined}
+use Rattle.lane_kernels.specs.Digit.{digit, split_count}
+use Rattle.digit_pack.specs.Digits.{digits_of, number_of, joined}
 
 -- the first n digits write the number, up to their places
 pub sum_of_digits : (w n x : ℕ) → sum_below n (λ t. digit w x t * 2 ^ (w * t)) ≡ x % 2 ^ (w * n)

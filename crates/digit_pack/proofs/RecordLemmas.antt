@@ -12,11 +12,12 @@ use Rattle.matrix_u32.specs.Sum.{list_of}
 use Rattle.std.proofs.lemmas.List.Elements.{All-from_get_or}
 use Rattle.std.proofs.Math.Nat.{pow-le-pow_right}
 use Rattle.std.specs.Prelude.{slice_index, All}
-use Rattle.matrix_u32.specs.Matrix.{WordMatrix, entry, zero_matrix, matrix_of}
+use Rattle.matrix_u32.specs.Matrix.{WordMatrix, entry, zero_matrix}
 use Rattle.matrix_u32.proofs.Products.{at-list_of, at-list_of_any, length-list_of, entry-matrix_of, same-list_of, piece-list_of}
 use Rattle.matrix_u32.proofs.Changes.{matrix_by_entries}
 use Rattle.matrix_u32.proofs.Rows.{zero_matrix_is}
-use Rattle.digit_pack.specs.Digits.{digit, number_of}
+use Rattle.lane_kernels.specs.Digit.{digit}
+use Rattle.digit_pack.specs.Digits.{number_of}
 use Rattle.digit_pack.specs.Laws.{IsPlaceOf}
 use Rattle.digit_pack.specs.Layout.{Shape, IsShape, IsLayout, digit_matrix, digit_at, digit_rows, digit_cols, digits_per_record, first_row, column_of, record_at, record_digits}
 use Rattle.digit_pack.proofs.Changes.{place_of, record_of_place, digit_of_place, some_digits, unused_slot}

@@ -5,7 +5,8 @@ use Rattle.std.proofs.Math.Nat.{mul-div_cancel, mod-eq_of_lt, pow-le-pow_right}
 use Rattle.std.specs.Prelude.{slice_index, All}
 use Rattle.matrix_u32.specs.Matrix.{WordMatrix, entry}
 use Rattle.matrix_u32.proofs.Products.{entry-matrix_of, list_of-at, same-list_of}
-use Rattle.digit_pack.specs.Digits.{digit, digits_of, number_of, split_count, joined, decomposed, decomposed_at, recomposed, recomposed_at}
+use Rattle.lane_kernels.specs.Digit.{digit, split_count}
+use Rattle.digit_pack.specs.Digits.{digits_of, number_of, joined, decomposed, decomposed_at, recomposed, recomposed_at}
 use Rattle.digit_pack.specs.Layout.{Shape, IsShape, IsRecord, record_digits, record_bytes, digit_matrix, digit_at, digit_rows, digit_cols, digits_per_record, first_row, column_of, record_at}
 use Rattle.digit_pack.proofs.DigitSums.{number_of-digits_of, number_below, digit_of_sum, join_split, split_some}
 

@@ -7,7 +7,8 @@ use Rattle.std.proofs.Math.Nat.{div-eq_of_lt, pow-le-pow_right, zero-mod}
 use Rattle.std.specs.Prelude.{slice_index, All}
 use Rattle.matrix_u32.specs.Sum.{sum_below}
 use Rattle.matrix_u32.proofs.Sums.{sum_below_more}
-use Rattle.digit_pack.specs.Digits.{digit, number_of}
+use Rattle.lane_kernels.specs.Digit.{digit}
+use Rattle.digit_pack.specs.Digits.{number_of}
 use Rattle.digit_pack.specs.Windows.{window}
 use Rattle.digit_pack.proofs.DigitSums.{sum_of_digits, digit_of_sum, number_below, mod_twice}
 

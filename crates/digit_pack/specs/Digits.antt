@@ -1,11 +1,8 @@
 -- Numbers written in digits of w bits, the least significant first. A byte is a digit of 8 bits.
 use Rattle.std.specs.Prelude.{ℕ, ◌+◌, ◌*◌, ◌/◌, ◌%◌, ◌^◌, List, length, slice_index}
 use Rattle.matrix_u32.specs.Sum.{sum_below, list_of}
+use Rattle.lane_kernels.specs.Digit.{digit, split_count}
 use Rattle.matrix_u32.specs.Matrix.{WordMatrix, entry, matrix_of}
-
--- digit t of a number
-unfoldable pub digit : ℕ → ℕ → ℕ → ℕ
-digit w number t = number / 2 ^ (w * t) % 2 ^ w
 
 -- the first digits of a number
 abbrev pub digits_of : ℕ → ℕ → ℕ → List ℕ
@@ -14,10 +11,6 @@ digits_of w count number = list_of count (λ t. digit w number t)
 -- the number that digits write
 unfoldable pub number_of : ℕ → List ℕ → ℕ
 number_of w digits = sum_below (length digits) (λ t. slice_index digits t * 2 ^ (w * t))
-
--- how many digits of w bits a word takes: 32 divided by w, rounded up
-unfoldable pub split_count : ℕ → ℕ
-split_count w = (31 + w) / w
 
 -- row k split_count + t has digit t of row k
 abbrev pub decomposed_at : ℕ → WordMatrix → ℕ → ℕ → ℕ

@@ -1,7 +1,8 @@
 -- Laws of digits.
 use Rattle.std.specs.Prelude.{◌≡◌, slice_set, ℕ, ◌+◌, ◌*◌, ◌/◌, ◌^◌, ◌<◌, ◌≤◌, List, length, All}
 use Rattle.matrix_u32.specs.Matrix.{WordMatrix, entry}
-use Rattle.digit_pack.specs.Digits.{digit, digits_of, number_of, split_count, decomposed, recomposed, joined}
+use Rattle.lane_kernels.specs.Digit.{digit, split_count}
+use Rattle.digit_pack.specs.Digits.{digits_of, number_of, decomposed, recomposed, joined}
 use Rattle.digit_pack.specs.Layout.{Shape, IsShape, IsRecord, record_digits, record_bytes, digit_matrix, digits_per_record, digit_rows, digit_cols, first_row, column_of, record_at}
 
 -- the digits of a word write the word

@@ -4,7 +4,8 @@ use Rattle.digit_pack.specs.declared.layout.LayoutError.{LayoutError}
 use Rattle.digit_pack.specs.declared.layout.LayoutError.TheVariants.{BadWidth, BadRecord, BadGroups, BadCount}
 use Rattle.matrix_u32.specs.Sum.{list_of}
 use Rattle.matrix_u32.specs.Matrix.{WordMatrix, matrix_of}
-use Rattle.digit_pack.specs.Digits.{digit, number_of, digits_of}
+use Rattle.lane_kernels.specs.Digit.{digit}
+use Rattle.digit_pack.specs.Digits.{number_of, digits_of}
 
 -- digits of `width` bits; records of `record_len` bytes, `groups` of them to a column; `count` records
 pub record Shape : Type 0 where

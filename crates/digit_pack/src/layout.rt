@@ -1,7 +1,8 @@
 //! Where the digits of records stand.
 
 ghost use Rattle.std.specs.Prelude.{◌≡◌, ◌+◌, ◌*◌, ◌/◌, ◌%◌, ◌^◌, ◌<◌, ◌≤◌, IfOk, IfErr, MatchResult, length, slice_index, All};
-ghost use Rattle.digit_pack.specs.Digits.{digit, number_of};
+ghost use Rattle.lane_kernels.specs.Digit.{digit};
+ghost use Rattle.digit_pack.specs.Digits.{number_of};
 ghost use Rattle.digit_pack.specs.Layout.{
   shape,
   IsLayout,

@@ -1,7 +1,8 @@
 //! Bytes as digits, and digits as bytes.
 
 ghost use Rattle.std.specs.Prelude.{◌≡◌, ℕ, ◌+◌, ◌*◌, ◌%◌, ◌/◌, ◌^◌, ◌≤◌, ◌<◌, length, slice_index, All};
-ghost use Rattle.digit_pack.specs.Digits.{digit, digits_of, number_of, joined, split_count};
+ghost use Rattle.lane_kernels.specs.Digit.{digit, split_count};
+ghost use Rattle.digit_pack.specs.Digits.{digits_of, number_of, joined};
 ghost use Rattle.digit_pack.specs.Windows.{window};
 
 // The byte at a place, and 0 past the end.
@@ -39,7 +40,7 @@ pub fn pack_bytes(w: u32, bytes: &[u8], out: &mut [u32])
 }
 
 /// How many digits of w bits a word has: 32 divided by w, rounded up.
-#[tactic(auto, unfolding(crate::specs::Digits::split_count))]
+#[tactic(auto, unfolding(lane_kernels::specs::Digit::split_count))]
 pub fn split_count(w: u32) -> usize
     requires { (6 ≤ w) × (w ≤ 10) }
     ensures { result ≡ split_count w }

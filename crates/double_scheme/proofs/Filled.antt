@@ -4,14 +4,8 @@ use Rattle.std.proofs.lemmas.Bool.{cases_eq}
 use Rattle.std.proofs.lemmas.List.{length-set}
 use Rattle.std.proofs.lemmas.Nat.{same_from_place, mul-add-lt}
 use Rattle.matrix_u32.specs.Matrix.{WordMatrix, IsWhole, entry, matrix_of, with_entry}
+use Rattle.double_scheme.specs.Filled.{IsFilled}
 use Rattle.matrix_u32.proofs.Changes.{entry_kept, entry_set, matrix_by_entries}
-
--- the places before place k, row by row, have the right word
-pub record IsFilled (rows cols k : ℕ) (f : ℕ → ℕ → ℕ) (m : WordMatrix) : Type 0 where
-  pub rows_are : m.rows ≡ rows
-  pub cols_are : m.cols ≡ cols
-  pub whole : IsWhole m
-  pub done : (i j : ℕ) → i < rows → j < cols → i * cols + j < k → entry m i j ≡ f i j
 
 pub none_filled : (rows cols : ℕ) (f : ℕ → ℕ → ℕ) (m : WordMatrix) → m.rows ≡ rows → m.cols ≡ cols → IsWhole m → IsFilled rows cols (0 * cols + 0) f m
 none_filled rows cols f m r c w = record { rows_are = r; cols_are = c; whole = w; done = λ i j _ _ l. absurd (omega arith) }

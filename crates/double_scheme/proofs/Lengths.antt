@@ -5,7 +5,7 @@ use Rattle.std.specs.Prelude.{flat_map}
 use Rattle.std.specs.List.{range_with_len}
 use Rattle.matrix_u32.specs.Matrix.{WordMatrix, product, times_vector}
 use Rattle.matrix_u32.proofs.Products.{length-list_of}
-use Rattle.digit_pack.specs.Digits.{split_count}
+use Rattle.lane_kernels.specs.Digit.{split_count}
 use Rattle.digit_pack.specs.Layout.{Shape, digit_rows, digit_cols, digits_per_record}
 use Rattle.double_scheme.specs.Double.{first_query_of, part_query_of, query_of, query_words, first_answer_of, part_answer_of, part_of_query, answer_of, answer_words, words_of_part}
 use Rattle.double_scheme.proofs.Blocks.{length-blocks}

@@ -7,7 +7,7 @@ use Rattle.matrix_u32.specs.Matrix.{WordMatrix}
 use Rattle.matrix_u32.proofs.Products.{length-list_of, each-list_of}
 use Rattle.regev_core.proofs.Rounding.{nearest-lt}
 use Rattle.digit_pack.specs.Layout.{Shape, IsLayout, digits_per_record}
-use Rattle.digit_pack.specs.Digits.{split_count}
+use Rattle.lane_kernels.specs.Digit.{split_count}
 use Rattle.simple_scheme.specs.Simple.{secret}
 use Rattle.double_scheme.specs.Double.{part_secret, words_of_part, answer_hint, answer_part, part_read, digit_read, reading}
 

@@ -8,7 +8,8 @@ use Rattle.matrix_u32.proofs.Products.{length-list_of}
 use Rattle.noise_table.specs.Margin.{IsQuiet}
 use Rattle.regev_core.specs.Encryption.{stripped, nearest}
 use Rattle.regev_core.specs.Laws.{QuietMatrixRowGivesItsEntry}
-use Rattle.digit_pack.specs.Digits.{digit, split_count, number_of}
+use Rattle.lane_kernels.specs.Digit.{digit, split_count}
+use Rattle.digit_pack.specs.Digits.{number_of}
 use Rattle.digit_pack.specs.Laws.{SplitJoins, DigitsAreSmall, DecomposedStandsBelow, RecordStandsInside, RecordStandsInItsColumn}
 use Rattle.digit_pack.specs.Layout.{Shape, IsShape, digit_matrix, digit_rows, digit_cols, digits_per_record, first_row, column_of, record_at}
 use Rattle.simple_scheme.specs.Simple.{secret, query_noise}

@@ -9,7 +9,8 @@ use Rattle.matrix_u32.proofs.Products.{length-list_of, at-list_of, same-list_of,
 use Rattle.noise_table.specs.Margin.{IsQuiet}
 use Rattle.regev_core.specs.Encryption.{cipher, stripped, nearest}
 use Rattle.regev_core.specs.Laws.{QuietMatrixRowGivesItsEntry}
-use Rattle.digit_pack.specs.Digits.{digit, split_count, decomposed, joined}
+use Rattle.lane_kernels.specs.Digit.{digit, split_count}
+use Rattle.digit_pack.specs.Digits.{decomposed, joined}
 use Rattle.digit_pack.specs.Laws.{SplitJoins, DigitsAreSmall, DecomposedStandsBelow}
 use Rattle.double_scheme.specs.Double.{second_word, server_hint_of, first_answer_of, one_row, row_read, word_read, part_answer_of}
 

@@ -1,7 +1,7 @@
 -- How many words an answer has at most.
 use Rattle.std.proofs.Common.{◌≡◌, ℕ, ◌+◌, ◌*◌, ◌/◌, ◌<◌, ◌≤◌, arith, mul-le-mul_right}
 use Rattle.std.proofs.lemmas.Nat.{mul-le, div_below}
-use Rattle.digit_pack.specs.Digits.{split_count}
+use Rattle.lane_kernels.specs.Digit.{split_count}
 use Rattle.digit_pack.specs.Layout.{Shape, IsLayout, digits_per_record, digit_rows}
 
 pub few_digits : (l : Shape) → IsLayout l → digits_per_record l ≤ 4096

@@ -7,7 +7,8 @@ use Rattle.seed_expand.specs.Words.{words_from}
 use Rattle.noise_table.specs.Noise.{noise_from}
 use Rattle.noise_table.specs.Margin.{IsQuiet}
 use Rattle.regev_core.specs.Encryption.{cipher, stripped, nearest}
-use Rattle.digit_pack.specs.Digits.{split_count, decomposed, joined}
+use Rattle.lane_kernels.specs.Digit.{split_count}
+use Rattle.digit_pack.specs.Digits.{decomposed, joined}
 use Rattle.digit_pack.specs.Layout.{Shape, digit_matrix, digit_rows, digit_cols, digits_per_record, first_row, column_of}
 use Rattle.simple_scheme.specs.Simple.{secret, query_noise, IsQuietRetrieval}
 

@@ -1,7 +1,7 @@
 //! Answers.
 
 ghost use Rattle.std.specs.Prelude.{◌≡◌, ◌+◌, ◌*◌, ◌≤◌, IfOk, length, take, drop};
-ghost use Rattle.digit_pack.specs.Digits.{split_count};
+ghost use Rattle.lane_kernels.specs.Digit.{split_count};
 ghost use Rattle.digit_pack.specs.Layout.{digit_rows, digit_cols};
 ghost use Rattle.double_scheme.specs.Double.{first_answer_of, part_answer_of, query_words, answer_words, answer_of};
 

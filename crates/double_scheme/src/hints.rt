@@ -1,10 +1,12 @@
 //! The hints of both sides, and the digits of a matrix read across.
 
-ghost use Rattle.std.specs.Prelude.{◌≡◌, ◌*◌, ◌≤◌, IfOk};
+ghost use Rattle.std.specs.Prelude.{◌≡◌, ◌+◌, ◌*◌, ◌<◌, ◌≤◌, IfOk};
 ghost use Rattle.matrix_u32.specs.Matrix.{WordMatrix, transpose};
-ghost use Rattle.digit_pack.specs.Digits.{decomposed, split_count};
+ghost use Rattle.lane_kernels.specs.Digit.{split_count};
+ghost use Rattle.digit_pack.specs.Digits.{decomposed, decomposed_at};
 ghost use Rattle.simple_scheme.specs.Simple.{hint_of};
 ghost use Rattle.double_scheme.specs.Double.{server_hint_of, client_hint_of};
+ghost use Rattle.double_scheme.specs.Filled.{IsFilled};
 
 use digit_pack::{DigitStore, split_count, word_digit};
 use matrix_u32::{Kernel, Matrix};
@@ -30,12 +32,23 @@ pub(crate) fn decompose<S: DigitStore + Drop>(
     // Called for what it says of the store: there are rows * cols digits.
     store.rows();
     for r in 0..rows {
-        for j in 0..a.rows() {
-            let digit = word_digit(a.get(j, r / count), w, r % count);
-            store.set(r, j, digit);
-        }
+        decompose_row(&mut store, a, w, r);
     }
     Ok(store)
+}
+
+// Row r of the digits, where the rows before it are written.
+fn decompose_row<S: DigitStore>(store: &mut S, a: &Matrix, w: u32, r: usize)
+    requires width { (6 ≤ w) × (w ≤ 10) }
+    requires row { r < a.now.cols * split_count w }
+    requires before { IsFilled (a.now.cols * split_count w) a.now.rows (r * a.now.rows + 0) (decomposed_at w (transpose a.now)) (S.digits store.old) }
+    ensures { IsFilled (a.now.cols * split_count w) a.now.rows ((r + 1) * a.now.rows + 0) (decomposed_at w (transpose a.now)) (S.digits store.new) }
+{
+    let count = split_count(w);
+    for j in 0..a.rows() {
+        let digit = word_digit(a.get(j, r / count), w, r % count);
+        store.set(r, j, digit);
+    }
 }
 
 /// The hints of both sides, from the first layer's hint D A1 and the second public matrix A2, which have as

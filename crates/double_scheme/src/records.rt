@@ -2,7 +2,7 @@
 
 ghost use Rattle.std.specs.Prelude.{◌≡◌, ◌+◌, ◌*◌, ◌^◌, ◌<◌, ◌≤◌, ◌↔◌, IfOk, IsTrue, All, length, drop};
 ghost use Rattle.matrix_u32.specs.Sum.{list_of};
-ghost use Rattle.digit_pack.specs.Digits.{split_count};
+ghost use Rattle.lane_kernels.specs.Digit.{split_count};
 ghost use Rattle.digit_pack.specs.Layout.{digits_per_record};
 ghost use Rattle.double_scheme.specs.Double.{words_of_part, answer_words, answer_hint, second_word, part_read, digit_read, reading};
 ghost use Rattle.double_scheme.specs.Recovery.{ReadsRecord, GivesQuietRecord};

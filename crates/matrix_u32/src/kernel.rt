@@ -2,7 +2,7 @@
 
 ghost use Rattle.std.specs.Prelude.{◌≡◌, ◌<◌, length};
 ghost use Rattle.matrix_u32.specs.Sum.{dot};
-ghost use Rattle.matrix_u32.specs.Matrix.{entry, product, times_vector, plus_scaled};
+ghost use Rattle.matrix_u32.specs.Matrix.{entry, product, row, times_vector, plus_scaled};
 
 use crate::matrix::Matrix;
 
@@ -59,10 +59,7 @@ impl Kernel for Plain {
     fn mul_into(self, a: &Matrix, b: &Matrix, out: &mut Matrix) {
         let _rows = out.rows();
         for i in 0..a.rows() {
-            for j in 0..b.cols() {
-                let word = column_dot(a, b, i, j);
-                out.set(i, j, word);
-            }
+            put_product_row(a, b, i, out.row_mut(i));
         }
     }
 
@@ -70,6 +67,18 @@ impl Kernel for Plain {
         for j in 0..out.len() {
             out[j] = out[j].wrapping_add(k.wrapping_mul(x[j]));
         }
+    }
+}
+
+// Row i of a times b.
+fn put_product_row(a: &Matrix, b: &Matrix, i: usize, out: &mut [u32])
+    requires fits { a.now.cols ≡ b.now.rows }
+    requires row { i < a.now.rows }
+    requires width { length out.old ≡ b.now.cols }
+    ensures { out.new ≡ row (product a.now b.now) i }
+{
+    for j in 0..b.cols() {
+        out[j] = column_dot(a, b, i, j);
     }
 }
 

@@ -6,7 +6,7 @@ use Rattle.std.specs.declared.vec.Vec.{Vec}
 use Rattle.std.specs.declared.alloc.Global.{Global}
 use Rattle.matrix_u32.specs.Sum.{sum_below}
 use Rattle.digit_pack.specs.Digits.{number_of}
-use Rattle.digit_pack.specs.Layout.{Shape, IsShape, IsLayout, IsRecord, FitsRecord, digits_per_record, record_digits, record_bytes}
+use Rattle.digit_pack.specs.Layout.{Shape, IsRecord, FitsRecord, digits_per_record, record_digits, record_bytes}
 use Rattle.digit_pack.proofs.DigitSums.{number_below, number_of-digits_of}
 use Rattle.simple_scheme.specs.declared.records.RecoverError.{RecoverError}
 use Rattle.simple_scheme.specs.declared.records.RecoverError.TheVariants.{Memory}

@@ -2,7 +2,7 @@
 
 ghost use Rattle.std.specs.Prelude.{◌≡◌, ◌<◌, ◌≤◌, ◌+◌, ◌*◌, ◌^◌, length, IfOk};
 ghost use Rattle.matrix_u32.specs.Matrix.{entry, product, zero_matrix};
-ghost use Rattle.matrix_u32.proofs.Rows.{plus_rows};
+ghost use Rattle.matrix_u32.proofs.Rows.{plus_rows, SoFar};
 ghost use Rattle.simple_scheme.specs.Simple.{hint_of};
 
 use digit_pack::DigitStore;
@@ -44,10 +44,29 @@ fn accumulate<K: Kernel, S: DigitStore>(kernel: K, digits: &S, a: &Matrix, hint:
     let mut start = 0;
     while start < inner {
         let count = BLOCK.min(inner - start);
-        for i in 0..digits.rows() {
-            add_digits(kernel, digits, i, a, start, count, hint.row_mut(i));
-        }
+        add_block(kernel, digits, a, start, count, hint);
         start += count;
+    }
+}
+
+// Adds `count` rows of a from `start` on to each row of the hint, each times its digit; the rows before
+// them were added already.
+fn add_block<K: Kernel, S: DigitStore>(
+    kernel: K,
+    digits: &S,
+    a: &Matrix,
+    start: usize,
+    count: usize,
+    hint: &mut Matrix,
+)
+    requires inside { start + count ≤ (S.digits digits.now).cols }
+    requires inner { (S.digits digits.now).cols ≡ a.now.rows }
+    requires room { start + count < 2 ^ 64 }
+    requires before { SoFar (S.digits digits.now) a.now hint.old start start 0 }
+    ensures { SoFar (S.digits digits.now) a.now hint.new (start + count) (start + count) 0 }
+{
+    for i in 0..digits.rows() {
+        add_digits(kernel, digits, i, a, start, count, hint.row_mut(i));
     }
 }
 

@@ -1,5 +1,6 @@
 -- Parts of a whole that is written piece by piece.
-use Rattle.std.proofs.Common.{◌≡◌, ℕ, ◌+◌, ◌<◌, ◌≤◌, List, ◌++◌, length, take, drop, Result, Ok, Err, OnErr, IfErr, refl, sym, ap, subst, ◌∙◌, arith}
+use Rattle.std.proofs.Common.{◌≡◌, ℕ, ◌+◌, ◌<◌, ◌≤◌, List, ◌++◌, length, take, drop, Result, Ok, Err, IfErr, refl, sym, ap, subst, ◌∙◌, arith}
+use Rattle.std.specs.Result.{IsErrAnd}
 use Rattle.std.proofs.lemmas.List.{length-append, take-append-le, take_at, drop_at}
 use Rattle.std.proofs.Math.Seq.{take-add}
 use Rattle.sha2.specs.Sha256.{sha256}
@@ -19,12 +20,10 @@ part_taken a b c whole n e lt =
 pub part_shorter : (a b c whole : List ℕ) (n : ℕ) → whole ≡ a ++ (b ++ c) → n < length b → length a + n < length whole
 part_shorter a b c whole n e lt = omega (arith, ap length e, length-append a (b ++ c), length-append b c)
 
--- a write's fault and the part that went out
-pub if_err : {T E : Type 0} (r : Result T E) (P : Type 0) (w : E) (Q : E → Type 0) → OnErr r P → OnErr r (r ≡ Err w) → (P → Q w) → IfErr r Q
-if_err (Ok x) P w Q p e f = tt
-if_err {T = T} {E = E} (Err x) P w Q p e f =
-    let same : w ≡ x = cc in
-    subst Q same (f p)
+-- what a `?` returns where only one fault can come
+pub told_as : {T E : Type 0} (r : Result T E) (w : E) (Q : E → Type 0) → IsErrAnd r (λ e. e ≡ w) → Q w → IfErr r Q
+told_as (Ok x) w Q h q = absurd h
+told_as (Err e) w Q h q = subst Q (sym h) q
 
 -- less than the whole
 pub nothing_shorter : (h : Header) (records : List ℕ) → 0 < length (snapshot_bytes h records)

@@ -4,6 +4,7 @@ ghost use Rattle.std.specs.Prelude.{◌≡◌, ◌↔◌, IsTrue};
 ghost use Rattle.snapshot_file.specs.Snapshots.{header_of, records_len, IsAccepted};
 
 use digit_pack::Layout;
+use engine_io::WriteFailed;
 use thiserror::Error;
 
 /// The greatest dimension: how many words a secret has.
@@ -89,6 +90,16 @@ pub enum WriteFault {
     /// There is no memory for the header.
     #[error("out of memory")]
     Memory,
+}
+
+impl From<WriteFailed> for WriteFault {
+    ghost use Rattle.snapshot_file.specs.declared.snapshot.WriteFault.TheVariants.{Write};
+
+    ghost from_gives = { λ _ fault. fault ≡ Write };
+
+    fn from(_failed: WriteFailed) -> Self {
+        WriteFault::Write
+    }
 }
 
 impl Header {

@@ -6,25 +6,9 @@ ghost use Rattle.snapshot_file.specs.Snapshots.{snapshot_bytes};
 
 use crate::header::{digest_of, header_bytes};
 use crate::snapshot::{Header, WriteFault};
+use engine_io::write_out;
 use std::alloc::Global;
 use std::io::Write;
-
-// Writes bytes, at least one in each turn.
-fn write_out<W: Write>(writer: &mut W, bytes: &[u8]) -> Result<(), WriteFault>
-    ensures ok { OnOk result (Appends (W.contents writer.old) (W.contents writer.new) bytes.now) }
-    ensures err { OnErr result ((n : ℕ) × (n < length bytes.now)
-        × Appends (W.contents writer.old) (W.contents writer.new) (take n bytes.now)) }
-    ensures fault { OnErr result (result ≡ Err WriteFault.Write) }
-{
-    let mut at = 0;
-    while at < bytes.len() {
-        match writer.write(&bytes[at..]) {
-            Ok(0) | Err(_) => return Err(WriteFault::Write),
-            Ok(n) => at += n,
-        }
-    }
-    Ok(())
-}
 
 /// Writes the snapshot of a header and its records, `count` times `record_len` bytes if it is to be read
 /// back. After `Write`, where a write failed or took no byte, a part of it went out, and not the whole;
@@ -46,5 +30,6 @@ pub fn write_snapshot_bytes<W: Write>(
     let digest = digest_of(&front, records);
     write_out(writer, &front)?;
     write_out(writer, records)?;
-    write_out(writer, &digest)
+    write_out(writer, &digest)?;
+    Ok(())
 }

@@ -1,9 +1,9 @@
-use Rattle.std.proofs.Common.{arith, refl, ap, sym, ◌∙◌, ◌+◌, ◌≡◌, ◌*◌, subst, take, drop, List, ℕ, length}
+use Rattle.std.proofs.Common.{arith, ap, sym, ◌∙◌, ◌+◌, ◌≡◌, ◌*◌, take, drop, List, ℕ, length}
 use Rattle.std.proofs.Math.Seq.{take-length}
 use Rattle.std.proofs.lemmas.List.{with_items_is}
 use Rattle.matrix_u32.specs.Matrix.{WordMatrix, zero_matrix}
 use Rattle.matrix_u32.proofs.Products.{length-list_of}
-use Rattle.digit_pack.specs.Layout.{Shape, digit_matrix, digit_rows, digit_cols, digits_per_record, first_row, column_of, record_at, record_digits}
+use Rattle.digit_pack.specs.Layout.{Shape, digit_matrix, digit_rows, digits_per_record, first_row, column_of, record_at, record_digits}
 use Rattle.digit_pack.specs.Columns.{WritesColumn}
 use Rattle.digit_pack.specs.Layout.{records_in}
 use Rattle.digit_pack.proofs.ColumnLemmas.{written_as}

@@ -1,4 +1,4 @@
-use Rattle.std.proofs.Common.{arith, refl, ap, sym, ◌∙◌, ◌+◌, subst, ◌≡◌, ℕ, length}
+use Rattle.std.proofs.Common.{arith, refl, sym, ◌+◌, subst, ◌≡◌, ℕ, length}
 use Rattle.std.specs.Prelude.{slice_index}
 use Rattle.matrix_u32.specs.Matrix.{WordMatrix}
 use Rattle.digit_pack.specs.Columns.{WritesFirst}

@@ -1,5 +1,3 @@
-use Rattle.std.proofs.Common.{◌≡◌}
-use Rattle.matrix_u32.specs.Matrix.{product}
 use Rattle.digit_pack.specs.Columns.{WritesFirst}
 use Rattle.digit_pack.proofs.filling.write_digits.Given as goal
 

@@ -1,6 +1,5 @@
-use Rattle.std.proofs.Common.{ap, ◌∙◌, sym, arith, refl, ◌≡◌, List, ℕ, length, ◌*◌, ◌+◌, ◌-◌}
+use Rattle.std.proofs.Common.{ap, ◌∙◌, sym, arith, ◌≡◌, List, ℕ, length, ◌*◌, ◌+◌, ◌-◌}
 use Rattle.std.specs.Prelude.{slice_set}
-use borrow.Rule.Slice.PartMut.{put_mid}
 use Rattle.digit_pack.specs.Layout.{records_in}
 use Rattle.digit_pack.proofs.RecordLemmas.{written_record}
 use Rattle.digit_pack.proofs.filling.write_record.Goals as goal

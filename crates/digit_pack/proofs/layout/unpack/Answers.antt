@@ -1,6 +1,7 @@
 use Rattle.std.proofs.Common.{arith, ap, ◌∙◌, sym, refl, ◌*◌, ◌/◌, ◌%◌, ◌^◌}
 use Rattle.matrix_u32.proofs.Products.{words_are, filled_more}
-use Rattle.digit_pack.specs.Digits.{digit, number_of}
+use Rattle.lane_kernels.specs.Digit.{digit}
+use Rattle.digit_pack.specs.Digits.{number_of}
 use Rattle.digit_pack.proofs.Unpacking.{fits_decided, byte_from_digits}
 use Rattle.digit_pack.proofs.layout.unpack.Goals as goal
 

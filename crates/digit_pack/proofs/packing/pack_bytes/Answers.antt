@@ -3,7 +3,8 @@ use Rattle.std.proofs.lemmas.Nat.{one_shl}
 use Rattle.std.proofs.lemmas.List.Elements.{All-from_get_or}
 use Rattle.std.specs.Prelude.{All}
 use Rattle.matrix_u32.proofs.Products.{words_are, filled_more}
-use Rattle.digit_pack.specs.Digits.{digit, number_of}
+use Rattle.lane_kernels.specs.Digit.{digit}
+use Rattle.digit_pack.specs.Digits.{number_of}
 use Rattle.digit_pack.proofs.WindowLemmas.{digit_from_window}
 use Rattle.digit_pack.proofs.packing.pack_bytes.Goals as goal
 

@@ -1,7 +1,7 @@
 use Rattle.std.proofs.Common.{arith, ap, ◌∙◌, ◌≡◌, ◌+◌, ◌*◌, ◌/◌, ◌%◌, ◌^◌}
 use Rattle.std.proofs.lemmas.Nat.{one_shl, shr-shr}
 use Rattle.matrix_u32.proofs.Products.{words_are, filled_more}
-use Rattle.digit_pack.specs.Digits.{digit, split_count}
+use Rattle.lane_kernels.specs.Digit.{digit, split_count}
 use Rattle.digit_pack.proofs.packing.split_word.Goals as goal
 
 pub loop-t-preserved : goal.loop-t-preserved

@@ -1,6 +1,6 @@
 use Rattle.std.proofs.Common.{arith, ap, ◌≡◌, ◌*◌, ◌/◌, ◌%◌, ◌^◌}
 use Rattle.std.proofs.lemmas.Nat.{one_shl}
-use Rattle.digit_pack.specs.Digits.{digit}
+use Rattle.lane_kernels.specs.Digit.{digit}
 use Rattle.digit_pack.proofs.DigitSums.{top_place}
 use Rattle.digit_pack.proofs.packing.word_digit.Goals as goal
 

@@ -2,7 +2,7 @@ use Rattle.std.proofs.Common.{arith, ap, sym, ◌∙◌, ◌≡◌, ℕ, ◌+◌
 use Rattle.std.specs.Prelude.{flat_map}
 use Rattle.std.specs.List.{range_with_len}
 use Rattle.matrix_u32.specs.Matrix.{WordMatrix, product}
-use Rattle.digit_pack.specs.Digits.{split_count}
+use Rattle.lane_kernels.specs.Digit.{split_count}
 use Rattle.digit_pack.specs.Layout.{digit_rows, digit_cols, digits_per_record}
 use Rattle.simple_scheme.specs.Simple.{hint_of}
 use Rattle.double_scheme.specs.Double.{answer_of, first_answer_of, part_answer_of, part_of_query}

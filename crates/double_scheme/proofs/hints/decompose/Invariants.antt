@@ -1,11 +1,9 @@
 use Rattle.std.proofs.Common.{◌+◌, ◌*◌}
 use Rattle.matrix_u32.specs.Matrix.{transpose}
-use Rattle.digit_pack.specs.Digits.{decomposed_at, split_count}
-use Rattle.double_scheme.proofs.Filled.{IsFilled}
+use Rattle.lane_kernels.specs.Digit.{split_count}
+use Rattle.digit_pack.specs.Digits.{decomposed_at}
+use Rattle.double_scheme.specs.Filled.{IsFilled}
 use Rattle.double_scheme.proofs.hints.decompose.Given as goal
 
 abbrev pub invariant-loop-r : goal.invariant-loop-r
 invariant-loop-r g l = IsFilled (l.a.cols * split_count l.w) l.a.rows (l.r * l.a.rows + 0) (decomposed_at l.w (transpose l.a)) (g.S.DigitStore.digits l.store)
-
-abbrev pub invariant-loop-j : goal.invariant-loop-j
-invariant-loop-j g l = IsFilled (l.a.cols * split_count l.w) l.a.rows (l.r * l.a.rows + l.j) (decomposed_at l.w (transpose l.a)) (g.S.DigitStore.digits l.store)

@@ -1,7 +1,8 @@
 use Rattle.std.proofs.Common.{arith, ap, sym, ◌∙◌, ◌≡◌, ◌*◌}
 use Rattle.matrix_u32.specs.Matrix.{WordMatrix}
 use Rattle.matrix_u32.specs.Matrix.{transpose}
-use Rattle.digit_pack.specs.Digits.{decomposed, split_count}
+use Rattle.lane_kernels.specs.Digit.{split_count}
+use Rattle.digit_pack.specs.Digits.{decomposed}
 use Rattle.simple_scheme.specs.Simple.{hint_of}
 use Rattle.double_scheme.proofs.Sizes.{few_across}
 use Rattle.double_scheme.proofs.hints.setup.Goals as goal

@@ -7,7 +7,8 @@ use Rattle.noise_table.specs.Noise.{noise}
 use Rattle.noise_table.specs.Laws.{CertainIsQuiet, NoiseIsBounded}
 use Rattle.noise_table.specs.Margin.{IsCertain, IsQuiet}
 use Rattle.seed_expand.specs.Words.{word}
-use Rattle.digit_pack.specs.Digits.{decomposed, split_count}
+use Rattle.lane_kernels.specs.Digit.{split_count}
+use Rattle.digit_pack.specs.Digits.{decomposed}
 use Rattle.digit_pack.specs.Laws.{DigitsAreSmall}
 use Rattle.digit_pack.specs.Layout.{digit_matrix}
 use Rattle.double_scheme.specs.Double.{part_noise, one_row, first_query_of}

@@ -1,5 +1,6 @@
 use Rattle.matrix_u32.proofs.Products.{same-list_of}
-use Rattle.digit_pack.specs.Digits.{digit, number_of}
+use Rattle.lane_kernels.specs.Digit.{digit}
+use Rattle.digit_pack.specs.Digits.{number_of}
 use Rattle.digit_pack.specs.Layout.{digits_per_record, record_at}
 use Rattle.double_scheme.specs.Double.{reading}
 use Rattle.double_scheme.proofs.Retrieval.{part_reads}

@@ -1,5 +1,5 @@
 use Rattle.std.proofs.Common.{arith, ap, ◌∙◌, ◌≡◌, ◌+◌, ◌*◌, ◌≤◌}
-use Rattle.digit_pack.specs.Digits.{split_count}
+use Rattle.lane_kernels.specs.Digit.{split_count}
 use Rattle.digit_pack.specs.Layout.{digits_per_record}
 use Rattle.double_scheme.proofs.Sizes.{few_words, few_rows}
 use Rattle.double_scheme.proofs.records.is_whole.Goals as goal

@@ -1,6 +1,6 @@
 use Rattle.std.proofs.Common.{arith, ap, ◌∙◌, ◌≡◌, ℕ, ◌+◌, ◌*◌, ◌≤◌, mul-le-mul_right}
 use Rattle.matrix_u32.proofs.Products.{filled_more, words_are}
-use Rattle.digit_pack.specs.Digits.{split_count}
+use Rattle.lane_kernels.specs.Digit.{split_count}
 use Rattle.digit_pack.specs.Layout.{digits_per_record}
 use Rattle.simple_scheme.specs.Simple.{secret}
 use Rattle.double_scheme.specs.Double.{words_of_part, answer_hint, part_secret, digit_read, reading}

@@ -1,4 +1,4 @@
-use Rattle.std.proofs.Common.{◌≤◌, ◌-◌, ◌+◌}
+use Rattle.std.proofs.Common.{◌≤◌, ◌-◌}
 use Rattle.matrix_u32.proofs.Rows.{SoFar}
 use Rattle.simple_scheme.proofs.hints.accumulate.Given as goal
 
@@ -10,6 +10,3 @@ invariant-loop-start g l = record {
 
 abbrev pub decreases-loop-start : goal.decreases-loop-start
 decreases-loop-start g l = l.inner - l.start
-
-abbrev pub invariant-loop-i : goal.invariant-loop-i
-invariant-loop-i g l = SoFar (g.S.DigitStore.digits l.digits) l.a l.hint l.start (l.start + l.count) l.i

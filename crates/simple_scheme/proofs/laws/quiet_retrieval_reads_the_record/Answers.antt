@@ -1,7 +1,8 @@
 use Rattle.std.proofs.Common.{◌≡◌, ◌∙◌, sym, ◌+◌, ◌<◌, ◌^◌, arith}
 use Rattle.matrix_u32.specs.Matrix.{entry}
 use Rattle.matrix_u32.proofs.Products.{same-list_of}
-use Rattle.digit_pack.specs.Digits.{digit, number_of}
+use Rattle.lane_kernels.specs.Digit.{digit}
+use Rattle.digit_pack.specs.Digits.{number_of}
 use Rattle.digit_pack.specs.Layout.{digit_matrix, digit_rows, digits_per_record, first_row, column_of, record_at}
 use Rattle.simple_scheme.specs.Simple.{secret, query_noise, hint_of, query_of, answer_of, reading}
 use Rattle.simple_scheme.proofs.laws.quiet_retrieval_reads_the_record.Goals as goal
