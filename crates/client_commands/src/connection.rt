@@ -1,6 +1,7 @@
 //! One call over a connection, and how it failed.
 
-ghost use Rattle.std.specs.Prelude.{◌≡◌, IfOk, IsOk};
+ghost use Rattle.std.specs.Prelude.{◌≡◌, ◌++◌, List, ℕ, IfOk, IsOk, OnOk};
+ghost use Rattle.std.specs.Io.KnownBytes.{Appends};
 ghost use Rattle.client_core.specs.Endings.{Ends};
 ghost use Rattle.client_commands.specs.Done.{IsDone, failure_of, EndedWith};
 
@@ -27,6 +28,7 @@ pub(crate) fn event_of<K: Kernel, R: Read, W: Write>(
     ensures ends { IfOk result (λ event. Ends client.old.state.call event × IsDone event) }
     ensures came { IfOk result (λ event. EndedWith client.old.state.call event client.new) }
     ensures number { client.new.state.number ≡ client.old.state.number }
+    ensures sends { OnOk result (IfOk sent (λ first. (said : List ℕ) × Appends (W.contents writer.old) (W.contents writer.new) (first.items ++ said))) }
 {
     let first = match sent {
         Ok(first) => first,

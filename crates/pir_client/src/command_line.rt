@@ -1,7 +1,8 @@
 //! The command line.
 
 ghost use Rattle.std.specs.Prelude.{IfOk};
-ghost use Rattle.pir_client.specs.Tasks.{TaskFits};
+ghost use Rattle.clap.specs.Matches.{found_of};
+ghost use Rattle.pir_client.specs.Tasks.{TaskFits, ReadsGet, ReadsPut, ReadsPublish};
 
 use clap::{ArgMatches, Command};
 use client_core::Scheme;
@@ -143,7 +144,8 @@ const EXIT_STATUSES: &str =
 
 // What the words of `get` ask for.
 fn get_task(found: &ArgMatches<'_>) -> Result<Task, BadLine>
-    ensures { IfOk result TaskFits }
+    ensures fits { IfOk result TaskFits }
+    ensures read { IfOk result (ReadsGet (found_of found.now)) }
 {
     let port = number_at(found, "port", u64::from(u16::MAX), PORT_TAKES)? as u16;
     let seed = thirty_two_at(found, "seed", SEED_TAKES)?;
@@ -165,7 +167,8 @@ fn get_task(found: &ArgMatches<'_>) -> Result<Task, BadLine>
 
 // What the words of `put` ask for.
 fn put_task(alloc: Global, found: &ArgMatches<'_>) -> Result<Task, BadLine>
-    ensures { IfOk result TaskFits }
+    ensures fits { IfOk result TaskFits }
+    ensures read { IfOk result (ReadsPut (found_of found.now)) }
 {
     let port = number_at(found, "port", u64::from(u16::MAX), PORT_TAKES)? as u16;
     let key = key_at(found, "key", KEY_TAKES)?;
@@ -183,7 +186,8 @@ fn put_task(alloc: Global, found: &ArgMatches<'_>) -> Result<Task, BadLine>
 
 // What the words of `publish` ask for.
 fn publish_task(found: &ArgMatches<'_>) -> Result<Task, BadLine>
-    ensures { IfOk result TaskFits }
+    ensures fits { IfOk result TaskFits }
+    ensures read { IfOk result (ReadsPublish (found_of found.now)) }
 {
     let port = number_at(found, "port", u64::from(u16::MAX), PORT_TAKES)? as u16;
     let key = key_at(found, "key", KEY_TAKES)?;

@@ -1,5 +1,21 @@
+use Rattle.std.proofs.Common.{replicate}
+use Rattle.client_core.specs.Calls.{Hello, Sync, Ask, scheme_byte}
+use Rattle.client_core.specs.States.{known_version}
+use Rattle.frame_codec.specs.declared.frame.Frame.TheVariants as frame
 use Rattle.client_commands.proofs.Conversations.{asked_and_retrieved}
+use Rattle.client_commands.proofs.Sendings.{call_went, both_went, more_went}
 use Rattle.client_commands.proofs.commands.get.Goals as goal
+
+pub returns-in-Retrieved-clause-sends : goal.returns-in-Retrieved-clause-sends
+returns-in-Retrieved-clause-sends g c =
+    let version = known_version c.event_of.new.client.state.known in (
+      version,
+      more_went (frame.Hello 1 (replicate 32 0)) (frame.HintAsk (scheme_byte c.args.scheme) version 0) _ _ _ _
+          (both_went (frame.Hello 1 (replicate 32 0)) (frame.HintAsk (scheme_byte c.args.scheme) version 0) _ _ _
+          (call_went (λ v. v.items) (Hello (replicate 32 0)) _ _ c.hello-sent.result _ _ c.in_ok-event_of.ensures.made c.hello-sent.ensures.accepted c.in_ok-event_of.ensures.sends)
+          (call_went (λ v. v.items) (Sync c.args.scheme) _ _ c.sync-sent.result _ _ c.in_ok-event_of-2.ensures.made c.sync-sent.ensures.accepted c.in_ok-event_of-2.ensures.sends))
+          (call_went (λ v. v.items) (Ask c.args.index) _ _ c.ask-sent.result _ _ c.in_ok-index.ensures.made c.ask-sent.ensures.accepted c.in_ok-index.ensures.sends),
+    )
 
 pub returns-in-Retrieved-clause-record : goal.returns-in-Retrieved-clause-record
 returns-in-Retrieved-clause-record g c =

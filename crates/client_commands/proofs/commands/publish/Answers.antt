@@ -1,6 +1,8 @@
 use Rattle.std.proofs.Common.{◌∙◌}
 use Rattle.client_core.specs.Calls.{Hello, Publish}
+use Rattle.frame_codec.specs.declared.frame.Frame.TheVariants as frame
 use Rattle.client_commands.proofs.Conversations.{calling_spends_no_number}
+use Rattle.client_commands.proofs.Sendings.{call_went, both_went, on_ok}
 use Rattle.client_commands.proofs.commands.publish.Goals as goal
 
 pub returns-clause-number : goal.returns-clause-number
@@ -9,3 +11,9 @@ returns-clause-number g c =
     ∙ calling_spends_no_number (λ v. v.items) Publish _ _ c.publish-sent.result tt c.publish-sent.ensures.accepted c.publish-sent.ensures.refused
     ∙ c.event_of.ensures.number
     ∙ calling_spends_no_number (λ v. v.items) (Hello _) _ _ c.hello-sent.result tt c.hello-sent.ensures.accepted c.hello-sent.ensures.refused
+
+pub returns-clause-sends : goal.returns-clause-sends
+returns-clause-sends g c =
+    on_ok c.done_version.result _ (both_went (frame.Hello 1 c.args.key) frame.Publish _ _ _
+    (call_went (λ v. v.items) (Hello c.args.key) _ _ c.hello-sent.result _ _ c.in_ok-event_of.ensures.made c.hello-sent.ensures.accepted c.in_ok-event_of.ensures.sends)
+    (call_went (λ v. v.items) Publish _ _ c.publish-sent.result _ _ c.in_ok-event.ensures.made c.publish-sent.ensures.accepted c.in_ok-event.ensures.sends))

@@ -1,5 +1,6 @@
 use Rattle.std.proofs.Common.{None, refl, sym, ◌∙◌}
 use Rattle.client_commands.proofs.Conversations.{conversing_spends_no_number, event_ends_the_call}
+use Rattle.client_commands.proofs.Sendings.{said_behind}
 use Rattle.client_commands.proofs.connection.event_of.Goals as goal
 
 pub returns-in-Err-converse-clause-number : goal.returns-in-Err-converse-clause-number
@@ -24,3 +25,7 @@ returns-in-None-clause-came g c = record {
   out = c.in-Ok-converse.ensures.1;
   came = c.in-Ok-converse.ensures.5;
 }
+
+pub returns-in-None-clause-sends : goal.returns-in-None-clause-sends
+returns-in-None-clause-sends g c =
+    said_behind (λ v. v.items) c.args.sent c.in-Ok.first _ _ _ _ 0 c.in-Ok-converse.event _ _ None _ c.in-Ok.is c.deref.ensures.value c.in-Ok-converse.ensures.3 c.in-Ok-converse.ensures.5
