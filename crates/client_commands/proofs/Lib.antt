@@ -1,2 +1,3 @@
 pub mod Conversations
 pub mod Sendings
+pub mod Failings

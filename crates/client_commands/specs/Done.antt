@@ -32,3 +32,19 @@ pub record EndedWith (call : Call) (event : Event) (new : Client) : Type 0 where
 -- the same for the ask for a record, whatever its version and number
 abbrev pub Asked : ℕ → Event → Client → Type 0
 Asked index event new = (version : ℕ) × (number : ℕ) × EndedWith (call.Ask index version number) event new
+
+-- the server said so, and nothing on the way to it failed
+abbrev pub IsSaid : Failure → Type 0
+IsSaid (failure.Refused code) = Unit {0}
+IsSaid (failure.Stale version) = Unit {0}
+IsSaid (failure.Unreadable index version) = Unit {0}
+IsSaid (failure.Fault name) = ⊥
+IsSaid failure.Memory = ⊥
+
+-- the client stands where an event left it that says so against some call
+abbrev pub SaidAgainst : Failure → Client → Type 0
+SaidAgainst failure new = (call : Call) × (event : Event) × (failure_of event ≡ Some failure) × EndedWith call event new
+
+-- what the server is said to have said, it said
+abbrev pub IsTrueOf : Failure → Client → Type 0
+IsTrueOf failure new = IsSaid failure → SaidAgainst failure new

@@ -6,7 +6,7 @@ ghost use Rattle.client_core.specs.declared.state.Event.TheVariants.{Done};
 ghost use Rattle.client_core.specs.declared.state.Event.TheVariants as event;
 ghost use Rattle.client_core.specs.Calls.{scheme_byte};
 ghost use Rattle.frame_codec.specs.declared.frame.Frame.TheVariants as frame;
-ghost use Rattle.client_commands.specs.Done.{EndedWith, Asked};
+ghost use Rattle.client_commands.specs.Done.{EndedWith, Asked, IsSaid, IsTrueOf};
 ghost use Rattle.client_commands.specs.Sent.{Sends};
 
 use crate::connection::event_of;
@@ -52,6 +52,7 @@ pub fn get<K: Kernel, R: Read, W: Write>(
     ensures sends { OnOk result ((version : ℕ) × Sends (W.contents writer.old) (W.contents writer.new) (frame.Hello 1 (replicate 32 0)) (frame.HintAsk (scheme_byte scheme) version 0)) }
     ensures record { IfOk result (λ r. (r.index ≡ index) × Asked index (event.Retrieved r.index r.version r.bytes) client.new) }
     ensures spends { IfOk result (λ _. client.new.state.number ≡ client.old.state.number + 1) }
+    ensures said { IfErr result (λ failure. IsTrueOf failure client.new) }
     ensures spends_no_more { IfErr result (λ _. (client.new.state.number ≡ client.old.state.number) ⊎ (client.new.state.number ≡ client.old.state.number + 1)) }
 {
     let sent = client.hello(READER);
@@ -91,6 +92,7 @@ pub fn put<K: Kernel, R: Read, W: Write>(
     requires { length bytes.now ≤ 65535 }
     ensures sends { OnOk result (Sends (W.contents writer.old) (W.contents writer.new) (frame.Hello 1 key) (frame.Edit index bytes.now)) }
     ensures version { IfOk result (λ version. EndedWith (Call.Edit index bytes.now) (Done version) client.new) }
+    ensures said { IfErr result (λ failure. IsTrueOf failure client.new) }
     ensures number { client.new.state.number ≡ client.old.state.number }
 {
     let sent = client.hello(key);
@@ -115,6 +117,7 @@ pub fn publish<K: Kernel, R: Read, W: Write>(
 ) -> Result<u64, Failure>
     ensures sends { OnOk result (Sends (W.contents writer.old) (W.contents writer.new) (frame.Hello 1 key) frame.Publish) }
     ensures version { IfOk result (λ version. EndedWith Call.Publish (Done version) client.new) }
+    ensures said { IfErr result (λ failure. IsTrueOf failure client.new) }
     ensures number { client.new.state.number ≡ client.old.state.number }
 {
     let sent = client.hello(key);
@@ -126,7 +129,8 @@ pub fn publish<K: Kernel, R: Read, W: Write>(
 
 // The version that a Done names.
 fn done_version(event: &Event) -> Result<u64, Failure>
-    ensures { IfOk result (λ version. event.now ≡ Done version) }
+    ensures version { IfOk result (λ version. event.now ≡ Done version) }
+    ensures fault { IfErr result (λ failure. IsSaid failure → ⊥) }
 {
     match event {
         Event::Done(version) => Ok(*version),

@@ -1,9 +1,9 @@
 //! One call over a connection, and how it failed.
 
-ghost use Rattle.std.specs.Prelude.{◌≡◌, ◌++◌, List, ℕ, IfOk, IsOk, OnOk};
+ghost use Rattle.std.specs.Prelude.{◌≡◌, ◌++◌, List, ℕ, IfOk, IfErr, IsOk, OnOk};
 ghost use Rattle.std.specs.Io.KnownBytes.{Appends};
 ghost use Rattle.client_core.specs.Endings.{Ends};
-ghost use Rattle.client_commands.specs.Done.{IsDone, failure_of, EndedWith};
+ghost use Rattle.client_commands.specs.Done.{IsDone, IsSaid, IsTrueOf, failure_of, EndedWith};
 
 use client_core::{CallFault, ClientCore, Event};
 use command_words::Failure;
@@ -28,6 +28,7 @@ pub(crate) fn event_of<K: Kernel, R: Read, W: Write>(
     ensures ends { IfOk result (λ event. Ends client.old.state.call event × IsDone event) }
     ensures came { IfOk result (λ event. EndedWith client.old.state.call event client.new) }
     ensures number { client.new.state.number ≡ client.old.state.number }
+    ensures said { IfErr result (λ failure. IsTrueOf failure client.new) }
     ensures sends { OnOk result (IfOk sent (λ first. (said : List ℕ) × Appends (W.contents writer.old) (W.contents writer.new) (first.items ++ said))) }
 {
     let first = match sent {
@@ -60,7 +61,9 @@ fn said_against(event: &Event) -> Option<Failure>
 }
 
 /// The failure that a refused call is.
-fn call_failure(fault: CallFault) -> Failure {
+fn call_failure(fault: CallFault) -> Failure
+    ensures { IsSaid result → ⊥ }
+{
     match fault {
         CallFault::NotReady => Failure::Fault("NotReady"),
         CallFault::Busy => Failure::Fault("Busy"),
@@ -73,7 +76,9 @@ fn call_failure(fault: CallFault) -> Failure {
 }
 
 /// The failure that a conversation without an event is.
-fn converse_failure(fault: ConverseFault) -> Failure {
+fn converse_failure(fault: ConverseFault) -> Failure
+    ensures { IsSaid result → ⊥ }
+{
     match fault {
         ConverseFault::Ended => Failure::Fault("Ended"),
         ConverseFault::Read => Failure::Fault("Read"),

@@ -2,6 +2,7 @@ use Rattle.std.proofs.Common.{◌∙◌}
 use Rattle.client_core.specs.Calls.{Hello, Edit}
 use Rattle.frame_codec.specs.declared.frame.Frame.TheVariants as frame
 use Rattle.client_commands.proofs.Conversations.{calling_spends_no_number}
+use Rattle.client_commands.proofs.Failings.{never_said}
 use Rattle.client_commands.proofs.Sendings.{call_went, both_went, on_ok}
 use Rattle.client_commands.proofs.commands.put.Goals as goal
 
@@ -17,3 +18,6 @@ returns-clause-number g c =
     ∙ calling_spends_no_number (λ v. v.items) (Edit _ _) _ _ c.edit-sent.result tt c.edit-sent.ensures.accepted c.edit-sent.ensures.refused
     ∙ c.event_of.ensures.number
     ∙ calling_spends_no_number (λ v. v.items) (Hello _) _ _ c.hello-sent.result tt c.hello-sent.ensures.accepted c.hello-sent.ensures.refused
+
+pub returns-clause-said : goal.returns-clause-said
+returns-clause-said g c = never_said c.done_version.result c.event_of-2.new.client c.done_version.ensures.fault
