@@ -35,12 +35,14 @@ pub struct Retrieved {
 }
 
 /// Retrieves record `index` privately: hello as a reader, sync, ask. One number of the client is spent with a
-/// record, and one at most with a failure, whatever the server says.
+/// record, and one at most with a failure, whatever the server says. With a record, what was sent begins with a
+/// reader's hello, and has the ask for the scheme's hint behind it.
 ///
 /// # Errors
 ///
 /// The first failure ends it: `Refused`, `Stale` or `Unreadable` where the server's reply says so, a `Fault`
-/// by the name of the refusal of the call or of the conversation, and `Memory`.
+/// by the name of the refusal of the call or of the conversation, and `Memory`. The first three are told only
+/// where the server's reply came to such an event.
 pub fn get<K: Kernel, R: Read, W: Write>(
     alloc: Global,
     client: &mut ClientCore<K>,
@@ -75,7 +77,8 @@ pub fn get<K: Kernel, R: Read, W: Write>(
 }
 
 /// Gives the server these bytes for record `index` of the next version: the publisher's hello, edit. Answers
-/// the current version, and spends no number.
+/// the current version, and spends no number. Then what was sent begins with the hello with this key, and has the
+/// edit behind it.
 ///
 /// # Errors
 ///
@@ -103,7 +106,7 @@ pub fn put<K: Kernel, R: Read, W: Write>(
 }
 
 /// Makes the edits the next version: the publisher's hello, publish. Answers the new version,
-/// and spends no number.
+/// and spends no number. Then what was sent begins with the hello with this key, and has the publication behind it.
 ///
 /// # Errors
 ///
