@@ -1,0 +1,74 @@
+-- Laws of both schemes.
+use Rattle.std.specs.Prelude.{◌≡◌, ◌≢◌, ◌<◌, ◌⊎◌, ℕ, List, length, Some, None, Result, MatchResult}
+use Rattle.std.specs.declared.vec.Vec.{Vec}
+use Rattle.std.specs.declared.alloc.Global.{Global}
+use Rattle.simple_scheme.specs.declared.records.RecoverError.{RecoverError}
+use Rattle.simple_scheme.specs.declared.records.RecoverError.TheVariants.{BadLength, BadDigits, Memory}
+use Rattle.matrix_u32.specs.Matrix.{WordMatrix, IsWhole}
+use Rattle.noise_table.specs.Margin.{IsCertain}
+use Rattle.digit_pack.specs.Layout.{Shape, IsShape, IsRecord, digit_rows, digit_cols, record_at}
+use Rattle.pir_schemes.specs.declared.scheme.Scheme.{Scheme}
+use Rattle.pir_schemes.specs.declared.scheme.Scheme.TheVariants.{Simple, Double}
+use Rattle.pir_schemes.specs.Plans.{Plan, shape_at, record_of}
+use Rattle.pir_schemes.specs.Retrievals.{
+  hint_rows,
+  hint_matrix,
+  query_count,
+  query_words,
+  answer_count,
+  answer_words,
+  reading,
+  IsQuietOf,
+}
+
+-- what reading an answer comes to: the record that its digits write; or it has another count of words, it sets
+-- a bit past the record's last byte, or memory was refused
+abbrev pub ReadsRecordOf : Scheme → Shape → WordMatrix → List ℕ → ℕ → ℕ → List ℕ → Result (Vec ℕ Global) RecoverError → Type 0
+ReadsRecordOf s l hint seed number i answer outcome =
+    MatchResult outcome
+    (λ bytes. (length answer ≡ answer_count s l hint.cols) × (record_of l (reading s l hint seed number i answer) ≡ Some bytes.items))
+    (λ e. ((e ≡ BadLength) × (length answer ≢ answer_count s l hint.cols))
+    ⊎ ((e ≡ BadDigits) × (length answer ≡ answer_count s l hint.cols) × (record_of l (reading s l hint seed number i answer) ≡ None))
+    ⊎ ((e ≡ Memory) × (length answer ≡ answer_count s l hint.cols)))
+
+-- a hint has its rows, n columns, and as many words as these want
+pub record HasHintSizes (s : Scheme) (p : Plan) (records : List (List ℕ)) : Type 0 where
+  pub rows : (hint_matrix s p records).rows ≡ hint_rows s (shape_at p (length records)) p.dimension
+  pub cols : (hint_matrix s p records).cols ≡ p.dimension
+  pub whole : IsWhole (hint_matrix s p records)
+
+abbrev pub HintsHaveTheirSizes : Type 0
+HintsHaveTheirSizes = (s : Scheme) (p : Plan) (records : List (List ℕ)) → HasHintSizes s p records
+
+-- a query has the words that its scheme wants
+abbrev pub QueriesHaveTheirLength : Type 0
+QueriesHaveTheirLength = (s : Scheme) (l : Shape) (n : ℕ) (public seed : List ℕ) (number i : ℕ) →
+    length (query_words s l n public seed number i) ≡ query_count s l
+
+-- an answer has the words that its scheme wants
+abbrev pub AnswersHaveTheirLength : Type 0
+AnswersHaveTheirLength = (s : Scheme) (p : Plan) (records : List (List ℕ)) (words : List ℕ) →
+    length (answer_words s p records words) ≡ answer_count s (shape_at p (length records)) p.dimension
+
+-- a shape on which every retrieval is quiet: certain by its columns, and for DoublePIR by its rows too
+abbrev pub IsCertainOf : Scheme → Shape → Type 0
+IsCertainOf Simple l = IsCertain l.width (digit_cols l)
+IsCertainOf Double l = IsCertain l.width (digit_cols l) × IsCertain l.width (digit_rows l)
+
+-- a retrieval from a version, read under the version's hint, gives its record where it is quiet, and on a certain
+-- shape always
+abbrev pub RetrievalGivesTheRecord : Type 0
+RetrievalGivesTheRecord = (s : Scheme) (p : Plan) (records : List (List ℕ)) (seed : List ℕ) (number i : ℕ) →
+    IsShape (shape_at p (length records)) → i < length records →
+    IsRecord (shape_at p (length records)) (record_at records i) →
+    IsQuietOf s p records seed number i ⊎ IsCertainOf s (shape_at p (length records)) →
+    let l = shape_at p (length records) in
+    let asked = query_words s l p.dimension p.seed seed number i in
+    record_of l (reading s l (hint_matrix s p records) seed number i (answer_words s p records asked))
+    ≡ Some (record_at records i)
+
+-- on a certain shape every retrieval is quiet, for every list of records, seed and number
+abbrev pub CertainShapeIsQuiet : Type 0
+CertainShapeIsQuiet = (s : Scheme) (p : Plan) (records : List (List ℕ)) (seed : List ℕ) (number i : ℕ) →
+    IsShape (shape_at p (length records)) → IsCertainOf s (shape_at p (length records)) →
+    IsQuietOf s p records seed number i

@@ -1,0 +1,5 @@
+pub mod Schemes
+pub mod Parts
+pub mod Plans
+pub mod Retrievals
+pub mod Laws

@@ -1,0 +1,20 @@
+//! What SimplePIR and DoublePIR have in common, for the server and for the client: the schemes by name, the
+//! plan that stays the same in every version, how many words hints, queries and answers have, the parts in
+//! which hints are sent, and queries and readings by scheme.
+//!
+//! A plan and a count of records give a shape; a plan and the records of a version give its digit matrix, its
+//! hints and its answers. What a version's words are is said by these definitions alone (`specs/Plans`,
+//! `specs/Retrievals`), once for both schemes.
+#![tactic(auto)]
+
+mod counts;
+pub mod laws;
+mod parts;
+mod retrievals;
+mod scheme;
+
+pub use counts::{answer_count, hint_len, hint_rows, query_count};
+pub use parts::{PART_WORDS, part_len, part_words};
+pub use retrievals::{query, recover};
+pub use scheme::{PROFILE, Scheme};
+pub use simple_scheme::RecoverError;

@@ -1,0 +1,75 @@
+//! Queries and the reading of their answers, by scheme.
+
+ghost use Rattle.std.specs.Prelude.{◌≡◌, ◌^◌, ◌<◌, ◌≤◌, IfOk};
+ghost use Rattle.pir_schemes.specs.Retrievals.{hint_rows, query_words};
+ghost use Rattle.pir_schemes.specs.Laws.{ReadsRecordOf};
+
+use crate::scheme::Scheme;
+use digit_pack::Layout;
+use matrix_u32::{Kernel, Matrix};
+use seed_expand::expand;
+use simple_scheme::RecoverError;
+use std::alloc::{AllocError, Global};
+
+/// The query for record i under the public matrices of `public` with n columns. `number` tells which retrieval
+/// of the client's seed it is. Only refused memory gives an `Err`.
+#[tactic(auto, unfolding(crate::specs::Retrievals::query_words))]
+pub fn query<K: Kernel>(
+    alloc: Global,
+    kernel: K,
+    scheme: Scheme,
+    layout: &Layout,
+    n: usize,
+    public: &[u8; 32],
+    seed: &[u8; 32],
+    number: u64,
+    i: usize,
+) -> Result<Vec<u32>, AllocError>
+    requires low { 1 ≤ n }
+    requires high { n ≤ 1024 }
+    requires number { number < 2 ^ 62 }
+    requires record { i < layout.now.count }
+    ensures { IfOk result (λ v.
+        v.items ≡ query_words scheme layout.now n public.now seed.now number i) }
+{
+    let a1 = expand(alloc, public, 0, 0, layout.cols(), n)?;
+    match scheme {
+        Scheme::Simple => simple_scheme::query(alloc, kernel, seed, number, &a1, layout, i),
+        Scheme::Double => {
+            let a2 = expand(alloc, public, 1, 0, layout.rows(), n)?;
+            double_scheme::query(alloc, kernel, seed, number, &a1, &a2, layout, i)
+        }
+    }
+}
+
+/// The record that an answer gives for record i under the hint of its version.
+///
+/// `BadLength` exactly where the answer hasn't the scheme's count of words, `BadDigits` exactly where it has and
+/// its digits set a bit past the record's last byte; `Memory` only where it has its words.
+#[tactic(auto, unfolding(crate::specs::Retrievals::reading, crate::specs::Plans::record_of))]
+pub fn recover<K: Kernel>(
+    alloc: Global,
+    kernel: K,
+    scheme: Scheme,
+    layout: &Layout,
+    hint: &Matrix,
+    seed: &[u8; 32],
+    number: u64,
+    i: usize,
+    answer: &[u32],
+) -> Result<Vec<u8>, RecoverError>
+    requires number { number < 2 ^ 62 }
+    requires rows { hint.now.rows ≡ hint_rows scheme layout.now hint.now.cols }
+    requires cols { hint.now.cols ≤ 1024 }
+    requires record { i < layout.now.count }
+    ensures { ReadsRecordOf scheme layout.now hint.now seed.now number i answer.now result }
+{
+    match scheme {
+        Scheme::Simple => {
+            simple_scheme::recover(alloc, kernel, seed, number, hint, layout, i, answer)
+        }
+        Scheme::Double => {
+            double_scheme::recover(alloc, kernel, seed, number, hint, layout, i, answer)
+        }
+    }
+}
