@@ -13,11 +13,11 @@ use Rattle.digit_pack.specs.Digits.{number_of}
 use Rattle.digit_pack.specs.Laws.{SplitJoins, DigitsAreSmall, DecomposedStandsBelow, RecordStandsInside, RecordStandsInItsColumn}
 use Rattle.digit_pack.specs.Layout.{Shape, IsShape, digit_matrix, digit_rows, digit_cols, digits_per_record, first_row, column_of, record_at}
 use Rattle.simple_scheme.specs.Simple.{secret, query_noise}
-use Rattle.double_scheme.specs.Double.{server_hint_of, client_hint_of, first_answer_of, first_query_of, part_query_of, query_of, part_of_query, part_answer_of, answer_of, answer_hint, answer_part, answer_words, words_of_part, row_read, word_read, digit_read, part_secret, part_noise, IsQuietDouble}
+use Rattle.double_scheme.specs.Double.{server_hint_of, client_hint_of, first_answer_of, first_query_of, part_query_of, query_of, part_of_query, part_answer_of, answer_of, answer_hint, answer_part, answer_words, words_of_part, second_digit, hint_words, first_words, row_read, word_read, digit_read, part_secret, part_noise, IsQuietDouble}
 use Rattle.double_scheme.specs.Laws.{GivesRowOf}
 use Rattle.double_scheme.proofs.Blocks.{block_after}
 use Rattle.double_scheme.proofs.Lengths.{length-answer_of}
-use Rattle.double_scheme.proofs.SecondLayer.{row_read_of, word_read_of}
+use Rattle.double_scheme.proofs.SecondLayer.{hint_digit_of, first_digit_of, row_read_of, word_read_of}
 
 module _ (l : Shape) (records : List (List ℕ)) (a1 a2 : WordMatrix) (seed : List ℕ) (number i : ℕ) (rows1 : a1.rows ≡ digit_cols l) (rows2 : a2.rows ≡ digit_rows l) (cols : a2.cols ≡ a1.cols) where
   length-first_query : length (first_query_of l a1 seed number i) ≡ digit_cols l
@@ -94,7 +94,21 @@ module _ (l : Shape) (records : List (List ℕ)) (a1 a2 : WordMatrix) (seed : Li
       let s2 = part_secret seed number a2.cols d in
       let answer = answer_of l m hint a2 (query_of l a1 a2 seed number i) in
       let place : (r < digit_rows l) × (column_of l i < digit_cols l) = inside l i d s p q in
+      let κ : ℕ = split_count w in
+      let part = part_answer_of hint first (part_query_of l a2 seed number i d) in
       record {
+        hint_digits = λ k b.
+            ap (λ y. second_digit w (product hint a2) s2 (hint_words w a2.cols y) k) (answer_part_is d q)
+            ∙ ap (λ n. second_digit w (product hint a2) s2 (hint_words w n part) k) cols
+            ∙ hint_digit_of quiet_law small w m a1 a2 c s2 e r k s.small rows2 place.0 b
+            (subst (λ n. IsQuiet w (row hint k) (part_noise seed number n d)) (sym rows2) (quiet.hint d k q b));
+        first_digits = λ k b.
+            let low : k < κ = omega arith in
+            ap (λ y. second_digit w (answer_hint w a2.cols answer) s2 (first_words w a2.cols y) k) (answer_part_is d q)
+            ∙ ap (λ n. second_digit w (answer_hint w a2.cols answer) s2 (first_words w n part) k) cols
+            ∙ first_digit_of quiet_law small w m a1 a2 (answer_hint w a2.cols answer) c s2 e r k s.small rows2 place.0 low
+            (subst (λ n. IsQuiet w (row first k) (part_noise seed number n d)) (sym rows2) (quiet.answer d k q low))
+            (hint_row k);
         row = ap (row_read w a2.cols (product hint a2) s2) (answer_part_is d q)
             ∙ ap (λ n. row_read w n (product hint a2) s2 (part_answer_of hint first (part_query_of l a2 seed number i d))) cols
             ∙ row_read_of quiet_law join_law small below w m a1 a2 c s2 e r s.width s.small rows1 rows2 place.0

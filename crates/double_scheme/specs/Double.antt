@@ -94,13 +94,21 @@ second_digit w hint s words r = nearest w (stripped (slice_index words r) (row h
 abbrev pub second_word : ℕ → WordMatrix → List ℕ → List ℕ → ℕ → ℕ
 second_word w hint s words k = joined w (list_of (split_count w) (λ t. second_digit w hint s words (k * split_count w + t)))
 
--- the words that the front of a part gives: of the digit's row of D A1
-abbrev pub row_read : ℕ → ℕ → WordMatrix → List ℕ → List ℕ → List ℕ
-row_read w n client_hint s2 part = list_of n (second_word w client_hint s2 (take (n * split_count w) part))
+-- the words of a part that are the server's hint times its query
+abbrev pub hint_words : ℕ → ℕ → List ℕ → List ℕ
+hint_words w n part = take (n * split_count w) part
 
--- the word that the rest of a part gives: of D c1, in the digit's row
+-- the words of a part that are the first answer times its query
+abbrev pub first_words : ℕ → ℕ → List ℕ → List ℕ
+first_words w n part = drop (n * split_count w) part
+
+-- the words that the former give: of the digit's row of D A1
+abbrev pub row_read : ℕ → ℕ → WordMatrix → List ℕ → List ℕ → List ℕ
+row_read w n client_hint s2 part = list_of n (second_word w client_hint s2 (hint_words w n part))
+
+-- the word that the latter give: of D c1, in the digit's row
 abbrev pub word_read : ℕ → ℕ → WordMatrix → List ℕ → List ℕ → ℕ
-word_read w n h s2 part = second_word w h s2 (drop (n * split_count w) part) 0
+word_read w n h s2 part = second_word w h s2 (first_words w n part) 0
 
 -- the digit that a part gives: this word, stripped by that row times the first secret, and rounded
 abbrev pub part_read : ℕ → ℕ → WordMatrix → WordMatrix → List ℕ → List ℕ → List ℕ → ℕ

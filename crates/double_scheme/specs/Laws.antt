@@ -1,25 +1,43 @@
 -- Laws of DoublePIR.
 use Rattle.std.specs.Prelude.{◌≡◌, ℕ, ◌+◌, ◌<◌, List, slice_index}
-use Rattle.matrix_u32.specs.Matrix.{WordMatrix, row, product, times_vector}
+use Rattle.matrix_u32.specs.Matrix.{WordMatrix, entry, row, product, times_vector}
 use Rattle.noise_table.specs.Margin.{IsCertain}
 use Rattle.digit_pack.specs.Layout.{Shape, IsShape, digit_matrix, digit_cols, digit_rows, digits_per_record, first_row, record_at, record_digits}
 use Rattle.double_scheme.specs.Double.{
   server_hint_of,
   client_hint_of,
+  first_answer_of,
   first_query_of,
   query_of,
   answer_of,
   part_secret,
   answer_hint,
   answer_part,
+  hint_words,
+  first_words,
+  second_digit,
   row_read,
   word_read,
   reading,
   IsQuietDouble,
 }
 
--- what part d of the answer to a query gives: the row of D A1 and the word of D c1 that stand in the row of digit d
+-- what part d of the answer to a query gives, through the second layer: digit by digit the column of the server's hint H
+-- and of the first answer that belongs to the row of digit d; and the words that these digits write, which are that row of
+-- D A1 and that word of D c1
 pub record GivesRowOf (l : Shape) (records : List (List ℕ)) (a1 a2 : WordMatrix) (seed : List ℕ) (number i d : ℕ) : Type 0 where
+  pub hint_digits : let digits = digit_matrix l records in
+      let server_hint = server_hint_of l.width digits a1 in
+      let answer = answer_of l digits server_hint a2 (query_of l a1 a2 seed number i) in
+      (r : ℕ) → r < server_hint.rows →
+      second_digit l.width (client_hint_of server_hint a2) (part_secret seed number a2.cols d) (hint_words l.width a2.cols (answer_part l.width a2.cols answer d)) r
+      ≡ entry server_hint r (first_row l i + d)
+  pub first_digits : let digits = digit_matrix l records in
+      let answer = answer_of l digits (server_hint_of l.width digits a1) a2 (query_of l a1 a2 seed number i) in
+      let first_answer = first_answer_of l.width digits (first_query_of l a1 seed number i) in
+      (r : ℕ) → r < first_answer.rows →
+      second_digit l.width (answer_hint l.width a2.cols answer) (part_secret seed number a2.cols d) (first_words l.width a2.cols (answer_part l.width a2.cols answer d)) r
+      ≡ entry first_answer r (first_row l i + d)
   pub row : let digits = digit_matrix l records in
       let server_hint = server_hint_of l.width digits a1 in
       let answer = answer_of l digits server_hint a2 (query_of l a1 a2 seed number i) in

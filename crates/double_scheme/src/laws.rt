@@ -4,8 +4,9 @@
 ghost use Rattle.double_scheme.specs.Laws.{QuietPartGivesItsRow, QuietRetrievalReadsTheRecord, CertainShapeIsQuiet};
 
 /// Under the records' own hints, where the retrieval is quiet in both layers, the second layer's words of
-/// part d round to the digits of a row of the first layer's hint and of a word of the first layer's answer:
-/// those of the row in which digit d of the record stands.
+/// part d round, each to its digit, to a column of the server's hint and of the first answer's digits: that of
+/// the row in which digit d of the record stands. Joined to words they are this row of the first layer's hint
+/// and this word of the first layer's answer.
 pub fn quiet_part_gives_its_row()
     ensures { QuietPartGivesItsRow }
 {

@@ -9,10 +9,10 @@ ghost use Rattle.double_scheme.specs.Recovery.{ReadsRecord, GivesQuietRecord};
 
 use crate::answers::part_of;
 use crate::laws;
-use digit_pack::{Layout, join_word, split_count, unpack};
+use digit_pack::{Layout, join_word, split_count};
 use matrix_u32::{Kernel, Matrix};
 use seed_expand::stream_words;
-use simple_scheme::{RecoverError, read_digits};
+use simple_scheme::{RecoverError, read_digits, record_of_digits};
 use std::alloc::{AllocError, Global};
 
 // The word whose digits the second layer's words give from row k κ of its hint on.
@@ -222,13 +222,10 @@ fn read_record<K: Kernel>(
     let Ok(digits) = read_all(alloc, kernel, seed, number, client_hint, layout, answer) else {
         return Err(RecoverError::Memory);
     };
-    let Ok(mut bytes) = vec![in alloc; 0; layout.record_len()] else {
+    let Ok(bytes) = vec![in alloc; 0; layout.record_len()] else {
         return Err(RecoverError::Memory);
     };
-    match unpack(layout, &digits, &mut bytes) {
-        Ok(()) => Ok(bytes),
-        Err(_) => Err(RecoverError::BadDigits),
-    }
+    record_of_digits(layout, &digits, bytes)
 }
 
 /// The record that the answer to the query for record i gives, with the client's hint, seed and number of

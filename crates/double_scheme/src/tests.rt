@@ -1,5 +1,5 @@
 use super::*;
-use digit_pack::{DigitStore, Flat, Layout, digits_of_records, join_word, split_count};
+use digit_pack::{DigitStore, Flat, Layout, digits_of_records, join_word, split_count, split_word};
 use matrix_u32::{Kernel, Matrix, Plain};
 use regev_core::{encrypt, round, strip};
 use seed_expand::expand;
@@ -103,6 +103,11 @@ fn word_read(
     Ok(join_word(&digits, 8))
 }
 
+// Compares words. It has no clause, so that a test carries none of them.
+fn are_words(rt: &impl Abort, words: &[u32], wanted: &[u32]) {
+    assert_eq!(rt; words, wanted);
+}
+
 // The digit that an answer of 12 words gives: h, then the two parts' words, under the client's hint and the
 // chosen secrets 11 and 7.
 fn digit_read(
@@ -111,7 +116,9 @@ fn digit_read(
     client: &[u32],
 ) -> Result<(u32, u32, u32), Fail> {
     assert_eq!(rt; answer.len(), 12);
-    assert_eq!(rt; &answer[0..4], [1562, 0, 0, 23].as_slice());
+    are_words(rt, &answer[0..4], &[1562, 0, 0, 23]);
+    are_words(rt, &answer[4..8], &[486_541_799, 0, 0, 0]);
+    are_words(rt, &answer[8..12], &[3_321_906_060, 0, 0, 50_331_903]);
     let row = word_read(rt, &answer[4..8], client, 11)?;
     let word = word_read(rt, &answer[8..12], &answer[0..4], 11)?;
     Ok((row, word, round(strip(Plain, word, &[row], &[7]), 8)))
@@ -137,6 +144,29 @@ fn a_retrieval_with_chosen_secrets(rt: HostRuntime) -> Result<(), Fail> {
     let answer = answered(&rt, &layout, &digits, &server, &a2, &words)?;
     let read = digit_read(&rt, &answer, client.words())?;
     assert_eq!(rt; read, (29, 50_331_846, 3));
+    Ok(())
+}
+
+// The digits of 8 bits of a word that a step on the way gives.
+fn has_digits(rt: &impl Abort, word: u32, wanted: [u32; 4]) {
+    let mut digits = [0u32; 4];
+    assert_eq!(rt; split_count(8), 4);
+    split_word(word, 8, &mut digits);
+    assert_eq!(rt; digits, wanted);
+}
+
+// The rows of digits on the way of that retrieval: those of D A1, and of the first answer, which stand across.
+#[test]
+fn the_digits_on_the_way(rt: HostRuntime) -> Result<(), Fail> {
+    let layout = Layout::new(8, 1, 2, 4)?;
+    let digits: Flat = store(&rt, &layout, &[1, 3, 2, 4])?;
+    assert_eq!(rt; digits.cols(), 2);
+    let first = simple_scheme::answer(rt.alloc(), Plain, &digits, &[16_777_238, 33])?;
+    assert_eq!(rt; first.len(), 2);
+    has_digits(&rt, first[0], [88, 0, 0, 1]);
+    has_digits(&rt, first[1], [198, 0, 0, 3]);
+    has_digits(&rt, 13, [13, 0, 0, 0]);
+    has_digits(&rt, 29, [29, 0, 0, 0]);
     Ok(())
 }
 

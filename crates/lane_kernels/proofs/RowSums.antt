@@ -5,7 +5,8 @@ use Rattle.matrix_u32.specs.Sum.{sum_below}
 use Rattle.matrix_u32.specs.Matrix.{WordMatrix, entry, row}
 use Rattle.matrix_u32.proofs.Sums.{sum_below_more, sum_below-add, sum_same}
 use Rattle.matrix_u32.proofs.Products.{words_are}
-use Rattle.matrix_u32.proofs.Rows.{plus_rows, plus_rows-index, plus_rows-length, row_index}
+use Rattle.matrix_u32.specs.Blocks.{plus_rows}
+use Rattle.matrix_u32.proofs.Rows.{plus_rows-index, plus_rows-length, row_index}
 use Rattle.lane_kernels.specs.Rows.{plus_four}
 
 pub plus_rows-four : (out : List ℕ) (n : ℕ) (f : ℕ → ℕ) (b : WordMatrix) (start : ℕ) → length out ≡ b.cols

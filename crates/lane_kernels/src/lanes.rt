@@ -3,7 +3,7 @@
 ghost use Rattle.std.specs.Prelude.{◌≡◌, ℕ, ◌<◌, ◌≤◌, ◌+◌, ◌*◌, ◌%◌, ◌^◌, ◌∷◌, [], length, slice_index};
 ghost use Rattle.matrix_u32.specs.Sum.{dot};
 ghost use Rattle.matrix_u32.specs.Matrix.{row, product, times_vector, plus_scaled, zero_matrix};
-ghost use Rattle.matrix_u32.proofs.Rows.{plus_rows, SoFar};
+ghost use Rattle.matrix_u32.specs.Blocks.{plus_rows, SoFar};
 ghost use Rattle.lane_kernels.specs.Rows.{plus_four};
 
 use matrix_u32::{Kernel, Matrix, Plain};

@@ -11,6 +11,7 @@ use Rattle.std.specs.Simd.Lanes.{put_chunk}
 use Rattle.std.specs.List.{range_with_len}
 use Rattle.matrix_u32.specs.Sum.{sum_below, list_of, dot}
 use Rattle.matrix_u32.specs.Matrix.{WordMatrix, IsWhole, entry, matrix_of, row, column, product, plus_scaled, zero_matrix, with_row, overwritten, written_row}
+use Rattle.matrix_u32.specs.Blocks.{plus_rows, SoFar}
 use Rattle.matrix_u32.proofs.Sums.{sum_below_more, sum_below_none, sum_below-add, sum_same}
 use Rattle.matrix_u32.proofs.Products.{at-list_of, length-list_of, entry-matrix_of, words_are, entry-product_sum}
 use Rattle.matrix_u32.proofs.Changes.{matrix_by_entries}
@@ -85,10 +86,6 @@ row_index m i q h = at-list_of m.cols (λ j. entry m i j) q h
 pub length-row : (m : WordMatrix) (i : ℕ) → length (row m i) ≡ m.cols
 length-row m i = length-list_of m.cols (λ j. entry m i j)
 
--- a list to which n rows of b from `start` on were added, each times its factor
-abbrev pub plus_rows : List ℕ → ℕ → (ℕ → ℕ) → WordMatrix → ℕ → List ℕ
-plus_rows out n f b start = list_of (length out) (λ j. (slice_index out j + sum_below n (λ k. f k * entry b (start + k) j)) % 2 ^ 32)
-
 pub plus_rows-index : (out : List ℕ) (n : ℕ) (f : ℕ → ℕ) (b : WordMatrix) (start q : ℕ) → q < length out
     → slice_index (plus_rows out n f b start) q ≡ (slice_index out q + sum_below n (λ k. f k * entry b (start + k) q)) % 2 ^ 32
 plus_rows-index out n f b start q h =
@@ -113,14 +110,6 @@ plus_rows-more out n f b start wide =
     let word = row_index b (start + n) q (omega arith) in
     let more = sum_below_more n (λ k. f k * entry b (start + k) q) in
     now ∙ rw word (omega (arith, was, more)))
-
--- the words of the product of a and b so far: those of rows below i up to `more` inner places, and those of the other rows up to `start`
-pub record SoFar (a b m : WordMatrix) (start more i : ℕ) : Type 0 where
-  pub rows : m.rows ≡ a.rows
-  pub cols : m.cols ≡ b.cols
-  pub whole : IsWhole m
-  pub done : (p q : ℕ) → p < i → q < b.cols → entry m p q ≡ sum_below more (λ k. entry a p k * entry b k q) % 2 ^ 32
-  pub rest : (p q : ℕ) → i ≤ p → p < a.rows → q < b.cols → entry m p q ≡ sum_below start (λ k. entry a p k * entry b k q) % 2 ^ 32
 
 -- one more row of a block
 pub block_row : (a b m : WordMatrix) (start count i : ℕ) (f : ℕ → ℕ) (words : List ℕ) → i < a.rows → ((k : ℕ) → k < count → f k ≡ entry a i (start + k))

@@ -8,6 +8,10 @@ pub record WordMatrix : Type 0 where
   pub cols : ℕ
   pub words : List ℕ
 
+-- the most words that a matrix holds, 2 ^ 25
+abbrev pub most_words : ℕ
+most_words = 33554432
+
 -- the word in row i, column j
 abbrev pub entry : WordMatrix → ℕ → ℕ → ℕ
 entry a i j = slice_index a.words (i * a.cols + j)

@@ -2,7 +2,15 @@
 
 ghost use Rattle.std.specs.Prelude.{◌≡◌, ◌≢◌, ℕ, ◌+◌, ◌*◌, ◌<◌, ◌≤◌, ◌⊎◌, length, IfOk, IfErr};
 ghost use Rattle.std.specs.Borrow.{sem};
-ghost use Rattle.matrix_u32.specs.Matrix.{WordMatrix, IsWhole, entry, row, with_entry, zero_matrix};
+ghost use Rattle.matrix_u32.specs.Matrix.{
+  WordMatrix,
+  IsWhole,
+  entry,
+  most_words,
+  row,
+  with_entry,
+  zero_matrix,
+};
 
 use std::alloc::{AllocError, Global};
 use std::marker::Model;
@@ -47,13 +55,13 @@ pub struct Matrix {
 
 impl Model for Matrix {
     ghost use Rattle.std.specs.Prelude.{◌≡◌, ◌*◌, length, ◌≤◌};
-    ghost use Rattle.matrix_u32.specs.Matrix.{WordMatrix};
+    ghost use Rattle.matrix_u32.specs.Matrix.{WordMatrix, most_words};
 
     ghost Value = { WordMatrix };
 
     ghost view = { λ m. record { rows = m.rows; cols = m.cols; words = m.words.items } };
 
-    ghost invariant = { λ m. (length m.words.items ≡ m.rows * m.cols) × (m.rows * m.cols ≤ 33554432) };
+    ghost invariant = { λ m. (length m.words.items ≡ m.rows * m.cols) × (m.rows * m.cols ≤ most_words) };
 }
 
 impl Matrix {
@@ -62,10 +70,10 @@ impl Matrix {
     /// `TooLarge` exactly where rows times columns is above [`MAX_WORDS`], judged before any memory is
     /// asked for; else the matrix, or `Memory`.
     pub fn zeros(alloc: Global, rows: usize, cols: usize) -> Result<Matrix, MatrixError>
-        ensures zeros { IfOk result (λ m. (m ≡ zero_matrix rows cols) × (rows * cols ≤ MAX_WORDS)) }
+        ensures zeros { IfOk result (λ m. (m ≡ zero_matrix rows cols) × (rows * cols ≤ most_words)) }
         ensures refused { IfErr result (λ e.
-            ((e ≡ MatrixError.TooLarge) × (MAX_WORDS < rows * cols))
-            ⊎ ((e ≡ MatrixError.Memory) × (rows * cols ≤ MAX_WORDS))) }
+            ((e ≡ MatrixError.TooLarge) × (most_words < rows * cols))
+            ⊎ ((e ≡ MatrixError.Memory) × (rows * cols ≤ most_words))) }
     {
         let count = word_count(rows, cols)?;
         match vec![in alloc; 0; count] {
@@ -80,10 +88,10 @@ impl Matrix {
     /// `WrongCount` exactly where it isn't and the words are not rows times columns; never `Memory`.
     pub fn from_words(rows: usize, cols: usize, words: Vec<u32>) -> Result<Matrix, MatrixError>
         ensures words { IfOk result (λ m.
-            (m ≡ record { rows = rows; cols = cols; words = words.items }) × IsWhole m × (rows * cols ≤ MAX_WORDS)) }
+            (m ≡ record { rows = rows; cols = cols; words = words.items }) × IsWhole m × (rows * cols ≤ most_words)) }
         ensures refused { IfErr result (λ e.
-            ((e ≡ MatrixError.TooLarge) × (MAX_WORDS < rows * cols))
-            ⊎ ((e ≡ MatrixError.WrongCount) × (rows * cols ≤ MAX_WORDS) × (length words.items ≢ rows * cols))) }
+            ((e ≡ MatrixError.TooLarge) × (most_words < rows * cols))
+            ⊎ ((e ≡ MatrixError.WrongCount) × (rows * cols ≤ most_words) × (length words.items ≢ rows * cols))) }
     {
         let wanted = word_count(rows, cols)?;
         if words.len() != wanted {
@@ -96,7 +104,7 @@ impl Matrix {
     pub fn rows(&self) -> usize
         ensures value { result ≡ self.now.rows }
         ensures whole { IsWhole self.now }
-        ensures limit { self.now.rows * self.now.cols ≤ MAX_WORDS }
+        ensures limit { self.now.rows * self.now.cols ≤ most_words }
     {
         self.rows
     }
@@ -164,8 +172,8 @@ impl Matrix {
 
 // How many words a matrix of that size has, where it may have so many.
 fn word_count(rows: usize, cols: usize) -> Result<usize, MatrixError>
-    ensures count { IfOk result (λ count. (count ≡ rows * cols) × (rows * cols ≤ MAX_WORDS)) }
-    ensures refused { IfErr result (λ e. (e ≡ MatrixError.TooLarge) × (MAX_WORDS < rows * cols)) }
+    ensures count { IfOk result (λ count. (count ≡ rows * cols) × (rows * cols ≤ most_words)) }
+    ensures refused { IfErr result (λ e. (e ≡ MatrixError.TooLarge) × (most_words < rows * cols)) }
 {
     match rows.checked_mul(cols) {
         Some(count) if count <= MAX_WORDS => Ok(count),

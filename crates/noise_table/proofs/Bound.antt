@@ -5,8 +5,7 @@ use Rattle.std.proofs.lemmas.Nat.{mod_below}
 use Rattle.std.proofs.lemmas.Int.{ints, to_z-of_z}
 use Rattle.std.proofs.lemmas.List.Sums.{sum_by_push, count_by-le-length}
 use Rattle.std.specs.Prelude.{take}
-use Rattle.noise_table.specs.Noise.{noise, magnitude}
-use Rattle.noise_table.specs.declared.TheConstants.{LIMITS}
+use Rattle.noise_table.specs.Noise.{noise, noise_limits, magnitude}
 use mir.Val.{SFits}
 
 -- 1 for a limit that is at most t, else 0
@@ -22,7 +21,7 @@ counted-last t h = grind (arith, nat_tests)
 pub magnitude_le : (t : ℕ) → t < 2 ^ 15 → magnitude t ≤ 27
 unfolding counted magnitude
 magnitude_le t h =
-    omega (arith, counted-last t h, sum_by_push (counted t) (take 27 LIMITS) 32768, count_by-le-length (λ limit. nat_le limit t) (take 27 LIMITS))
+    omega (arith, counted-last t h, sum_by_push (counted t) (take 27 noise_limits) 32768, count_by-le-length (λ limit. nat_le limit t) (take 27 noise_limits))
 
 -- a sign leaves the magnitude alone
 unsigned_abs-signed : (b : Bool) (n : ℕ) → unsigned_abs (if b then neg_ℤ (pos n) else pos n) ≡ n

@@ -4,7 +4,7 @@
 ghost use Rattle.std.specs.Prelude.{◌≡◌, ◌≤◌, ◌<◌, ◌^◌, ◌↔◌, pos, length, unsigned_abs, IsTrue};
 ghost use Rattle.matrix_u32.specs.Sum.{list_of};
 ghost use Rattle.seed_expand.specs.Words.{source_word, further};
-ghost use Rattle.noise_table.specs.Noise.{is_ascending, magnitude, noise};
+ghost use Rattle.noise_table.specs.Noise.{is_ascending, magnitude, noise, noise_limits};
 ghost use Rattle.noise_table.specs.Margin.{IsCertain};
 ghost use Rattle.noise_table.specs.Laws.{NoiseIsBounded, CertainIsQuiet};
 
@@ -17,7 +17,7 @@ mod tests;
 pub const NOISE_MAX: i32 = 27;
 
 /// The noise table: the magnitude of a number below 2^15 is how many of these are at most that number.
-/// It imitates noise of the standard deviation 6.4; no nearness to a Gaussian is claimed.
+/// The numbers are those of a Gaussian of standard deviation 6.4 over the whole numbers; nothing is proved of that.
 pub const LIMITS: [u32; 28] = [
     2043, 6079, 9970, 13630, 16990, 20001, 22633, 24879, 26749, 28269, 29474, 30407, 31111, 31630,
     32003, 32265, 32445, 32565, 32643, 32693, 32724, 32743, 32754, 32760, 32764, 32766, 32767,
@@ -81,9 +81,10 @@ pub fn is_certain(w: u32, terms: usize) -> bool
     (NOISE_MAX as u128) * largest_digit * (terms as u128) < half_delta
 }
 
-/// Each limit of the noise table is below the next.
+/// The noise table has the numbers of the definition, and each is below the next.
 pub fn limits_ascend()
-    ensures { IsTrue (is_ascending LIMITS) }
+    ensures numbers { LIMITS ≡ noise_limits }
+    ensures ascending { IsTrue (is_ascending noise_limits) }
 {}
 
 /// The noise of every word is at most 27 either way.

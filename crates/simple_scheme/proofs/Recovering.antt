@@ -12,14 +12,6 @@ use Rattle.simple_scheme.specs.declared.records.RecoverError.{RecoverError}
 use Rattle.simple_scheme.specs.declared.records.RecoverError.TheVariants.{Memory}
 use Rattle.simple_scheme.specs.Recovery.{RecordFrom}
 
-pub record_fits : (l : Shape) (bytes : List ℕ) → IsRecord l bytes → FitsRecord l (record_digits l bytes)
-unfolding number_of
-record_fits l bytes h =
-    let low : sum_below l.record_len (λ t. slice_index bytes t * 2 ^ (8 * t)) < 2 ^ (8 * l.record_len) =
-    number_below 8 l.record_len (λ t. slice_index bytes t) (λ t m. h.each t 0 (omega (arith, h.len))) in
-    let all : number_of 8 bytes ≡ sum_below l.record_len (λ t. slice_index bytes t * 2 ^ (8 * t)) = ap (λ n. sum_below n (λ t. slice_index bytes t * 2 ^ (8 * t))) h.len in
-    omega (arith, low, all, number_of-digits_of l.width (digits_per_record l) (number_of 8 bytes), pow_pos (l.width * digits_per_record l))
-
 pub record_or_memory : (l : Shape) (count : ℕ) (answer digits bytes : List ℕ) (outcome : Result (Vec ℕ Global) RecoverError) →
     length answer ≡ count → FitsRecord l digits → record_bytes l digits ≡ bytes → RecordFrom l count answer digits outcome →
     MatchResult outcome (λ v. v.items ≡ bytes) (λ e. e ≡ Memory)

@@ -8,6 +8,11 @@ use Rattle.simple_scheme.specs.Simple.{hint_of, query_of, answer_of, reading, Is
 use Rattle.simple_scheme.specs.declared.records.RecoverError.{RecoverError}
 use Rattle.simple_scheme.specs.declared.records.RecoverError.TheVariants.{BadLength, BadDigits, Memory}
 
+-- the bytes that digits write, or BadDigits for a bit past the record's last byte
+abbrev pub GivesBytes : Shape → List ℕ → Result (Vec ℕ Global) RecoverError → Type 0
+GivesBytes l digits outcome =
+    MatchResult outcome (λ bytes. FitsRecord l digits × (bytes.items ≡ record_bytes l digits)) (λ e. (e ≡ BadDigits) × (¬ FitsRecord l digits))
+
 -- the bytes that the digits read write; or another number of words, a bit past the record's last byte, no memory
 abbrev pub RecordFrom : Shape → ℕ → List ℕ → List ℕ → Result (Vec ℕ Global) RecoverError → Type 0
 RecordFrom l count answer digits outcome =

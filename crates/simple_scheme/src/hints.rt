@@ -2,7 +2,7 @@
 
 ghost use Rattle.std.specs.Prelude.{◌≡◌, ◌<◌, ◌≤◌, ◌+◌, ◌*◌, ◌^◌, length, IfOk};
 ghost use Rattle.matrix_u32.specs.Matrix.{entry, product, zero_matrix};
-ghost use Rattle.matrix_u32.proofs.Rows.{plus_rows, SoFar};
+ghost use Rattle.matrix_u32.specs.Blocks.{plus_rows, SoFar};
 ghost use Rattle.simple_scheme.specs.Simple.{hint_of};
 
 use digit_pack::DigitStore;

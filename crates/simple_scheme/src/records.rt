@@ -6,7 +6,7 @@ ghost use Rattle.matrix_u32.specs.Matrix.{row};
 ghost use Rattle.regev_core.specs.Encryption.{nearest, stripped};
 ghost use Rattle.digit_pack.specs.Layout.{digit_rows, digits_per_record};
 ghost use Rattle.simple_scheme.specs.Simple.{reading};
-ghost use Rattle.simple_scheme.specs.Recovery.{ReadsRecord, GivesQuietRecord};
+ghost use Rattle.simple_scheme.specs.Recovery.{GivesBytes, ReadsRecord, GivesQuietRecord};
 
 use crate::laws;
 use digit_pack::{Layout, unpack};
@@ -56,6 +56,24 @@ fn read_all<K: Kernel>(
     Ok(digits)
 }
 
+/// The record that digits write, in a buffer of its length: `BadDigits` exactly where they set a bit past the
+/// record's last byte, and never `Memory`.
+pub fn record_of_digits(
+    layout: &Layout,
+    digits: &[u32],
+    mut bytes: Vec<u8>,
+) -> Result<Vec<u8>, RecoverError>
+    requires digits { length digits.now ≡ digits_per_record layout.now }
+    requires small { All (λ d. d < 2 ^ layout.now.width) digits.now }
+    requires room { length bytes.items ≡ layout.now.record_len }
+    ensures { GivesBytes layout.now digits.now result }
+{
+    match unpack(layout, digits, &mut bytes) {
+        Ok(()) => Ok(bytes),
+        Err(_) => Err(RecoverError::BadDigits),
+    }
+}
+
 // The record that an answer reads as.
 fn read_record<K: Kernel>(
     alloc: Global,
@@ -78,13 +96,10 @@ fn read_record<K: Kernel>(
     let Ok(digits) = read_all(alloc, kernel, seed, number, hint, layout, i, answer) else {
         return Err(RecoverError::Memory);
     };
-    let Ok(mut bytes) = vec![in alloc; 0; layout.record_len()] else {
+    let Ok(bytes) = vec![in alloc; 0; layout.record_len()] else {
         return Err(RecoverError::Memory);
     };
-    match unpack(layout, &digits, &mut bytes) {
-        Ok(()) => Ok(bytes),
-        Err(_) => Err(RecoverError::BadDigits),
-    }
+    record_of_digits(layout, &digits, bytes)
 }
 
 /// The record that the answer to the query for record i gives, with the client's seed and the number of the

@@ -136,3 +136,21 @@ fn answers_that_give_no_record(rt: HostRuntime) -> Result<(), Fail> {
     assert_eq!(rt; long, Some(RecoverError::BadLength));
     Ok(())
 }
+
+#[test]
+fn faults_are_printed(rt: HostRuntime) -> Result<(), Fail> {
+    for (fault, text) in [
+        (
+            RecoverError::BadLength,
+            "the answer has another number of words than the layout wants",
+        ),
+        (
+            RecoverError::BadDigits,
+            "the answer's digits set a bit past the record's last byte",
+        ),
+        (RecoverError::Memory, "out of memory"),
+    ] {
+        assert_eq!(rt; format!(in rt.alloc(); "{fault}")?.as_str(), text);
+    }
+    Ok(())
+}

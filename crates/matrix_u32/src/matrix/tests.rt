@@ -44,8 +44,28 @@ fn holds_its_words_row_by_row(rt: HostRuntime) -> Result<(), Fail> {
 fn holds_empty_matrices(rt: HostRuntime) -> Result<(), Fail> {
     let flat = Matrix::zeros(rt.alloc(), usize::MAX, 0)?;
     assert_eq!(rt; flat.words().len(), 0);
+    let none = Matrix::zeros(rt.alloc(), 0, 3)?;
+    assert_eq!(rt; (none.rows(), none.cols()), (0, 3));
     let thin = Matrix::from_words(0, 5, Vec::new(rt.alloc()))?;
     assert_eq!(rt; thin.rows(), 0);
     assert_eq!(rt; thin.cols(), 5);
+    Ok(())
+}
+
+#[test]
+fn faults_are_printed(rt: HostRuntime) -> Result<(), Fail> {
+    for (fault, text) in [
+        (
+            MatrixError::TooLarge,
+            "a matrix holds at most 33554432 words",
+        ),
+        (
+            MatrixError::WrongCount,
+            "the number of words is not rows times columns",
+        ),
+        (MatrixError::Memory, "out of memory"),
+    ] {
+        assert_eq!(rt; format!(in rt.alloc(); "{fault}")?.as_str(), text);
+    }
     Ok(())
 }

@@ -1,5 +1,5 @@
 use Rattle.std.proofs.Common.{◌+◌}
-use Rattle.matrix_u32.proofs.Rows.{SoFar}
+use Rattle.matrix_u32.specs.Blocks.{SoFar}
 use Rattle.lane_kernels.proofs.lanes.add_block.Given as goal
 
 abbrev pub invariant-loop-i : goal.invariant-loop-i

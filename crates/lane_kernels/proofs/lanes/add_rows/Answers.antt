@@ -1,6 +1,7 @@
 use Rattle.std.proofs.lemmas.List.{get_or-drop, get_or-take, length-take}
 use Rattle.std.proofs.Common.{length, take, drop, length-drop, ap, ◌/◌, ◌-◌, ◌≡◌, ◌*◌, ◌+◌, ◌∙◌, ℕ, arith, slice_index}
-use Rattle.matrix_u32.proofs.Rows.{plus_rows, plus_rows-none}
+use Rattle.matrix_u32.specs.Blocks.{plus_rows}
+use Rattle.matrix_u32.proofs.Rows.{plus_rows-none}
 use Rattle.lane_kernels.proofs.RowSums.{plus_rows-four, plus_rows-add}
 use Rattle.lane_kernels.proofs.lanes.add_rows.Goals as goal
 

@@ -1,5 +1,5 @@
 use Rattle.std.proofs.Common.{◌≡◌, slice_index}
-use Rattle.matrix_u32.proofs.Rows.{plus_rows}
+use Rattle.matrix_u32.specs.Blocks.{plus_rows}
 use Rattle.lane_kernels.proofs.lanes.add_rows_singly.Given as goal
 
 abbrev pub invariant-loop-k : goal.invariant-loop-k

@@ -1,5 +1,5 @@
 use Rattle.std.proofs.Common.{◌≤◌, ◌-◌}
-use Rattle.matrix_u32.proofs.Rows.{SoFar}
+use Rattle.matrix_u32.specs.Blocks.{SoFar}
 use Rattle.lane_kernels.proofs.lanes.mul_into.Given as goal
 
 abbrev pub invariant-loop-start : goal.invariant-loop-start

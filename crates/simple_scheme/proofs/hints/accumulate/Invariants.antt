@@ -1,5 +1,5 @@
 use Rattle.std.proofs.Common.{◌≤◌, ◌-◌}
-use Rattle.matrix_u32.proofs.Rows.{SoFar}
+use Rattle.matrix_u32.specs.Blocks.{SoFar}
 use Rattle.simple_scheme.proofs.hints.accumulate.Given as goal
 
 abbrev pub invariant-loop-start : goal.invariant-loop-start

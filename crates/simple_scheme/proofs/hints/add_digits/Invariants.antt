@@ -1,6 +1,6 @@
 use Rattle.std.proofs.Common.{◌≡◌, ◌+◌}
 use Rattle.matrix_u32.specs.Matrix.{entry}
-use Rattle.matrix_u32.proofs.Rows.{plus_rows}
+use Rattle.matrix_u32.specs.Blocks.{plus_rows}
 use Rattle.simple_scheme.proofs.hints.add_digits.Given as goal
 
 abbrev pub invariant-loop-k : goal.invariant-loop-k

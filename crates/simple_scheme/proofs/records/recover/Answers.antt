@@ -5,7 +5,7 @@ use Rattle.matrix_u32.proofs.Products.{length-list_of}
 use Rattle.digit_pack.specs.Layout.{FitsRecord, record_at, record_digits, record_bytes, digit_matrix, digit_rows}
 use Rattle.simple_scheme.specs.Simple.{hint_of, answer_of, query_of, reading}
 use Rattle.digit_pack.proofs.RecordLemmas.{shape_of_layout}
-use Rattle.simple_scheme.proofs.Recovering.{record_fits, record_or_memory}
+use Rattle.simple_scheme.proofs.Recovering.{record_or_memory}
 use Rattle.simple_scheme.proofs.records.recover.Goals as goal
 
 pub returns-clause-quiet : goal.returns-clause-quiet
@@ -15,6 +15,7 @@ returns-clause-quiet g c = λ records a1 e whole eh ea quiet.
     let i : ℕ = c.args.i in
     let bytes : List ℕ = record_at records i in
     let shape = shape_of_layout l c.width-width.ensures.layout in
+    let back = c.pack_unpacks.ensures l bytes shape.width whole in
     let answer : List ℕ = answer_of (digit_matrix l records) (query_of l a1 c.args.seed.now c.args.number i) in
     let read : reading l c.args.hint.now c.args.seed.now c.args.number i c.args.answer.now ≡ record_digits l bytes =
     ap (λ h. reading l h c.args.seed.now c.args.number i c.args.answer.now) eh
@@ -22,6 +23,6 @@ returns-clause-quiet g c = λ records a1 e whole eh ea quiet.
     ∙ c.quiet_retrieval_reads_the_record.ensures l records a1 c.args.seed.now c.args.number i shape c.requires.record e quiet in
     record_or_memory l (digit_rows l) c.args.answer.now (reading l c.args.hint.now c.args.seed.now c.args.number i c.args.answer.now) bytes c.read_record-record.result
     (ap length ea ∙ length-list_of (digit_rows l) (λ r. dot (row (digit_matrix l records) r) (query_of l a1 c.args.seed.now c.args.number i)))
-    (subst (FitsRecord l) (sym read) (record_fits l bytes whole))
-    (ap (record_bytes l) read ∙ c.pack_unpacks.ensures l bytes shape.width whole)
+    (subst (FitsRecord l) (sym read) back.accepted)
+    (ap (record_bytes l) read ∙ back.same)
     c.read_record-record.ensures
