@@ -5,3 +5,4 @@ pub mod Unpacking
 pub mod Changes
 pub mod ColumnLemmas
 pub mod RecordLemmas
+pub mod Triples

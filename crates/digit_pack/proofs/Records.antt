@@ -1,14 +1,16 @@
 -- Records, their digits and their places.
 use Rattle.std.proofs.Common.{◌≡◌, ℕ, zero, suc, ◌+◌, ◌*◌, ◌/◌, ◌%◌, ◌^◌, ◌<◌, ◌≤◌, arith, ap, ◌∙◌, lit<, List, length}
-use Rattle.std.proofs.lemmas.Nat.{div-mul-add, mod-mul-add, mul-add-lt, mod_below, div_below, div-add-mod'}
+use Rattle.std.proofs.lemmas.Nat.{div-mul-add, mod-mul-add, mul-add-lt, mod_below, div_below, div-add-mod', pow_pos}
+use Rattle.std.proofs.lemmas.List.Elements.{All-from_get_or}
 use Rattle.std.proofs.Math.Nat.{mul-div_cancel, mod-eq_of_lt, pow-le-pow_right}
 use Rattle.std.specs.Prelude.{slice_index, All}
 use Rattle.matrix_u32.specs.Matrix.{WordMatrix, entry}
-use Rattle.matrix_u32.proofs.Products.{entry-matrix_of, list_of-at, same-list_of}
+use Rattle.matrix_u32.proofs.Products.{entry-matrix_of, list_of-at, same-list_of, length-list_of, each-list_of}
 use Rattle.lane_kernels.specs.Digit.{digit, split_count}
 use Rattle.digit_pack.specs.Digits.{digits_of, number_of, joined, decomposed, decomposed_at, recomposed, recomposed_at}
-use Rattle.digit_pack.specs.Layout.{Shape, IsShape, IsRecord, record_digits, record_bytes, digit_matrix, digit_at, digit_rows, digit_cols, digits_per_record, first_row, column_of, record_at}
-use Rattle.digit_pack.proofs.DigitSums.{number_of-digits_of, number_below, digit_of_sum, join_split, split_some}
+use Rattle.digit_pack.specs.Layout.{Shape, IsShape, IsRecord, record_digits, digit_matrix, digit_at, digit_rows, digit_cols, digits_per_record, first_row, column_of, record_at}
+use Rattle.digit_pack.specs.Laws.{PacksAndUnpacks}
+use Rattle.digit_pack.proofs.DigitSums.{number_of-digits_of, number_below, digit_of_sum, digit-lt, join_split, split_some}
 
 -- the digits of the number that a list of digits writes are that list
 pub digits_of-number_of : (w : ℕ) (ds : List ℕ) (n : ℕ) → length ds ≡ n → All (λ d. d < 2 ^ w) ds → digits_of w n (number_of w ds) ≡ ds
@@ -26,13 +28,20 @@ number_of-lt w ds h = number_below w (length ds) (λ t. slice_index ds t) (λ t 
 digits_cover : (l : Shape) → 0 < l.width → 8 * l.record_len ≤ l.width * digits_per_record l
 digits_cover l h = omega arith
 
-pub unpack-pack : (l : Shape) (bytes : List ℕ) → 0 < l.width → IsRecord l bytes → record_bytes l (record_digits l bytes) ≡ bytes
+pub unpack-pack : (l : Shape) (bytes : List ℕ) → 0 < l.width → IsRecord l bytes → PacksAndUnpacks l bytes
 unpack-pack l bytes h r =
+    let n : ℕ = digits_per_record l in
     let len : length bytes ≡ l.record_len = r.len in
-    let small : number_of 8 bytes < 2 ^ (8 * l.record_len) = rw len at (number_of-lt 8 bytes r.each) in
-    let room : 2 ^ (8 * l.record_len) ≤ 2 ^ (l.width * digits_per_record l) = pow-le-pow_right (lit< tt) (digits_cover l h) in
-    let same : number_of l.width (record_digits l bytes) ≡ number_of 8 bytes = number_of-digits_of l.width (digits_per_record l) (number_of 8 bytes) ∙ mod-eq_of_lt (omega arith) in
-    ap (λ n. digits_of 8 l.record_len n) same ∙ digits_of-number_of 8 bytes l.record_len len r.each
+    let low : number_of 8 bytes < 2 ^ (8 * l.record_len) = rw len at (number_of-lt 8 bytes r.each) in
+    let room : 2 ^ (8 * l.record_len) ≤ 2 ^ (l.width * n) = pow-le-pow_right (lit< tt) (digits_cover l h) in
+    let same : number_of l.width (record_digits l bytes) ≡ number_of 8 bytes = number_of-digits_of l.width n (number_of 8 bytes) ∙ mod-eq_of_lt (omega arith) in
+    record {
+      count = length-list_of n (λ t. digit l.width (number_of 8 bytes) t);
+      small = All-from_get_or (λ d. d < 2 ^ l.width) (record_digits l bytes) 0 (λ k _.
+          each-list_of (λ d. d < 2 ^ l.width) n (λ t. digit l.width (number_of 8 bytes) t) 0 (pow_pos l.width) (λ t. digit-lt l.width (number_of 8 bytes) t) k);
+      accepted = omega (arith, same, low);
+      same = ap (λ n. digits_of 8 l.record_len n) same ∙ digits_of-number_of 8 bytes l.record_len len r.each;
+    }
 
 -- a record's digits stand inside the matrix
 pub row_inside : (l : Shape) (i d : ℕ) → 0 < l.groups → d < digits_per_record l → first_row l i + d < digit_rows l

@@ -3,7 +3,7 @@ use Rattle.std.specs.Prelude.{◌≡◌, slice_set, ℕ, ◌+◌, ◌*◌, ◌/�
 use Rattle.matrix_u32.specs.Matrix.{WordMatrix, entry}
 use Rattle.lane_kernels.specs.Digit.{digit, split_count}
 use Rattle.digit_pack.specs.Digits.{digits_of, number_of, decomposed, recomposed, joined}
-use Rattle.digit_pack.specs.Layout.{Shape, IsShape, IsRecord, record_digits, record_bytes, digit_matrix, digits_per_record, digit_rows, digit_cols, first_row, column_of, record_at}
+use Rattle.digit_pack.specs.Layout.{Shape, IsShape, IsRecord, FitsRecord, record_digits, record_bytes, digit_matrix, digits_per_record, digit_rows, digit_cols, first_row, column_of, record_at}
 
 -- the digits of a word write the word
 abbrev pub SplitJoins : Type 0
@@ -19,9 +19,15 @@ abbrev pub DecomposedStandsBelow : Type 0
 DecomposedStandsBelow = (w : ℕ) (a : WordMatrix) (k t j : ℕ) → t < split_count w → k < a.rows → j < a.cols →
     entry (decomposed w a) (k * split_count w + t) j ≡ digit w (entry a k j) t
 
--- the bytes that a record's digits write are the record
+-- what `pack` makes of a record is what `unpack` takes and accepts, and gives the record back
+pub record PacksAndUnpacks (l : Shape) (bytes : List ℕ) : Type 0 where
+  pub count : length (record_digits l bytes) ≡ digits_per_record l
+  pub small : All (λ d. d < 2 ^ l.width) (record_digits l bytes)
+  pub accepted : FitsRecord l (record_digits l bytes)
+  pub same : record_bytes l (record_digits l bytes) ≡ bytes
+
 abbrev pub PackUnpacks : Type 0
-PackUnpacks = (l : Shape) (bytes : List ℕ) → 0 < l.width → IsRecord l bytes → record_bytes l (record_digits l bytes) ≡ bytes
+PackUnpacks = (l : Shape) (bytes : List ℕ) → 0 < l.width → IsRecord l bytes → PacksAndUnpacks l bytes
 
 -- digit d of record i stands in its column, d rows below its first row
 abbrev pub RecordStandsInItsColumn : Type 0

@@ -2,4 +2,5 @@ pub mod Digits
 pub mod Layout
 pub mod Columns
 pub mod Laws
+pub mod Packed
 pub mod Windows

@@ -28,7 +28,7 @@ pub fn decomposed_stands_below()
     ensures { DecomposedStandsBelow }
 {}
 
-/// The bytes that a record's digits write are the record.
+/// `unpack` accepts the digits that `pack` makes of a record, and gives the record back.
 pub fn pack_unpacks()
     ensures { PackUnpacks }
 {}

@@ -1,3 +1,5 @@
+ghost use Rattle.std.specs.Prelude.{◌<◌};
+
 use super::*;
 use matrix_u32::{Kernel, MatrixError, Plain};
 use std::process::Abort;
@@ -9,9 +11,12 @@ fn layouts_at_their_limits(rt: HostRuntime) {
         (5, 1, 1, 1, LayoutError::BadWidth),
         (11, 0, 0, 0, LayoutError::BadWidth),
         (8, 0, 0, 0, LayoutError::BadRecord),
+        (8, 0, 1, 1, LayoutError::BadRecord),
         (8, 257, 1, 1, LayoutError::BadRecord),
         (8, 1, 0, 0, LayoutError::BadGroups),
+        (8, 1, 0, 1, LayoutError::BadGroups),
         (8, 256, 17, 0, LayoutError::BadGroups),
+        (8, 256, 17, 1, LayoutError::BadGroups),
         (8, 1, usize::MAX, 1, LayoutError::BadGroups),
         (8, 1, 1, 0, LayoutError::BadCount),
         (8, 1, 1, 4097, LayoutError::BadCount),
@@ -36,6 +41,29 @@ fn layouts_at_their_limits(rt: HostRuntime) {
         };
         assert_eq!(rt; (layout.rows(), layout.cols()), (rows, cols));
     }
+}
+
+#[test]
+fn faults_are_printed(rt: HostRuntime) -> Result<(), Fail> {
+    for (fault, text) in [
+        (LayoutError::BadWidth, "a digit has 6 to 10 bits"),
+        (LayoutError::BadRecord, "a record has 1 to 256 bytes"),
+        (
+            LayoutError::BadGroups,
+            "a column holds at least one record and at most 4096 digits",
+        ),
+        (
+            LayoutError::BadCount,
+            "there are 1 to 4096 columns of records",
+        ),
+    ] {
+        assert_eq!(rt; format!(in rt.alloc(); "{fault}")?.as_str(), text);
+    }
+    assert_eq!(rt;
+        format!(in rt.alloc(); "{BadDigits}")?.as_str(),
+        "the digits set a bit past the record's last byte"
+    );
+    Ok(())
 }
 
 #[test]
@@ -150,6 +178,86 @@ fn flat_keeps_digits(rt: HostRuntime) -> Result<(), Fail> {
     };
     assert_eq!(rt; (zeros.rows(), zeros.cols()), (1, 2));
     assert_eq!(rt; (zeros.get(0, 0), zeros.get(0, 1)), (0, 0));
+    Ok(())
+}
+
+#[test]
+fn packed_keeps_digits(rt: HostRuntime) -> Result<(), Fail> {
+    keeps_digits::<Packed3, Plain>(&rt, Plain)?;
+    let Ok(mut store) = Packed3::zeros(rt.alloc(), 1, 4) else {
+        return Err(Fail::from(MatrixError::Memory));
+    };
+    assert_eq!(rt; (store.rows(), store.cols()), (1, 4));
+    store.set(0, 3, 1023);
+    assert_eq!(rt;
+        (store.get(0, 0), store.get(0, 1), store.get(0, 2)),
+        (0, 0, 0)
+    );
+    store.set(0, 1, 5);
+    store.set(0, 2, 1);
+    assert_eq!(rt; store.words(), [5 * 1024 + 1_048_576, 1023].as_slice());
+    Ok(())
+}
+
+// The digits that test a shape: each differs from those beside it.
+fn test_digit(i: usize, j: usize) -> u32
+    ensures { result < 1024 }
+{
+    ((i % 5 * 211 + j % 11 * 97 + 1) % 1024) as u32
+}
+
+// A store of these digits, and its product with others of them.
+fn product_of<S: DigitStore + Drop>(
+    rt: &(impl Abort + AllocGlobal),
+    rows: usize,
+    cols: usize,
+) -> Result<Vec<u32>, Fail> {
+    let Ok(mut store) = S::zeros(rt.alloc(), rows, cols) else {
+        return Err(Fail::from(MatrixError::Memory));
+    };
+    for i in 0..rows {
+        for j in 0..cols {
+            assert_eq!(rt; (store.rows(), store.cols()), (rows, cols));
+            store.set(i, j, test_digit(i, j));
+        }
+    }
+    let mut x = vec![in rt.alloc(); 0u32; cols]?;
+    for j in 0..cols {
+        x[j] = test_digit(j, 3);
+    }
+    let mut out = vec![in rt.alloc(); 7u32; rows]?;
+    assert_eq!(rt; (store.rows(), store.cols()), (out.len(), x.len()));
+    store.mul_vec(Plain, &x, &mut out);
+    Ok(out)
+}
+
+#[test]
+fn packed_and_flat_give_the_same_products(rt: HostRuntime) -> Result<(), Fail> {
+    for cols in [1, 2, 3, 4, 5, 7] {
+        for rows in [1, 2, 5] {
+            let flat = product_of::<Flat>(&rt, rows, cols)?;
+            let packed = product_of::<Packed3>(&rt, rows, cols)?;
+            assert_eq!(rt;
+                flat.as_slice(),
+                packed.as_slice(),
+                "{rows} rows, {cols} columns"
+            );
+        }
+    }
+    Ok(())
+}
+
+#[test]
+fn stores_without_rows_and_of_one_record(rt: HostRuntime) -> Result<(), Fail> {
+    let Ok(none) = Flat::zeros(rt.alloc(), 0, 5) else {
+        return Err(Fail::from(MatrixError::Memory));
+    };
+    assert_eq!(rt; (none.rows(), none.cols()), (0, 5));
+    let layout = Layout::new(8, 2, 1, 1)?;
+    assert_eq!(rt; (layout.count(), layout.record_len()), (1, 2));
+    let one: Flat = digits_of_records(rt.alloc(), &layout, &[0xab, 0xcd])?;
+    assert_eq!(rt; (one.rows(), one.cols()), (2, 1));
+    assert_eq!(rt; (one.get(0, 0), one.get(1, 0)), (0xab, 0xcd));
     Ok(())
 }
 

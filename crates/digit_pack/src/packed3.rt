@@ -1,0 +1,112 @@
+//! A store with three digits in a word.
+
+ghost use Rattle.std.specs.Prelude.{◌≡◌, ◌+◌, ◌*◌, ◌/◌, ◌^◌, ◌<◌};
+ghost use Rattle.lane_kernels.specs.Packed.{packed_cols};
+ghost use Rattle.digit_pack.specs.Packed.{packed, IsReplaced};
+
+use crate::store::DigitStore;
+use lane_kernels::packed_mul_vec;
+use matrix_u32::{Kernel, MAX_WORDS, MatrixError};
+use std::alloc::Global;
+use std::marker::Model;
+
+/// A store of digits below 1024, three in each word. A contract sees it as its matrix of digits.
+///
+/// A row is cols / 3 words, rounded up; digit 3 t + u of it stands in bits 10 u to 10 u + 9 of its word t, and
+/// the other bits are 0. It never holds more than 33,554,432 digits.
+#[derive(Drop)]
+pub struct Packed3 {
+    rows: usize,
+    cols: usize,
+    words: Vec<u32>,
+}
+
+impl Model for Packed3 {
+    ghost use Rattle.matrix_u32.specs.Matrix.{WordMatrix};
+    ghost use Rattle.lane_kernels.specs.Packed.{unpacked};
+    ghost use Rattle.digit_pack.specs.Packed.{IsPacked};
+
+    ghost Value = { WordMatrix };
+
+    ghost view = { λ s. unpacked s.rows s.cols s.words.items };
+
+    ghost invariant = { λ s. IsPacked s.rows s.cols s.words.items };
+}
+
+// How many words a row of that many columns has.
+fn row_words(cols: usize) -> usize
+    ensures { result ≡ packed_cols cols }
+{
+    cols.div_ceil(3)
+}
+
+// Which word has the digit in row i, column j, among `count` words of `rows` rows.
+fn word_place(rows: usize, cols: usize, count: usize, i: usize, j: usize) -> usize
+    requires row { i < rows }
+    requires col { j < cols }
+    requires count { count ≡ rows * packed_cols cols }
+    ensures value { result ≡ i * packed_cols cols + j / 3 }
+    ensures inside { result < count }
+{
+    i * row_words(cols) + j / 3
+}
+
+// A word with another digit in one of its three places.
+fn replaced(word: u32, t: usize, digit: u32) -> u32
+    requires word { word < 2 ^ 30 }
+    requires place { t < 3 }
+    requires digit { digit < 1024 }
+    ensures { IsReplaced word t digit result }
+{
+    match t {
+        0 => word - word % 1024 + digit,
+        1 => word - word / 1024 % 1024 * 1024 + digit * 1024,
+        _ => word % 1_048_576 + digit * 1_048_576,
+    }
+}
+
+impl Packed3 {
+    /// The words, row by row, lent as they are kept.
+    pub fn words(&self) -> &[u32]
+        ensures { result.now ≡ packed self.now }
+    {
+        &self.words
+    }
+}
+
+impl DigitStore for Packed3 {
+    ghost digits = { λ s. s };
+
+    fn zeros(alloc: Global, rows: usize, cols: usize) -> Result<Packed3, MatrixError> {
+        match rows.checked_mul(cols) {
+            Some(count) if count <= MAX_WORDS => {}
+            _ => return Err(MatrixError::TooLarge),
+        }
+        match vec![in alloc; 0; rows * row_words(cols)] {
+            Ok(words) => Ok(Packed3 { rows, cols, words }),
+            Err(_) => Err(MatrixError::Memory),
+        }
+    }
+
+    fn rows(&self) -> usize {
+        self.rows
+    }
+
+    fn cols(&self) -> usize {
+        self.cols
+    }
+
+    fn get(&self, i: usize, j: usize) -> u32 {
+        let at = word_place(self.rows, self.cols, self.words.len(), i, j);
+        (self.words[at] >> (10 * (j % 3))) % 1024
+    }
+
+    fn set(&mut self, i: usize, j: usize, digit: u32) {
+        let at = word_place(self.rows, self.cols, self.words.len(), i, j);
+        self.words[at] = replaced(self.words[at], j % 3, digit);
+    }
+
+    fn mul_vec<K: Kernel>(&self, _kernel: K, x: &[u32], out: &mut [u32]) {
+        packed_mul_vec(&self.words, self.cols, x, out);
+    }
+}
