@@ -1,18 +1,17 @@
 -- Products after a change of one word of the left matrix.
-use Rattle.std.proofs.Common.{◌≡◌, ℕ, ◌+◌, ◌-◌, ◌*◌, ◌%◌, ◌^◌, ◌<◌, ◌==◌, if◌then◌else◌, arith, ap, ◌∙◌, sym, refl, ⊎_elim, List, length}
+use Rattle.std.proofs.Common.{◌≡◌, ℕ, ◌+◌, ◌-◌, ◌*◌, ◌%◌, ◌^◌, ◌<◌, ◌==◌, if◌then◌else◌, arith, ap, ◌∙◌, sym, ⊎_elim, List, length}
 use Rattle.std.proofs.lemmas.Nat.{mul-mod_first}
 use Rattle.std.proofs.lemmas.Bool.{cases_eq}
-use Rattle.std.proofs.lemmas.List.{set-get_or}
-use Rattle.std.specs.Prelude.{slice_index, slice_set}
+use Rattle.std.specs.Prelude.{slice_index}
 use Rattle.matrix_u32.specs.Sum.{dot}
 use Rattle.matrix_u32.specs.Matrix.{WordMatrix, IsWhole, entry, row, column, product, with_entry, with_row, plus_scaled}
 use Rattle.matrix_u32.specs.Laws.{RowChange}
-use Rattle.matrix_u32.proofs.Changes.{row_change, same-matrix_of, matrix_by_entries}
+use Rattle.matrix_u32.proofs.Changes.{row_change, same-matrix_of}
 use Rattle.matrix_u32.proofs.Products.{entry-product, at-list_of}
 use Rattle.matrix_u32.proofs.Rows.{if_here, if_elsewhere, row_index, length-row, with_row-same}
 
 -- a difference that was reduced
-reduced : (e m y : ℕ) → (e + (m % 2 ^ 32) * y) % 2 ^ 32 ≡ (e + m * y) % 2 ^ 32
+pub reduced : (e m y : ℕ) → (e + (m % 2 ^ 32) * y) % 2 ^ 32 ≡ (e + m * y) % 2 ^ 32
 reduced e m y = omega (arith, mul-mod_first m y (2 ^ 32))
 
 -- row i with the difference times row j of a added
@@ -41,21 +40,6 @@ row_follows d a i j old new k whole e p q is small ke =
     ∙ sym (change.other_rows r c l apart m))
     (cases_eq r i)
     ∙ entry-product (with_entry d i j new) a r c l m)
-
--- a word that is written again
-pub unchanged : (d : WordMatrix) (i j v : ℕ) → entry d i j ≡ v → with_entry d i j v ≡ d
-unchanged d i j v e =
-    let words : slice_set d.words (i * d.cols + j) v ≡ d.words = ap (slice_set d.words (i * d.cols + j)) (sym e) ∙ set-get_or d.words (i * d.cols + j) 0 in
-    λ t. record { rows = d.rows; cols = d.cols; words = words t }
-
--- a matrix with its own row
-pub own_row : (m : WordMatrix) (i : ℕ) → IsWhole m → m ≡ with_row m i (row m i)
-own_row m i whole =
-    matrix_by_entries m m.rows m.cols (λ r j. if r == i then slice_index (row m i) j else entry m r j) refl refl whole (λ r j p q.
-    ⊎_elim
-    (λ e. ap (λ r. entry m r j) e ∙ sym (at-list_of m.cols (λ j. entry m i j) j q) ∙ sym (if_here r i (slice_index (row m i) j) (entry m r j) e))
-    (λ d. sym (if_elsewhere r i (slice_index (row m i) j) (entry m r j) d))
-    (cases_eq r i))
 
 -- a replaced row leaves the other rows
 pub replaced_row_alone : (m : WordMatrix) (i : ℕ) (words : List ℕ) → i < m.rows → with_row m i words ≡ with_row m i (row (with_row m i words) i)

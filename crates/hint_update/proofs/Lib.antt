@@ -1,1 +1,3 @@
 pub mod Follows
+pub mod Columns
+pub mod Logs

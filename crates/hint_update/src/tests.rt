@@ -1,4 +1,5 @@
 use super::*;
+use digit_pack::{DigitStore, Flat};
 use matrix_u32::{Kernel, Plain};
 use std::process::Abort;
 use std::test::Fail;
@@ -25,5 +26,50 @@ fn an_equal_digit_changes_nothing(rt: HostRuntime) -> Result<(), Fail> {
     assert!(rt; a1.rows() == 2 && a1.cols() == 1 && hint.rows() == 2 && hint.cols() == 1);
     update_simple(Plain, &mut hint, &a1, 1, 0, 9, 9);
     assert_eq!(rt; hint.words(), [1030, 7].as_slice());
+    Ok(())
+}
+
+// The hints of both sides for the first hint's words, one for each row of D: A2 = (2), (7), digits of 8 bits.
+fn both_hints(
+    rt: &(impl Abort + AllocGlobal),
+    words: &[u32],
+    a2: &Matrix,
+) -> Result<(Flat, Matrix), Fail> {
+    let hint = Matrix::from_words(2, 1, words.to_vec(rt.alloc())?)?;
+    assert!(rt; a2.rows() == hint.rows() && a2.cols() == hint.cols());
+    assert!(rt; hint.rows() <= 4096 && hint.cols() <= 1024);
+    let hints = double_scheme::setup(rt.alloc(), Plain, &hint, a2, 8)?;
+    Ok(hints)
+}
+
+// Both columns of the server's hint.
+fn columns(rt: &(impl Abort + AllocGlobal), server: &Flat) -> Result<Vec<u32>, Fail> {
+    assert!(rt; server.cols() == 2);
+    let mut digits = Vec::new(rt.alloc());
+    for j in 0..2 {
+        for r in 0..server.rows() {
+            digits.push(server.get(r, j))?;
+        }
+    }
+    Ok(digits)
+}
+
+// Digits 1 2 over 3 4 under A1 = (3), (5) have the first hint 13, 29; with 200 for the 2 it is 1003, 29.
+#[test]
+fn both_hints_follow_a_row(rt: HostRuntime) -> Result<(), Fail> {
+    let a2 = Matrix::from_words(2, 1, vec![in rt.alloc(); 2u32, 7]?)?;
+    let (mut server, mut client) = both_hints(&rt, &[13, 29], &a2)?;
+    assert_eq!(rt; client.words(), [229, 0, 0, 0].as_slice());
+    assert!(rt; server.rows() == split_count(8) && server.cols() == 2 && a2.rows() == 2);
+    assert!(rt; client.rows() == server.rows() && client.cols() == a2.cols());
+    update_double(Plain, &mut server, &mut client, &a2, 8, 0, &[1003]);
+    assert_eq!(rt;
+        columns(&rt, &server)?.as_slice(),
+        [235, 3, 0, 0, 29, 0, 0, 0].as_slice()
+    );
+    assert_eq!(rt; client.words(), [673, 6, 0, 0].as_slice());
+    let (fresh, fresh_client) = both_hints(&rt, &[1003, 29], &a2)?;
+    assert!(rt; columns(&rt, &server)? == columns(&rt, &fresh)?);
+    assert_eq!(rt; client.words(), fresh_client.words());
     Ok(())
 }
