@@ -41,7 +41,7 @@ pub fn write_out<W: Write>(writer: &mut W, bytes: &[u8]) -> Result<(), WriteFail
 
 /// Room for a piece: [`PIECE_LEN`] bytes. Which they are is not said.
 pub fn piece_buffer(alloc: Global) -> Result<Vec<u8>, AllocError>
-    ensures { IfOk result (λ buffer. length buffer.items ≡ PIECE_LEN) }
+    ensures { IfOk result (λ buffer. length buffer.items ≡ 65536) }
 {
     Vec::from_elem(alloc, 0u8, PIECE_LEN)
 }

@@ -79,3 +79,12 @@ fn a_read_that_fails(rt: HostRuntime) -> Result<(), Fail> {
     assert_eq!(rt; read_piece(&mut Broken, &mut buffer), Err(ReadFailed));
     Ok(())
 }
+
+#[test]
+fn each_fault_has_its_text(rt: HostRuntime) -> Result<(), Fail> {
+    let read = format!(in rt.alloc(); "{ReadFailed}")?;
+    assert_eq!(rt; read.as_str(), "a read failed");
+    let write = format!(in rt.alloc(); "{WriteFailed}")?;
+    assert_eq!(rt; write.as_str(), "a write failed");
+    Ok(())
+}

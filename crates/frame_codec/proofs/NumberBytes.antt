@@ -1,9 +1,9 @@
 -- Numbers and words, lowest byte first.
-use Rattle.std.proofs.Common.{◌≡◌, ℕ, zero, suc, ◌+◌, ◌-◌, ◌*◌, ◌/◌, ◌%◌, ◌^◌, ◌<◌, ◌≤◌, List, [], ◌∷◌, ◌++◌, length, get_or, slice_index, take, drop, refl, sym, ap, subst, ◌∙◌, append_assoc, arith}
+use Rattle.std.proofs.Common.{◌≡◌, ℕ, zero, suc, ◌+◌, ◌-◌, ◌*◌, ◌/◌, ◌%◌, ◌^◌, ◌<◌, ◌≤◌, List, [], ◌∷◌, ◌++◌, length, get_or, slice_index, take, drop, All, refl, sym, ap, subst, ◌∙◌, append_assoc, arith}
 use Rattle.std.proofs.Math.Nat.{div-div-eq-div-mul, pow-succ'}
 use Rattle.std.specs.Int.{byte_at, bytes_low_first}
 use Rattle.std.specs.List.{flat_map, AllByRecursion}
-use Rattle.std.proofs.lemmas.List.{length-append, append-nil, take_more, take-append-drop, drop_at, drop-drop, get_or-drop, length-drop}
+use Rattle.std.proofs.lemmas.List.{length-append, append-nil, nil_from_length, take_more, take-append-drop, drop_at, drop-drop, get_or-drop, length-drop}
 use Rattle.std.proofs.lemmas.List.Concat.{flat_map-cons, flat_map-append}
 use Rattle.byteorder.specs.Endian.{little_from, little_number, little_bytes, IsRead}
 use Rattle.byteorder.specs.Numbers.{little_from-cons, little_from-append, little_number-reads_back, length-bytes_low_first}
@@ -42,6 +42,19 @@ only_bytes (suc n) (b ∷ bytes) fits le =
     let high : (b + 256 * r) / 256 ≡ r = omega arith in
     let rest : bytes_low_first 1 n (b + 256 * r) ≡ take n bytes = shifted_bytes 0 n (b + 256 * r) ∙ ap (λ (y : ℕ). bytes_low_first 0 n y) high ∙ only_bytes n bytes (IsBytes-rest b bytes fits) (omega arith) in
     ap (λ (y : ℕ). bytes_low_first 0 (suc n) y) e ∙ ap (λ (y : ℕ). y ∷ bytes_low_first 1 n (b + 256 * r)) low ∙ ap (λ (ys : List ℕ). b ∷ ys) rest
+
+-- n bytes are below 256 ^ n
+little_number-lt : (n : ℕ) (bytes : List ℕ) → IsBytes bytes → n ≤ length bytes → little_number n bytes < 256 ^ n
+little_number-lt zero bytes fits le = omega arith
+little_number-lt (suc n) [] fits le = absurd (omega arith)
+little_number-lt (suc n) (b ∷ bytes) fits le =
+    let small : b < 256 = fits 0 in
+    let e : little_from 1 n (b ∷ bytes) ≡ little_from 0 n bytes = little_from-cons 0 n b bytes in
+    omega (arith, e, small, pow-succ' 256 n, little_number-lt n bytes (IsBytes-rest b bytes fits) (omega arith))
+
+pub number_in-lt : (n : ℕ) (bytes : List ℕ) → IsBytes bytes → n ≤ length bytes → number_in n bytes < 256 ^ n
+unfolding number_in
+number_in-lt n bytes fits le = little_number-lt n bytes fits le
 
 -- a number's bytes read as the number
 pub reads_back : (n x : ℕ) (more : List ℕ) → x < 256 ^ n → little_number n (little_bytes n x ++ more) ≡ x
@@ -106,6 +119,22 @@ words_read (w ∷ ws) bytes fits len read =
 pub words_in : ℕ → List ℕ → List ℕ
 words_in zero bytes = []
 words_in (suc n) bytes = number_in 4 bytes ∷ words_in n (drop 4 bytes)
+
+-- the words of as many bytes spell them
+pub words_spell : (n : ℕ) (bytes : List ℕ) → IsBytes bytes → length bytes ≡ 4 * n → word_bytes (words_in n bytes) ≡ bytes
+unfolding word_bytes words_in
+words_spell zero bytes fits len = sym (nil_from_length bytes len)
+words_spell (suc n) bytes fits len =
+    ap (λ (x : List ℕ). number_bytes 4 (number_in 4 bytes) ++ x) (words_spell n (drop 4 bytes) (IsBytes-drop 4 bytes fits) (omega (arith, length-drop 4 bytes)))
+    ∙ front 4 bytes fits (omega arith)
+
+pub words_small : (n : ℕ) (bytes : List ℕ) → IsBytes bytes → length bytes ≡ 4 * n → All (λ w. w < 2 ^ 32) (words_in n bytes)
+unfolding words_in
+words_small zero bytes fits len = λ i d lt. absurd (omega arith)
+words_small (suc n) bytes fits len = λ i d lt. elim i as (λ i. i < suc (length (words_in n (drop 4 bytes))) → get_or (number_in 4 bytes ∷ words_in n (drop 4 bytes)) i d < 2 ^ 32) [
+  | zero ↦ λ _. number_in-lt 4 bytes fits (omega arith)
+  | suc i ↦ λ lt. words_small n (drop 4 bytes) (IsBytes-drop 4 bytes fits) (omega (arith, length-drop 4 bytes)) i d (omega arith)
+] lt
 
 pub words_back : (ws : List ℕ) → AllByRecursion (λ w. w < 2 ^ 32) ws → words_in (length ws) (word_bytes ws) ≡ ws
 unfolding word_bytes words_in

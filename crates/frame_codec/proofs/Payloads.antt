@@ -2,11 +2,12 @@
 use Rattle.std.proofs.Common.{◌≡◌, ℕ, ◌+◌, ◌*◌, ◌^◌, ◌<◌, ◌≤◌, List, [], ◌∷◌, ◌++◌, length, get_or, drop, All, refl, sym, ap, ◌∙◌, arith}
 use Rattle.std.specs.Prelude.{MatchBool, ◌==◌}
 use Rattle.std.proofs.lemmas.List.{length-append, append-nil, nil_from_length, length-drop, drop-drop, drop_more}
+use Rattle.std.proofs.lemmas.List.Elements.{All-from_get_or}
 use Rattle.frame_codec.specs.declared.frame.Frame.{Frame}
 use Rattle.frame_codec.specs.declared.frame.Frame.TheVariants.{Load, Hello, HintAsk, Query, Edit, Publish, Bye, Welcome, HintPart, Answer, Stale, Done, Refused}
 use Rattle.frame_codec.specs.Numbers.{number_bytes, number_in, word_bytes}
-use Rattle.frame_codec.specs.Frames.{kind_of, payload_of, HasFields, Stands, payload_size}
-use Rattle.frame_codec.proofs.NumberBytes.{IsBytes, IsBytes-drop, front, length-number, length-words}
+use Rattle.frame_codec.specs.Frames.{kind_of, payload_of, HasFields, Stands, IsPayload, payload_size}
+use Rattle.frame_codec.proofs.NumberBytes.{IsBytes, IsBytes-drop, front, length-number, length-words, number_in-lt, words_in, words_spell, words_small}
 
 -- the lengths that a kind's payload may have
 abbrev pub HasLength : ℕ → List ℕ → Type 0
@@ -200,3 +201,48 @@ is_refused bytes fits e = record {
   payload = ap (λ (x : List ℕ). get_or bytes 0 0 ∷ x) (sym (nil_from_length (drop 1 bytes) (omega (arith, length-drop 1 bytes)))) ∙ byte_first bytes (omega arith);
   fields = fits 0;
 }
+
+-- ---- the payloads of kinds that want memory
+
+bytes_behind : (n : ℕ) (bytes : List ℕ) → IsBytes bytes → All (λ b. b < 2 ^ 8) (drop n bytes)
+bytes_behind n bytes fits = All-from_get_or (λ b. b < 2 ^ 8) (drop n bytes) 0 (λ k _. IsBytes-drop n bytes fits k)
+
+pub has_load : (bytes : List ℕ) → IsBytes bytes → 5 ≤ length bytes → IsPayload 1 bytes
+has_load bytes fits le = (
+  Load (number_in 2 bytes) (number_in 2 (drop 2 bytes)) (get_or bytes 4 0) (drop 5 bytes),
+  is_load bytes fits le _ _ _ (number_in-lt 2 bytes fits (omega arith)) (number_in-lt 2 (drop 2 bytes) (IsBytes-drop 2 bytes fits) (omega (arith, length-drop 2 bytes)))
+      refl refl refl (bytes_behind 5 bytes fits),
+)
+
+pub has_edit : (bytes : List ℕ) → IsBytes bytes → 4 ≤ length bytes → IsPayload 6 bytes
+has_edit bytes fits le = (
+  Edit (number_in 4 bytes) (drop 4 bytes),
+  is_edit bytes fits le _ _ (number_in-lt 4 bytes fits (omega arith)) refl refl (bytes_behind 4 bytes fits),
+)
+
+pub has_hint_part : (bytes : List ℕ) → IsBytes bytes → (n : ℕ) → length bytes ≡ 13 + 4 * n → IsPayload 131 bytes
+has_hint_part bytes fits n len =
+    let rest : length (drop 13 bytes) ≡ 4 * n = omega (arith, length-drop 13 bytes) in
+    let behind : IsBytes (drop 13 bytes) = IsBytes-drop 13 bytes fits in (
+      HintPart (get_or bytes 0 0) (number_in 8 (drop 1 bytes)) (number_in 4 (drop 9 bytes)) (words_in n (drop 13 bytes)),
+      is_hint_part bytes fits (omega arith) _ _ _ (number_in-lt 8 (drop 1 bytes) (IsBytes-drop 1 bytes fits) (omega (arith, length-drop 1 bytes)))
+          (number_in-lt 4 (drop 9 bytes) (IsBytes-drop 9 bytes fits) (omega (arith, length-drop 9 bytes))) refl refl
+          (words_spell n (drop 13 bytes) behind rest) (words_small n (drop 13 bytes) behind rest),
+    )
+
+-- the fields of a scheme, a version and words
+scheme_fields : (bytes : List ℕ) → IsBytes bytes → (n : ℕ) → length bytes ≡ 9 + 4 * n →
+    (get_or bytes 0 0 ∷ (number_bytes 8 (number_in 8 (drop 1 bytes)) ++ word_bytes (words_in n (drop 9 bytes))) ≡ bytes)
+    × ((get_or bytes 0 0 < 2 ^ 8) × (number_in 8 (drop 1 bytes) < 2 ^ 64) × All (λ w. w < 2 ^ 32) (words_in n (drop 9 bytes)))
+scheme_fields bytes fits n len =
+    let rest : length (drop 9 bytes) ≡ 4 * n = omega (arith, length-drop 9 bytes) in
+    let behind : IsBytes (drop 9 bytes) = IsBytes-drop 9 bytes fits in (
+      is_scheme_words bytes fits (omega arith) _ _ refl (words_spell n (drop 9 bytes) behind rest),
+      (fits 0, number_in-lt 8 (drop 1 bytes) (IsBytes-drop 1 bytes fits) (omega (arith, length-drop 1 bytes)), words_small n (drop 9 bytes) behind rest),
+    )
+
+pub has_query : (bytes : List ℕ) → IsBytes bytes → (n : ℕ) → length bytes ≡ 9 + 4 * n → IsPayload 5 bytes
+has_query bytes fits n len = let f = scheme_fields bytes fits n len in (Query _ _ _, is_query bytes _ _ _ f.0 f.1)
+
+pub has_answer : (bytes : List ℕ) → IsBytes bytes → (n : ℕ) → length bytes ≡ 9 + 4 * n → IsPayload 133 bytes
+has_answer bytes fits n len = let f = scheme_fields bytes fits n len in (Answer _ _ _, is_answer bytes _ _ _ f.0 f.1)

@@ -88,3 +88,7 @@ pub record Stands (k : ℕ) (bytes : List ℕ) (f : Frame) : Type 0 where
   pub kind : kind_of f ≡ k
   pub payload : payload_of f ≡ bytes
   pub fields : HasFields f
+
+-- a frame of this kind has this payload
+abbrev pub IsPayload : ℕ → List ℕ → Type 0
+IsPayload k bytes = (f : Frame) × Stands k bytes f

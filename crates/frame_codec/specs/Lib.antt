@@ -2,3 +2,4 @@ pub mod Numbers
 pub mod Frames
 pub mod Laws
 pub mod Streams
+pub mod Refusals

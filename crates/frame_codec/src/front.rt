@@ -1,9 +1,9 @@
 //! The frames at the front of bytes.
 
-ghost use Rattle.std.specs.Prelude.{◌≡◌, ◌<◌, List, ◌++◌, IfOk, IfErr, IfSome, IfNone, length};
+ghost use Rattle.std.specs.Prelude.{◌≡◌, ◌<◌, ℕ, List, ◌++◌, IfOk, IfErr, IfSome, IfNone, length};
 ghost use Rattle.frame_codec.specs.declared.frame.Frame.{Frame};
 ghost use Rattle.frame_codec.specs.Frames.{IsFrame, spelling};
-ghost use Rattle.frame_codec.specs.Streams.{HasFault, IsPartial, IsSound, Reads, Stops, StopsAt, is_kind};
+ghost use Rattle.frame_codec.specs.Streams.{Begins, HasFault, HasFrame, IsPartial, IsSound, Reads, Stops, StopsAt, is_kind};
 
 use crate::frame::Frame;
 use crate::numbers::u32_at;
@@ -44,12 +44,14 @@ pub fn frame_len(bytes: &[u8]) -> Result<usize, ReadFault>
     Ok(HEADER_LEN + len)
 }
 
-/// The frame at the front and the bytes behind it, if it is whole.
+/// The frame at the front and the bytes behind it, if it is whole. `Memory` comes only where a frame
+/// stands there.
 pub fn frame_at<'a>(alloc: Global, bytes: &'a [u8]) -> Result<Option<(Frame, &'a [u8])>, ReadFault>
     ensures whole { IfOk result (λ o. IfSome o (λ found.
         IsFrame found.0 × (bytes.now ≡ spelling found.0 ++ found.1.now) × (length found.1.now < length bytes.now))) }
     ensures partial { IfOk result (λ o. IfNone o (IsPartial bytes.now)) }
     ensures fault { IfErr result (λ fault. StopsAt fault bytes.now) }
+    ensures memory { IfErr result (λ fault. fault ≡ ReadFault.Memory → HasFrame bytes.now) }
 {
     let size = frame_len(bytes)?;
     if bytes.len() < size {
@@ -64,10 +66,12 @@ pub fn frame_at<'a>(alloc: Global, bytes: &'a [u8]) -> Result<Option<(Frame, &'a
 }
 
 /// Adds the frames at the front, up to the first that is not whole or is bad, and answers what has
-/// come of that one.
+/// come of that one. `Memory` comes only where another frame stands behind those.
 pub fn scan<'a>(alloc: Global, bytes: &'a [u8], out: &mut Vec<Frame>) -> Result<&'a [u8], ReadFault>
     ensures ok { IfOk result (λ rest. (frames : List Frame) × (out.new.items ≡ out.old.items ++ frames) × Reads bytes.now frames rest.now) }
     ensures err { IfErr result (λ fault. (frames : List Frame) × (out.new.items ≡ out.old.items ++ frames) × Stops bytes.now frames fault) }
+    ensures memory { IfErr result (λ fault. fault ≡ ReadFault.Memory →
+        (frames : List Frame) × (rest : List ℕ) × Begins bytes.now frames rest × HasFrame rest) }
 {
     let mut rest = bytes;
     while let Some((frame, behind)) = frame_at(alloc, rest)? {

@@ -10,10 +10,12 @@ pub mod laws;
 mod numbers;
 mod payload;
 mod reader;
+mod refusal;
 #[cfg(test)]
 mod tests;
 mod writer;
 
 pub use frame::{Bytes, Bytes32, Frame, Words};
 pub use reader::{ReadFault, Reader};
+pub use refusal::Refusal;
 pub use writer::write_frame;

@@ -1,9 +1,9 @@
 //! The frame that a kind and a payload make: one function a kind.
 
-ghost use Rattle.std.specs.Prelude.{◌≡◌, ◌≤◌, ◌<◌, ◌+◌, ◌*◌, ◌^◌, ◌∷◌, ◌++◌, ℕ, All, length, IfOk, IfSome, IfNone};
+ghost use Rattle.std.specs.Prelude.{◌≡◌, ◌≤◌, ◌<◌, ◌+◌, ◌*◌, ◌^◌, ◌∷◌, ◌++◌, ℕ, All, length, IfOk, OnErr, IfSome, IfNone};
 ghost use Rattle.frame_codec.specs.declared.frame.Frame.{Frame};
 ghost use Rattle.frame_codec.specs.Numbers.{number_bytes, word_bytes};
-ghost use Rattle.frame_codec.specs.Frames.{Stands};
+ghost use Rattle.frame_codec.specs.Frames.{IsPayload, Stands};
 
 use crate::frame::{Bytes, Bytes32, Frame, Words};
 use crate::numbers::{u16_at, u32_at, u64_at};
@@ -28,6 +28,7 @@ fn scheme_words(alloc: Global, payload: &[u8]) -> Result<Option<(u8, u64, Words)
     ensures fields { IfOk result (λ o. IfSome o (λ parts.
         (parts.0 < 2 ^ 8) × (parts.1 < 2 ^ 64) × All (λ w. w < 2 ^ 32) parts.2)) }
     ensures none { IfOk result (λ o. IfNone o ((n : ℕ) → length payload.now ≡ 9 + 4 * n → ⊥)) }
+    ensures memory { OnErr result ((n : ℕ) × (length payload.now ≡ 9 + 4 * n)) }
 {
     if payload.len() < 9 || (payload.len() - 9) % 4 != 0 {
         return Ok(None);
@@ -39,6 +40,7 @@ fn scheme_words(alloc: Global, payload: &[u8]) -> Result<Option<(u8, u64, Words)
 fn load_of(alloc: Global, payload: &[u8]) -> Result<Option<Frame>, AllocError>
     ensures some { IfOk result (λ o. IfSome o (λ f. Stands 1 payload.now f)) }
     ensures none { IfOk result (λ o. IfNone o ((f : Frame) → Stands 1 payload.now f → ⊥)) }
+    ensures memory { OnErr result (IsPayload 1 payload.now) }
 {
     if payload.len() < 5 {
         return Ok(None);
@@ -82,6 +84,7 @@ fn hint_ask_of(payload: &[u8]) -> Option<Frame>
 fn query_of(alloc: Global, payload: &[u8]) -> Result<Option<Frame>, AllocError>
     ensures some { IfOk result (λ o. IfSome o (λ f. Stands 5 payload.now f)) }
     ensures none { IfOk result (λ o. IfNone o ((f : Frame) → Stands 5 payload.now f → ⊥)) }
+    ensures memory { OnErr result (IsPayload 5 payload.now) }
 {
     let Some((scheme, version, words)) = scheme_words(alloc, payload)? else {
         return Ok(None);
@@ -96,6 +99,7 @@ fn query_of(alloc: Global, payload: &[u8]) -> Result<Option<Frame>, AllocError>
 fn edit_of(alloc: Global, payload: &[u8]) -> Result<Option<Frame>, AllocError>
     ensures some { IfOk result (λ o. IfSome o (λ f. Stands 6 payload.now f)) }
     ensures none { IfOk result (λ o. IfNone o ((f : Frame) → Stands 6 payload.now f → ⊥)) }
+    ensures memory { OnErr result (IsPayload 6 payload.now) }
 {
     if payload.len() < 4 {
         return Ok(None);
@@ -149,6 +153,7 @@ fn welcome_of(payload: &[u8]) -> Option<Frame>
 fn hint_part_of(alloc: Global, payload: &[u8]) -> Result<Option<Frame>, AllocError>
     ensures some { IfOk result (λ o. IfSome o (λ f. Stands 131 payload.now f)) }
     ensures none { IfOk result (λ o. IfNone o ((f : Frame) → Stands 131 payload.now f → ⊥)) }
+    ensures memory { OnErr result (IsPayload 131 payload.now) }
 {
     if payload.len() < 13 || (payload.len() - 13) % 4 != 0 {
         return Ok(None);
@@ -165,6 +170,7 @@ fn hint_part_of(alloc: Global, payload: &[u8]) -> Result<Option<Frame>, AllocErr
 fn answer_of(alloc: Global, payload: &[u8]) -> Result<Option<Frame>, AllocError>
     ensures some { IfOk result (λ o. IfSome o (λ f. Stands 133 payload.now f)) }
     ensures none { IfOk result (λ o. IfNone o ((f : Frame) → Stands 133 payload.now f → ⊥)) }
+    ensures memory { OnErr result (IsPayload 133 payload.now) }
 {
     let Some((scheme, version, words)) = scheme_words(alloc, payload)? else {
         return Ok(None);
@@ -211,10 +217,11 @@ fn refused_of(payload: &[u8]) -> Option<Frame>
     Some(Frame::Refused { code: payload[0] })
 }
 
-/// The frame of this kind with this payload, if there is one.
+/// The frame of this kind with this payload, if there is one. Memory is asked for only where there is.
 pub fn decode(alloc: Global, kind: u8, payload: &[u8]) -> Result<Option<Frame>, AllocError>
     ensures some { IfOk result (λ o. IfSome o (λ f. Stands kind payload.now f)) }
     ensures none { IfOk result (λ o. IfNone o ((f : Frame) → Stands kind payload.now f → ⊥)) }
+    ensures memory { OnErr result (IsPayload kind payload.now) }
 {
     match kind {
         0x01 => load_of(alloc, payload),

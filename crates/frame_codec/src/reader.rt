@@ -1,6 +1,6 @@
 //! Frames out of a stream that comes in pieces.
 
-ghost use Rattle.std.specs.Prelude.{◌≡◌, ◌↔◌, IsTrue, List, [], ◌∷◌, ◌++◌, None, Some, IfOk, IfErr, IfSome, IfNone};
+ghost use Rattle.std.specs.Prelude.{◌≡◌, ◌↔◌, IsTrue, List, [], ◌∷◌, ◌++◌, None, Some, IfOk, IfErr, IfSome, IfNone, vec_capacity};
 ghost use Rattle.frame_codec.specs.declared.frame.Frame.{Frame};
 ghost use Rattle.frame_codec.specs.Frames.{IsFrame, spelling};
 ghost use Rattle.frame_codec.specs.Streams.{Feeds, Advances, Fills, IsPartial, StopsAt, TopsUp};
@@ -123,8 +123,8 @@ fn start(
     Ok(())
 }
 
-/// Gives an unfinished frame what it lacks. Where it is whole then, it is added, and what is left of
-/// the piece is answered.
+/// Gives an unfinished frame what it lacks. Where it is whole then, it is added, its room is given back,
+/// and what is left of the piece is answered.
 fn finish<'a>(
     alloc: Global,
     pending: &mut Vec<u8>,
@@ -134,6 +134,7 @@ fn finish<'a>(
     requires { IsPartial pending.old.items }
     ensures whole { IfOk result (λ o. IfSome o (λ rest. (frame : Frame) × (out.new.items ≡ out.old.items ++ frame ∷ [])
         × IsFrame frame × (pending.old.items ++ piece.now ≡ spelling frame ++ rest.now) × (pending.new.items ≡ []))) }
+    ensures room { IfOk result (λ o. IfSome o (λ _. vec_capacity pending.new ≡ 0)) }
     ensures partial { IfOk result (λ o. IfNone o ((out.new.items ≡ out.old.items) × (pending.new.items ≡ pending.old.items ++ piece.now) × IsPartial pending.new.items)) }
     ensures err { IfErr result (λ fault. (out.new.items ≡ out.old.items) × StopsAt fault (pending.old.items ++ piece.now)) }
 {

@@ -447,3 +447,17 @@ fn sixteen_mebibytes_of_small_frames(rt: HostRuntime) -> Result<(), Fail> {
     assert_eq!(rt; frames.len(), 986_895);
     Ok(())
 }
+
+#[test]
+fn faults_are_printed(rt: HostRuntime) -> Result<(), Fail> {
+    for (fault, text) in [
+        (ReadFault::TooLong, "a payload of more than 16777216 bytes"),
+        (ReadFault::UnknownKind, "an unknown kind of frame"),
+        (ReadFault::BadPayload, "a bad payload"),
+        (ReadFault::Memory, "out of memory"),
+        (ReadFault::Failed, "the stream had failed"),
+    ] {
+        assert_eq!(rt; format!(in rt.alloc(); "{fault}")?.as_str(), text);
+    }
+    Ok(())
+}

@@ -24,3 +24,12 @@ returns-in-Ok-Some-clause-whole c =
     let rest : c.split_at.result.1.now ≡ drop (length_at c.args.bytes.now) (drop 5 c.args.bytes.now) = c.split_at.ensures.back ∙ j.behind in
     let w = whole_frame c.args.bytes.now c.in-Ok-Some.frame (λ i. omega (arith, c.type_inv.bytes i)) j.within j.len (rw (← kind, ← payload) found) in
     (w.0, rw rest w.1, omega (arith, c.split_at.ensures.back_len, j.whole_len))
+
+pub returns-in-Err-clause-memory : goal.returns-in-Err-clause-memory
+returns-in-Err-clause-memory c = λ _.
+    let j = judged c.args.bytes.now c.in_ok-size.size c.in_ok-size.ensures.ok c.if-bytes-size.false in
+    let kind : get_or c.split_at.result.0.now 4 0 ≡ kind_at c.args.bytes.now = ap (λ (x : List ℕ). get_or x 4 0) c.split_at.ensures.front ∙ j.front_kind in
+    let payload : take (length c.split_at.result.0.now - 5) (drop 5 c.split_at.result.0.now) ≡ take (length_at c.args.bytes.now) (drop 5 c.args.bytes.now) = take_rest c.split_at.result.0.now 5 ∙ ap (drop 5) c.split_at.ensures.front ∙ j.front_payload in
+    let found = c.in-Err.ensures.memory in
+    let w = whole_frame c.args.bytes.now found.0 (λ i. omega (arith, c.type_inv.bytes i)) j.within j.len (rw (← kind, ← payload) found.1) in
+    (found.0, drop (length_at c.args.bytes.now) (drop 5 c.args.bytes.now), w.0, w.1)
