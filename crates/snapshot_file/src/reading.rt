@@ -1,6 +1,6 @@
 //! A snapshot read from a reader.
 
-ghost use Rattle.std.specs.Prelude.{◌≡◌, ◌≤◌, ◌<◌, ◌*◌, ◌++◌, ◌∷◌, [], ℕ, List, length, vec_len, IfOk, IfErr, OnOk, OnErr, IfSome};
+ghost use Rattle.std.specs.Prelude.{◌≡◌, ◌≤◌, ◌<◌, ◌*◌, ◌++◌, ◌∷◌, [], ℕ, List, length, min, vec_len, vec_capacity, IfOk, IfErr, OnOk, OnErr, IfSome};
 ghost use Rattle.std.specs.Io.KnownBytes.{Consumes, IsAtEnd};
 ghost use Rattle.sha2.specs.Sha256.{sha256};
 ghost use Rattle.snapshot_file.specs.Snapshots.{magic, header_of, header_bytes, hashed_bytes, snapshot_bytes, records_len, IsHeader, IsAccepted, IsSnapshot};
@@ -10,11 +10,9 @@ use crate::header::{
     DIGEST_LEN, FIELDS_LEN, MAGIC_LEN, digest_of, header_bytes, header_in, magic_bytes,
 };
 use crate::snapshot::{Header, Snapshot, SnapshotFault};
+use engine_io::PIECE_LEN;
 use std::alloc::{AllocError, Global};
 use std::io::Read;
-
-/// How many bytes of the records are asked for at once, at most.
-const PIECE_LEN: usize = 65536;
 
 // As many bytes as there is room for.
 fn fill<R: Read>(reader: &mut R, out: &mut [u8]) -> Result<(), SnapshotFault>
@@ -62,8 +60,9 @@ fn read_header<R: Read>(reader: &mut R) -> Result<Header, SnapshotFault>
     Ok(header)
 }
 
-// Room for a piece. Its bytes are not said, which keeps them out of the proofs.
+// Room for a piece of at most 64 KiB. Its bytes are not said, which keeps them out of the proofs.
 fn piece_buffer(alloc: Global, len: usize) -> Result<Vec<u8>, AllocError>
+    requires { len ≤ 65536 }
     ensures { IfOk result (λ buffer. vec_len buffer ≡ len) }
 {
     Vec::from_elem(alloc, 0u8, len)
@@ -93,21 +92,39 @@ fn read_piece<R: Read>(
     }
 }
 
-// So many bytes of records. They are kept as they come, so that a header alone, whatever it claims, makes
-// nobody reserve more than a piece.
+// So many bytes of records, kept as they come: a header alone, whatever it claims, makes nobody reserve more
+// than a piece.
 fn read_records<R: Read>(
     alloc: Global,
     reader: &mut R,
     wanted: usize,
 ) -> Result<Vec<u8>, SnapshotFault>
-    ensures ok { IfOk result (λ records. (length records.items ≡ wanted) × Consumes (R.remaining reader.old) (R.remaining reader.new) records.items) }
+    ensures ok { IfOk result (λ records. (length records.items ≡ wanted)
+        × Consumes (R.remaining reader.old) (R.remaining reader.new) records.items) }
     ensures err { IfErr result (λ fault. (part : List ℕ) × Consumes (R.remaining reader.old) (R.remaining reader.new) part
         × EndsKept wanted fault part (R.remaining reader.new)) }
 {
-    let Ok(mut buffer) = piece_buffer(alloc, wanted.min(PIECE_LEN)) else {
+    let Ok(buffer) = piece_buffer(alloc, wanted.min(PIECE_LEN)) else {
         return Err(SnapshotFault::Memory);
     };
-    let mut records = Vec::new(alloc);
+    read_by_pieces(reader, wanted, buffer, Vec::new(alloc))
+}
+
+// The same, with room for a piece and, to begin with, none for the records: it grows with what comes.
+fn read_by_pieces<R: Read>(
+    reader: &mut R,
+    wanted: usize,
+    mut buffer: Vec<u8>,
+    mut records: Vec<u8>,
+) -> Result<Vec<u8>, SnapshotFault>
+    requires piece { vec_len buffer ≡ min wanted 65536 }
+    requires none { records.items ≡ [] }
+    requires nothing_reserved { vec_capacity records ≡ 0 }
+    ensures ok { IfOk result (λ records. (length records.items ≡ wanted)
+        × Consumes (R.remaining reader.old) (R.remaining reader.new) records.items) }
+    ensures err { IfErr result (λ fault. (part : List ℕ) × Consumes (R.remaining reader.old) (R.remaining reader.new) part
+        × EndsKept wanted fault part (R.remaining reader.new)) }
+{
     while records.len() < wanted {
         let room = buffer.len().min(wanted - records.len());
         read_piece(reader, &mut buffer[..room], &mut records)?;

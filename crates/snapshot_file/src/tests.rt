@@ -29,6 +29,18 @@ const PUBLISHER: [u8; 32] = [
 
 const RECORDS: [u8; 2] = [0x0a, 0xc8];
 
+/// The digest of the store's header with count 0. This one and the next were made with Python's hashlib.
+const EMPTY_DIGEST: [u8; 32] = [
+    0x29, 0xcb, 0x5e, 0xea, 0xab, 0x69, 0x00, 0x6d, 0xb2, 0x09, 0x94, 0x55, 0xca, 0xc5, 0x42, 0x87,
+    0x33, 0xd9, 0x28, 0x76, 0x5d, 0xd8, 0x7f, 0x01, 0xbf, 0x77, 0x4e, 0xf4, 0x95, 0xd1, 0xd5, 0x5c,
+];
+
+/// The digest of 300 records of 256 bytes, whose byte i is i modulo 251, and their header.
+const LONG_DIGEST: [u8; 32] = [
+    0x32, 0x22, 0x7c, 0xb0, 0x1e, 0x82, 0x1b, 0xc3, 0xc9, 0xa9, 0x22, 0x39, 0xec, 0xcf, 0x0b, 0x33,
+    0xb0, 0xdf, 0x50, 0x8e, 0x87, 0xc7, 0xc8, 0xd1, 0xb0, 0x82, 0xcf, 0x92, 0x17, 0x84, 0xfe, 0xd0,
+];
+
 fn store_header() -> Header {
     Header {
         width: 8,
@@ -206,6 +218,11 @@ fn records_longer_than_a_piece(rt: HostRuntime) -> Result<(), Fail> {
     let mut writer = make_output(rt.alloc(), 4096, usize::MAX);
     let written = write_snapshot_bytes(rt.alloc(), &header, &records, &mut writer);
     assert_eq!(rt; written, Ok(()));
+    assert_eq!(rt; writer.bytes.len(), 123 + 76_800);
+    assert_eq!(rt;
+        writer.bytes.get(91 + 76_800..),
+        Some(LONG_DIGEST.as_slice())
+    );
     for most in [4097, usize::MAX] {
         let mut reader = Input {
             bytes: &writer.bytes,
@@ -349,5 +366,51 @@ fn a_header_and_its_records(rt: HostRuntime) -> Result<(), Fail> {
     let snapshot = header.with_records(Vec::from_slice(rt.alloc(), &RECORDS)?);
     assert_eq!(rt; snapshot.header(), header);
     assert_eq!(rt; snapshot.records.as_slice(), RECORDS.as_slice());
+    Ok(())
+}
+
+#[test]
+fn no_records_at_all(rt: HostRuntime) -> Result<(), Fail> {
+    let header = Header {
+        count: 0,
+        ..store_header()
+    };
+    let mut writer = make_output(rt.alloc(), usize::MAX, usize::MAX);
+    let written = write_snapshot_bytes(rt.alloc(), &header, &[], &mut writer);
+    assert_eq!(rt; written, Ok(()));
+    let bytes = writer.bytes.as_slice();
+    assert_eq!(rt; bytes.len(), 123);
+    assert_eq!(rt; &bytes[13..17], [0, 0, 0, 0].as_slice());
+    assert_eq!(rt; &bytes[91..], EMPTY_DIGEST.as_slice());
+    let refused = fault(rt.alloc(), bytes);
+    assert_eq!(rt; refused, Some(SnapshotFault::BadLayout));
+    Ok(())
+}
+
+#[test]
+fn faults_are_printed(rt: HostRuntime) -> Result<(), Fail> {
+    for (fault, text) in [
+        (SnapshotFault::NotSnapshot, "not a snapshot"),
+        (
+            SnapshotFault::BadLayout,
+            "the snapshot's layout, dimension or version is outside the limits",
+        ),
+        (SnapshotFault::Short, "the snapshot is cut short"),
+        (SnapshotFault::BadDigest, "the snapshot's digest is wrong"),
+        (
+            SnapshotFault::TrailingBytes,
+            "there are bytes behind the snapshot",
+        ),
+        (SnapshotFault::Read, "the snapshot could not be read"),
+        (SnapshotFault::Memory, "out of memory"),
+    ] {
+        assert_eq!(rt; format!(in rt.alloc(); "{fault}")?.as_str(), text);
+    }
+    for (fault, text) in [
+        (WriteFault::Write, "the snapshot could not be written"),
+        (WriteFault::Memory, "out of memory"),
+    ] {
+        assert_eq!(rt; format!(in rt.alloc(); "{fault}")?.as_str(), text);
+    }
     Ok(())
 }

@@ -1,5 +1,5 @@
 -- Changes that are made, and changes that go into the records.
-use Rattle.std.proofs.Common.{◌≡◌, ◌≢◌, ℕ, ◌+◌, ◌<◌, ◌≤◌, arith, ap, ◌∙◌, sym, refl, subst, inl, inr, List, [], ◌∷◌, length, get_or-set_same, get_or-set_other, Bool, true, false, cond}
+use Rattle.std.proofs.Common.{◌≡◌, ◌≢◌, ℕ, ◌<◌, arith, ap, ◌∙◌, sym, refl, subst, inl, inr, List, [], ◌∷◌, length, get_or-set_same, get_or-set_other, true, false, cond}
 use Rattle.std.proofs.lemmas.Bool.{cases_eq}
 use Rattle.std.proofs.lemmas.Bool.Decides.{nat_tests}
 use Rattle.std.proofs.lemmas.List.FromFn.{fill_by_all}
@@ -11,8 +11,10 @@ use Rattle.std.specs.declared.alloc.Global.{Global}
 use Rattle.std.specs.BTreeMap.{BTreeMap, Updates, is_at}
 use Rattle.std.specs.Ordering.{nat_cmp}
 use Rattle.matrix_u32.specs.Sum.{list_of}
-use Rattle.matrix_u32.proofs.Products.{same-list_of, length-list_of}
-use Rattle.digit_pack.specs.Layout.{Shape, record_at}
+use Rattle.matrix_u32.proofs.Products.{same-list_of}
+use Rattle.digit_pack.specs.Layout.{record_at}
+use Rattle.pir_schemes.specs.Plans.{fits}
+use Rattle.version_store.specs.Editions.{Records}
 use Rattle.version_store.specs.Drafts.{Changes, change_at, bytes_or, draft_of, is_some_change, FitRecords}
 use Rattle.digit_pack.proofs.RecordLemmas.{set-list_of}
 
@@ -59,13 +61,13 @@ pub draft-none : (records : List (List ℕ)) → draft_of records [] ≡ records
 draft-none records = sym (fill_by_all (record_at records) records (length records) [] refl (λ k h. refl))
 
 -- changes fit after one is made or taken away
-pub fit-updated : (l : Shape) (m n : BTreeMap ℕ (Vec ℕ Global)) (k : ℕ) (w : Option (Vec ℕ Global)) → Updates nat_cmp m n k w →
-    MatchOption w (Unit {0}) (λ v. (k < l.count) × (length v.items ≡ l.record_len)) → FitRecords l m.entries → FitRecords l n.entries
-fit-updated l m n k w u new old i =
-    let fits : ℕ → Option (Vec ℕ Global) → Type 0 = λ i o. MatchOption o (Unit {0}) (λ v. (i < l.count) × (length v.items ≡ l.record_len)) in
+pub fit-updated : (e : Records) (m n : BTreeMap ℕ (Vec ℕ Global)) (k : ℕ) (w : Option (Vec ℕ Global)) → Updates nat_cmp m n k w →
+    MatchOption w (Unit {0}) (λ v. (k < length e.records) × (fits e.plan v.items ≡ true)) → FitRecords e m.entries → FitRecords e n.entries
+fit-updated e m n k w u new old i =
+    let fit : ℕ → Option (Vec ℕ Global) → Type 0 = λ i o. MatchOption o (Unit {0}) (λ v. (i < length e.records) × (fits e.plan v.items ≡ true)) in
     elim (cases_eq i k) [
-      | inl same ↦ subst (λ i. fits i (change_at n.entries i)) (sym same) (subst (fits k) (sym (updated_here m n k w u)) new)
-      | inr apart ↦ subst (fits i) (sym (updated_elsewhere m n k i w u apart)) (old i)
+      | inl same ↦ subst (λ i. fit i (change_at n.entries i)) (sym same) (subst (fit k) (sym (updated_here m n k w u)) new)
+      | inr apart ↦ subst (fit i) (sym (updated_elsewhere m n k i w u apart)) (old i)
     ]
 
 some_of_change : (changes : Changes) (k : ℕ) (v : Vec ℕ Global) → change_at changes k ≡ Some v → is_some_change changes ≡ true

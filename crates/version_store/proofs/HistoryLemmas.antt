@@ -1,12 +1,11 @@
 -- What a store stands for after an edit and after a publication.
-use Rattle.std.proofs.Common.{◌≡◌, ℕ, ◌+◌, arith, ap, ◌∙◌, sym, refl, subst, List, [], ◌∷◌, length, true, false, Option, Some, None}
+use Rattle.std.proofs.Common.{◌≡◌, ℕ, ◌+◌, arith, ap, ◌∙◌, sym, refl, List, [], ◌∷◌, Some, None}
 use Rattle.std.specs.Prelude.{slice_set}
-use Rattle.version_store.specs.Editions.{Records}
-use Rattle.digit_pack.specs.Layout.{Shape, records_in}
+use Rattle.digit_pack.specs.Layout.{records_in}
 use Rattle.snapshot_file.specs.declared.snapshot.Header.{Header}
 use Rattle.snapshot_file.specs.Snapshots.{shape_of}
 use Rattle.version_store.specs.Openings.{held_of}
-use Rattle.version_store.specs.Histories.{Held, History, StandsFor, number, opened, edited, published, held_edited, held_published, Change, history_after, held_after}
+use Rattle.version_store.specs.Histories.{Held, History, StandsFor, opened, edited, published, held_edited, held_published, Change, history_after, held_after}
 
 pub edit_stands : (old new : Held) (i : ℕ) (bytes : List ℕ) → new ≡ held_edited i bytes old →
     (h : History) → StandsFor old h → StandsFor new (edited i bytes h)

@@ -6,7 +6,8 @@ use Rattle.std.specs.Map.{lookup}
 use Rattle.std.specs.BTreeMap.{is_at}
 use Rattle.std.specs.Ordering.{nat_cmp}
 use Rattle.matrix_u32.specs.Sum.{list_of}
-use Rattle.digit_pack.specs.Layout.{Shape, record_at}
+use Rattle.digit_pack.specs.Layout.{record_at}
+use Rattle.pir_schemes.specs.Plans.{fits}
 use Rattle.version_store.specs.Editions.{Records}
 
 -- changed records by their indices
@@ -26,16 +27,12 @@ bytes_or (Some v) bytes = v.items
 abbrev pub draft_of : List (List ℕ) → Changes → List (List ℕ)
 draft_of records changes = list_of (length records) (λ i. bytes_or (change_at changes i) (record_at records i))
 
--- every change is of a record that there is, with as many bytes
-abbrev pub FitRecords : Shape → Changes → Type 0
-FitRecords l changes = (i : ℕ) → MatchOption (change_at changes i) (Unit {0}) (λ v. (i < l.count) × (length v.items ≡ l.record_len))
+-- every change is of a record of the version, and its bytes can be a record
+abbrev pub FitRecords : Records → Changes → Type 0
+FitRecords e changes =
+    (i : ℕ) → MatchOption (change_at changes i) (Unit {0}) (λ v. (i < length e.records) × (fits e.plan v.items ≡ true))
 
 -- whether there is a change
 abbrev pub is_some_change : Changes → Bool
 is_some_change [] = false
 is_some_change (c ∷ cs) = true
-
--- changes of the records of a version
-pub record AreChanges (e : Records) (changes : Changes) : Type 0 where
-  pub fit : FitRecords e.shape changes
-  pub count : length e.records ≡ e.shape.count

@@ -1,32 +1,60 @@
 -- The records of one version, and what is made from them.
-use Rattle.std.specs.Prelude.{◌≡◌, ℕ, ◌*◌, ◌<◌, ◌≤◌, List, length, take, drop}
-use Rattle.matrix_u32.specs.Sum.{list_of}
-use Rattle.matrix_u32.specs.Matrix.{WordMatrix}
-use Rattle.seed_expand.specs.Words.{public_rows}
-use Rattle.digit_pack.specs.Layout.{Shape, IsLayout, digit_matrix, digit_cols, records_in}
-use Rattle.simple_scheme.specs.Simple.{hint_of}
+use Rattle.std.specs.Prelude.{◌≡◌, ℕ, ◌*◌, ◌<◌, ◌≤◌, List, length, Bool, false, slice_index_or}
+use Rattle.matrix_u32.specs.Matrix.{WordMatrix, IsWhole, row, product}
+use Rattle.digit_pack.specs.Layout.{Shape, IsLayout, records_in}
+use Rattle.pir_schemes.specs.declared.scheme.Scheme.TheVariants.{Simple, Double}
+use Rattle.pir_schemes.specs.Plans.{Plan, shape_at, plan_of, digits_at, first_public, second_public}
+use Rattle.pir_schemes.specs.Retrievals.{hint_matrix, server_hint}
+use Rattle.hint_update.specs.Updates.{AreHintsOf}
 
--- the records of one version: their shape, the dimension n of the public matrices, and the public seed
+-- the records of one version, and their plan
 pub record Records : Type 0 where
-  pub shape : Shape
-  pub dimension : ℕ
-  pub seed : List ℕ
+  pub plan : Plan
   pub records : List (List ℕ)
 
--- the first public matrix: a row for each column of digits
-abbrev pub public_matrix : Shape → ℕ → List ℕ → WordMatrix
-public_matrix l dimension seed = public_rows seed 0 0 (digit_cols l) dimension
+-- their shape
+abbrev pub version_shape : Records → Shape
+version_shape e = shape_at e.plan (length e.records)
 
--- the SimplePIR hint of a version, made from scratch
-abbrev pub simple_hint : Records → WordMatrix
-simple_hint e = hint_of (digit_matrix e.shape e.records) (public_matrix e.shape e.dimension e.seed)
-
--- bytes of records, with the public matrix, the digits and the hint that are made from them
-pub record IsMade (l : Shape) (dimension : ℕ) (seed bytes : List ℕ) (a digits hint : WordMatrix) : Type 0 where
+-- bytes of records, with the first public matrix, the digits and the SimplePIR hint that are made from them
+pub record IsMade (l : Shape) (n : ℕ) (seed bytes : List ℕ) (a1 digits hint : WordMatrix) : Type 0 where
   pub layout : IsLayout l
-  pub low : 1 ≤ dimension
-  pub high : dimension ≤ 1024
+  pub low : 1 ≤ n
+  pub high : n ≤ 1024
   pub count : length bytes ≡ l.count * l.record_len
-  pub public_is : a ≡ public_matrix l dimension seed
-  pub digits_are : digits ≡ digit_matrix l (records_in l bytes)
-  pub hint_is : hint ≡ hint_of digits a
+  pub public_is : a1 ≡ first_public l n seed
+  pub digits_are : digits ≡ digits_at (plan_of l n seed) (records_in l bytes)
+  pub hint_is : hint ≡ hint_matrix Simple (plan_of l n seed) (records_in l bytes)
+
+-- a version's second public matrix, and both hints of DoublePIR that are made from its records
+pub record IsMadeTwice (e : Records) (a2 server client : WordMatrix) : Type 0 where
+  pub second_is : a2 ≡ second_public (version_shape e) e.plan.dimension e.plan.seed
+  pub server_is : server ≡ server_hint e.plan e.records
+  pub client_is : client ≡ hint_matrix Double e.plan e.records
+
+-- ---- rows that change
+-- whether row r is marked
+abbrev pub is_marked : List Bool → ℕ → Bool
+is_marked marks r = slice_index_or marks r false
+
+-- rows that differ are marked, and marked rows stay marked
+pub record MarksChanges (old new : WordMatrix) (before after : List Bool) : Type 0 where
+  pub count : length after ≡ length before
+  pub kept : (r : ℕ) → r < old.rows → is_marked after r ≡ false → (is_marked before r ≡ false) × (row new r ≡ row old r)
+
+-- two matrices of digits that differ in marked rows alone, and the hint of the new one
+pub record IsRowChange (hint a1 old new : WordMatrix) (marks : List Bool) : Type 0 where
+  pub old_whole : IsWhole old
+  pub new_whole : IsWhole new
+  pub rows : old.rows ≡ new.rows
+  pub cols : old.cols ≡ new.cols
+  pub inner : new.cols ≡ a1.rows
+  pub count : length marks ≡ new.rows
+  pub hint_is : hint ≡ product new a1
+  pub kept : (r : ℕ) → r < new.rows → is_marked marks r ≡ false → row new r ≡ row old r
+
+-- of every two such matrices: where both hints of DoublePIR were made from the old one, they are now made from the new one
+abbrev pub FollowsRows : ℕ → WordMatrix → WordMatrix → WordMatrix → WordMatrix → WordMatrix → WordMatrix → List Bool → Type 0
+FollowsRows w hint a2 server_before server_after client_before client_after marks =
+    (old new a1 : WordMatrix) → IsRowChange hint a1 old new marks →
+    AreHintsOf w old a1 a2 server_before client_before → AreHintsOf w new a1 a2 server_after client_after

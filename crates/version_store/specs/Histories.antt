@@ -1,5 +1,5 @@
 -- All versions of the records, a draft, and a mark.
-use Rattle.std.specs.Prelude.{◌≡◌, ℕ, ◌+◌, ◌-◌, List, [], ◌∷◌, length, Bool, true, false, Option, Some, None, slice_set, slice_get}
+use Rattle.std.specs.Prelude.{◌≡◌, ℕ, ◌+◌, ◌-◌, List, [], ◌∷◌, length, Bool, true, false, Option, Some, None, nat_lt, if◌then◌else◌, slice_set, slice_get}
 use Rattle.version_store.specs.Editions.{Records}
 
 -- what a store keeps: the number of the current version and its records, the draft, whether an edit was accepted since
@@ -28,9 +28,9 @@ opened version records = record { first = version; past = []; current = records;
 abbrev pub number : History → ℕ
 number h = h.first + length h.past
 
--- the records of a version
+-- the records of a version; none before the opening one, and none above the current one
 abbrev pub records_of : History → ℕ → Option (List (List ℕ))
-records_of h v = slice_get (h.current ∷ h.past) (number h - v)
+records_of h v = if nat_lt (number h) v then None else slice_get (h.current ∷ h.past) (number h - v)
 
 -- an edit replaces one record of the draft, and sets the mark
 abbrev pub edited : ℕ → List ℕ → History → History

@@ -1,11 +1,12 @@
 -- What a store can be opened with.
-use Rattle.std.specs.Prelude.{◌≡◌, ◌≤◌, ◌*◌, ℕ, List, length, true, false}
+use Rattle.std.specs.Prelude.{◌≡◌, ◌≤◌, ℕ, List, length, false}
 use Rattle.digit_pack.specs.Layout.{IsLayout, records_in}
 use Rattle.snapshot_file.specs.declared.snapshot.Header.{Header}
 use Rattle.std.specs.List.{flat_map}
 use Rattle.snapshot_file.specs.Snapshots.{shape_of, records_len, snapshot_bytes}
 use Rattle.version_store.specs.declared.opening.OpenError.{OpenError}
 use Rattle.version_store.specs.declared.opening.OpenError.TheVariants.{BadLayout, BadVersion, BadRecords, Memory}
+use Rattle.pir_schemes.specs.Plans.{plan_of}
 use Rattle.version_store.specs.Histories.{Held}
 
 -- a layout within its limits, and a dimension of 1 to 1024
@@ -31,7 +32,7 @@ IsOpenFault h records Memory = IsSound h records
 abbrev pub held_of : Header → List ℕ → Held
 held_of h records = record {
   version = h.version;
-  edition = record { shape = shape_of h; dimension = h.dimension; seed = h.seed; records = records_in (shape_of h) records };
+  edition = record { plan = plan_of (shape_of h) h.dimension h.seed; records = records_in (shape_of h) records };
   draft = records_in (shape_of h) records;
   marked = false;
   publisher = h.publisher;
@@ -40,13 +41,13 @@ held_of h records = record {
 -- the fields of a snapshot of what a store holds
 abbrev pub header_of_held : Held → Header
 header_of_held s = record {
-  width = s.edition.shape.width;
-  record_len = s.edition.shape.record_len;
-  groups = s.edition.shape.groups;
-  count = s.edition.shape.count;
-  dimension = s.edition.dimension;
+  width = s.edition.plan.width;
+  record_len = s.edition.plan.record_len;
+  groups = s.edition.plan.groups;
+  count = length s.edition.records;
+  dimension = s.edition.plan.dimension;
   version = s.version;
-  seed = s.edition.seed;
+  seed = s.edition.plan.seed;
   publisher = s.publisher;
 }
 

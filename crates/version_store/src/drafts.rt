@@ -1,30 +1,36 @@
 //! Changes that wait for their publication.
 
 ghost use Rattle.std.specs.Prelude.{◌≡◌, [], length};
-ghost use Rattle.digit_pack.specs.Layout.{digits_per_record};
+ghost use Rattle.digit_pack.specs.Layout.{digit_rows, digits_per_record};
+ghost use Rattle.pir_schemes.specs.Plans.{digits_at};
 ghost use Rattle.version_store.specs.Drafts.{draft_of, FitRecords};
-ghost use Rattle.version_store.specs.Editions.{Records};
+ghost use Rattle.version_store.specs.Editions.{Records, version_shape, MarksChanges};
 
-use crate::edition::Edition;
+use crate::first_layer::FirstLayer;
 use matrix_u32::Kernel;
 use std::collections::BTreeMap;
 
 /// The changed records by their indices.
 pub type Changes = BTreeMap<usize, Vec<u8>>;
 
-/// Puts each change into the edition, and leaves none. `scratch` has room for a record's digits.
+/// Puts each change into the records, marks the rows whose digits change, and leaves no change. `scratch` has
+/// room for a record's digits, and `marks` a mark for each row of digits.
 pub fn apply_changes<K: Kernel>(
-    edition: &mut Edition<K>,
+    kernel: K,
+    layer: &mut FirstLayer,
     changes: &mut Changes,
     scratch: &mut [u32],
+    marks: &mut [bool],
 )
-    requires fit { FitRecords edition.old.shape changes.old.entries }
-    requires count { length edition.old.records ≡ edition.old.shape.count }
-    requires room { length scratch.old ≡ digits_per_record edition.old.shape }
-    ensures records { edition.new ≡ record edition.old { records = draft_of edition.old.records changes.old.entries } }
+    requires fit { FitRecords layer.old changes.old.entries }
+    requires room { length scratch.old ≡ digits_per_record (version_shape layer.old) }
+    requires marks { length marks.old ≡ digit_rows (version_shape layer.old) }
+    ensures records { layer.new ≡ record layer.old { records = draft_of layer.old.records changes.old.entries } }
     ensures none { changes.new.entries ≡ [] }
+    ensures marks { MarksChanges (digits_at layer.old.plan layer.old.records)
+        (digits_at layer.new.plan layer.new.records) marks.old marks.new }
 {
     while let Some((i, bytes)) = changes.pop_first() {
-        edition.replace(i, &bytes, scratch);
+        layer.replace(kernel, i, &bytes, scratch, marks);
     }
 }

@@ -1,53 +1,47 @@
 //! One version's records, with everything that is made from them.
 
-ghost use Rattle.std.specs.Prelude.{◌≡◌, ◌*◌, ◌<◌, ◌≤◌, IfOk, length, slice_set};
-ghost use Rattle.digit_pack.specs.Layout.{IsLayout, digit_rows, digit_cols, digit_matrix, digits_per_record, record_at, records_in};
-ghost use Rattle.simple_scheme.specs.Simple.{answer_of};
-ghost use Rattle.version_store.specs.Editions.{Records, simple_hint};
+ghost use Rattle.std.specs.Prelude.{◌≡◌, [], ◌*◌, ◌<◌, ◌≤◌, IfOk, length};
+ghost use Rattle.digit_pack.specs.Layout.{digit_rows, digit_cols, digits_per_record, record_at, records_in};
+ghost use Rattle.pir_schemes.specs.Plans.{IsPlan, plan_of};
+ghost use Rattle.pir_schemes.specs.Retrievals.{hint_matrix, query_count, answer_words};
+ghost use Rattle.version_store.specs.Drafts.{draft_of, FitRecords};
+ghost use Rattle.version_store.specs.Editions.{Records, version_shape};
 ghost use Rattle.version_store.specs.Openings.{bytes_of_records};
 
-use crate::columns::replace_digits;
-use digit_pack::{DigitStore, Flat, Layout, digits_of_records, pack, record_of, write_record};
+use crate::drafts::{Changes, apply_changes};
+use crate::first_layer::{Digits, FirstLayer};
+use crate::rows::follow_rows;
+use digit_pack::Layout;
 use matrix_u32::{Kernel, Matrix};
+use pir_schemes::Scheme;
 use seed_expand::expand;
 use std::alloc::{AllocError, Global};
 use std::marker::Model;
 
-/// What keeps the digits.
-type Digits = Flat;
-
-/// The records of one version, their digit matrix, the public matrix and the hint. A contract sees it as
-/// `Records`: the hint is always the one that is made from scratch.
+/// The records of one version with the hints of both schemes. A contract sees it as `Records`: the hints are
+/// always those that are made from scratch.
 #[derive(Drop)]
 pub struct Edition<K: Kernel> {
     kernel: K,
-    layout: Layout,
-    seed: [u8; 32],
-    a1: Matrix,
-    digits: Digits,
-    hint: Matrix,
-    bytes: Vec<u8>,
+    layer: FirstLayer,
+    a2: Matrix,
+    server: Digits,
+    client: Matrix,
 }
 
 impl<K: Kernel> Model for Edition<K> {
-    ghost use Rattle.digit_pack.specs.Layout.{records_in};
-    ghost use Rattle.version_store.specs.Editions.{Records, IsMade};
+    ghost use Rattle.version_store.specs.Editions.{Records, IsMadeTwice};
 
     ghost Value = { Records };
 
-    ghost view = { λ e. record {
-      shape = e.layout;
-      dimension = e.a1.cols;
-      seed = e.seed;
-      records = records_in e.layout e.bytes.items;
-    } };
+    ghost view = { λ e. e.layer };
 
-    ghost invariant = { λ e. IsMade e.layout e.a1.cols e.seed e.bytes.items e.a1 e.digits e.hint };
+    ghost invariant = { λ e. IsMadeTwice e.layer e.a2 e.server e.client };
 }
 
 impl<K: Kernel> Edition<K> {
-    /// The edition of the records that stand one after another in `bytes`: its digits, the public matrix of
-    /// `dimension` columns, and the hint by `setup`. Only want of memory gives an `Err`.
+    /// The edition of the records that stand one after another in `bytes`: their digits, the public matrices
+    /// of `dimension` columns, and the hints by the schemes' `setup`. Only refused memory gives an `Err`.
     pub fn open(
         alloc: Global,
         kernel: K,
@@ -58,106 +52,133 @@ impl<K: Kernel> Edition<K> {
     ) -> Result<Edition<K>, AllocError>
         requires dimension { (1 ≤ dimension) × (dimension ≤ 1024) }
         requires count { length bytes.items ≡ layout.count * layout.record_len }
-        ensures { IfOk result (λ e. e ≡ record {
-          shape = layout;
-          dimension = dimension;
-          seed = seed;
-          records = records_in layout bytes.items;
-        }) }
+        ensures { IfOk result (λ e.
+            e ≡ record { plan = plan_of layout dimension seed; records = records_in layout bytes.items }) }
     {
-        let digits: Digits = digits_of_records(alloc, &layout, &bytes)?;
-        let a1 = expand(alloc, &seed, 0, 0, layout.cols(), dimension)?;
-        layout.rows();
-        digits.rows();
-        let hint = simple_scheme::setup(alloc, kernel, &digits, &a1)?;
+        let layer = FirstLayer::open(alloc, kernel, layout, dimension, seed, bytes)?;
+        let layout = layer.layout();
+        let a2 = expand(alloc, &seed, 1, 0, layout.rows(), dimension)?;
+        let (server, client) = double_scheme::setup(
+            alloc,
+            kernel,
+            layer.hint(),
+            &a2,
+            layout.width(),
+        )?;
         Ok(Edition {
             kernel,
-            layout,
-            seed,
-            a1,
-            digits,
-            hint,
-            bytes,
+            layer,
+            a2,
+            server,
+            client,
         })
     }
 
     /// The sizes of the records.
     pub fn layout(&self) -> &Layout
-        ensures value { result.now ≡ self.now.shape }
-        ensures layout { IsLayout self.now.shape }
+        ensures value { result.now ≡ version_shape self.now }
+        ensures plan { IsPlan self.now.plan (length self.now.records) }
     {
-        &self.layout
+        self.layer.layout()
     }
 
     /// The dimension n of the public matrices.
     pub fn dimension(&self) -> usize
-        ensures value { result ≡ self.now.dimension }
-        ensures low { 1 ≤ self.now.dimension }
-        ensures high { self.now.dimension ≤ 1024 }
+        ensures { result ≡ self.now.plan.dimension }
     {
-        self.a1.cols()
+        self.layer.dimension()
     }
 
     /// The public seed.
     pub fn seed(&self) -> &[u8; 32]
-        ensures { result.now ≡ self.now.seed }
+        ensures { result.now ≡ self.now.plan.seed }
     {
-        &self.seed
+        self.layer.seed()
     }
 
     /// The bytes of record i.
     pub fn record(&self, i: usize) -> &[u8]
-        requires { i < self.now.shape.count }
+        requires { i < length self.now.records }
         ensures value { result.now ≡ record_at self.now.records i }
-        ensures count { length result.now ≡ self.now.shape.record_len }
+        ensures count { length result.now ≡ self.now.plan.record_len }
     {
-        record_of(&self.layout, &self.bytes, i)
+        self.layer.record(i)
     }
 
     /// The bytes of all records, record 0 first.
     pub fn bytes(&self) -> &[u8]
         ensures { result.now ≡ bytes_of_records self.now.records }
     {
-        &self.bytes
+        self.layer.bytes()
     }
 
-    /// The hint.
-    pub fn hint(&self) -> &Matrix
-        ensures value { result.now ≡ simple_hint self.now }
-        ensures rows { result.now.rows ≡ digit_rows self.now.shape }
-        ensures cols { result.now.cols ≡ self.now.dimension }
+    /// The hint of a scheme, as a client fetches it.
+    pub fn hint(&self, scheme: Scheme) -> &Matrix
+        ensures { result.now ≡ hint_matrix scheme self.now.plan self.now.records }
     {
-        &self.hint
+        match scheme {
+            Scheme::Simple => self.layer.hint(),
+            Scheme::Double => &self.client,
+        }
     }
 
-    /// The answer to the words of a query. Only want of memory gives an `Err`.
-    pub fn answer(&self, alloc: Global, words: &[u32]) -> Result<Vec<u32>, AllocError>
-        requires { length words.now ≡ digit_cols self.now.shape }
-        ensures { IfOk result (λ v. v.items ≡ answer_of (digit_matrix self.now.shape self.now.records) words.now) }
+    /// The answer to the words of a query. Only refused memory gives an `Err`.
+    pub fn answer(
+        &self,
+        alloc: Global,
+        scheme: Scheme,
+        words: &[u32],
+    ) -> Result<Vec<u32>, AllocError>
+        requires { length words.now ≡ query_count scheme (version_shape self.now) }
+        ensures { IfOk result (λ v. v.items ≡ answer_words scheme self.now.plan self.now.records words.now) }
     {
-        simple_scheme::answer(alloc, self.kernel, &self.digits, words)
+        match scheme {
+            Scheme::Simple => self.layer.answer(alloc, self.kernel, words),
+            Scheme::Double => self.answer_double(alloc, words),
+        }
     }
 
-    /// Puts another record in the place of record i. `scratch` has room for a record's digits.
-    ///
-    /// Only the record's digits that change are multiplied, each by one row of the public matrix.
-    pub fn replace(&mut self, i: usize, bytes: &[u8], scratch: &mut [u32])
-        requires index { i < self.old.shape.count }
-        requires len { length bytes.now ≡ self.old.shape.record_len }
-        requires room { length scratch.old ≡ digits_per_record self.old.shape }
-        ensures { self.new ≡ record self.old { records = slice_set self.old.records i bytes.now } }
+    // The answer to the words of a DoublePIR query.
+    fn answer_double(&self, alloc: Global, words: &[u32]) -> Result<Vec<u32>, AllocError>
+        requires { length words.now ≡ query_count Scheme.Double (version_shape self.now) }
+        ensures { IfOk result (λ v.
+            v.items ≡ answer_words Scheme.Double self.now.plan self.now.records words.now) }
     {
-        let (first, col) = self.layout.place(i);
-        pack(&self.layout, bytes, scratch);
-        replace_digits(
+        let layout = self.layer.layout();
+        let digits = self.layer.digits();
+        double_scheme::answer(
+            alloc,
             self.kernel,
-            &mut self.digits,
-            &mut self.hint,
-            &self.a1,
-            first,
-            col,
-            scratch,
+            layout,
+            digits,
+            &self.server,
+            &self.a2,
+            words,
+        )
+    }
+
+    /// Puts each change into the records, and leaves none. `scratch` has room for a record's digits, and
+    /// `marks` a mark for each row of digits.
+    ///
+    /// The hint of SimplePIR follows each digit that changes; those of DoublePIR follow each row that has
+    /// one, once. It takes no memory.
+    pub fn apply(&mut self, changes: &mut Changes, scratch: &mut [u32], marks: &mut [bool])
+        requires fit { FitRecords self.old changes.old.entries }
+        requires room { length scratch.old ≡ digits_per_record (version_shape self.old) }
+        requires marks { length marks.old ≡ digit_rows (version_shape self.old) }
+        ensures records { self.new ≡ record self.old { records = draft_of self.old.records changes.old.entries } }
+        ensures none { changes.new.entries ≡ [] }
+    {
+        apply_changes(self.kernel, &mut self.layer, changes, scratch, marks);
+        let w = self.layer.layout().width();
+        follow_rows(
+            self.kernel,
+            self.layer.hint(),
+            &self.a2,
+            w,
+            &mut self.server,
+            &mut self.client,
+            marks,
         );
-        write_record(&self.layout, &mut self.bytes, i, bytes);
     }
 }

@@ -1,17 +1,17 @@
-//! Records in versions, with the hint of the current one kept in place.
+//! Records in versions, with the hints of the current one kept in place.
 #![tactic(auto)]
 
 mod columns;
 mod drafts;
 mod edition;
+mod first_layer;
 pub mod laws;
 mod opening;
-mod scheme;
+mod rows;
 mod store;
 
-pub use edition::Edition;
 pub use opening::OpenError;
-pub use scheme::Scheme;
+pub use pir_schemes::Scheme;
 pub use snapshot_file::{Header, Snapshot, SnapshotFault, WriteFault, read_snapshot};
 pub use store::{EditError, PublishError, Store, write_snapshot};
 

@@ -1,22 +1,23 @@
 //! The store: the current version, a draft, and their publication.
 
-ghost use Rattle.std.specs.Prelude.{ℕ, ◌≡◌, ◌≢◌, ◌+◌, ◌*◌, ◌^◌, ◌<◌, ◌≤◌, ◌↔◌, length, true, false, OnOk, OnErr, IfErr, IfOk, IfSome, IsNone, take, slice_set, IsErrOf};
+ghost use Rattle.std.specs.Prelude.{ℕ, ◌≡◌, ◌≢◌, ◌+◌, ◌*◌, ◌^◌, ◌<◌, ◌≤◌, ◌↔◌, length, true, false, OnOk, OnErr, IfErr, IfOk, IfSome, IsNone, take, slice_set, IsErrOf, IsTrue};
 ghost use Rattle.matrix_u32.specs.Matrix.{row};
-ghost use Rattle.digit_pack.specs.Layout.{IsLayout, digits_per_record, digit_rows, digit_matrix, record_at, records_in};
-ghost use Rattle.simple_scheme.specs.Simple.{answer_of};
-ghost use Rattle.version_store.specs.Editions.{simple_hint};
+ghost use Rattle.digit_pack.specs.Layout.{digits_per_record, digit_rows, record_at, records_in};
+ghost use Rattle.pir_schemes.specs.Plans.{IsPlan, fits};
+ghost use Rattle.pir_schemes.specs.Parts.{part_of};
+ghost use Rattle.pir_schemes.specs.Retrievals.{hint_matrix, query_count, answer_words};
+ghost use Rattle.version_store.specs.Editions.{version_shape};
 ghost use Rattle.snapshot_file.specs.Snapshots.{header_of, shape_of};
 ghost use Rattle.version_store.specs.Openings.{IsSound, IsOpenFault, held_of, header_of_held, bytes_of_records, snapshot_of};
 ghost use Rattle.std.specs.Io.KnownBytes.{Appends};
-ghost use Rattle.version_store.specs.Parts.{hint_list, part_of, query_count};
 ghost use Rattle.version_store.specs.Histories.{Held, History, StandsFor, opened, edited, published, held_edited, held_published};
 
-use crate::drafts::{Changes, apply_changes};
+use crate::drafts::Changes;
 use crate::edition::Edition;
 use crate::opening::{OpenError, sizes_of};
-use crate::scheme::Scheme;
 use digit_pack::Layout;
 use matrix_u32::Kernel;
+use pir_schemes::{Scheme, part_words};
 use snapshot_file::{Header, Snapshot, WriteFault, write_snapshot_bytes};
 use std::alloc::{AllocError, Global};
 use std::collections::BTreeMap;
@@ -52,12 +53,13 @@ pub enum PublishError {
     Memory,
 }
 
-/// The current version of the records, with its hint, and the draft of the next.
+/// The current version of the records, with its hints, and the draft of the next.
 ///
 /// The draft is kept as its changes alone. Contracts see a store as what it holds, `Held`, and say what a
 /// call does to every history that the store stands for.
 #[derive(Drop)]
 pub struct Store<K: Kernel> {
+    alloc: Global,
     edition: Edition<K>,
     changes: Changes,
     version: u64,
@@ -66,7 +68,7 @@ pub struct Store<K: Kernel> {
 
 impl<K: Kernel> Model for Store<K> {
     ghost use Rattle.version_store.specs.Histories.{Held};
-    ghost use Rattle.version_store.specs.Drafts.{draft_of, is_some_change, AreChanges};
+    ghost use Rattle.version_store.specs.Drafts.{draft_of, is_some_change, FitRecords};
 
     ghost Value = { Held };
 
@@ -78,11 +80,12 @@ impl<K: Kernel> Model for Store<K> {
       publisher = s.publisher;
     } };
 
-    ghost invariant = { λ s. AreChanges s.edition s.changes.entries };
+    ghost invariant = { λ s. FitRecords s.edition s.changes.entries };
 }
 
 impl<K: Kernel> Store<K> {
-    /// The store of a snapshot's records, with an empty draft; its hint is made by `setup`.
+    /// The store of a snapshot's records, with an empty draft; its hints are made by the schemes' `setup`. The
+    /// store keeps the allocator.
     ///
     /// `BadLayout` exactly where the layout is refused or the dimension is not in 1 to 1024; else
     /// `BadVersion` exactly where the version is 0; else `BadRecords` exactly where the bytes are not as many
@@ -110,6 +113,7 @@ impl<K: Kernel> Store<K> {
             return Err(OpenError::Memory);
         };
         Ok(Store {
+            alloc,
             edition,
             changes: Changes::new(alloc),
             version,
@@ -152,24 +156,25 @@ impl<K: Kernel> Store<K> {
 
     /// The sizes of the records.
     pub fn layout(&self) -> &Layout
-        ensures value { result.now ≡ self.now.edition.shape }
-        ensures layout { IsLayout self.now.edition.shape }
+        ensures value { result.now ≡ version_shape self.now.edition }
+        ensures plan { IsPlan self.now.edition.plan (length self.now.edition.records) }
     {
         self.edition.layout()
     }
 
-    /// The dimension n of the public matrices.
+    /// The dimension n of the public matrices, 1 to 1024.
     pub fn dimension(&self) -> usize
-        ensures value { result ≡ self.now.edition.dimension }
-        ensures low { 1 ≤ self.now.edition.dimension }
-        ensures high { self.now.edition.dimension ≤ 1024 }
+        ensures value { result ≡ self.now.edition.plan.dimension }
+        ensures low { 1 ≤ self.now.edition.plan.dimension }
+        ensures high { self.now.edition.plan.dimension ≤ 1024 }
     {
+        self.edition.layout();
         self.edition.dimension()
     }
 
     /// The public seed.
     pub fn seed(&self) -> &[u8; 32]
-        ensures { result.now ≡ self.now.edition.seed }
+        ensures { result.now ≡ self.now.edition.plan.seed }
     {
         self.edition.seed()
     }
@@ -183,74 +188,90 @@ impl<K: Kernel> Store<K> {
 
     /// The bytes of record i in the current version.
     pub fn bytes_of(&self, i: usize) -> &[u8]
-        requires { i < self.now.edition.shape.count }
+        requires { i < length self.now.edition.records }
         ensures value { result.now ≡ record_at self.now.edition.records i }
-        ensures count { length result.now ≡ self.now.edition.shape.record_len }
+        ensures count { length result.now ≡ self.now.edition.plan.record_len }
     {
         self.edition.record(i)
     }
 
-    /// How many words a query has: a word for each column of digits. 0 where the scheme isn't offered.
+    /// How many words a query of a scheme has.
     pub fn query_words(&self, scheme: Scheme) -> usize
-        ensures { result ≡ query_count scheme self.now.edition.shape }
+        ensures { result ≡ query_count scheme (version_shape self.now.edition) }
     {
-        match scheme {
-            Scheme::Simple => self.edition.layout().cols(),
-            Scheme::Double => 0,
-        }
+        pir_schemes::query_count(scheme, self.edition.layout())
     }
 
-    /// Part `part` of the hint of the current version: its words from 65,536 part on, row by row, at most
-    /// 65,536 of them. `None` exactly where there is no such part, or the scheme isn't offered.
+    /// Part `part` of a scheme's hint of the current version: its words from 65,536 part on, row by row, at
+    /// most 65,536 of them. `None` exactly when there is no such part.
     pub fn hint_words(&self, scheme: Scheme, part: usize) -> Option<&[u32]>
-        ensures none { IsNone result ↔ (length (hint_list scheme self.now.edition) ≤ 65536 * part) }
-        ensures words { IfSome result (λ words. words.now ≡ part_of (hint_list scheme self.now.edition) part) }
+        ensures none { IsNone result ↔
+            (length (hint_matrix scheme self.now.edition.plan self.now.edition.records).words ≤ 65536 * part) }
+        ensures words { IfSome result (λ words.
+            words.now ≡ part_of (hint_matrix scheme self.now.edition.plan self.now.edition.records).words part) }
     {
-        match scheme {
-            Scheme::Simple => part_words(self.edition.hint().words(), part),
-            Scheme::Double => None,
-        }
+        part_words(self.edition.hint(scheme).words(), part)
     }
 
     /// Row r of the SimplePIR hint of the current version.
     pub fn hint_row(&self, r: usize) -> &[u32]
-        requires { r < digit_rows self.now.edition.shape }
-        ensures value { result.now ≡ row (simple_hint self.now.edition) r }
-        ensures count { length result.now ≡ self.now.edition.dimension }
+        requires { r < digit_rows (version_shape self.now.edition) }
+        ensures value { result.now ≡
+            row (hint_matrix Scheme.Simple self.now.edition.plan self.now.edition.records) r }
+        ensures count { length result.now ≡ self.now.edition.plan.dimension }
     {
-        self.edition.hint().row(r)
+        self.edition.hint(Scheme::Simple).row(r)
     }
 
-    /// The answer to the words of a SimplePIR query on the current version: a word for each digit row. Only
-    /// want of memory gives an `Err`.
-    pub fn answer_simple(&self, alloc: Global, words: &[u32]) -> Result<Vec<u32>, AllocError>
-        requires { length words.now ≡ query_count Scheme.Simple self.now.edition.shape }
-        ensures { IfOk result (λ v. v.items ≡ answer_of (digit_matrix self.now.edition.shape self.now.edition.records) words.now) }
+    /// The answer to the words of a scheme's query on the current version. Only refused memory gives an
+    /// `Err`.
+    pub fn answer(&self, scheme: Scheme, words: &[u32]) -> Result<Vec<u32>, AllocError>
+        requires { length words.now ≡ query_count scheme (version_shape self.now.edition) }
+        ensures { IfOk result (λ v.
+            v.items ≡ answer_words scheme self.now.edition.plan self.now.edition.records words.now) }
     {
-        self.edition.answer(alloc, words)
+        self.edition.answer(self.alloc, scheme, words)
+    }
+
+    /// The answer to the words of a SimplePIR query: a word for each digit row.
+    pub fn answer_simple(&self, words: &[u32]) -> Result<Vec<u32>, AllocError>
+        requires { length words.now ≡ query_count Scheme.Simple (version_shape self.now.edition) }
+        ensures { IfOk result (λ v.
+            v.items ≡ answer_words Scheme.Simple self.now.edition.plan self.now.edition.records words.now) }
+    {
+        self.answer(Scheme::Simple, words)
+    }
+
+    /// The answer to the words of a DoublePIR query: κ n words, and κ (n + 1) for each digit of a record.
+    pub fn answer_double(&self, words: &[u32]) -> Result<Vec<u32>, AllocError>
+        requires { length words.now ≡ query_count Scheme.Double (version_shape self.now.edition) }
+        ensures { IfOk result (λ v.
+            v.items ≡ answer_words Scheme.Double self.now.edition.plan self.now.edition.records words.now) }
+    {
+        self.answer(Scheme::Double, words)
     }
 
     /// Replaces record i of the draft: no reader sees it before its publication, and a later edit of the
     /// same record replaces it.
     ///
-    /// `BadIndex` exactly where there is no record i; else `BadLength` exactly where the bytes are not as
-    /// many as a record has; else it is accepted, or `Memory`. A refused edit changes nothing.
-    pub fn edit(&mut self, alloc: Global, i: usize, bytes: &[u8]) -> Result<(), EditError>
+    /// `BadIndex` exactly when the draft has no record i; else `BadLength` exactly when the bytes can't be a
+    /// record; else it is accepted, or `Memory`. A refused edit changes nothing.
+    pub fn edit(&mut self, i: usize, bytes: &[u8]) -> Result<(), EditError>
         ensures accepted { OnOk result (self.new ≡ held_edited i bytes.now self.old) }
-        ensures history { OnOk result ((h : History) → StandsFor self.old h → StandsFor self.new (edited i bytes.now h)) }
-        ensures bad_index { IsErrOf result EditError.BadIndex ↔ (self.old.edition.shape.count ≤ i) }
+        ensures history { OnOk result ((h : History) →
+            StandsFor self.old h → StandsFor self.new (edited i bytes.now h)) }
+        ensures bad_index { IsErrOf result EditError.BadIndex ↔ (length self.old.draft ≤ i) }
         ensures bad_length { IsErrOf result EditError.BadLength ↔
-            (i < self.old.edition.shape.count) × (length bytes.now ≢ self.old.edition.shape.record_len) }
+            (i < length self.old.draft) × (fits self.old.edition.plan bytes.now ≡ false) }
         ensures refused { OnErr result (self.new ≡ self.old) }
     {
-        let layout = self.edition.layout();
-        if i >= layout.count() {
+        if !self.has_record(i) {
             return Err(EditError::BadIndex);
         }
-        if bytes.len() != layout.record_len() {
+        if !self.fits(bytes) {
             return Err(EditError::BadLength);
         }
-        let Ok(copy) = copy_of(alloc, bytes) else {
+        let Ok(copy) = copy_of(self.alloc, bytes) else {
             return Err(EditError::Memory);
         };
         match self.changes.insert(i, copy) {
@@ -259,17 +280,33 @@ impl<K: Kernel> Store<K> {
         }
     }
 
+    // Whether the draft has a record i.
+    fn has_record(&self, i: usize) -> bool
+        ensures { IsTrue result ↔ (i < length self.now.draft) }
+    {
+        i < self.edition.layout().count()
+    }
+
+    // Whether bytes can be a record.
+    fn fits(&self, bytes: &[u8]) -> bool
+        ensures { result ≡ fits self.now.edition.plan bytes.now }
+    {
+        bytes.len() == self.edition.layout().record_len()
+    }
+
     /// Makes the draft the current version, and answers its number.
     ///
-    /// `NothingToPublish` exactly where no edit was accepted since the last publication; else
-    /// `VersionsUsedUp` exactly where the current version is 2^64 - 1; else it is done, or `Memory`. A refused
+    /// `NothingToPublish` exactly when no edit was accepted since the last publication; else
+    /// `VersionsUsedUp` exactly when the current version is 2^64 - 1; else it is done, or `Memory`. A refused
     /// publication changes nothing. All memory is asked for before anything changes.
-    pub fn publish(&mut self, alloc: Global) -> Result<u64, PublishError>
+    pub fn publish(&mut self) -> Result<u64, PublishError>
         ensures version { IfOk result (λ v. (v ≡ self.old.version + 1) × (v < 2 ^ 64)) }
         ensures done { OnOk result (self.new ≡ held_published self.old) }
-        ensures history { OnOk result ((h : History) → StandsFor self.old h → StandsFor self.new (published h)) }
+        ensures history { OnOk result ((h : History) →
+            StandsFor self.old h → StandsFor self.new (published h)) }
         ensures nothing { IsErrOf result PublishError.NothingToPublish ↔ (self.old.marked ≡ false) }
-        ensures used_up { IsErrOf result PublishError.VersionsUsedUp ↔ (self.old.marked ≡ true) × (self.old.version + 1 ≡ 2 ^ 64) }
+        ensures used_up { IsErrOf result PublishError.VersionsUsedUp ↔
+            (self.old.marked ≡ true) × (self.old.version + 1 ≡ 2 ^ 64) }
         ensures refused { OnErr result (self.new ≡ self.old) }
     {
         if self.changes.is_empty() {
@@ -278,10 +315,15 @@ impl<K: Kernel> Store<K> {
         if self.version == u64::MAX {
             return Err(PublishError::VersionsUsedUp);
         }
-        let Ok(mut scratch) = scratch_for(alloc, self.edition.layout()) else {
+        let layout = self.edition.layout();
+        let Ok(mut scratch) = scratch_for(self.alloc, layout) else {
             return Err(PublishError::Memory);
         };
-        apply_changes(&mut self.edition, &mut self.changes, &mut scratch);
+        let Ok(mut marks) = marks_for(self.alloc, layout) else {
+            return Err(PublishError::Memory);
+        };
+        self.edition
+            .apply(&mut self.changes, &mut scratch, &mut marks);
         self.version += 1;
         Ok(self.version)
     }
@@ -304,37 +346,18 @@ pub fn write_snapshot<K: Kernel, W: Write>(
     write_snapshot_bytes(alloc, &store.header(), store.bytes(), writer)
 }
 
-// The most words of a part of a hint.
-const PART_WORDS: usize = 65_536;
-
-// A part of a hint's words.
-fn part_words(words: &[u32], part: usize) -> Option<&[u32]>
-    ensures none { IsNone result ↔ (length words.now ≤ 65536 * part) }
-    ensures words { IfSome result (λ some. some.now ≡ part_of words.now part) }
-{
-    let start = part.checked_mul(PART_WORDS)?;
-    if start >= words.len() {
-        return None;
-    }
-    Some(front(&words[start..]))
-}
-
-// The first words, as many as a part has.
-fn front(words: &[u32]) -> &[u32]
-    ensures { result.now ≡ take 65536 words.now }
-{
-    if words.len() < PART_WORDS {
-        words
-    } else {
-        &words[..PART_WORDS]
-    }
-}
-
 // Room for the digits of a record.
 fn scratch_for(alloc: Global, layout: &Layout) -> Result<Vec<u32>, AllocError>
     ensures { IfOk result (λ v. length v.items ≡ digits_per_record layout.now) }
 {
     vec![in alloc; 0; layout.digits_per_record()]
+}
+
+// A mark for each row of digits; none is marked.
+fn marks_for(alloc: Global, layout: &Layout) -> Result<Vec<bool>, AllocError>
+    ensures { IfOk result (λ v. length v.items ≡ digit_rows layout.now) }
+{
+    vec![in alloc; false; layout.rows()]
 }
 
 fn copy_of(alloc: Global, bytes: &[u8]) -> Result<Vec<u8>, AllocError>

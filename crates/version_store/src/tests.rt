@@ -1,9 +1,13 @@
 //! The store of two records of one byte, edited, published, written and read back.
 
+mod counting;
+
 use super::*;
 use matrix_u32::Plain;
 use std::alloc::Global;
 use std::test::Fail;
+
+mod texts;
 
 /// The SHA-256 digest of 32 bytes 01.
 const PUBLISHER: [u8; 32] = [
@@ -23,6 +27,12 @@ const STORE: Header = Header {
     seed: [0; 32],
     publisher: PUBLISHER,
 };
+
+/// The hints of both schemes for records 0a and c8, computed from the definitions by a program of another
+/// language.
+const FIRST_HINT: u32 = 2066479516;
+
+const DOUBLE_HINT: [u32; 4] = [4027250084, 4280627063, 394247461, 1027848149];
 
 // The fault of opening a snapshot.
 fn refusal(alloc: Global, header: Header, bytes: &[u8]) -> Result<Option<OpenError>, Fail> {
@@ -52,14 +62,15 @@ fn a_store_tells_its_sizes(rt: HostRuntime) -> Result<(), Fail> {
     assert_eq!(rt; store.bytes_of(1), &[200u8][..]);
     assert_eq!(rt; store.bytes(), &[10u8, 200][..]);
     assert_eq!(rt; store.query_words(Scheme::Simple), 2);
-    assert_eq!(rt; store.query_words(Scheme::Double), 0);
+    assert_eq!(rt; store.query_words(Scheme::Double), 3);
     assert_eq!(rt;
         store.hint_words(Scheme::Simple, 0),
-        Some(&[2066479516u32][..])
+        Some(&[FIRST_HINT][..])
     );
-    assert_eq!(rt; store.hint_row(0), &[2066479516u32][..]);
+    assert_eq!(rt; store.hint_row(0), &[FIRST_HINT][..]);
     assert_eq!(rt; store.hint_words(Scheme::Simple, 1), None);
-    assert_eq!(rt; store.hint_words(Scheme::Double, 0), None);
+    assert_eq!(rt; store.hint_words(Scheme::Double, 0), Some(&DOUBLE_HINT[..]));
+    assert_eq!(rt; store.hint_words(Scheme::Double, 1), None);
     assert_eq!(rt; store.header(), STORE);
     Ok(())
 }
@@ -69,49 +80,60 @@ fn an_answer_is_of_the_current_version(rt: HostRuntime) -> Result<(), Fail> {
     let store = two_records(rt.alloc(), 1)?;
     let words = [22, 16777249];
     assert_eq!(rt; store.query_words(Scheme::Simple), words.len());
-    let answer = store.answer_simple(rt.alloc(), &words)?;
+    let answer = store.answer_simple(&words)?;
     assert_eq!(rt; answer.as_slice(), &[3355450020u32][..]);
+    Ok(())
+}
+
+// 12 words: the digits of 3355450020 times the second public matrix; the digits of the hint times 44; and the
+// digits of 3355450020 times 44.
+#[test]
+fn a_double_answer_is_of_the_current_version(rt: HostRuntime) -> Result<(), Fail> {
+    let store = two_records(rt.alloc(), 1)?;
+    let words = [22, 16777249, 44];
+    assert_eq!(rt; store.query_words(Scheme::Double), words.len());
+    let answer = store.answer_double(&words)?;
+    let expected = [
+        2802119964, 3534519878, 0, 3731485368, 6864, 10956, 1892, 5412, 7216, 1144, 0, 8800,
+    ];
+    assert_eq!(rt; answer.as_slice(), &expected[..]);
     Ok(())
 }
 
 #[test]
 fn an_edit_is_seen_after_its_publication(rt: HostRuntime) -> Result<(), Fail> {
     let mut store = two_records(rt.alloc(), 1)?;
-    assert_eq!(rt;
-        store.publish(rt.alloc()),
-        Err(PublishError::NothingToPublish)
-    );
-    assert_eq!(rt; store.edit(rt.alloc(), 1, &[100]), Ok(()));
+    assert_eq!(rt; store.publish(), Err(PublishError::NothingToPublish));
+    assert_eq!(rt; store.edit(1, &[100]), Ok(()));
     assert_eq!(rt; store.version(), 1);
-    assert_eq!(rt; store.bytes_of(1), &[200u8][..]);
+    assert_eq!(rt; store.bytes(), &[10u8, 200][..]);
     assert_eq!(rt;
         store.hint_words(Scheme::Simple, 0),
-        Some(&[2066479516u32][..])
+        Some(&[FIRST_HINT][..])
     );
-    assert_eq!(rt; store.publish(rt.alloc()), Ok(2));
+    assert_eq!(rt; store.publish(), Ok(2));
     assert_eq!(rt; store.version(), 2);
-    assert_eq!(rt; store.bytes_of(1), &[100u8][..]);
+    assert_eq!(rt; store.bytes(), &[10u8, 100][..]);
     assert_eq!(rt;
         store.hint_words(Scheme::Simple, 0),
         Some(&[586782492u32][..])
     );
-    assert_eq!(rt;
-        store.publish(rt.alloc()),
-        Err(PublishError::NothingToPublish)
-    );
+    let double = [2154495524, 3182343673, 4280627063, 2309389758];
+    assert_eq!(rt; store.hint_words(Scheme::Double, 0), Some(&double[..]));
+    assert_eq!(rt; store.publish(), Err(PublishError::NothingToPublish));
     Ok(())
 }
 
 #[test]
 fn the_later_of_two_edits_counts(rt: HostRuntime) -> Result<(), Fail> {
     let mut store = two_records(rt.alloc(), 7)?;
-    assert_eq!(rt; store.edit(rt.alloc(), 0, &[1]), Ok(()));
-    assert_eq!(rt; store.edit(rt.alloc(), 0, &[10]), Ok(()));
-    assert_eq!(rt; store.publish(rt.alloc()), Ok(8));
+    assert_eq!(rt; store.edit(0, &[1]), Ok(()));
+    assert_eq!(rt; store.edit(0, &[10]), Ok(()));
+    assert_eq!(rt; store.publish(), Ok(8));
     assert_eq!(rt; store.bytes(), &[10u8, 200][..]);
     assert_eq!(rt;
         store.hint_words(Scheme::Simple, 0),
-        Some(&[2066479516u32][..])
+        Some(&[FIRST_HINT][..])
     );
     Ok(())
 }
@@ -119,33 +141,21 @@ fn the_later_of_two_edits_counts(rt: HostRuntime) -> Result<(), Fail> {
 #[test]
 fn edits_are_refused(rt: HostRuntime) -> Result<(), Fail> {
     let mut store = two_records(rt.alloc(), 1)?;
-    assert_eq!(rt; store.edit(rt.alloc(), 2, &[]), Err(EditError::BadIndex));
-    assert_eq!(rt; store.edit(rt.alloc(), 1, &[]), Err(EditError::BadLength));
-    assert_eq!(rt;
-        store.edit(rt.alloc(), 0, &[1, 2]),
-        Err(EditError::BadLength)
-    );
-    assert_eq!(rt;
-        store.publish(rt.alloc()),
-        Err(PublishError::NothingToPublish)
-    );
+    assert_eq!(rt; store.edit(2, &[]), Err(EditError::BadIndex));
+    assert_eq!(rt; store.edit(1, &[]), Err(EditError::BadLength));
+    assert_eq!(rt; store.edit(0, &[1, 2]), Err(EditError::BadLength));
+    assert_eq!(rt; store.publish(), Err(PublishError::NothingToPublish));
     Ok(())
 }
 
 #[test]
 fn the_last_version_stays(rt: HostRuntime) -> Result<(), Fail> {
     let mut store = two_records(rt.alloc(), u64::MAX)?;
-    assert_eq!(rt; store.edit(rt.alloc(), 1, &[100]), Ok(()));
-    assert_eq!(rt;
-        store.publish(rt.alloc()),
-        Err(PublishError::VersionsUsedUp)
-    );
-    assert_eq!(rt;
-        store.publish(rt.alloc()),
-        Err(PublishError::VersionsUsedUp)
-    );
+    assert_eq!(rt; store.edit(1, &[100]), Ok(()));
+    assert_eq!(rt; store.publish(), Err(PublishError::VersionsUsedUp));
+    assert_eq!(rt; store.publish(), Err(PublishError::VersionsUsedUp));
     assert_eq!(rt; store.version(), u64::MAX);
-    assert_eq!(rt; store.bytes_of(1), &[200u8][..]);
+    assert_eq!(rt; store.bytes(), &[10u8, 200][..]);
     Ok(())
 }
 
@@ -188,7 +198,7 @@ fn snapshots_are_refused_by_their_first_cause(rt: HostRuntime) -> Result<(), Fai
 #[test]
 fn a_store_is_written_and_read_back(rt: HostRuntime) -> Result<(), Fail> {
     let mut store = two_records(rt.alloc(), 1)?;
-    assert_eq!(rt; store.edit(rt.alloc(), 1, &[100]), Ok(()));
+    assert_eq!(rt; store.edit(1, &[100]), Ok(()));
     let mut file = Vec::with_capacity(rt.alloc(), 125)?;
     assert_eq!(rt; write_snapshot(rt.alloc(), &store, &mut file), Ok(()));
     assert_eq!(rt; file.len(), 125);
@@ -225,14 +235,13 @@ fn edits_across_columns_keep_the_hint(rt: HostRuntime) -> Result<(), Fail> {
     let mut kept = Store::open(rt.alloc(), Plain, first)?;
     let made = Store::open(rt.alloc(), Plain, second)?;
     for i in [1, 6, 3] {
-        assert_eq!(rt; kept.edit(rt.alloc(), i, made.bytes_of(i)), Ok(()));
+        assert_eq!(rt; kept.edit(i, made.bytes_of(i)), Ok(()));
     }
-    assert_eq!(rt; kept.publish(rt.alloc()), Ok(2));
+    assert_eq!(rt; kept.publish(), Ok(2));
     assert_eq!(rt; kept.bytes(), made.bytes());
-    assert_eq!(rt;
-        kept.hint_words(Scheme::Simple, 0),
-        made.hint_words(Scheme::Simple, 0)
-    );
+    for scheme in [Scheme::Simple, Scheme::Double] {
+        assert_eq!(rt; kept.hint_words(scheme, 0), made.hint_words(scheme, 0));
+    }
     Ok(())
 }
 

@@ -1,5 +1,8 @@
-use Rattle.std.proofs.Common.{arith, refl, ap, sym, ◌∙◌, ◌+◌, ◌<◌, subst, ◌≡◌, ℕ, length}
-use Rattle.std.specs.Prelude.{slice_index}
+use Rattle.std.proofs.Common.{arith, refl, ap, sym, ◌∙◌, ◌+◌, ◌<◌, subst, ◌≡◌, ℕ, List, length, Bool, ◌||◌, not}
+use Rattle.std.proofs.Math.Dec.{eqb}
+use Rattle.std.specs.Prelude.{slice_index, slice_set}
+use Rattle.version_store.specs.Editions.{MarksChanges, is_marked}
+use Rattle.version_store.proofs.Marks.{none_marked, one_marked}
 use Rattle.matrix_u32.specs.Matrix.{WordMatrix, product}
 use Rattle.digit_pack.specs.Columns.{WritesFirst}
 use Rattle.digit_pack.proofs.ColumnLemmas.{none_written, one_written}
@@ -9,6 +12,7 @@ pub loop-d-init : goal.loop-d-init
 loop-d-init g c = record {
   written = none_written (g.S.DigitStore.digits c.args.digits.now) c.args.first c.args.col c.args.written.now c.rows.ensures.whole;
   made = c.requires.made;
+  marks = none_marked (g.S.DigitStore.digits c.args.digits.now) c.args.marks.now;
 }
 
 pub get-old-requires-clause-row : goal.get-old-requires-clause-row
@@ -24,11 +28,17 @@ loop-d-preserved g c =
     let v : ℕ = slice_index c.args.written.now c.loop-d.d in
     let done : WordMatrix → Type 0 = λ m. WritesFirst old m c.args.first c.args.col (c.loop-d.d + 1) c.args.written.now in
     let below : c.args.first + c.loop-d.d < here.rows = omega (arith, c.loop-d.invariant.written.rows, c.requires.rows) in
+    let across : c.args.col < here.cols = omega (arith, c.loop-d.invariant.written.cols, c.requires.col) in
+    let long : here.rows ≡ length c.loop-d.marks = c.loop-d.invariant.written.rows ∙ sym c.requires.marks ∙ sym c.loop-d.invariant.marks.count in
+    let marks : List Bool = slice_set c.loop-d.marks (c.args.first + c.loop-d.d) (is_marked c.loop-d.marks (c.args.first + c.loop-d.d) || not (eqb c.get-old.result v)) in
+    let marked : WordMatrix → Type 0 = λ m. MarksChanges old m c.args.marks.now marks in
     record {
       written = subst done (sym c.set.ensures)
           (one_written old here c.args.first c.args.col c.loop-d.d v c.args.written.now c.loop-d.invariant.written (omega (arith, c.requires.rows)) c.requires.col refl);
       made = c.update_simple.ensures.follows here c.loop-d.invariant.written.whole (c.loop-d.invariant.written.cols ∙ c.requires.inner) below (sym c.get-old.ensures) c.loop-d.invariant.made
           ∙ ap (λ m. product m c.args.a1.now) (sym c.set.ensures);
+      marks = subst marked (sym c.set.ensures)
+          (one_marked old here c.args.marks.now c.loop-d.marks (c.args.first + c.loop-d.d) c.args.col v c.get-old.result c.loop-d.invariant.written.rows long below across c.get-old.ensures c.loop-d.invariant.marks);
     }
 
 pub returns-clause-digits : goal.returns-clause-digits

@@ -1,20 +1,30 @@
-use Rattle.std.proofs.Common.{ap, ◌∙◌, sym, arith, ◌≡◌, ℕ, List}
+use Rattle.std.proofs.Common.{ap, ◌∙◌, sym, refl, ◌≡◌}
+use Rattle.matrix_u32.specs.Matrix.{WordMatrix, product}
 use Rattle.seed_expand.specs.Words.{public_rows}
-use Rattle.digit_pack.specs.Layout.{digit_cols, digit_matrix}
-use Rattle.digit_pack.specs.Layout.{records_in}
+use Rattle.digit_pack.specs.Layout.{digit_rows}
+use Rattle.simple_scheme.specs.Simple.{hint_of}
+use Rattle.double_scheme.specs.Double.{server_hint_of}
+use Rattle.pir_schemes.specs.Plans.{digits_at, first_public, second_public}
+use Rattle.version_store.specs.Editions.{Records, version_shape}
+use Rattle.version_store.proofs.DoubleLemmas.{made_of, simple_hint}
 use Rattle.version_store.proofs.edition.Edition.open.Goals as goal
 
 pub invariant_of-result : goal.invariant_of-result
+unfolding hint_of
 invariant_of-result g c =
-    let wide : c.in_ok-a1.a1.cols ≡ c.args.dimension = ap (λ m. m.cols) c.in_ok-a1.ensures in
-    record {
-      layout = c.cols.ensures.layout;
-      low = omega (arith, wide, c.requires.dimension);
-      high = omega (arith, wide, c.requires.dimension);
-      count = c.requires.count;
-      public_is = c.in_ok-a1.ensures
-          ∙ ap (λ n. public_rows c.args.seed 0 0 n c.args.dimension) c.cols.ensures.value
-          ∙ ap (λ d. public_rows c.args.seed 0 0 (digit_cols c.args.layout) d) (sym wide);
-      digits_are = c.in_ok-digits.ensures ∙ ap (λ (b : List ℕ). digit_matrix c.args.layout (records_in c.args.layout b)) c.deref.ensures.value;
-      hint_is = c.in_ok-hint.ensures;
-    }
+    let e : Records = c.in_ok-layer.layer in
+    let a2 : WordMatrix = c.in_ok-a2.a2 in
+    let rows : c.rows.result ≡ digit_rows (version_shape e) = c.rows.ensures.value ∙ ap digit_rows c.layout-layout.ensures.value in
+    let public : a2 ≡ second_public (version_shape e) e.plan.dimension e.plan.seed =
+    c.in_ok-a2.ensures ∙ ap (λ r. public_rows c.args.seed 1 0 r c.args.dimension) rows
+    ∙ ap (λ s. public_rows s 1 0 (digit_rows (version_shape e)) c.args.dimension) (sym (ap (λ e. e.plan.seed) c.in_ok-layer.ensures))
+    ∙ ap (λ n. public_rows e.plan.seed 1 0 (digit_rows (version_shape e)) n) (sym (ap (λ e. e.plan.dimension) c.in_ok-layer.ensures)) in
+    let width : c.width.result ≡ e.plan.width = c.width.ensures.value ∙ ap (λ l. l.width) c.layout-layout.ensures.value in
+    let digits : WordMatrix = digits_at e.plan e.records in
+    let a1 : WordMatrix = first_public (version_shape e) e.plan.dimension e.plan.seed in
+    let server : c.in_ok-server.server ≡ server_hint_of e.plan.width digits a1 =
+    c.in_ok-server.ensures.server digits a1 refl (c.hint.ensures.value ∙ simple_hint e) ∙ ap (λ w. server_hint_of w digits a1) width in
+    made_of e a2 c.in_ok-server.server c.in_ok-server.client public (record {
+      server = server;
+      client = c.in_ok-server.ensures.client ∙ ap (λ m. product m a2) server;
+    })

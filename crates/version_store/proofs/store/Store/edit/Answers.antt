@@ -1,18 +1,21 @@
-use Rattle.std.proofs.Common.{ap, ◌∙◌, sym, arith, refl, ◌≡◌, ◌<◌, ℕ, List, length, Bool, true, false, inl, inr, ◌≤◌}
+use Rattle.std.proofs.Common.{ap, ◌∙◌, sym, arith, ◌≡◌, ◌<◌, ℕ, List, length, Bool, true}
 use Rattle.std.specs.Prelude.{slice_set, Some}
-use Rattle.std.specs.Ordering.{nat_cmp}
-use Rattle.version_store.specs.Drafts.{Changes, draft_of, is_some_change}
+use Rattle.matrix_u32.proofs.Products.{length-list_of}
+use Rattle.digit_pack.specs.Layout.{record_at}
+use Rattle.pir_schemes.specs.Plans.{fits}
+use Rattle.version_store.specs.Drafts.{draft_of, is_some_change, bytes_or, change_at}
 use Rattle.version_store.specs.Editions.{Records}
 use Rattle.version_store.specs.Histories.{Held}
-use Rattle.version_store.proofs.DraftLemmas.{draft-inserted, some_after_insert}
+use Rattle.version_store.proofs.DraftLemmas.{draft-inserted, some_after_insert, fit-updated}
 use Rattle.version_store.proofs.HistoryLemmas.{edit_stands}
 use Rattle.version_store.proofs.store.Store.edit.Goals as goal
 
 pub returns-in-Ok-insert-clause-accepted : goal.returns-in-Ok-insert-clause-accepted
 returns-in-Ok-insert-clause-accepted g c =
     let e : Records = c.self.inside.edition in
-    let inside : c.args.i < length e.records =
-    omega (arith, c.self.invariant.count, c.count.ensures.value, ap (λ l. l.count) c.layout-layout.ensures.value) in
+    let many : length c.args.self.now.draft ≡ length e.records =
+    sym (ap (λ s. length s.draft) c.self.view_is) ∙ length-list_of (length e.records) (λ i. bytes_or (change_at c.self.inside.changes.entries i) (record_at e.records i)) in
+    let inside : c.args.i < length e.records = omega (arith, many, c.has_record.ensures.0 c.if-not-has_record.false) in
     let draft : draft_of e.records c.insert.new.self.entries ≡ slice_set (draft_of e.records c.self.inside.changes.entries) c.args.i c.args.bytes.now =
     draft-inserted e.records c.self.inside.changes c.insert.new.self c.args.i _ c.in-Ok-insert.ensures.updates inside
     ∙ ap (λ (b : List ℕ). slice_set (draft_of e.records c.self.inside.changes.entries) c.args.i b) c.in-Ok.ensures in
@@ -25,3 +28,13 @@ returns-in-Ok-insert-clause-accepted g c =
 pub returns-in-Ok-insert-clause-history : goal.returns-in-Ok-insert-clause-history
 returns-in-Ok-insert-clause-history g c =
     edit_stands c.args.self.now _ c.args.i c.args.bytes.now (returns-in-Ok-insert-clause-accepted g c)
+
+pub invariant_of-self : goal.invariant_of-self
+invariant_of-self g c =
+    let e : Records = c.self.inside.edition in
+    let many : length c.args.self.now.draft ≡ length e.records =
+    sym (ap (λ s. length s.draft) c.self.view_is) ∙ length-list_of (length e.records) (λ i. bytes_or (change_at c.self.inside.changes.entries i) (record_at e.records i)) in
+    let inside : c.args.i < length e.records = omega (arith, many, c.has_record.ensures.0 c.if-not-has_record.false) in
+    let fit : fits e.plan c.in-Ok.copy.items ≡ true =
+    ap (fits e.plan) c.in-Ok.ensures ∙ ap (λ s. fits s.edition.plan c.args.bytes.now) c.self.view_is ∙ sym c.fits.ensures ∙ c.if-not-fits.false in
+    fit-updated e c.self.inside.changes c.insert.new.self c.args.i (Some c.in-Ok.copy) c.in-Ok-insert.ensures.updates (inside, fit) c.self.invariant

@@ -1,0 +1,183 @@
+//! The records of one version, with what SimplePIR makes from them.
+
+ghost use Rattle.std.specs.Prelude.{◌≡◌, ◌*◌, ◌<◌, ◌≤◌, IfOk, length, slice_set};
+ghost use Rattle.digit_pack.specs.Layout.{IsLayout, digit_rows, digit_cols, digits_per_record, record_at, records_in};
+ghost use Rattle.pir_schemes.specs.Plans.{IsPlan, plan_of, digits_at};
+ghost use Rattle.pir_schemes.specs.Retrievals.{hint_matrix, answer_words};
+ghost use Rattle.version_store.specs.Editions.{Records, version_shape, MarksChanges};
+ghost use Rattle.version_store.specs.Openings.{bytes_of_records};
+
+use crate::columns::replace_digits;
+use digit_pack::{DigitStore, Flat, Layout, digits_of_records, pack, record_of, write_record};
+use matrix_u32::{Kernel, Matrix};
+use pir_schemes::Scheme;
+use seed_expand::expand;
+use std::alloc::{AllocError, Global};
+use std::marker::Model;
+
+/// What keeps the digits.
+pub type Digits = Flat;
+
+/// The records of one version, their digit matrix, the first public matrix and the SimplePIR hint. A
+/// contract sees it as `Records`: the hint is always the one that is made from scratch.
+#[derive(Drop)]
+pub struct FirstLayer {
+    layout: Layout,
+    seed: [u8; 32],
+    a1: Matrix,
+    digits: Digits,
+    hint: Matrix,
+    bytes: Vec<u8>,
+}
+
+impl Model for FirstLayer {
+    ghost use Rattle.digit_pack.specs.Layout.{records_in};
+    ghost use Rattle.pir_schemes.specs.Plans.{plan_of};
+    ghost use Rattle.version_store.specs.Editions.{Records, IsMade};
+
+    ghost Value = { Records };
+
+    ghost view = { λ e. record {
+      plan = plan_of e.layout e.a1.cols e.seed;
+      records = records_in e.layout e.bytes.items;
+    } };
+
+    ghost invariant = { λ e. IsMade e.layout e.a1.cols e.seed e.bytes.items e.a1 e.digits e.hint };
+}
+
+impl FirstLayer {
+    /// What is made of the records that stand one after another in `bytes`: their digits, the first public
+    /// matrix of `dimension` columns, and the hint by `setup`. Only refused memory gives an `Err`.
+    pub fn open<K: Kernel>(
+        alloc: Global,
+        kernel: K,
+        layout: Layout,
+        dimension: usize,
+        seed: [u8; 32],
+        bytes: Vec<u8>,
+    ) -> Result<FirstLayer, AllocError>
+        requires dimension { (1 ≤ dimension) × (dimension ≤ 1024) }
+        requires count { length bytes.items ≡ layout.count * layout.record_len }
+        ensures { IfOk result (λ e.
+            e ≡ record { plan = plan_of layout dimension seed; records = records_in layout bytes.items }) }
+    {
+        let digits: Digits = digits_of_records(alloc, &layout, &bytes)?;
+        let a1 = expand(alloc, &seed, 0, 0, layout.cols(), dimension)?;
+        layout.rows();
+        digits.rows();
+        let hint = simple_scheme::setup(alloc, kernel, &digits, &a1)?;
+        Ok(FirstLayer {
+            layout,
+            seed,
+            a1,
+            digits,
+            hint,
+            bytes,
+        })
+    }
+
+    /// The sizes of the records.
+    pub fn layout(&self) -> &Layout
+        ensures value { result.now ≡ version_shape self.now }
+        ensures plan { IsPlan self.now.plan (length self.now.records) }
+    {
+        &self.layout
+    }
+
+    /// The dimension n of the public matrices.
+    pub fn dimension(&self) -> usize
+        ensures { result ≡ self.now.plan.dimension }
+    {
+        self.a1.cols()
+    }
+
+    /// The public seed.
+    pub fn seed(&self) -> &[u8; 32]
+        ensures { result.now ≡ self.now.plan.seed }
+    {
+        &self.seed
+    }
+
+    /// The bytes of record i.
+    pub fn record(&self, i: usize) -> &[u8]
+        requires { i < length self.now.records }
+        ensures value { result.now ≡ record_at self.now.records i }
+        ensures count { length result.now ≡ self.now.plan.record_len }
+    {
+        record_of(&self.layout, &self.bytes, i)
+    }
+
+    /// The bytes of all records, record 0 first.
+    pub fn bytes(&self) -> &[u8]
+        ensures { result.now ≡ bytes_of_records self.now.records }
+    {
+        &self.bytes
+    }
+
+    /// The digits.
+    pub fn digits(&self) -> &Digits
+        ensures value { result.now ≡ digits_at self.now.plan self.now.records }
+        ensures rows { result.now.rows ≡ digit_rows (version_shape self.now) }
+        ensures cols { result.now.cols ≡ digit_cols (version_shape self.now) }
+    {
+        &self.digits
+    }
+
+    /// The SimplePIR hint.
+    pub fn hint(&self) -> &Matrix
+        ensures value { result.now ≡ hint_matrix Scheme.Simple self.now.plan self.now.records }
+        ensures rows { result.now.rows ≡ digit_rows (version_shape self.now) }
+        ensures cols { result.now.cols ≡ self.now.plan.dimension }
+    {
+        &self.hint
+    }
+
+    /// The answer to the words of a SimplePIR query. Only refused memory gives an `Err`.
+    pub fn answer<K: Kernel>(
+        &self,
+        alloc: Global,
+        kernel: K,
+        words: &[u32],
+    ) -> Result<Vec<u32>, AllocError>
+        requires { length words.now ≡ digit_cols (version_shape self.now) }
+        ensures { IfOk result (λ v.
+            v.items ≡ answer_words Scheme.Simple self.now.plan self.now.records words.now) }
+    {
+        simple_scheme::answer(alloc, kernel, &self.digits, words)
+    }
+
+    /// Puts another record in the place of record i, and marks the rows whose digits change. `scratch` has
+    /// room for a record's digits, and `marks` a mark for each row of digits.
+    ///
+    /// Only the record's digits that change are multiplied, each by one row of the public matrix.
+    pub fn replace<K: Kernel>(
+        &mut self,
+        kernel: K,
+        i: usize,
+        bytes: &[u8],
+        scratch: &mut [u32],
+        marks: &mut [bool],
+    )
+        requires index { i < length self.old.records }
+        requires len { length bytes.now ≡ self.old.plan.record_len }
+        requires room { length scratch.old ≡ digits_per_record (version_shape self.old) }
+        requires marks { length marks.old ≡ digit_rows (version_shape self.old) }
+        ensures records { self.new ≡ record self.old { records = slice_set self.old.records i bytes.now } }
+        ensures marks { MarksChanges (digits_at self.old.plan self.old.records)
+            (digits_at self.new.plan self.new.records) marks.old marks.new }
+    {
+        let (first, col) = self.layout.place(i);
+        pack(&self.layout, bytes, scratch);
+        replace_digits(
+            kernel,
+            &mut self.digits,
+            &mut self.hint,
+            &self.a1,
+            first,
+            col,
+            scratch,
+            marks,
+        );
+        write_record(&self.layout, &mut self.bytes, i, bytes);
+    }
+}

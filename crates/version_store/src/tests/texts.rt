@@ -1,0 +1,59 @@
+//! What each fault prints.
+
+use super::*;
+use crate::{EditError, OpenError, PublishError};
+
+#[test]
+fn each_open_error_has_its_text(rt: HostRuntime) -> Result<(), Fail> {
+    let texts = [
+        (
+            OpenError::BadLayout,
+            "the layout or the dimension is outside the limits",
+        ),
+        (OpenError::BadVersion, "there is no version 0"),
+        (
+            OpenError::BadRecords,
+            "the records have another number of bytes",
+        ),
+        (OpenError::Memory, "out of memory"),
+    ];
+    for (fault, text) in texts {
+        let told = format!(in rt.alloc(); "{fault}")?;
+        assert_eq!(rt; told.as_str(), text);
+    }
+    Ok(())
+}
+
+#[test]
+fn each_edit_error_has_its_text(rt: HostRuntime) -> Result<(), Fail> {
+    let texts = [
+        (EditError::BadIndex, "there is no such record"),
+        (EditError::BadLength, "a record has another number of bytes"),
+        (EditError::Memory, "out of memory"),
+    ];
+    for (fault, text) in texts {
+        let told = format!(in rt.alloc(); "{fault}")?;
+        assert_eq!(rt; told.as_str(), text);
+    }
+    Ok(())
+}
+
+#[test]
+fn each_publish_error_has_its_text(rt: HostRuntime) -> Result<(), Fail> {
+    let texts = [
+        (
+            PublishError::NothingToPublish,
+            "nothing was edited since the last publication",
+        ),
+        (
+            PublishError::VersionsUsedUp,
+            "there is no further version number",
+        ),
+        (PublishError::Memory, "out of memory"),
+    ];
+    for (fault, text) in texts {
+        let told = format!(in rt.alloc(); "{fault}")?;
+        assert_eq!(rt; told.as_str(), text);
+    }
+    Ok(())
+}
