@@ -5,11 +5,11 @@ use Rattle.std.proofs.lemmas.Bool.{and_parts, eqb-true, eqb-false}
 use Rattle.std.proofs.lemmas.List.{append-nil, append_assoc}
 use Rattle.frame_codec.specs.declared.frame.Frame.{Frame}
 use Rattle.frame_codec.specs.declared.frame.Frame.TheVariants as frame
-use Rattle.digit_pack.specs.Digits.{number_of}
-use Rattle.digit_pack.specs.Layout.{Shape, shape, digit_rows, record_bytes}
-use Rattle.simple_scheme.specs.Simple.{reading}
-use Rattle.version_store.specs.declared.scheme.Scheme.{Scheme}
-use Rattle.version_store.specs.declared.scheme.Scheme.TheVariants.{Simple, Double}
+use Rattle.digit_pack.specs.Layout.{Shape, shape}
+use Rattle.pir_schemes.specs.declared.scheme.Scheme.{Scheme}
+use Rattle.pir_schemes.specs.Schemes.{scheme_byte}
+use Rattle.pir_schemes.specs.Plans.{record_of}
+use Rattle.pir_schemes.specs.Retrievals.{hint_len, answer_count, reading}
 use Rattle.client_core.specs.declared.state.ClientState.{ClientState}
 use Rattle.client_core.specs.declared.state.Known.{Known}
 use Rattle.client_core.specs.declared.state.Hint.{Hint}
@@ -20,8 +20,8 @@ use Rattle.client_core.specs.declared.state.Event.TheVariants.{Welcomed, Synced,
 use Rattle.client_core.specs.declared.state.ClientFault.{ClientFault}
 use Rattle.client_core.specs.declared.state.Reaction.{Reaction}
 use Rattle.client_core.specs.declared.state.Reaction.TheVariants.{Asks, Tells, Fails}
-use Rattle.client_core.specs.States.{is_layout, hint_len}
-use Rattle.client_core.specs.Replies.{Taken, takes, is_welcome, takes_welcome, is_part, more_parts, takes_simple_part, takes_part, record_event, answered, takes_answer, with_count, staled, takes_stale, takes_done, takes_refused}
+use Rattle.client_core.specs.States.{is_layout}
+use Rattle.client_core.specs.Replies.{Taken, takes, is_welcome, takes_welcome, is_part, more_parts, takes_asked_part, takes_part, event_of, is_answer, answered, takes_answer, with_count, staled, takes_stale, takes_done, takes_refused}
 use Rattle.client_core.specs.Feeding.{Client, Course, start, goes_on, course_more, runs, takes_all, sends_of, events_of, fault_of, failing, ends_with, codec_fault, Follows, BreaksOff, FeedsOpen, FeedsFailed}
 use Rattle.client_core.specs.Endings.{Ends, FirstEventEndsTheCall, FeedingSpendsNoNumber}
 use Rattle.client_core.proofs.NumberLaws.{takes_number}
@@ -30,7 +30,7 @@ use Rattle.client_core.proofs.NumberLaws.{takes_number}
 
 abbrev by_reaction : Call → Call → Reaction → Type 0
 by_reaction call next (Tells e) = Ends call e
-by_reaction call next (Asks v p) = (e : Event) → Ends next e → Ends call e
+by_reaction call next (Asks s v p) = (e : Event) → Ends next e → Ends call e
 by_reaction call next (Fails f) = Unit {0}
 
 abbrev ReactsTo : Call → Taken → Type 0
@@ -44,7 +44,7 @@ welcome_reacts : (call : Call) (c : ClientState) (profile : ℕ) (l : Shape) (n 
 welcome_reacts Idle c profile l n version seed = tt
 welcome_reacts (Hello key) c profile l n version seed = if_reacts (Hello key) (is_welcome profile l n version) _ _ (λ _. tt) tt
 welcome_reacts (Sync s v p) c profile l n version seed = tt
-welcome_reacts (Ask i v m) c profile l n version seed = tt
+welcome_reacts (Ask i x v m) c profile l n version seed = tt
 welcome_reacts (Edit i b) c profile l n version seed = tt
 welcome_reacts Publish c profile l n version seed = tt
 
@@ -58,51 +58,46 @@ next_part s v p q (Stale version) h = h
 next_part s v p q (Done version) h = h
 next_part s v p q (Refused code) h = h
 
-simple_part_reacts : (known : Option Known) (c : ClientState) (v p scheme version part : ℕ) (words : List ℕ) → ReactsTo (Sync Simple v p) (takes_simple_part known c v p scheme version part words)
-simple_part_reacts None c v p scheme version part words = tt
-simple_part_reacts (Some k) c v p scheme version part words =
-    if_reacts (Sync Simple v p) (is_part (hint_len k) v p scheme version part words) (more_parts k c v p (c.parts ++ words)) _
-    (λ _. if_reacts (Sync Simple v p) (length (c.parts ++ words) == hint_len k) _ _ (λ _. (refl, refl)) (next_part Simple v p (p + 1)))
+asked_part_reacts : (known : Option Known) (s : Scheme) (c : ClientState) (v p scheme version part : ℕ) (words : List ℕ) → ReactsTo (Sync s v p) (takes_asked_part known s c v p scheme version part words)
+asked_part_reacts None s c v p scheme version part words = tt
+asked_part_reacts (Some k) s c v p scheme version part words =
+    if_reacts (Sync s v p) (is_part s (hint_len s k.layout k.dimension) v p scheme version part words) (more_parts s k c v p (c.parts ++ words)) _
+    (λ _. if_reacts (Sync s v p) (length (c.parts ++ words) == hint_len s k.layout k.dimension) _ _ (λ _. (refl, refl)) (next_part s v p (p + 1)))
     tt
 
 part_reacts : (call : Call) (c : ClientState) (scheme version part : ℕ) (words : List ℕ) → ReactsTo call (takes_part call c scheme version part words)
 part_reacts Idle c scheme version part words = tt
 part_reacts (Hello key) c scheme version part words = tt
-part_reacts (Sync Simple v p) c scheme version part words = simple_part_reacts c.known c v p scheme version part words
-part_reacts (Sync Double v p) c scheme version part words = tt
-part_reacts (Ask i v m) c scheme version part words = tt
+part_reacts (Sync s v p) c scheme version part words = asked_part_reacts c.known s c v p scheme version part words
+part_reacts (Ask i x v m) c scheme version part words = tt
 part_reacts (Edit i b) c scheme version part words = tt
 part_reacts Publish c scheme version part words = tt
 
 -- a record's event is of the record and the version asked
-of_record : (l : Shape) (i v m version : ℕ) (digits : List ℕ) → version ≡ v → Ends (Ask i v m) (record_event l i version digits)
-unfolding record_event
-of_record l i v m version digits e = readable (nat_lt (number_of l.width digits) (2 ^ (8 * l.record_len)))
-  where
-    readable : (b : Bool) → Ends (Ask i v m) (cond b (Retrieved i version (record_bytes l digits)) (Unreadable i version))
-    readable true = (refl, e)
-    readable false = (refl, e)
+of_record : (x : Scheme) (i v m version : ℕ) (given : Option (List ℕ)) → version ≡ v → Ends (Ask i x v m) (event_of i version given)
+of_record x i v m version (Some bytes) e = (refl, e)
+of_record x i v m version None e = (refl, e)
 
-asked_version : (scheme version v : ℕ) (b : Bool) → ((scheme == 0) && ((version == v) && b)) ≡ true → version ≡ v
-asked_version scheme version v b h =
-    let x = and_parts (scheme == 0) ((version == v) && b) h in
+asked_version : (s : Scheme) (scheme version v : ℕ) (b : Bool) → ((scheme == scheme_byte s) && ((version == v) && b)) ≡ true → version ≡ v
+asked_version s scheme version v b h =
+    let x = and_parts (scheme == scheme_byte s) ((version == v) && b) h in
     let y = and_parts (version == v) b x.1 in
     eqb-true version v y.0
 
-answered_reacts : (known : Option Known) (hint : Option Hint) (c : ClientState) (i v m scheme version : ℕ) (words : List ℕ) → ReactsTo (Ask i v m) (answered known hint c i v m scheme version words)
-answered_reacts None hint c i v m scheme version words = tt
-answered_reacts (Some k) None c i v m scheme version words = tt
-answered_reacts (Some k) (Some h) c i v m scheme version words =
-    let b = length words == digit_rows k.layout in
-    if_reacts (Ask i v m) ((scheme == 0) && ((version == v) && b)) _ _
-    (λ is. of_record k.layout i v m version (reading k.layout h.matrix c.seed m i words) (asked_version scheme version v b is))
+answered_reacts : (x : Scheme) (known : Option Known) (hint : Option Hint) (c : ClientState) (i v m scheme version : ℕ) (words : List ℕ) → ReactsTo (Ask i x v m) (answered known hint c i v m scheme version words)
+answered_reacts x None hint c i v m scheme version words = tt
+answered_reacts x (Some k) None c i v m scheme version words = tt
+answered_reacts x (Some k) (Some h) c i v m scheme version words =
+    let b = length words == answer_count h.scheme k.layout k.dimension in
+    if_reacts (Ask i x v m) (is_answer h.scheme k v scheme version words) _ _
+    (λ is. of_record x i v m version (record_of k.layout (reading h.scheme k.layout h.matrix c.seed m i words)) (asked_version h.scheme scheme version v b is))
     tt
 
 answer_reacts : (call : Call) (c : ClientState) (scheme version : ℕ) (words : List ℕ) → ReactsTo call (takes_answer call c scheme version words)
 answer_reacts Idle c scheme version words = tt
 answer_reacts (Hello key) c scheme version words = tt
 answer_reacts (Sync s v p) c scheme version words = tt
-answer_reacts (Ask i v m) c scheme version words = answered_reacts c.known c.hint c i v m scheme version words
+answer_reacts (Ask i x v m) c scheme version words = answered_reacts x c.known c.hint c i v m scheme version words
 answer_reacts (Edit i b) c scheme version words = tt
 answer_reacts Publish c scheme version words = tt
 
@@ -119,17 +114,17 @@ stale_sync_reacts (Some k) after c s v p version count =
     let b = nat_lt 0 version && is_layout (with_count k.layout count) in
     if_reacts (Sync s v p) (not (version == v) && b) _ _ (another_version version v b) tt
 
-stale_ask_reacts : (known : Option Known) (after c : ClientState) (i v m version count : ℕ) → ReactsTo (Ask i v m) (staled known after c v version count)
-stale_ask_reacts None after c i v m version count = tt
-stale_ask_reacts (Some k) after c i v m version count =
+stale_ask_reacts : (x : Scheme) (known : Option Known) (after c : ClientState) (i v m version count : ℕ) → ReactsTo (Ask i x v m) (staled known after c v version count)
+stale_ask_reacts x None after c i v m version count = tt
+stale_ask_reacts x (Some k) after c i v m version count =
     let b = nat_lt 0 version && is_layout (with_count k.layout count) in
-    if_reacts (Ask i v m) (not (version == v) && b) _ _ (another_version version v b) tt
+    if_reacts (Ask i x v m) (not (version == v) && b) _ _ (another_version version v b) tt
 
 stale_reacts : (call : Call) (c : ClientState) (version count : ℕ) → ReactsTo call (takes_stale call c version count)
 stale_reacts Idle c version count = tt
 stale_reacts (Hello key) c version count = tt
 stale_reacts (Sync s v p) c version count = stale_sync_reacts c.known (record c { parts = [] }) c s v p version count
-stale_reacts (Ask i v m) c version count = stale_ask_reacts c.known c c i v m version count
+stale_reacts (Ask i x v m) c version count = stale_ask_reacts x c.known c c i v m version count
 stale_reacts (Edit i b) c version count = tt
 stale_reacts Publish c version count = tt
 
@@ -137,7 +132,7 @@ done_reacts : (call : Call) (c : ClientState) (version : ℕ) → ReactsTo call 
 done_reacts Idle c version = tt
 done_reacts (Hello key) c version = tt
 done_reacts (Sync s v p) c version = tt
-done_reacts (Ask i v m) c version = tt
+done_reacts (Ask i x v m) c version = tt
 done_reacts (Edit i b) c version = tt
 done_reacts Publish c version = tt
 
@@ -145,7 +140,7 @@ refused_reacts : (call : Call) (c : ClientState) (code : ℕ) → ReactsTo call 
 refused_reacts Idle c code = tt
 refused_reacts (Hello key) c code = tt
 refused_reacts (Sync s v p) c code = tt
-refused_reacts (Ask i v m) c code = tt
+refused_reacts (Ask i x v m) c code = tt
 refused_reacts (Edit i b) c code = tt
 refused_reacts Publish c code = tt
 
@@ -186,7 +181,7 @@ on_reaction : (call : Call) (here : Call) (c : ClientState) (sends : List Frame)
     → ((c : ClientState) (sends : List Frame) (o : Option ClientFault) → (o ≡ None → Leads call c) → (runs (course c sends [] o) fs).events ≡ event ∷ later → Ends call event)
     → by_reaction here c.call r → ((e : Event) → Ends here e → Ends call e)
     → (runs (course c (sends ++ sends_of r) ([] ++ events_of r) (fault_of r)) fs).events ≡ event ∷ later → Ends call event
-on_reaction call here c sends (Asks v p) fs event later again by leads h = again c (sends ++ sends_of (Asks v p)) None (λ _ e x. leads e (by e x)) h
+on_reaction call here c sends (Asks s v p) fs event later again by leads h = again c (sends ++ sends_of (Asks s v p)) None (λ _ e x. leads e (by e x)) h
 on_reaction call here c sends (Tells e) fs event later again by leads h =
     let b = events_begin (course c (sends ++ []) (e ∷ []) None) fs in
     let same : e ∷ b.0 ≡ event ∷ later = sym b.1 ∙ h in

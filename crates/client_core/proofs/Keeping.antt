@@ -1,12 +1,17 @@
 -- What no reply and no call changes.
-use Rattle.std.proofs.Common.{◌≡◌, ◌≢◌, ℕ, ◌+◌, ◌*◌, ◌≤◌, Bool, true, false, cond, List, [], ◌++◌, length, Option, Some, None, refl, subst, arith}
+use Rattle.std.proofs.Common.{◌≡◌, ◌≢◌, ℕ, ◌+◌, ◌*◌, ◌≤◌, Bool, true, false, cond, List, [], ◌++◌, length, Option, Some, None, refl, ◌∙◌, subst, arith}
 use Rattle.std.specs.Prelude.{◌==◌, ◌&&◌, nat_lt, nat_le, not}
 use Rattle.std.proofs.lemmas.Bool.{and_parts, eqb-true, eqb-false, leb-true}
 use Rattle.std.proofs.lemmas.List.{length-append}
 use Rattle.frame_codec.specs.declared.frame.Frame.{Frame}
 use Rattle.frame_codec.specs.declared.frame.Frame.TheVariants as frame
-use Rattle.digit_pack.specs.Layout.{Shape, shape, digit_rows}
-use Rattle.version_store.specs.declared.scheme.Scheme.TheVariants.{Simple, Double}
+use Rattle.digit_pack.specs.Layout.{Shape, shape}
+use Rattle.pir_schemes.specs.declared.scheme.Scheme.{Scheme}
+use Rattle.pir_schemes.specs.declared.scheme.Scheme.TheVariants.{Simple, Double}
+use Rattle.pir_schemes.specs.Schemes.{scheme_byte}
+use Rattle.pir_schemes.specs.Parts.{part_len}
+use Rattle.pir_schemes.specs.Plans.{plan_of, profile_of}
+use Rattle.pir_schemes.specs.Retrievals.{hint_rows, hint_len}
 use Rattle.client_core.specs.declared.state.ClientState.{ClientState}
 use Rattle.client_core.specs.declared.state.Known.{Known}
 use Rattle.client_core.specs.declared.state.Hint.{Hint}
@@ -14,8 +19,8 @@ use Rattle.client_core.specs.declared.state.Call.{Call}
 use Rattle.client_core.specs.declared.state.Call.TheVariants.{Idle, Hello, Sync, Ask, Edit, Publish}
 use Rattle.client_core.specs.declared.state.Event.TheVariants.{Welcomed}
 use Rattle.client_core.specs.declared.state.ClientFault.TheVariants.{BadWelcome, BadReply}
-use Rattle.client_core.specs.States.{IsState, IsKnown, Keeps, KnownFits, HintFits, CallFits, is_layout, hint_len, part_len}
-use Rattle.client_core.specs.Replies.{Taken, takes, faulty, ended, is_welcome, takes_welcome, is_part, more_parts, takes_simple_part, takes_part, answered, takes_answer, with_count, staled, takes_stale, takes_done, takes_refused}
+use Rattle.client_core.specs.States.{IsState, IsKnown, Keeps, KnownFits, HintFits, CallFits, is_layout}
+use Rattle.client_core.specs.Replies.{Taken, takes, faulty, ended, is_welcome, takes_welcome, is_part, more_parts, takes_asked_part, takes_part, is_answer, answered, takes_answer, with_count, staled, takes_stale, takes_done, takes_refused}
 use Rattle.client_core.proofs.Layouts.{layout_means}
 
 pub faulty_keeps : (c : ClientState) → IsState c → Keeps c (record c { failed = true })
@@ -44,7 +49,7 @@ told version l n seed = record { version = version; layout = l; dimension = n; s
 welcome_known : (profile : ℕ) (l : Shape) (n version : ℕ) (seed : List ℕ) → is_welcome profile l n version ≡ true → IsKnown (told version l n seed)
 unfolding told
 welcome_known profile l n version seed h =
-    let a = and_parts (profile == 1) (is_layout l && ((nat_le 1 n && nat_le n 1024) && nat_lt 0 version)) h in
+    let a = and_parts (profile == profile_of (plan_of l n [])) (is_layout l && ((nat_le 1 n && nat_le n 1024) && nat_lt 0 version)) h in
     let b = and_parts (is_layout l) ((nat_le 1 n && nat_le n 1024) && nat_lt 0 version) a.1 in
     let d = and_parts (nat_le 1 n && nat_le n 1024) (nat_lt 0 version) b.1 in
     let e = and_parts (nat_le 1 n) (nat_le n 1024) d.0 in
@@ -72,20 +77,20 @@ welcome_keeps (Hello key) c profile l n version seed s fits =
     (welcomed_keeps c key profile l n version seed s fits)
     (λ _. faulty_keeps c s)
 welcome_keeps (Sync x v p) c profile l n version seed s fits = faulty_keeps c s
-welcome_keeps (Ask i v m) c profile l n version seed s fits = faulty_keeps c s
+welcome_keeps (Ask i x v m) c profile l n version seed s fits = faulty_keeps c s
 welcome_keeps (Edit i b) c profile l n version seed s fits = faulty_keeps c s
 welcome_keeps Publish c profile l n version seed s fits = faulty_keeps c s
 
 -- ---- HintPart
 
-pub is_part_len : (total asked next scheme version part : ℕ) (words : List ℕ) → is_part total asked next scheme version part words ≡ true → length words ≡ part_len total next
-is_part_len total asked next scheme version part words h =
-    let a = and_parts (scheme == 0) ((version == asked) && ((part == next) && (length words == part_len total next))) h in
+pub is_part_len : (s : Scheme) (total asked next scheme version part : ℕ) (words : List ℕ) → is_part s total asked next scheme version part words ≡ true → length words ≡ part_len total next
+is_part_len s total asked next scheme version part words h =
+    let a = and_parts (scheme == scheme_byte s) ((version == asked) && ((part == next) && (length words == part_len total next))) h in
     let b = and_parts (version == asked) ((part == next) && (length words == part_len total next)) a.1 in
     let d = and_parts (part == next) (length words == part_len total next) b.1 in
     eqb-true (length words) (part_len total next) d.1
 
--- a part behind whole ones that isn't the last is a whole one
+-- a part after whole ones that isn't the last is a whole one
 part_fits : (total p : ℕ) (parts words : List ℕ) → length parts ≡ 65536 * p → length parts ≤ total → length words ≡ part_len total p → (length (parts ++ words) == total) ≡ false
     → (length (parts ++ words) ≡ 65536 * (p + 1)) × (length (parts ++ words) ≤ total)
 part_fits total p parts words e le len ne =
@@ -93,27 +98,27 @@ part_fits total p parts words e le len ne =
     let other : length (parts ++ words) ≢ total = eqb-false (length (parts ++ words)) total ne in
     (omega arith, omega arith)
 
-more_keeps : (k : Known) (c : ClientState) (v p : ℕ) (words : List ℕ) → c.known ≡ Some k → IsState c → length c.parts ≡ 65536 * p → length c.parts ≤ hint_len k → length words ≡ part_len (hint_len k) p
-    → Keeps c (more_parts k c v p (c.parts ++ words)).state
-more_keeps k c v p words e s len le is =
-    if_keeps c (length (c.parts ++ words) == hint_len k) _ _
+more_keeps : (x : Scheme) (k : Known) (c : ClientState) (v p : ℕ) (words : List ℕ) → c.known ≡ Some k → IsState c → length c.parts ≡ 65536 * p
+    → length c.parts ≤ hint_len x k.layout k.dimension → length words ≡ part_len (hint_len x k.layout k.dimension) p
+    → Keeps c (more_parts x k c v p (c.parts ++ words)).state
+more_keeps x k c v p words e s len le is =
+    if_keeps c (length (c.parts ++ words) == hint_len x k.layout k.dimension) _ _
     (λ whole. record { good = record { number = s.number; known = s.known; hint = rw e (refl, refl); call = tt }; number = refl })
-    (λ other. record { good = record { number = s.number; known = s.known; hint = s.hint; call = rw e (part_fits (hint_len k) p c.parts words len le is other) }; number = refl })
+    (λ other. record { good = record { number = s.number; known = s.known; hint = s.hint; call = rw e (part_fits (hint_len x k.layout k.dimension) p c.parts words len le is other) }; number = refl })
 
-simple_part_keeps : (known : Option Known) (c : ClientState) (v p scheme version part : ℕ) (words : List ℕ) → c.known ≡ known → IsState c → CallFits (Sync Simple v p) known c.parts
-    → Keeps c (takes_simple_part known c v p scheme version part words).state
-simple_part_keeps None c v p scheme version part words e s fits = faulty_keeps c s
-simple_part_keeps (Some k) c v p scheme version part words e s fits =
-    if_keeps c (is_part (hint_len k) v p scheme version part words) (more_parts k c v p (c.parts ++ words)) (faulty c BadReply)
-    (λ is. more_keeps k c v p words e s fits.0 fits.1 (is_part_len (hint_len k) v p scheme version part words is))
+asked_part_keeps : (known : Option Known) (x : Scheme) (c : ClientState) (v p scheme version part : ℕ) (words : List ℕ) → c.known ≡ known → IsState c → CallFits (Sync x v p) known c.parts
+    → Keeps c (takes_asked_part known x c v p scheme version part words).state
+asked_part_keeps None x c v p scheme version part words e s fits = faulty_keeps c s
+asked_part_keeps (Some k) x c v p scheme version part words e s fits =
+    if_keeps c (is_part x (hint_len x k.layout k.dimension) v p scheme version part words) (more_parts x k c v p (c.parts ++ words)) (faulty c BadReply)
+    (λ is. more_keeps x k c v p words e s fits.0 fits.1 (is_part_len x (hint_len x k.layout k.dimension) v p scheme version part words is))
     (λ _. faulty_keeps c s)
 
 part_keeps : (call : Call) (c : ClientState) (scheme version part : ℕ) (words : List ℕ) → IsState c → CallFits call c.known c.parts → Keeps c (takes_part call c scheme version part words).state
 part_keeps Idle c scheme version part words s fits = faulty_keeps c s
 part_keeps (Hello key) c scheme version part words s fits = faulty_keeps c s
-part_keeps (Sync Simple v p) c scheme version part words s fits = simple_part_keeps c.known c v p scheme version part words refl s fits
-part_keeps (Sync Double v p) c scheme version part words s fits = faulty_keeps c s
-part_keeps (Ask i v m) c scheme version part words s fits = faulty_keeps c s
+part_keeps (Sync x v p) c scheme version part words s fits = asked_part_keeps c.known x c v p scheme version part words refl s fits
+part_keeps (Ask i x v m) c scheme version part words s fits = faulty_keeps c s
 part_keeps (Edit i b) c scheme version part words s fits = faulty_keeps c s
 part_keeps Publish c scheme version part words s fits = faulty_keeps c s
 
@@ -123,13 +128,13 @@ answered_keeps : (known : Option Known) (hint : Option Hint) (c : ClientState) (
 answered_keeps None hint c i v m scheme version words s = faulty_keeps c s
 answered_keeps (Some k) None c i v m scheme version words s = faulty_keeps c s
 answered_keeps (Some k) (Some h) c i v m scheme version words s =
-    if_keeps c ((scheme == 0) && ((version == v) && (length words == digit_rows k.layout))) _ (faulty c BadReply) (λ _. ended_keeps c s) (λ _. faulty_keeps c s)
+    if_keeps c (is_answer h.scheme k v scheme version words) _ (faulty c BadReply) (λ _. ended_keeps c s) (λ _. faulty_keeps c s)
 
 answer_keeps : (call : Call) (c : ClientState) (scheme version : ℕ) (words : List ℕ) → IsState c → Keeps c (takes_answer call c scheme version words).state
 answer_keeps Idle c scheme version words s = faulty_keeps c s
 answer_keeps (Hello key) c scheme version words s = faulty_keeps c s
 answer_keeps (Sync x v p) c scheme version words s = faulty_keeps c s
-answer_keeps (Ask i v m) c scheme version words s = answered_keeps c.known c.hint c i v m scheme version words s
+answer_keeps (Ask i x v m) c scheme version words s = answered_keeps c.known c.hint c i v m scheme version words s
 answer_keeps (Edit i b) c scheme version words s = faulty_keeps c s
 answer_keeps Publish c scheme version words s = faulty_keeps c s
 
@@ -137,7 +142,11 @@ answer_keeps Publish c scheme version words s = faulty_keeps c s
 
 same_rows : (k : Known) (version count : ℕ) (hint : Option Hint) → HintFits (Some k) hint → HintFits (Some (record k { version = version; layout = with_count k.layout count })) hint
 same_rows k version count None fits = tt
-same_rows k version count (Some h) fits = fits
+same_rows k version count (Some h) fits = (fits.0 ∙ rows_stay h.scheme k count, fits.1)
+  where
+    rows_stay : (s : Scheme) (k : Known) (count : ℕ) → hint_rows s k.layout k.dimension ≡ hint_rows s (with_count k.layout count) k.dimension
+    rows_stay Simple k count = refl
+    rows_stay Double k count = refl
 
 stale_known : (k : Known) (asked version count : ℕ) → IsKnown k → (not (version == asked) && (nat_lt 0 version && is_layout (with_count k.layout count))) ≡ true
     → IsKnown (record k { version = version; layout = with_count k.layout count })
@@ -162,7 +171,7 @@ stale_keeps : (call : Call) (c : ClientState) (version count : ℕ) → IsState 
 stale_keeps Idle c version count s = faulty_keeps c s
 stale_keeps (Hello key) c version count s = faulty_keeps c s
 stale_keeps (Sync x v p) c version count s = staled_keeps c.known c (record c { parts = [] }) v version count refl s refl refl
-stale_keeps (Ask i v m) c version count s = staled_keeps c.known c c v version count refl s refl refl
+stale_keeps (Ask i x v m) c version count s = staled_keeps c.known c c v version count refl s refl refl
 stale_keeps (Edit i b) c version count s = faulty_keeps c s
 stale_keeps Publish c version count s = faulty_keeps c s
 
@@ -172,7 +181,7 @@ done_keeps : (call : Call) (c : ClientState) (version : ℕ) → IsState c → K
 done_keeps Idle c version s = faulty_keeps c s
 done_keeps (Hello key) c version s = faulty_keeps c s
 done_keeps (Sync x v p) c version s = faulty_keeps c s
-done_keeps (Ask i v m) c version s = faulty_keeps c s
+done_keeps (Ask i x v m) c version s = faulty_keeps c s
 done_keeps (Edit i b) c version s = ended_keeps c s
 done_keeps Publish c version s = ended_keeps c s
 
@@ -180,7 +189,7 @@ refused_keeps : (call : Call) (c : ClientState) (code : ℕ) → IsState c → K
 refused_keeps Idle c code s = faulty_keeps c s
 refused_keeps (Hello key) c code s = ended_keeps c s
 refused_keeps (Sync x v p) c code s = emptied_keeps c s
-refused_keeps (Ask i v m) c code s = ended_keeps c s
+refused_keeps (Ask i x v m) c code s = ended_keeps c s
 refused_keeps (Edit i b) c code s = ended_keeps c s
 refused_keeps Publish c code s = ended_keeps c s
 

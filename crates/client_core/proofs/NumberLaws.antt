@@ -4,14 +4,14 @@ use Rattle.std.specs.Prelude.{slice_index}
 use Rattle.frame_codec.specs.declared.frame.Frame.{Frame}
 use Rattle.frame_codec.specs.declared.frame.Frame.TheVariants as frame
 use Rattle.digit_pack.specs.Layout.{Shape, shape}
-use Rattle.version_store.specs.declared.scheme.Scheme.TheVariants.{Simple, Double}
+use Rattle.pir_schemes.specs.declared.scheme.Scheme.{Scheme}
 use Rattle.client_core.specs.declared.state.ClientState.{ClientState}
 use Rattle.client_core.specs.declared.state.Known.{Known}
 use Rattle.client_core.specs.declared.state.Hint.{Hint}
 use Rattle.client_core.specs.declared.state.Call.{Call}
 use Rattle.client_core.specs.declared.state.Call.TheVariants as call
 use Rattle.client_core.specs.Calls.{Want, Hello, Sync, Ask, Edit, Publish}
-use Rattle.client_core.specs.Replies.{Taken, takes, takes_welcome, more_parts, takes_simple_part, takes_part, answered, takes_answer, staled, takes_stale, takes_done, takes_refused}
+use Rattle.client_core.specs.Replies.{Taken, takes, takes_welcome, more_parts, takes_asked_part, takes_part, answered, takes_answer, staled, takes_stale, takes_done, takes_refused}
 use Rattle.client_core.specs.Laws.{Happening, Accepted, Lacking, Taken as Reply, Failing, after, numbers, NoNumberTwice}
 
 -- ---- no reply changes the number
@@ -24,20 +24,19 @@ welcome_number : (k : Call) (c : ClientState) (profile : ℕ) (l : Shape) (n ver
 welcome_number call.Idle c profile l n version seed = refl
 welcome_number (call.Hello key) c profile l n version seed = either c.number _ _ _ refl refl
 welcome_number (call.Sync s v p) c profile l n version seed = refl
-welcome_number (call.Ask i v m) c profile l n version seed = refl
+welcome_number (call.Ask i x v m) c profile l n version seed = refl
 welcome_number (call.Edit i b) c profile l n version seed = refl
 welcome_number call.Publish c profile l n version seed = refl
 
-simple_part_number : (known : Option Known) (c : ClientState) (v p scheme version part : ℕ) (words : List ℕ) → (takes_simple_part known c v p scheme version part words).state.number ≡ c.number
-simple_part_number None c v p scheme version part words = refl
-simple_part_number (Some k) c v p scheme version part words = either c.number _ (more_parts k c v p (c.parts ++ words)) _ (either c.number _ _ _ refl refl) refl
+asked_part_number : (known : Option Known) (s : Scheme) (c : ClientState) (v p scheme version part : ℕ) (words : List ℕ) → (takes_asked_part known s c v p scheme version part words).state.number ≡ c.number
+asked_part_number None s c v p scheme version part words = refl
+asked_part_number (Some k) s c v p scheme version part words = either c.number _ (more_parts s k c v p (c.parts ++ words)) _ (either c.number _ _ _ refl refl) refl
 
 part_number : (k : Call) (c : ClientState) (scheme version part : ℕ) (words : List ℕ) → (takes_part k c scheme version part words).state.number ≡ c.number
 part_number call.Idle c scheme version part words = refl
 part_number (call.Hello key) c scheme version part words = refl
-part_number (call.Sync Simple v p) c scheme version part words = simple_part_number c.known c v p scheme version part words
-part_number (call.Sync Double v p) c scheme version part words = refl
-part_number (call.Ask i v m) c scheme version part words = refl
+part_number (call.Sync s v p) c scheme version part words = asked_part_number c.known s c v p scheme version part words
+part_number (call.Ask i x v m) c scheme version part words = refl
 part_number (call.Edit i b) c scheme version part words = refl
 part_number call.Publish c scheme version part words = refl
 
@@ -50,7 +49,7 @@ answer_number : (k : Call) (c : ClientState) (scheme version : ℕ) (words : Lis
 answer_number call.Idle c scheme version words = refl
 answer_number (call.Hello key) c scheme version words = refl
 answer_number (call.Sync s v p) c scheme version words = refl
-answer_number (call.Ask i v m) c scheme version words = answered_number c.known c.hint c i v m scheme version words
+answer_number (call.Ask i x v m) c scheme version words = answered_number c.known c.hint c i v m scheme version words
 answer_number (call.Edit i b) c scheme version words = refl
 answer_number call.Publish c scheme version words = refl
 
@@ -62,7 +61,7 @@ stale_number : (k : Call) (c : ClientState) (version count : ℕ) → (takes_sta
 stale_number call.Idle c version count = refl
 stale_number (call.Hello key) c version count = refl
 stale_number (call.Sync s v p) c version count = staled_number c.known (record c { parts = [] }) c v version count refl
-stale_number (call.Ask i v m) c version count = staled_number c.known c c v version count refl
+stale_number (call.Ask i x v m) c version count = staled_number c.known c c v version count refl
 stale_number (call.Edit i b) c version count = refl
 stale_number call.Publish c version count = refl
 
@@ -70,7 +69,7 @@ done_number : (k : Call) (c : ClientState) (version : ℕ) → (takes_done k c v
 done_number call.Idle c version = refl
 done_number (call.Hello key) c version = refl
 done_number (call.Sync s v p) c version = refl
-done_number (call.Ask i v m) c version = refl
+done_number (call.Ask i x v m) c version = refl
 done_number (call.Edit i b) c version = refl
 done_number call.Publish c version = refl
 
@@ -78,7 +77,7 @@ refused_number : (k : Call) (c : ClientState) (code : ℕ) → (takes_refused k 
 refused_number call.Idle c code = refl
 refused_number (call.Hello key) c code = refl
 refused_number (call.Sync s v p) c code = refl
-refused_number (call.Ask i v m) c code = refl
+refused_number (call.Ask i x v m) c code = refl
 refused_number (call.Edit i b) c code = refl
 refused_number call.Publish c code = refl
 

@@ -3,16 +3,17 @@ use Rattle.std.specs.Prelude.{◌≡◌, ◌+◌, ◌^◌, ℕ, List, [], Option
 use Rattle.frame_codec.specs.declared.frame.Frame.{Frame}
 use Rattle.frame_codec.specs.declared.frame.Frame.TheVariants as frame
 use Rattle.frame_codec.specs.Frames.{IsFrame, spelling}
-use Rattle.simple_scheme.specs.Simple.{query_of}
-use Rattle.version_store.specs.declared.scheme.Scheme.{Scheme}
-use Rattle.version_store.specs.declared.scheme.Scheme.TheVariants.{Simple, Double}
+use Rattle.pir_schemes.specs.declared.scheme.Scheme.{Scheme}
+use Rattle.pir_schemes.specs.Schemes.{scheme_byte}
+use Rattle.pir_schemes.specs.Plans.{client_profile}
+use Rattle.pir_schemes.specs.Retrievals.{query_words}
 use Rattle.client_core.specs.declared.state.ClientState.{ClientState}
 use Rattle.client_core.specs.declared.state.Known.{Known}
 use Rattle.client_core.specs.declared.state.Call.{Call}
 use Rattle.client_core.specs.declared.state.Call.TheVariants as call
 use Rattle.client_core.specs.declared.state.CallFault.{CallFault}
 use Rattle.client_core.specs.declared.state.CallFault.TheVariants.{NotReady, Busy, BadIndex, SeedUsedUp, Memory, Failed, AlreadyWelcome}
-use Rattle.client_core.specs.States.{is_idle, is_ready, known_version, known_count, public_matrix}
+use Rattle.client_core.specs.States.{is_idle, is_ready, known_version, known_count, scheme_held}
 
 -- a call, with what the caller gives it
 pub data Want : Type 0 where
@@ -47,34 +48,26 @@ refusal Publish c = change_refusal c
 abbrev pub called : Want → ClientState → ClientState
 called (Hello key) c = record c { call = call.Hello key }
 called (Sync scheme) c = record c { call = call.Sync scheme (known_version c.known) 0; hint = None; parts = [] }
-called (Ask i) c = record c { call = call.Ask i (known_version c.known) c.number; number = c.number + 1 }
+called (Ask i) c = record c { call = call.Ask i (scheme_held c.hint) (known_version c.known) c.number; number = c.number + 1 }
 called (Edit i bytes) c = record c { call = call.Edit i bytes }
 called Publish c = record c { call = call.Publish }
 
 -- the state after a call that passed its checks and found no memory: only the number of a retrieval is spent
 abbrev pub spent : Want → ClientState → ClientState
-spent (Hello key) c = c
-spent (Sync scheme) c = c
 spent (Ask i) c = record c { number = c.number + 1 }
-spent (Edit i bytes) c = c
-spent Publish c = c
-
--- the byte that names a scheme
-abbrev pub scheme_byte : Scheme → ℕ
-scheme_byte Simple = 0
-scheme_byte Double = 1
+spent _ c = c
 
 -- the words of the query for a record
-abbrev pub query_words : Option Known → List ℕ → ℕ → ℕ → List ℕ
-query_words None seed number i = []
-query_words (Some k) seed number i = query_of k.layout (public_matrix k) seed number i
+abbrev pub call_words : Option Known → Scheme → List ℕ → ℕ → ℕ → List ℕ
+call_words None scheme seed number i = []
+call_words (Some k) scheme seed number i = query_words scheme k.layout k.dimension k.seed seed number i
 
 -- the frame of the outstanding call. An idle client has none, and any stands here
 abbrev pub call_frame : ClientState → Call → Frame
 call_frame c call.Idle = frame.Bye
-call_frame c (call.Hello key) = frame.Hello 1 key
+call_frame c (call.Hello key) = frame.Hello client_profile key
 call_frame c (call.Sync scheme version part) = frame.HintAsk (scheme_byte scheme) version part
-call_frame c (call.Ask i version number) = frame.Query 0 version (query_words c.known c.seed number i)
+call_frame c (call.Ask i scheme version number) = frame.Query (scheme_byte scheme) version (call_words c.known scheme c.seed number i)
 call_frame c (call.Edit i bytes) = frame.Edit i bytes
 call_frame c call.Publish = frame.Publish
 

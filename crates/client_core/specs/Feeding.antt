@@ -14,6 +14,7 @@ use Rattle.client_core.specs.declared.state.ClientFault.TheVariants.{BadReply, M
 use Rattle.client_core.specs.declared.state.Reaction.{Reaction}
 use Rattle.client_core.specs.declared.state.Reaction.TheVariants.{Asks, Tells, Fails}
 use Rattle.client_core.specs.Replies.{Taken, takes}
+use Rattle.pir_schemes.specs.Schemes.{scheme_byte}
 
 -- a client as contracts see it: its state, and the bytes of an unfinished frame, None once the stream has failed
 pub record Client : Type 0 where
@@ -22,21 +23,18 @@ pub record Client : Type 0 where
 
 -- the frame that a reaction sends
 abbrev pub sends_of : Reaction → List Frame
-sends_of (Asks version part) = frame.HintAsk 0 version part ∷ []
-sends_of (Tells e) = []
-sends_of (Fails f) = []
+sends_of (Asks scheme version part) = frame.HintAsk (scheme_byte scheme) version part ∷ []
+sends_of _ = []
 
 -- the event that it tells
 abbrev pub events_of : Reaction → List Event
-events_of (Asks version part) = []
 events_of (Tells e) = e ∷ []
-events_of (Fails f) = []
+events_of _ = []
 
 -- its fault
 abbrev pub fault_of : Reaction → Option ClientFault
-fault_of (Asks version part) = None
-fault_of (Tells e) = None
 fault_of (Fails f) = Some f
+fault_of _ = None
 
 -- where a client stands behind some replies: what it has sent and told, and its fault
 pub record Course : Type 0 where

@@ -1,19 +1,19 @@
 -- Laws of clients.
 use Rattle.std.specs.Prelude.{◌≡◌, ◌<◌, ◌≤◌, ◌+◌, ℕ, List, [], ◌∷◌, ◌++◌, length, slice_index, Some, None, true}
 use Rattle.matrix_u32.specs.Matrix.{WordMatrix, IsWhole}
-use Rattle.digit_pack.specs.Layout.{digit_rows}
 use Rattle.frame_codec.specs.declared.frame.Frame.{Frame}
 use Rattle.frame_codec.specs.declared.frame.Frame.TheVariants as frame
-use Rattle.version_store.specs.declared.scheme.Scheme.TheVariants.{Simple}
-use Rattle.version_store.specs.Parts.{part_of}
+use Rattle.pir_schemes.specs.declared.scheme.Scheme.{Scheme}
+use Rattle.pir_schemes.specs.Schemes.{scheme_byte}
+use Rattle.pir_schemes.specs.Parts.{part_of}
+use Rattle.pir_schemes.specs.Retrievals.{hint_rows, hint_len}
 use Rattle.client_core.specs.declared.state.ClientState.{ClientState}
 use Rattle.client_core.specs.declared.state.Known.{Known}
 use Rattle.client_core.specs.declared.state.Hint.{Hint}
 use Rattle.client_core.specs.declared.state.Call.TheVariants.{Sync}
 use Rattle.client_core.specs.declared.state.Event.TheVariants.{Synced}
-use Rattle.client_core.specs.States.{hint_len}
 use Rattle.client_core.specs.Calls.{Want, Hello, Sync as sync, Ask, Edit, Publish, called, spent}
-use Rattle.client_core.specs.Replies.{takes}
+use Rattle.client_core.specs.Replies.{takes, hint_made}
 use Rattle.client_core.specs.Feeding.{takes_all}
 
 -- what happens to a client: a call is accepted, a call finds no memory, a reply is taken, the client fails
@@ -32,18 +32,13 @@ after c Failing = record c { failed = true }
 
 -- the number of the query that a call sends
 abbrev pub number_of_call : ClientState → Want → List ℕ
-number_of_call c (Hello key) = []
-number_of_call c (sync scheme) = []
 number_of_call c (Ask i) = c.number ∷ []
-number_of_call c (Edit i bytes) = []
-number_of_call c Publish = []
+number_of_call c _ = []
 
 -- the numbers of the queries sent then: one, where the call is an ask
 abbrev pub numbers_at : ClientState → Happening → List ℕ
 numbers_at c (Accepted want) = number_of_call c want
-numbers_at c (Lacking want) = []
-numbers_at c (Taken reply) = []
-numbers_at c Failing = []
+numbers_at c _ = []
 
 -- the numbers of the queries that a client sends, in order
 abbrev pub numbers : ClientState → List Happening → List ℕ
@@ -56,41 +51,38 @@ pub record NoNumberTwice : Type 0 where
   pub fresh : (c : ClientState) (hs : List Happening) (i : ℕ) → i < length (numbers c hs) → c.number ≤ slice_index (numbers c hs) i
 
 -- the replies are parts j, j + 1, .. of a version's hint, and these are their words, one after another
-abbrev pub ArePartsFrom : ℕ → ℕ → List Frame → List ℕ → Type 0
-ArePartsFrom v j [] words = words ≡ []
-ArePartsFrom v j (f ∷ fs) words = (here : List ℕ) × (rest : List ℕ) × (f ≡ frame.HintPart 0 v j here) × (words ≡ here ++ rest) × ArePartsFrom v (j + 1) fs rest
-
--- the hint of these words
-abbrev pub hint_made : Known → ℕ → List ℕ → Hint
-hint_made k v words = record { version = v; matrix = record { rows = digit_rows k.layout; cols = k.dimension; words = words } }
+abbrev pub ArePartsFrom : Scheme → ℕ → ℕ → List Frame → List ℕ → Type 0
+ArePartsFrom s v j [] words = words ≡ []
+ArePartsFrom s v j (f ∷ fs) words =
+    (here : List ℕ) × (rest : List ℕ) × (f ≡ frame.HintPart (scheme_byte s) v j here) × (words ≡ here ++ rest) × ArePartsFrom s v (j + 1) fs rest
 
 -- the replies since a sync began made it end with its hint
-pub record IsSyncedBy (c : ClientState) (k : Known) (v version : ℕ) (replies : List Frame) : Type 0 where
+pub record IsSyncedBy (c : ClientState) (s : Scheme) (k : Known) (v version : ℕ) (replies : List Frame) : Type 0 where
   pub known : c.known ≡ Some k
-  pub asked : c.call ≡ Sync Simple v 0
+  pub asked : c.call ≡ Sync s v 0
   pub none : c.parts ≡ []
   pub good : (takes_all c replies).fault ≡ None
-  pub told : (takes_all c replies).events ≡ Synced Simple version ∷ []
+  pub told : (takes_all c replies).events ≡ Synced s version ∷ []
 
 -- the hint held is made of the parts that came, in order, all of the one version asked
-pub record IsMadeOfParts (c : ClientState) (k : Known) (v version : ℕ) (replies : List Frame) : Type 0 where
+pub record IsMadeOfParts (c : ClientState) (s : Scheme) (k : Known) (v version : ℕ) (replies : List Frame) : Type 0 where
   pub words : List ℕ
-  pub parts : ArePartsFrom v 0 replies words
-  pub count : length words ≡ hint_len k
+  pub parts : ArePartsFrom s v 0 replies words
+  pub count : length words ≡ hint_len s k.layout k.dimension
   pub same : version ≡ v
-  pub hint : (takes_all c replies).state.hint ≡ Some (hint_made k v words)
+  pub hint : (takes_all c replies).state.hint ≡ Some (hint_made s k v words)
 
 -- so it is after every sync
 abbrev pub SyncedHintIsMadeOfParts : Type 0
-SyncedHintIsMadeOfParts = (c : ClientState) (k : Known) (v version : ℕ) (replies : List Frame) → IsSyncedBy c k v version replies → IsMadeOfParts c k v version replies
+SyncedHintIsMadeOfParts = (c : ClientState) (s : Scheme) (k : Known) (v version : ℕ) (replies : List Frame) → IsSyncedBy c s k v version replies → IsMadeOfParts c s k v version replies
 
 -- each reply is a part of these words, from part j on
-abbrev pub ArePartsOf : List ℕ → ℕ → ℕ → List Frame → Type 0
-ArePartsOf whole v j [] = Unit {0}
-ArePartsOf whole v j (f ∷ fs) = (f ≡ frame.HintPart 0 v j (part_of whole j)) × ArePartsOf whole v (j + 1) fs
+abbrev pub ArePartsOf : Scheme → List ℕ → ℕ → ℕ → List Frame → Type 0
+ArePartsOf s whole v j [] = Unit {0}
+ArePartsOf s whole v j (f ∷ fs) = (f ≡ frame.HintPart (scheme_byte s) v j (part_of whole j)) × ArePartsOf s whole v (j + 1) fs
 
 -- where the parts are those of a hint, the hint held is that hint
 abbrev pub PartsOfAHintMakeIt : Type 0
-PartsOfAHintMakeIt = (c : ClientState) (k : Known) (v version : ℕ) (replies : List Frame) (hint : WordMatrix) →
-    IsSyncedBy c k v version replies → hint.rows ≡ digit_rows k.layout → hint.cols ≡ k.dimension → IsWhole hint → ArePartsOf hint.words v 0 replies →
-    (takes_all c replies).state.hint ≡ Some (record { version = v; matrix = hint })
+PartsOfAHintMakeIt = (c : ClientState) (s : Scheme) (k : Known) (v version : ℕ) (replies : List Frame) (hint : WordMatrix) →
+    IsSyncedBy c s k v version replies → hint.rows ≡ hint_rows s k.layout k.dimension → hint.cols ≡ k.dimension → IsWhole hint → ArePartsOf s hint.words v 0 replies →
+    (takes_all c replies).state.hint ≡ Some (record { scheme = s; version = v; matrix = hint })

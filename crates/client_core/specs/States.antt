@@ -1,9 +1,9 @@
 -- What a client holds, and what is true of it as long as it lives.
-use Rattle.std.specs.Prelude.{◌≡◌, ◌≤◌, ◌<◌, ◌-◌, ◌*◌, ◌^◌, ℕ, List, [], length, min, Bool, true, false, ◌&&◌, Option, Some, None, nat_le, ◌==◌}
-use Rattle.matrix_u32.specs.Matrix.{WordMatrix}
-use Rattle.seed_expand.specs.Words.{public_rows}
+use Rattle.std.specs.Prelude.{◌≡◌, ◌≤◌, ◌<◌, ◌*◌, ◌^◌, ℕ, List, [], length, Bool, true, false, ◌&&◌, Option, Some, None, nat_le, ◌==◌}
 use Rattle.digit_pack.specs.Layout.{Shape, IsLayout, digit_rows, digit_cols}
-use Rattle.version_store.specs.declared.scheme.Scheme.TheVariants.{Simple, Double}
+use Rattle.pir_schemes.specs.declared.scheme.Scheme.{Scheme}
+use Rattle.pir_schemes.specs.declared.scheme.Scheme.TheVariants.{Simple}
+use Rattle.pir_schemes.specs.Retrievals.{hint_rows, hint_len}
 use Rattle.client_core.specs.declared.state.ClientState.{ClientState}
 use Rattle.client_core.specs.declared.state.Known.{Known}
 use Rattle.client_core.specs.declared.state.Hint.{Hint}
@@ -13,11 +13,7 @@ use Rattle.client_core.specs.declared.state.Call.TheVariants.{Idle, Hello, Sync,
 -- no call is outstanding
 abbrev pub is_idle : Call → Bool
 is_idle Idle = true
-is_idle (Hello key) = false
-is_idle (Sync scheme version part) = false
-is_idle (Ask index version number) = false
-is_idle (Edit index bytes) = false
-is_idle Publish = false
+is_idle _ = false
 
 -- the last version known, 0 before the Welcome
 abbrev pub known_version : Option Known → ℕ
@@ -35,17 +31,10 @@ is_ready None hint = false
 is_ready (Some k) None = false
 is_ready (Some k) (Some h) = h.version == k.version
 
--- the public matrix that the server told of: a row for each column of digits, from stream 0 of its seed
-abbrev pub public_matrix : Known → WordMatrix
-public_matrix k = public_rows k.seed 0 0 (digit_cols k.layout) k.dimension
-
--- how many words the hint has: n for each digit row
-abbrev pub hint_len : Known → ℕ
-hint_len k = digit_rows k.layout * k.dimension
-
--- how many words stand in part j of so many: those from 65,536 j on, at most 65,536
-abbrev pub part_len : ℕ → ℕ → ℕ
-part_len total part = min 65536 (total - 65536 * part)
+-- the scheme of the hint held; SimplePIR stands where there is none
+abbrev pub scheme_held : Option Hint → Scheme
+scheme_held None = Simple
+scheme_held (Some h) = h.scheme
 
 -- whether a layout is within all limits
 unfoldable pub is_layout : Shape → Bool
@@ -70,22 +59,21 @@ abbrev pub KnownFits : Option Known → Type 0
 KnownFits None = Unit {0}
 KnownFits (Some k) = IsKnown k
 
--- a hint has a row for each digit row of the layout, and n columns
+-- a hint has the rows that its scheme wants, and n columns
 abbrev pub HintFits : Option Known → Option Hint → Type 0
 HintFits None None = Unit {0}
 HintFits None (Some h) = ⊥
 HintFits (Some k) None = Unit {0}
-HintFits (Some k) (Some h) = (h.matrix.rows ≡ digit_rows k.layout) × (h.matrix.cols ≡ k.dimension)
+HintFits (Some k) (Some h) = (h.matrix.rows ≡ hint_rows h.scheme k.layout k.dimension) × (h.matrix.cols ≡ k.dimension)
 
 -- hello comes before the Welcome; the parts that came are whole ones of the hint; a record asked for is one that there is
 abbrev pub CallFits : Call → Option Known → List ℕ → Type 0
 CallFits Idle known parts = Unit {0}
 CallFits (Hello key) None parts = Unit {0}
 CallFits (Hello key) (Some k) parts = ⊥
-CallFits (Sync Simple version part) None parts = Unit {0}
-CallFits (Sync Simple version part) (Some k) parts = (length parts ≡ 65536 * part) × (length parts ≤ hint_len k)
-CallFits (Sync Double version part) known parts = Unit {0}
-CallFits (Ask index version number) known parts = (index < known_count known) × (number < 2 ^ 62)
+CallFits (Sync scheme version part) None parts = Unit {0}
+CallFits (Sync scheme version part) (Some k) parts = (length parts ≡ 65536 * part) × (length parts ≤ hint_len scheme k.layout k.dimension)
+CallFits (Ask index scheme version number) known parts = (index < known_count known) × (number < 2 ^ 62)
 CallFits (Edit index bytes) known parts = Unit {0}
 CallFits Publish known parts = Unit {0}
 

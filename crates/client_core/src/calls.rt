@@ -2,19 +2,18 @@
 
 ghost use Rattle.std.specs.Prelude.{◌≡◌, ◌≤◌, ◌<◌, ◌+◌, ◌^◌, None, Some, IfOk, IfErr, MatchResult, length};
 ghost use Rattle.frame_codec.specs.Frames.{IsFrame, payload_size, payload_limit, spelling};
-ghost use Rattle.simple_scheme.specs.Simple.{query_of};
-ghost use Rattle.client_core.specs.States.{IsKnown, is_ready, is_idle, known_count, public_matrix};
-ghost use Rattle.client_core.specs.Calls.{Want, refusal, hello_refusal, change_refusal, scheme_byte};
+ghost use Rattle.pir_schemes.specs.Schemes.{scheme_byte};
+ghost use Rattle.pir_schemes.specs.Retrievals.{query_words};
+ghost use Rattle.client_core.specs.States.{IsKnown, is_ready, is_idle, known_count, scheme_held};
+ghost use Rattle.client_core.specs.Calls.{Want, refusal, hello_refusal, change_refusal};
 
 use crate::state::{Call, CallFault, ClientState, Hint, Known};
 use frame_codec::{Bytes, Frame, Words, write_frame};
 use matrix_u32::Kernel;
-use seed_expand::expand;
-use simple_scheme::query;
-use std::alloc::{AllocError, Global};
-use version_store::Scheme;
+use pir_schemes::{Scheme, query};
+use std::alloc::Global;
 
-// The number behind the last retrieval of a seed.
+// The number after the last retrieval of a seed.
 const NUMBERS_END: u64 = 1 << 62;
 
 fn is_no_call(call: &Call) -> bool
@@ -107,13 +106,13 @@ pub(crate) fn spend_number(state: &mut ClientState) -> u64
     number
 }
 
-/// The byte that names a scheme in a frame.
-pub(crate) fn scheme_number(scheme: Scheme) -> u8
-    ensures { result ≡ scheme_byte scheme }
+/// The scheme of the hint held; SimplePIR where there is none.
+pub(crate) fn scheme_of(hint: &Option<Hint>) -> Scheme
+    ensures { result ≡ scheme_held hint.now }
 {
-    match scheme {
-        Scheme::Simple => 0,
-        Scheme::Double => 1,
+    match hint {
+        None => Scheme::Simple,
+        Some(hint) => hint.scheme,
     }
 }
 
@@ -148,44 +147,12 @@ pub(crate) fn edit_bytes(alloc: Global, index: u32, bytes: &[u8]) -> Result<Vec<
     spelled(alloc, &frame)
 }
 
-/// The words of the query for a record.
-pub(crate) fn query_for<K: Kernel>(
-    alloc: Global,
-    kernel: K,
-    known: &Known,
-    seed: &[u8; 32],
-    number: u64,
-    index: u32,
-) -> Result<Vec<u32>, AllocError>
-    requires known { IsKnown known.now }
-    requires number { number < 2 ^ 62 }
-    requires record { index < known.now.layout.count }
-    ensures { IfOk result (λ v. v.items ≡ query_of known.now.layout (public_matrix known.now) seed.now number index) }
-{
-    let a1 = expand(
-        alloc,
-        &known.seed,
-        0,
-        0,
-        known.layout.cols(),
-        known.dimension,
-    )?;
-    query(
-        alloc,
-        kernel,
-        seed,
-        number,
-        &a1,
-        &known.layout,
-        index as usize,
-    )
-}
-
 /// The bytes of the query for a record.
-#[tactic(auto, using(crate::proofs::Queries::length_query))]
+#[tactic(auto, using(crate::proofs::Queries::length_of_query))]
 pub(crate) fn query_bytes<K: Kernel>(
     alloc: Global,
     kernel: K,
+    scheme: Scheme,
     known: &Known,
     seed: &[u8; 32],
     number: u64,
@@ -194,15 +161,30 @@ pub(crate) fn query_bytes<K: Kernel>(
     requires known { IsKnown known.now }
     requires number { number < 2 ^ 62 }
     requires record { index < known.now.layout.count }
-    ensures bytes { IfOk result (λ v. v.items ≡ spelling (Frame.Query 0 known.now.version (query_of known.now.layout (public_matrix known.now) seed.now number index))) }
-    ensures frame { IfOk result (λ _. IsFrame (Frame.Query 0 known.now.version (query_of known.now.layout (public_matrix known.now) seed.now number index))) }
+    ensures bytes { IfOk result (λ v. v.items ≡ spelling (Frame.Query (scheme_byte scheme) known.now.version
+        (query_words scheme known.now.layout known.now.dimension known.now.seed seed.now number index))) }
+    ensures frame { IfOk result (λ _. IsFrame (Frame.Query (scheme_byte scheme) known.now.version
+        (query_words scheme known.now.layout known.now.dimension known.now.seed seed.now number index))) }
     ensures memory { IfErr result (λ e. e ≡ CallFault.Memory) }
 {
-    let Ok(words) = query_for(alloc, kernel, known, seed, number, index) else {
+    let n = known.dimension;
+    let i = index as usize;
+    let words = query(
+        alloc,
+        kernel,
+        scheme,
+        &known.layout,
+        n,
+        &known.seed,
+        seed,
+        number,
+        i,
+    );
+    let Ok(words) = words else {
         return Err(CallFault::Memory);
     };
     let frame = Frame::Query {
-        scheme: 0,
+        scheme: scheme.byte(),
         version: known.version,
         words: Words::new(words),
     };

@@ -3,23 +3,24 @@
 ghost use Rattle.std.specs.Prelude.{◌≡◌, ◌≤◌, ◌<◌, ◌^◌, [], List, ℕ, None, Some, IfOk, IfErr, MatchResult, length};
 ghost use Rattle.frame_codec.specs.Frames.{spelling};
 ghost use Rattle.frame_codec.specs.declared.frame.Frame.{Frame};
-ghost use Rattle.simple_scheme.specs.Simple.{query_of};
+ghost use Rattle.pir_schemes.specs.Schemes.{scheme_byte};
+ghost use Rattle.pir_schemes.specs.Retrievals.{query_words};
 ghost use Rattle.client_core.specs.declared.state.Known.{Known};
-ghost use Rattle.client_core.specs.States.{fresh, public_matrix};
+ghost use Rattle.client_core.specs.States.{fresh, scheme_held};
 ghost use Rattle.client_core.specs.Calls.{Want, Accepts, Refuses};
 ghost use Rattle.client_core.specs.Feeding.{Client, FeedsClient};
 
 use crate::calls::{
-    edit_bytes, may_ask, may_change, may_hello, query_bytes, scheme_number, spelled, spend_number,
+    edit_bytes, may_ask, may_change, may_hello, query_bytes, scheme_of, spelled, spend_number,
 };
 use crate::parts::Parts;
 use crate::state::{Call, CallFault, ClientFault, ClientState, Event};
 use crate::taking::take_piece;
 use frame_codec::{Bytes, Bytes32, Frame, Reader};
 use matrix_u32::Kernel;
+use pir_schemes::{PROFILE, Scheme};
 use std::alloc::Global;
 use std::marker::Model;
-use version_store::Scheme;
 
 /// What comes of a piece of the server's stream: the bytes to send next, the events in order, and the fault
 /// that made the client stop. With a fault, the bytes and the events are those of the frames before it.
@@ -92,7 +93,7 @@ impl<K: Kernel> ClientCore<K> {
     {
         may_hello(&self.state)?;
         let frame = Frame::Hello {
-            profile: 1,
+            profile: PROFILE,
             key: Bytes32::copied(&key),
         };
         let bytes = spelled(self.alloc, &frame)?;
@@ -113,7 +114,7 @@ impl<K: Kernel> ClientCore<K> {
         let known = may_change(&self.state)?;
         let version = known.version;
         let frame = Frame::HintAsk {
-            scheme: scheme_number(scheme),
+            scheme: scheme.byte(),
             version,
             part: 0,
         };
@@ -128,7 +129,7 @@ impl<K: Kernel> ClientCore<K> {
         Ok(bytes)
     }
 
-    /// Asks for record `index` of the version whose hint is held, by a query that doesn't tell which. Gives
+    /// Asks for record `index` of the version whose hint is held, by a query of the hint's scheme that doesn't tell which. Gives
     /// the bytes to send.
     ///
     /// Refused in this order: `Failed`; `NotReady` (no Welcome came yet, no hint is held, or its version is
@@ -138,16 +139,19 @@ impl<K: Kernel> ClientCore<K> {
     pub fn ask(&mut self, index: u32) -> Result<Vec<u8>, CallFault>
         ensures accepted { IfOk result (λ bytes. Accepts self.old.state (Want.Ask index) self.new.state bytes.items) }
         ensures query { IfOk result (λ bytes. (k : Known) × (self.old.state.known ≡ Some k)
-            × (bytes.items ≡ spelling (Frame.Query 0 k.version (query_of k.layout (public_matrix k) self.old.state.seed self.old.state.number index)))) }
+            × (bytes.items ≡ spelling (Frame.Query (scheme_byte (scheme_held self.old.state.hint)) k.version
+            (query_words (scheme_held self.old.state.hint) k.layout k.dimension k.seed self.old.state.seed self.old.state.number index)))) }
         ensures refused { IfErr result (λ e. Refuses self.old.state (Want.Ask index) e self.new.state) }
         ensures reader { self.new.reader ≡ self.old.reader }
     {
         let known = may_ask(&self.state, index)?;
         // Spent before memory is asked for, so that no number serves two queries.
         let number = spend_number(&mut self.state);
+        let scheme = scheme_of(&self.state.hint);
         let bytes = query_bytes(
             self.alloc,
             self.kernel,
+            scheme,
             &known,
             &self.state.seed,
             number,
@@ -155,6 +159,7 @@ impl<K: Kernel> ClientCore<K> {
         )?;
         self.state.call = Call::Ask {
             index,
+            scheme,
             version: known.version,
             number,
         };

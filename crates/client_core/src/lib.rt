@@ -15,8 +15,8 @@ mod state;
 mod taking;
 
 pub use client::{ClientCore, Fed};
+pub use pir_schemes::Scheme;
 pub use state::{CallFault, ClientFault, Event};
-pub use version_store::Scheme;
 
 #[cfg(test)]
 mod tests;

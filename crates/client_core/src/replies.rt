@@ -1,23 +1,36 @@
 //! What comes of a reply: a function for each kind.
 
 ghost use Rattle.std.specs.Prelude.{◌≡◌, ◌≤◌, ◌<◌, ◌*◌, ◌^◌, ◌++◌, [], length, IfOk, IfErr, OnOk, OnErr, IfSome, IfNone, MatchOption, true, false};
-ghost use Rattle.digit_pack.specs.Layout.{shape, digit_rows, IsLayout};
-ghost use Rattle.simple_scheme.specs.Simple.{reading};
-ghost use Rattle.client_core.specs.States.{IsState, IsKnown, is_layout, hint_len as hint_words_count, part_len as part_words_count};
-ghost use Rattle.client_core.specs.Replies.{faulty, ended, welcomed, takes_welcome, takes_part, more_parts, takes_answer, record_event, takes_stale, staled, takes_done, takes_refused, with_count};
+ghost use Rattle.digit_pack.specs.Layout.{shape, IsLayout};
+ghost use Rattle.pir_schemes.specs.Plans.{record_of};
+ghost use Rattle.pir_schemes.specs.Retrievals.{hint_rows as rows_of_hint, answer_count as words_of_answer, reading};
+ghost use Rattle.client_core.specs.States.{IsState, IsKnown, is_layout};
+ghost use Rattle.client_core.specs.Replies.{
+  faulty,
+  ended,
+  welcomed,
+  takes_welcome,
+  takes_part,
+  more_parts,
+  takes_answer,
+  event_of,
+  takes_stale,
+  staled,
+  takes_done,
+  takes_refused,
+  with_count,
+};
 
 use crate::parts::Parts;
 use crate::state::{Call, ClientFault, ClientState, Event, Hint, Known, Reaction};
 use digit_pack::Layout;
 use frame_codec::{Bytes, Bytes32, Words};
 use matrix_u32::{Kernel, Matrix};
-use simple_scheme::{RecoverError, recover};
+use pir_schemes::{
+    PROFILE, RecoverError, Scheme, answer_count, hint_len, hint_rows, part_len, recover,
+};
 use std::alloc::{AllocError, Global};
 use std::mem;
-use version_store::Scheme;
-
-// The most words of a part of a hint.
-const PART_WORDS: usize = 65_536;
 
 // A bad reply.
 fn fails(state: &mut ClientState, fault: ClientFault) -> Reaction
@@ -79,7 +92,11 @@ pub(crate) fn take_welcome(state: &mut ClientState, sizes: Sizes, seed: &Bytes32
     let Some(layout) = layout else {
         return fails(state, ClientFault::BadWelcome);
     };
-    if sizes.profile != 1 || sizes.dimension < 1 || sizes.dimension > 1024 || sizes.version == 0 {
+    if sizes.profile != PROFILE
+        || sizes.dimension < 1
+        || sizes.dimension > 1024
+        || sizes.version == 0
+    {
         return fails(state, ClientFault::BadWelcome);
     }
     let mut copy = [0; 32];
@@ -91,24 +108,6 @@ pub(crate) fn take_welcome(state: &mut ClientState, sizes: Sizes, seed: &Bytes32
         seed: copy,
     });
     ends(state, Event::Welcomed(sizes.version))
-}
-
-// How many words the hint has.
-fn hint_len(known: &Known) -> usize
-    requires { IsKnown known.now }
-    ensures value { result ≡ hint_words_count known.now }
-    ensures small { result ≤ 4194304 }
-{
-    known.layout.rows() * known.dimension
-}
-
-// How many words a part of so many has.
-fn part_len(total: usize, part: u32) -> usize
-    ensures { result ≡ part_words_count total part }
-{
-    total
-        .saturating_sub(part as usize * PART_WORDS)
-        .min(PART_WORDS)
 }
 
 /// A part of a hint answers sync alone: the part that was asked for, with all its words.
@@ -126,7 +125,7 @@ pub(crate) fn take_part(
     ensures err { OnErr result (state.new ≡ state.old) }
 {
     let Call::Sync {
-        scheme: Scheme::Simple,
+        scheme: kind,
         version: asked,
         part: next,
     } = state.call
@@ -137,39 +136,54 @@ pub(crate) fn take_part(
         return Ok(fails(state, ClientFault::BadReply));
     };
     let words = words.as_slice();
-    let wanted = part_len(hint_len(&known), next);
-    if scheme != 0 || version != asked || part != next || words.len() != wanted {
+    let wanted = part_len(hint_len(kind, &known.layout, known.dimension), next);
+    if scheme != kind.byte() || version != asked || part != next || words.len() != wanted {
         return Ok(fails(state, ClientFault::BadReply));
     }
     state.parts.add(words)?;
-    Ok(go_on(alloc, state, &known, version, next))
+    Ok(go_on(alloc, state, kind, &known, version, next))
 }
 
-// The last part makes the hint whole; behind another the next part is asked for.
-fn go_on(alloc: Global, state: &mut ClientState, known: &Known, version: u64, part: u32) -> Reaction
+// The last part makes the hint whole; after another the next part is asked for.
+fn go_on(
+    alloc: Global,
+    state: &mut ClientState,
+    scheme: Scheme,
+    known: &Known,
+    version: u64,
+    part: u32,
+) -> Reaction
     requires known { IsKnown known.now }
     requires part { part < 2 ^ 31 }
-    ensures state { state.new ≡ (more_parts known.now state.old version part state.old.parts).state }
-    ensures reaction { result ≡ (more_parts known.now state.old version part state.old.parts).reaction }
+    ensures state { state.new ≡ (more_parts scheme known.now state.old version part state.old.parts).state }
+    ensures reaction { result ≡ (more_parts scheme known.now state.old version part state.old.parts).reaction }
 {
-    if state.parts.len() != hint_len(known) {
+    if state.parts.len() != hint_len(scheme, &known.layout, known.dimension) {
         let part = part + 1;
         state.call = Call::Sync {
-            scheme: Scheme::Simple,
+            scheme,
             version,
             part,
         };
-        return Reaction::Asks { version, part };
+        return Reaction::Asks {
+            scheme,
+            version,
+            part,
+        };
     }
     let words = mem::replace(&mut state.parts, Parts::none(alloc)).into_vec();
     // There are as many words as the hint has, and no more than a matrix holds: no refusal is left.
-    let matrix = Matrix::from_words(known.layout.rows(), known.dimension, words).unwrap();
-    state.hint = Some(Hint { version, matrix });
-    ends(state, Event::Synced(Scheme::Simple, version))
+    let rows = hint_rows(scheme, &known.layout, known.dimension);
+    let matrix = Matrix::from_words(rows, known.dimension, words).unwrap();
+    state.hint = Some(Hint {
+        scheme,
+        version,
+        matrix,
+    });
+    ends(state, Event::Synced(scheme, version))
 }
 
-// What an answer with a word for each digit row says.
-#[tactic(auto, unfolding(crate::specs::Replies::record_event))]
+// What an answer with all its words says.
 fn read_answer<K: Kernel>(
     alloc: Global,
     kernel: K,
@@ -181,19 +195,23 @@ fn read_answer<K: Kernel>(
     version: u64,
     words: &[u32],
 ) -> Result<Event, AllocError>
-    requires rows { hint.now.matrix.rows ≡ digit_rows known.now.layout }
+    requires known { IsKnown known.now }
+    requires rows { hint.now.matrix.rows ≡ rows_of_hint hint.now.scheme known.now.layout known.now.dimension }
+    requires cols { hint.now.matrix.cols ≡ known.now.dimension }
     requires number { number < 2 ^ 62 }
     requires record { index < known.now.layout.count }
-    requires words { length words.now ≡ digit_rows known.now.layout }
-    ensures { IfOk result (λ e. e ≡ record_event known.now.layout index version (reading known.now.layout hint.now.matrix seed.now number index words.now)) }
+    requires words { length words.now ≡ words_of_answer hint.now.scheme known.now.layout known.now.dimension }
+    ensures { IfOk result (λ e. e ≡ event_of index version
+        (record_of known.now.layout (reading hint.now.scheme known.now.layout hint.now.matrix seed.now number index words.now))) }
 {
     match recover(
         alloc,
         kernel,
+        hint.scheme,
+        &known.layout,
+        &hint.matrix,
         seed,
         number,
-        &hint.matrix,
-        &known.layout,
         index as usize,
         words,
     ) {
@@ -207,7 +225,7 @@ fn read_answer<K: Kernel>(
     }
 }
 
-/// An Answer answers ask alone: on the version asked, and with a word for each digit row.
+/// An Answer answers ask alone: in the hint's scheme, on the version asked, and with all its words.
 pub(crate) fn take_answer<K: Kernel>(
     alloc: Global,
     kernel: K,
@@ -225,6 +243,7 @@ pub(crate) fn take_answer<K: Kernel>(
         index,
         version: asked,
         number,
+        ..
     } = state.call
     else {
         return Ok(fails(state, ClientFault::BadReply));
@@ -236,7 +255,8 @@ pub(crate) fn take_answer<K: Kernel>(
         return Ok(fails(state, ClientFault::BadReply));
     };
     let words = words.as_slice();
-    if scheme != 0 || version != asked || words.len() != known.layout.rows() {
+    let wanted = answer_count(hint.scheme, &known.layout, known.dimension);
+    if scheme != hint.scheme.byte() || version != asked || words.len() != wanted {
         return Ok(fails(state, ClientFault::BadReply));
     }
     let event = read_answer(

@@ -4,8 +4,8 @@ use crate::parts::Parts;
 use digit_pack::Layout;
 use frame_codec::Bytes;
 use matrix_u32::Matrix;
+use pir_schemes::Scheme;
 use thiserror::Error;
-use version_store::Scheme;
 
 /// What the server told of its store: the last version known, the layout with that version's count of
 /// records, the dimension n of the public matrix and the seed of its words.
@@ -17,9 +17,10 @@ pub struct Known {
     pub seed: [u8; 32],
 }
 
-/// A whole hint of a version: a row for each digit row, n columns.
+/// A whole hint of a version: the rows that its scheme wants, of n words each.
 #[derive(Drop)]
 pub struct Hint {
+    pub scheme: Scheme,
     pub version: u64,
     pub matrix: Matrix,
 }
@@ -39,9 +40,10 @@ pub enum Call {
         version: u64,
         part: u32,
     },
-    /// The query for record `index` was sent; `number` tells which retrieval of the seed it is.
+    /// The query of the scheme for record `index` was sent; `number` tells which retrieval of the seed it is.
     Ask {
         index: u32,
+        scheme: Scheme,
         version: u64,
         number: u64,
     },
@@ -138,7 +140,11 @@ pub enum ClientFault {
 /// What comes of a reply: the next part is asked for, the call ends with an event, or the reply is bad.
 #[derive(Drop)]
 pub enum Reaction {
-    Asks { version: u64, part: u32 },
+    Asks {
+        scheme: Scheme,
+        version: u64,
+        part: u32,
+    },
     Tells(Event),
     Fails(ClientFault),
 }

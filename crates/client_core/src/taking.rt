@@ -82,9 +82,13 @@ fn react(
     ensures untold { OnErr result (events.new.items ≡ events.old.items) }
 {
     match reaction {
-        Reaction::Asks { version, part } => {
+        Reaction::Asks {
+            scheme,
+            version,
+            part,
+        } => {
             let frame = Frame::HintAsk {
-                scheme: 0,
+                scheme: scheme.byte(),
                 version,
                 part,
             };

@@ -1,5 +1,5 @@
 -- What a stream leads to, piece by piece.
-use Rattle.std.proofs.Common.{◌≡◌, ℕ, List, [], ◌∷◌, ◌++◌, take, Bool, true, false, Option, Some, Result, Ok, Err, OnOk, IfErr, ap, ◌∙◌, sym, refl, subst, inl, inr, append_assoc}
+use Rattle.std.proofs.Common.{◌≡◌, ℕ, List, [], ◌∷◌, ◌++◌, take, Bool, true, false, Option, Some, Result, Ok, Err, ap, ◌∙◌, sym, refl, subst, inl, inr, append_assoc}
 use Rattle.std.specs.Prelude.{cond, MatchBool}
 use Rattle.std.specs.Io.KnownBytes.{IsAtEnd}
 use Rattle.std.proofs.lemmas.List.{append-nil}
@@ -155,26 +155,26 @@ shut_cut read out more st codec left w going end f = record {
   );
 }
 
-pub finish_served : (answer : Result (Unit {0}) OnceFault) (read out more : List ℕ) (st : Stage) (codec left : Option (List ℕ)) (w : Waits stage.Fresh read st codec out) → goes_on st ≡ true → IsAtEnd left →
-    Finishes answer w.rest more → Serves answer read (out ++ more) left
-finish_served (Ok done) read out more st codec left w going end f =
+pub finish_served : (turns : ℕ) (answer : Result (Unit {0}) OnceFault) (read out more : List ℕ) (st : Stage) (codec left : Option (List ℕ)) (w : Waits stage.Fresh read st codec out) → goes_on st ≡ true → IsAtEnd left →
+    Finishes answer w.rest more → Serves turns answer read (out ++ more) left
+finish_served turns (Ok done) read out more st codec left w going end f =
     shut_output read out more st codec left true w going end (f.1 ∙ sym (ap rest_reply f.0))
     (well_at_end (stage_after stage.Fresh w.frames) w.rest (ap goes_on (sym w.stage_is) ∙ going) f.0)
-finish_served (Err fault.BadInput) read out more st codec left w going end f =
+finish_served turns (Err fault.BadInput) read out more st codec left w going end f =
     shut_output read out more st codec left false w going end (f.1 ∙ some_reply w.rest f.0)
     (ill_at_end (stage_after stage.Fresh w.frames) w.rest (ap goes_on (sym w.stage_is) ∙ going) f.0)
-finish_served (Err fault.Read) read out more st codec left w going end f = absurd f
-finish_served (Err fault.TurnsUsedUp) read out more st codec left w going end f = absurd f
-finish_served (Err fault.Write) read out more st codec left w going end f = shut_cut read out more st codec left w going end f
-finish_served (Err fault.Memory) read out more st codec left w going end f = shut_cut read out more st codec left w going end f
+finish_served turns (Err fault.Read) read out more st codec left w going end f = absurd f
+finish_served turns (Err fault.TurnsUsedUp) read out more st codec left w going end f = absurd f
+finish_served turns (Err fault.Write) read out more st codec left w going end f = shut_cut read out more st codec left w going end f
+finish_served turns (Err fault.Memory) read out more st codec left w going end f = shut_cut read out more st codec left w going end f
 
 -- a turn broke off, by a fault of one reply
-pub turn_served : (e : OnceFault) (read out piece more : List ℕ) (st new : Stage) (codec later left : Option (List ℕ)) (w : Waits stage.Fresh read st codec out) → IsServeFault e →
-    Turns (Err e) st (w.rest ++ piece) new later more → Serves (Err e) (read ++ piece) (out ++ more) left
-turn_served e read out piece more st new codec later left w (inl is) t =
-    subst (λ x. Serves (Err x) (read ++ piece) (out ++ more) left) (sym is) (breaks_on read out piece more st codec left w t)
-turn_served e read out piece more st new codec later left w (inr is) t =
-    subst (λ x. Serves (Err x) (read ++ piece) (out ++ more) left) (sym is) (breaks_on read out piece more st codec left w t)
+pub turn_served : (turns : ℕ) (e : OnceFault) (read out piece more : List ℕ) (st new : Stage) (codec later left : Option (List ℕ)) (w : Waits stage.Fresh read st codec out) → IsServeFault e →
+    Turns (Err e) st (w.rest ++ piece) new later more → Serves turns (Err e) (read ++ piece) (out ++ more) left
+turn_served turns e read out piece more st new codec later left w (inl is) t =
+    subst (λ x. Serves turns (Err x) (read ++ piece) (out ++ more) left) (sym is) (breaks_on read out piece more st codec left w t)
+turn_served turns e read out piece more st new codec later left w (inr is) t =
+    subst (λ x. Serves turns (Err x) (read ++ piece) (out ++ more) left) (sym is) (breaks_on read out piece more st codec left w t)
 
 -- what a turn that goes on, or ends, led to
 pub turned_on : (st new : Stage) (stream more : List ℕ) (left : Option (List ℕ)) → goes_on new ≡ true → Turns (Ok tt) st stream new left more → Waits st stream new left more
@@ -183,15 +183,9 @@ turned_on st new stream more left going t = subst (λ b. MatchBool b (Waits st s
 pub turned_off : (st new : Stage) (stream more : List ℕ) (left : Option (List ℕ)) → goes_on new ≡ false → Turns (Ok tt) st stream new left more → Ends st stream new more
 turned_off st new stream more left over t = subst (λ b. MatchBool b (Waits st stream new left more) (Ends st stream new more)) over t
 
-pub ended_served : (answer : Result (Unit {0}) OnceFault) (read out piece more : List ℕ) (st new : Stage) (codec left : Option (List ℕ)) (w : Waits stage.Fresh read st codec out) → Ends st (w.rest ++ piece) new more →
-    OnOk answer (is_done new ≡ true) → IfErr answer (λ e. (e ≡ fault.BadInput) × (is_done new ≡ false)) → Serves answer (read ++ piece) (out ++ more) left
-ended_served (Ok done) read out piece more st new codec left w t well ill = ends_on read out piece more st new codec left true w t well
-ended_served (Err e) read out piece more st new codec left w t well ill =
-    subst (λ x. Serves (Err x) (read ++ piece) (out ++ more) left) (sym ill.0) (ends_on read out piece more st new codec left false w t ill.1)
-
 -- no room for a piece: nothing was read
-pub nothing_served : (left : Option (List ℕ)) → Serves (Err fault.Memory) [] [] left
-nothing_served left = record { frames = []; rest = []; begins = begins_none []; front = inl ([], refl) }
+pub nothing_served : (turns : ℕ) (left : Option (List ℕ)) → Serves turns (Err fault.Memory) [] [] left
+nothing_served turns left = record { frames = []; rest = []; begins = begins_none []; front = inl ([], refl) }
 
 -- the refusal of a frame that is cut was written in part
 pub finish_cut : (e : OnceFault) (rest : List ℕ) (n : ℕ) → (rest ≡ [] → ⊥) → IsServeFault e → Finishes (Err e) rest (take n (spelling (Refused 1)))

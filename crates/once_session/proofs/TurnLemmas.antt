@@ -12,6 +12,11 @@ use Rattle.once_session.specs.declared.stage.Stage.{Stage}
 use Rattle.once_session.specs.declared.stage.Stage.TheVariants as stage
 use Rattle.once_session.specs.Courses.{replies_to, stage_after, spellings}
 use Rattle.once_session.specs.Outputs.{IsFrontOf, IsJudged, goes_on, rest_reply, is_well, is_done, Ends, Waits, Breaks, Turns}
+use Rattle.connection_io.specs.Calls.{Call, Sends}
+use Rattle.connection_io.proofs.Parts.{sends_both, sends_faulty}
+use Rattle.once_session.specs.declared.engine.OnceFault.{OnceFault}
+use Rattle.once_session.specs.declared.engine.OnceFault.TheVariants as fault
+use Rattle.once_session.specs.OnceTurns.{SendsBefore}
 use Rattle.frame_codec.proofs.Unique.{fault_of_frame}
 use Rattle.once_session.proofs.CourseLemmas.{front_behind, front_taken, all_front}
 
@@ -122,3 +127,18 @@ turn_cut old stream frames rest fault n begins stops going (inr judged) =
             (front_behind (spellings (replies_to old frames)) (take n (spelling (Refused 1))) (spelling (Refused 1)) (front_taken n (spelling (Refused 1)))),
       );
     }
+
+-- some bytes, and then a part of others
+pub sends_before : {C : Type 0} (does : C → Call → C → Type 0) (e : OnceFault) (a m b : C) (bytes more : List ℕ) → Sends does a bytes m → SendsBefore does e m more b → SendsBefore does e a (bytes ++ more) b
+sends_before does fault.BadInput a m b bytes more s t = sends_both does a m b bytes more s t
+sends_before does fault.Read a m b bytes more s t = sends_both does a m b bytes more s t
+sends_before does fault.Write a m b bytes more s t = sends_faulty does a m b bytes more s t
+sends_before does fault.Memory a m b bytes more s t = sends_both does a m b bytes more s t
+sends_before does fault.TurnsUsedUp a m b bytes more s t = sends_both does a m b bytes more s t
+
+-- the work goes on
+pub turn_on : (old new : Stage) (rest piece : List ℕ) (frames : List Frame) (codec : Option (List ℕ)) (out : List ℕ) → Feeds (Some rest) piece (Ok tt) frames codec →
+    new ≡ stage_after old frames → goes_on new ≡ true → out ≡ spellings (replies_to old frames) → Turns (Ok tt) old (rest ++ piece) new codec out
+turn_on old new rest piece frames codec out feeds is going o =
+    subst (λ b. MatchBool b (Waits old (rest ++ piece) new codec out) (Ends old (rest ++ piece) new out)) (sym going)
+    (record { frames = frames; rest = feeds.0; reads = feeds.1; codec_is = feeds.2; stage_is = is; out_is = o })

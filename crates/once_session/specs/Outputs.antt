@@ -1,5 +1,5 @@
 -- What a stream is answered as a whole.
-use Rattle.std.specs.Prelude.{◌≡◌, ◌⊎◌, ℕ, List, [], ◌∷◌, ◌++◌, Bool, true, false, Option, Some, Result, Ok, Err, cond, MatchBool}
+use Rattle.std.specs.Prelude.{◌≡◌, ◌≤◌, ◌⊎◌, ℕ, length, List, [], ◌∷◌, ◌++◌, Bool, true, false, Option, Some, Result, Ok, Err, cond, MatchBool}
 use Rattle.std.specs.Io.KnownBytes.{IsAtEnd}
 use Rattle.frame_codec.specs.declared.frame.Frame.{Frame}
 use Rattle.frame_codec.specs.declared.frame.Frame.TheVariants.{Refused}
@@ -71,14 +71,14 @@ pub record IsCutOff (read out : List ℕ) (left : Option (List ℕ)) : Type 0 wh
   pub begins : Begins read frames rest
   pub front : IsFrontOf out (spellings (replies_to Fresh frames)) ⊎ (IsLast (stage_after Fresh frames) rest left × IsFrontOf out (output_of frames rest))
 
--- what was written for what was read, by the answer
-abbrev pub Serves : Result (Unit {0}) OnceFault → List ℕ → List ℕ → Option (List ℕ) → Type 0
-Serves (Ok done) read out left = IsOutput read out left true
-Serves (Err BadInput) read out left = IsOutput read out left false
-Serves (Err Read) read out left = IsAnswered read out
-Serves (Err TurnsUsedUp) read out left = IsAnswered read out
-Serves (Err Write) read out left = IsCutOff read out left
-Serves (Err Memory) read out left = IsCutOff read out left
+-- what was written for what was read in at most so many turns, by the answer
+abbrev pub Serves : ℕ → Result (Unit {0}) OnceFault → List ℕ → List ℕ → Option (List ℕ) → Type 0
+Serves turns (Ok done) read out left = IsOutput read out left true
+Serves turns (Err BadInput) read out left = IsOutput read out left false
+Serves turns (Err Read) read out left = IsAnswered read out
+Serves turns (Err TurnsUsedUp) read out left = IsAnswered read out × (turns ≤ length read)
+Serves turns (Err Write) read out left = IsCutOff read out left
+Serves turns (Err Memory) read out left = IsCutOff read out left
 
 -- a fault of one reply
 abbrev pub IsServeFault : OnceFault → Type 0

@@ -1,18 +1,18 @@
 //! The stream: pieces in, replies out.
 
 ghost use Rattle.std.specs.Prelude.{◌≡◌, ◌≤◌, ◌<◌, ◌++◌, ◌⊎◌, ℕ, List, [], ◌∷◌, length, take, true, false, IsTrue, ◌↔◌, Some, None, Ok, Err, OnOk, OnErr, IfOk, IfErr, unwrap_or};
-ghost use Rattle.std.specs.Io.KnownBytes.{Appends, Consumes, IsAtEnd};
+ghost use Rattle.connection_io.specs.Calls.{Sends};
 ghost use Rattle.frame_codec.specs.Frames.{spelling, payload_size, payload_limit};
 ghost use Rattle.once_session.specs.Courses.{next, HasTable, FitsReply, replies_to, stage_after, reply_bytes, reply, spellings};
-ghost use Rattle.once_session.specs.Outputs.{IsServeFault, IsFrontOf, IsJudged, goes_on, Turns, Serves};
+ghost use Rattle.once_session.specs.Outputs.{IsServeFault, IsFrontOf, IsJudged, goes_on, Turns};
+ghost use Rattle.once_session.specs.OnceTurns.{SendsBefore, WritesReplies};
 ghost use Rattle.frame_codec.specs.declared.frame.Frame.TheVariants.{Refused};
 
 use crate::stage::{Stage, Step, step_of};
-use engine_io::{piece_buffer, read_piece, write_out};
+use connection_io::{Connection, send as send_bytes};
 use frame_codec::{Frame, ReadFault, Reader, write_frame};
 use matrix_u32::Kernel;
 use std::alloc::Global;
-use std::io::{Read, Write};
 use thiserror::Error;
 
 /// Why a stream was not served to its end.
@@ -36,57 +36,64 @@ pub enum OnceFault {
 }
 
 // Writes a reply, made in a buffer of its own.
-pub(crate) fn send<W: Write>(alloc: Global, reply: &Frame, writer: &mut W) -> Result<(), OnceFault>
+pub(crate) fn send<C: Connection>(
+    alloc: Global,
+    reply: &Frame,
+    connection: &mut C,
+) -> Result<(), OnceFault>
     requires { payload_size reply.now ≤ payload_limit }
-    ensures all { OnOk result (Appends (W.contents writer.old) (W.contents writer.new) (spelling reply.now)) }
-    ensures front { OnErr result ((n : ℕ) × Appends (W.contents writer.old) (W.contents writer.new) (take n (spelling reply.now))) }
+    ensures all { OnOk result (Sends C.does connection.old (spelling reply.now) connection.new) }
+    ensures front { IfErr result (λ e. (n : ℕ)
+        × SendsBefore C.does e connection.old (take n (spelling reply.now)) connection.new) }
     ensures fault { IfErr result (λ e. IsServeFault e) }
 {
     let mut bytes = Vec::new(alloc);
     if write_frame(reply, &mut bytes).is_err() {
         return Err(OnceFault::Memory);
     }
-    if write_out(writer, &bytes).is_err() {
+    if send_bytes(connection, &bytes).is_err() {
         return Err(OnceFault::Write);
     }
     Ok(())
 }
 
 // Serves a frame: writes its reply, and goes to the next stage.
-fn serve_frame<K: Kernel, W: Write>(
+fn serve_frame<K: Kernel, C: Connection>(
     alloc: Global,
     kernel: K,
     stage: &mut Stage,
     frame: &Frame,
-    writer: &mut W,
+    connection: &mut C,
 ) -> Result<(), OnceFault>
     requires { HasTable stage.old }
     ensures stage { OnOk result ((stage.new ≡ next stage.old frame.now) × HasTable stage.new) }
-    ensures all { OnOk result (Appends (W.contents writer.old) (W.contents writer.new) (reply_bytes (reply stage.old frame.now))) }
-    ensures front { OnErr result ((n : ℕ) × Appends (W.contents writer.old) (W.contents writer.new) (take n (reply_bytes (reply stage.old frame.now)))) }
+    ensures all { OnOk result (Sends C.does connection.old (reply_bytes (reply stage.old frame.now)) connection.new) }
+    ensures front { IfErr result (λ e. (n : ℕ)
+        × SendsBefore C.does e connection.old (take n (reply_bytes (reply stage.old frame.now))) connection.new) }
     ensures fault { IfErr result IsServeFault }
 {
     let Ok(Step { reply, moves }) = step_of(alloc, kernel, stage, frame) else {
         return Err(OnceFault::Memory);
     };
-    send_reply(alloc, &reply, writer)?;
+    send_reply(alloc, &reply, connection)?;
     move_on(stage, moves);
     Ok(())
 }
 
 // Writes a reply, where there is one.
-fn send_reply<W: Write>(
+fn send_reply<C: Connection>(
     alloc: Global,
     reply: &Option<Frame>,
-    writer: &mut W,
+    connection: &mut C,
 ) -> Result<(), OnceFault>
     requires { FitsReply reply.now }
-    ensures all { OnOk result (Appends (W.contents writer.old) (W.contents writer.new) (reply_bytes reply.now)) }
-    ensures front { OnErr result ((n : ℕ) × Appends (W.contents writer.old) (W.contents writer.new) (take n (reply_bytes reply.now))) }
+    ensures all { OnOk result (Sends C.does connection.old (reply_bytes reply.now) connection.new) }
+    ensures front { IfErr result (λ e. (n : ℕ)
+        × SendsBefore C.does e connection.old (take n (reply_bytes reply.now)) connection.new) }
     ensures fault { IfErr result IsServeFault }
 {
     match reply {
-        Some(frame) => send(alloc, frame, writer),
+        Some(frame) => send(alloc, frame, connection),
         None => Ok(()),
     }
 }
@@ -101,21 +108,24 @@ fn move_on(stage: &mut Stage, moves: Option<Stage>)
 }
 
 // Serves frames in order.
-fn serve_frames<K: Kernel, W: Write>(
+fn serve_frames<K: Kernel, C: Connection>(
     alloc: Global,
     kernel: K,
     stage: &mut Stage,
     frames: &[Frame],
-    writer: &mut W,
+    connection: &mut C,
 ) -> Result<(), OnceFault>
     requires { HasTable stage.old }
-    ensures stage { OnOk result ((stage.new ≡ stage_after stage.old frames.now) × HasTable stage.new) }
-    ensures all { OnOk result (Appends (W.contents writer.old) (W.contents writer.new) (spellings (replies_to stage.old frames.now))) }
-    ensures front { OnErr result ((out : List ℕ) × Appends (W.contents writer.old) (W.contents writer.new) out × IsFrontOf out (spellings (replies_to stage.old frames.now))) }
+    ensures stage { OnOk result ((stage.new ≡ stage_after stage.old frames.now)
+        × HasTable stage.new) }
+    ensures all { OnOk result (Sends C.does connection.old (spellings (replies_to stage.old frames.now)) connection.new) }
+    ensures front { IfErr result (λ e. (out : List ℕ)
+        × SendsBefore C.does e connection.old out connection.new
+        × IsFrontOf out (spellings (replies_to stage.old frames.now))) }
     ensures fault { IfErr result IsServeFault }
 {
     for frame in frames {
-        if let Err(fault) = serve_frame(alloc, kernel, stage, frame, writer) {
+        if let Err(fault) = serve_frame(alloc, kernel, stage, frame, connection) {
             return Err(fault);
         }
     }
@@ -130,20 +140,22 @@ pub(crate) fn goes_on(stage: &Stage) -> bool
 }
 
 // Ends the work where the stream can't be read on: what stands there is refused, or memory was.
-fn stop<W: Write>(
+fn stop<C: Connection>(
     alloc: Global,
     fault: ReadFault,
     stage: &mut Stage,
-    writer: &mut W,
+    connection: &mut C,
 ) -> Result<(), OnceFault>
     ensures refused { OnOk result (IsJudged fault × (stage.new ≡ Stage.Bad)) }
-    ensures all { OnOk result (Appends (W.contents writer.old) (W.contents writer.new) (spelling (Refused 1))) }
-    ensures front { OnErr result ((n : ℕ) × Appends (W.contents writer.old) (W.contents writer.new) (take n (spelling (Refused 1))) × ((n ≡ 0) ⊎ IsJudged fault)) }
+    ensures all { OnOk result (Sends C.does connection.old (spelling (Refused 1)) connection.new) }
+    ensures front { IfErr result (λ e. (n : ℕ)
+        × SendsBefore C.does e connection.old (take n (spelling (Refused 1))) connection.new
+        × ((n ≡ 0) ⊎ IsJudged fault)) }
     ensures fault { IfErr result IsServeFault }
 {
     match fault {
         ReadFault::TooLong | ReadFault::UnknownKind | ReadFault::BadPayload => {
-            if let Err(broken) = send(alloc, &Frame::Refused { code: 1 }, writer) {
+            if let Err(broken) = send(alloc, &Frame::Refused { code: 1 }, connection) {
                 return Err(broken);
             }
             *stage = Stage::Bad;
@@ -154,24 +166,25 @@ fn stop<W: Write>(
 }
 
 // Serves what a piece brings.
-pub(crate) fn turn<K: Kernel, W: Write>(
+pub(crate) fn turn<K: Kernel, C: Connection>(
     alloc: Global,
     kernel: K,
     codec: &mut Reader,
     stage: &mut Stage,
     piece: &[u8],
-    writer: &mut W,
+    connection: &mut C,
 ) -> Result<(), OnceFault>
     requires table { HasTable stage.old }
     requires open { goes_on stage.old ≡ true }
     ensures table { OnOk result (HasTable stage.new) }
-    ensures turned { (rest : List ℕ) → codec.old ≡ Some rest → (out : List ℕ) × Appends (W.contents writer.old) (W.contents writer.new) out
+    ensures turned { (rest : List ℕ) → codec.old ≡ Some rest → (out : List ℕ)
+        × WritesReplies C.does result connection.old out connection.new
         × Turns result stage.old (rest ++ piece.now) stage.new codec.new out }
     ensures fault { IfErr result IsServeFault }
 {
     let mut frames = Vec::new(alloc);
     let read = codec.feed(piece, &mut frames);
-    if let Err(fault) = serve_frames(alloc, kernel, stage, &frames, writer) {
+    if let Err(fault) = serve_frames(alloc, kernel, stage, &frames, connection) {
         return Err(fault);
     }
     if !goes_on(stage) {
@@ -179,7 +192,7 @@ pub(crate) fn turn<K: Kernel, W: Write>(
     }
     match read {
         Ok(()) => Ok(()),
-        Err(fault) => match stop(alloc, fault, stage, writer) {
+        Err(fault) => match stop(alloc, fault, stage, connection) {
             Ok(()) => Ok(()),
             Err(broken) => Err(broken),
         },

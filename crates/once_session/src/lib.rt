@@ -7,7 +7,7 @@ mod session;
 mod stage;
 
 pub use engine::OnceFault;
-pub use session::{once, once_with};
+pub use session::{once, once_over, once_with};
 pub use stage::{Stage, Step, Table, step_of};
 
 #[cfg(test)]

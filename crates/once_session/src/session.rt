@@ -1,13 +1,15 @@
 //! The whole stream, read in pieces.
 
-ghost use Rattle.std.specs.Prelude.{◌≡◌, ℕ, List, [], Some, OnOk, OnErr, IfErr, true, false};
+ghost use Rattle.std.specs.Prelude.{◌≡◌, ◌≤◌, ◌*◌, ℕ, List, [], length, Some, OnOk, OnErr, IfErr, true, false};
 ghost use Rattle.std.specs.Io.KnownBytes.{Appends, Consumes};
 ghost use Rattle.frame_codec.specs.Streams.{IsPartial};
 ghost use Rattle.once_session.specs.Outputs.{Finishes, Serves, is_done};
+ghost use Rattle.once_session.specs.OnceTurns.{WritesReplies, ServesOver};
 
 use crate::engine::{OnceFault, goes_on, send, turn};
 use crate::stage::Stage;
-use engine_io::{piece_buffer, read_piece};
+use connection_io::{Connection, Pair, receive};
+use engine_io::piece_buffer;
 use frame_codec::{Frame, Reader};
 use lane_kernels::Lanes;
 use matrix_u32::Kernel;
@@ -15,13 +17,14 @@ use std::alloc::Global;
 use std::io::{Read, Write};
 
 // Ends the work where the stream ends: a frame that is cut is refused.
-fn finish<W: Write>(alloc: Global, codec: &Reader, writer: &mut W) -> Result<(), OnceFault>
-    ensures { (rest : List ℕ) → codec.now ≡ Some rest → (out : List ℕ) × Appends (W.contents writer.old) (W.contents writer.new) out × Finishes result rest out }
+fn finish<C: Connection>(alloc: Global, codec: &Reader, connection: &mut C) -> Result<(), OnceFault>
+    ensures { (rest : List ℕ) → codec.now ≡ Some rest → (out : List ℕ)
+        × WritesReplies C.does result connection.old out connection.new × Finishes result rest out }
 {
     if codec.is_between_frames() {
         return Ok(());
     }
-    if let Err(fault) = send(alloc, &Frame::Refused { code: 1 }, writer) {
+    if let Err(fault) = send(alloc, &Frame::Refused { code: 1 }, connection) {
         return Err(fault);
     }
     Err(OnceFault::BadInput)
@@ -38,6 +41,51 @@ fn ended(stage: &Stage) -> Result<(), OnceFault>
     }
 }
 
+/// Serves one database over a connection, turn by turn: each is one read of at most 65,536 bytes, all that it
+/// brings served, and the replies written before any other call. After the turn whose piece ended the work, or
+/// that found the end of the stream, and after a fault, no call is made.
+///
+/// # Errors
+///
+/// Those of [`once`]. `Read` exactly when a read failed, `Write` exactly when a write did, and `TurnsUsedUp`
+/// after `turns` reads, of which none ended the work.
+pub fn once_over<K: Kernel, C: Connection>(
+    alloc: Global,
+    kernel: K,
+    connection: &mut C,
+    turns: u64,
+) -> Result<(), OnceFault>
+    ensures { ServesOver C.does turns connection.old result connection.new }
+{
+    let Ok(mut buffer) = piece_buffer(alloc) else {
+        return Err(OnceFault::Memory);
+    };
+    let mut codec = Reader::new(alloc);
+    let mut stage = Stage::Fresh;
+    'turns: for _ in 0..turns {
+        let Ok(n) = receive(connection, &mut buffer) else {
+            return Err(OnceFault::Read);
+        };
+        if n == 0 {
+            return finish(alloc, &codec, connection);
+        }
+        if let Err(fault) = turn(
+            alloc,
+            kernel,
+            &mut codec,
+            &mut stage,
+            &buffer[..n],
+            connection,
+        ) {
+            return Err(fault);
+        }
+        if !goes_on(&stage) {
+            return ended(&stage);
+        }
+    }
+    Err(OnceFault::TurnsUsedUp)
+}
+
 /// Serves one database over one stream, by a kernel: [`once`] with another kernel than the fastest.
 pub fn once_with<K: Kernel, R: Read, W: Write>(
     alloc: Global,
@@ -46,29 +94,17 @@ pub fn once_with<K: Kernel, R: Read, W: Write>(
     writer: &mut W,
     turns: u64,
 ) -> Result<(), OnceFault>
-    ensures { (read : List ℕ) × (out : List ℕ) × Consumes (R.remaining reader.old) (R.remaining reader.new) read
-        × Appends (W.contents writer.old) (W.contents writer.new) out × Serves result read out (R.remaining reader.new) }
+    ensures { (read : List ℕ) × (out : List ℕ)
+        × Consumes (R.remaining reader.old) (R.remaining reader.new) read
+        × Appends (W.contents writer.old) (W.contents writer.new) out
+        × (length read ≤ 65536 * turns)
+        × Serves turns result read out (R.remaining reader.new) }
 {
-    let Ok(mut buffer) = piece_buffer(alloc) else {
-        return Err(OnceFault::Memory);
-    };
-    let mut codec = Reader::new(alloc);
-    let mut stage = Stage::Fresh;
-    'turns: for _ in 0..turns {
-        let Ok(n) = read_piece(reader, &mut buffer) else {
-            return Err(OnceFault::Read);
-        };
-        if n == 0 {
-            return finish(alloc, &codec, writer);
-        }
-        if let Err(fault) = turn(alloc, kernel, &mut codec, &mut stage, &buffer[..n], writer) {
-            return Err(fault);
-        }
-        if !goes_on(&stage) {
-            return ended(&stage);
-        }
+    let mut pair = Pair::new(reader, writer);
+    match once_over(alloc, kernel, &mut pair, turns) {
+        Ok(()) => Ok(()),
+        Err(fault) => Err(fault),
     }
-    Err(OnceFault::TurnsUsedUp)
 }
 
 /// Serves one database over one stream: reads the frames of a Load, of Queries and of a Bye in at most
@@ -91,8 +127,11 @@ pub fn once<R: Read, W: Write>(
     writer: &mut W,
     turns: u64,
 ) -> Result<(), OnceFault>
-    ensures { (read : List ℕ) × (out : List ℕ) × Consumes (R.remaining reader.old) (R.remaining reader.new) read
-        × Appends (W.contents writer.old) (W.contents writer.new) out × Serves result read out (R.remaining reader.new) }
+    ensures { (read : List ℕ) × (out : List ℕ)
+        × Consumes (R.remaining reader.old) (R.remaining reader.new) read
+        × Appends (W.contents writer.old) (W.contents writer.new) out
+        × (length read ≤ 65536 * turns)
+        × Serves turns result read out (R.remaining reader.new) }
 {
     once_with(alloc, Lanes, reader, writer, turns)
 }

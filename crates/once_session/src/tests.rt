@@ -7,6 +7,8 @@ use std::io::{Read, Write};
 use std::process::Abort;
 use std::test::Fail;
 
+mod large;
+
 // The records 0a and c8 of one byte, each a column of its own, and a query of version 1.
 const LOAD: &[u8] = &[7, 0, 0, 0, 1, 1, 0, 1, 0, 8, 10, 200];
 

@@ -9,7 +9,8 @@ use Rattle.std.proofs.lemmas.List.Concat.{flat_map-append, flat_map-cons}
 use Rattle.frame_codec.specs.declared.frame.Frame.{Frame}
 use Rattle.frame_codec.specs.declared.reader.ReadFault.{ReadFault}
 use Rattle.frame_codec.specs.declared.reader.ReadFault.TheVariants.{TooLong, UnknownKind, BadPayload, Memory, Failed}
-use Rattle.frame_codec.specs.declared.frame.Frame.TheVariants.{Refused}
+use Rattle.frame_codec.specs.declared.refusal.Refusal.TheVariants as refusal
+use Rattle.frame_codec.specs.Refusals.{refused}
 use Rattle.frame_codec.specs.Frames.{IsFrame, spelling}
 use Rattle.frame_codec.specs.Streams.{Feeds}
 use Rattle.version_store.specs.Histories.{Held, History, StandsFor}
@@ -143,13 +144,13 @@ on_err (Ok x) p f = tt
 on_err (Err x) p f = f p
 
 -- a fault is told
-pub told : (answer : Result (Unit {0}) ReadFault) (middle : Standing) (r : Result Standing AllocError) (out new : List ℕ) → ((after : Standing) → after ≡ Closed → AfterReading answer middle after (Refused 1 ∷ []))
-    → IfOk r (λ after. after ≡ Closed) → OnOk r (new ≡ out ++ spelling (Refused 1)) → OnOk r (IsFrame (Refused 1)) → IfOk r (λ after. Ended answer middle after out new)
+pub told : (answer : Result (Unit {0}) ReadFault) (middle : Standing) (r : Result Standing AllocError) (out new : List ℕ) → ((after : Standing) → after ≡ Closed → AfterReading answer middle after (refused refusal.BadFrame ∷ []))
+    → IfOk r (λ after. after ≡ Closed) → OnOk r (new ≡ out ++ spelling (refused refusal.BadFrame)) → OnOk r (IsFrame (refused refusal.BadFrame)) → IfOk r (λ after. Ended answer middle after out new)
 told answer middle (Ok after) out new f shut written fits =
     record {
-      more = Refused 1 ∷ [];
+      more = refused refusal.BadFrame ∷ [];
       ends = f after shut;
-      written = written ∙ ap (λ (y : List ℕ). out ++ y) (sym (flat_map-cons spelling (Refused 1) [] ∙ append-nil (spelling (Refused 1))));
+      written = written ∙ ap (λ (y : List ℕ). out ++ y) (sym (flat_map-cons spelling (refused refusal.BadFrame) [] ∙ append-nil (spelling (refused refusal.BadFrame))));
       each = (fits, tt);
     }
 told answer middle (Err e) out new f shut written fits = tt

@@ -4,6 +4,7 @@ use Rattle.std.specs.Prelude.{option_to_list}
 use Rattle.std.specs.List.{flat_map, AllByRecursion}
 use Rattle.std.proofs.lemmas.List.{append-nil, take_more}
 use Rattle.std.proofs.lemmas.List.Concat.{flat_map-cons, flat_map-append}
+use Rattle.frame_codec.specs.declared.refusal.Refusal.TheVariants as refusal
 use Rattle.frame_codec.specs.declared.frame.Frame.{Frame}
 use Rattle.frame_codec.specs.declared.frame.Frame.TheVariants.{Publish}
 use Rattle.frame_codec.specs.Frames.{IsFrame, spelling}
@@ -51,7 +52,7 @@ drops_more x h Publisher (g ∷ fs) h2 st2 rs f s shut = (s.0, s.1, s.2, s.3, dr
 outcome_of : (x : Setting) (h : History) (st : Standing) (f : Frame) (store : Held) (st2 : Standing) (before after : List ℕ) → Serves x h st f store st2 before after
     → (o : Outcome) × IsOutcome x h st f o × HasOutcome x o store st2 before after
 outcome_of x h st f store st2 before after (inl s) = (served x h st f, inl refl, s)
-outcome_of x h st f store st2 before after (inr s) = (refuses 12 st h, inr (s.0, refl), s.1)
+outcome_of x h st f store st2 before after (inr s) = (refuses refusal.Memory st h, inr (s.0, refl), s.1)
 
 spells : (r : Option Frame) → flat_map spelling (option_to_list r) ≡ reply_bytes r
 spells None = refl

@@ -1,7 +1,9 @@
 -- What frames lead to where memory is never refused.
 use Rattle.std.specs.Prelude.{List, [], ◌∷◌, ◌++◌, Bool, false, ◌==◌, ◌||◌, cond, option_to_list, Result, Ok, Err}
 use Rattle.frame_codec.specs.declared.frame.Frame.{Frame}
-use Rattle.frame_codec.specs.declared.frame.Frame.TheVariants.{Load, Hello, HintAsk, Query, Edit, Publish, Bye, Welcome, HintPart, Answer, Stale, Done, Refused}
+use Rattle.frame_codec.specs.declared.frame.Frame.TheVariants.{Refused}
+use Rattle.frame_codec.specs.declared.refusal.Refusal.TheVariants as refusal
+use Rattle.frame_codec.specs.Refusals.{code_of, refused}
 use Rattle.frame_codec.specs.declared.reader.ReadFault.{ReadFault}
 use Rattle.version_store.specs.Histories.{History}
 use Rattle.server_core.specs.declared.standing.Standing.{Standing}
@@ -28,7 +30,7 @@ course_of x h st (f ∷ fs) =
 -- where the reading stops behind frames that leave the session open: a fault is refused, and closes it
 abbrev pub at_end : Result (Unit {0}) ReadFault → Course → Course
 at_end (Ok done) c = c
-at_end (Err fault) c = record { history = c.history; standing = Closed; replies = c.replies ++ Refused 1 ∷ [] }
+at_end (Err fault) c = record { history = c.history; standing = Closed; replies = c.replies ++ refused refusal.BadFrame ∷ [] }
 
 -- the frames that a piece completes, and then how its reading ended
 abbrev pub course_of_piece : Setting → History → Standing → List Frame → Result (Unit {0}) ReadFault → Course
@@ -37,19 +39,8 @@ course_of_piece x h st frames answer =
 
 -- whether a reply refuses for want of memory
 abbrev pub is_memory : Frame → Bool
-is_memory (Load record_len groups width records) = false
-is_memory (Hello profile key) = false
-is_memory (HintAsk scheme version part) = false
-is_memory (Query scheme version words) = false
-is_memory (Edit index bytes) = false
-is_memory Publish = false
-is_memory Bye = false
-is_memory (Welcome profile width record_len groups count version dimension seed) = false
-is_memory (HintPart scheme version part words) = false
-is_memory (Answer scheme version words) = false
-is_memory (Stale version count) = false
-is_memory (Done version) = false
-is_memory (Refused code) = code == 12
+is_memory (Refused code) = code == code_of refusal.Memory
+is_memory _ = false
 
 -- whether one of the replies does
 abbrev pub lacks_memory : List Frame → Bool

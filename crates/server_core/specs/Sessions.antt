@@ -4,7 +4,8 @@ use Rattle.std.specs.List.{flat_map, AllByRecursion}
 use Rattle.std.specs.declared.alloc.AllocError.{AllocError}
 use Rattle.version_store.specs.Histories.{Held, History, StandsFor}
 use Rattle.frame_codec.specs.declared.frame.Frame.{Frame}
-use Rattle.frame_codec.specs.declared.frame.Frame.TheVariants.{Refused}
+use Rattle.frame_codec.specs.declared.refusal.Refusal.TheVariants as refusal
+use Rattle.frame_codec.specs.Refusals.{refused}
 use Rattle.frame_codec.specs.declared.reader.ReadFault.{ReadFault}
 use Rattle.frame_codec.specs.declared.reader.ReadFault.TheVariants.{TooLong, UnknownKind, BadPayload, Memory, Failed}
 use Rattle.frame_codec.specs.Frames.{IsFrame, spelling}
@@ -29,9 +30,9 @@ IsLive standing unfinished = is_closed standing ≡ false → unfinished ≢ Non
 -- what the end of a piece does to a session that its frames leave open, and the replies to it: a fault is refused, and closes it
 abbrev pub AfterReading : Result (Unit {0}) ReadFault → Standing → Standing → List Frame → Type 0
 AfterReading (Ok done) middle after more = (after ≡ middle) × (more ≡ [])
-AfterReading (Err TooLong) middle after more = (after ≡ Closed) × (more ≡ Refused 1 ∷ [])
-AfterReading (Err UnknownKind) middle after more = (after ≡ Closed) × (more ≡ Refused 1 ∷ [])
-AfterReading (Err BadPayload) middle after more = (after ≡ Closed) × (more ≡ Refused 1 ∷ [])
+AfterReading (Err TooLong) middle after more = (after ≡ Closed) × (more ≡ refused refusal.BadFrame ∷ [])
+AfterReading (Err UnknownKind) middle after more = (after ≡ Closed) × (more ≡ refused refusal.BadFrame ∷ [])
+AfterReading (Err BadPayload) middle after more = (after ≡ Closed) × (more ≡ refused refusal.BadFrame ∷ [])
 AfterReading (Err Memory) middle after more = ⊥
 AfterReading (Err Failed) middle after more = ⊥
 

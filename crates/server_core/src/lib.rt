@@ -6,7 +6,6 @@
 #![tactic(auto)]
 
 pub mod laws;
-mod refusal;
 mod replies;
 mod serve;
 mod server;

@@ -2,20 +2,18 @@
 
 ghost use Rattle.std.specs.Prelude.{◌≡◌, ◌≤◌, ◌<◌, ◌+◌, ◌*◌, ◌++◌, length, vec_len, vec_capacity, OnOk, OnErr, IfOk, IfSome, IfNone, true, false};
 ghost use Rattle.frame_codec.specs.Frames.{IsFrame, spelling, payload_size};
-ghost use Rattle.frame_codec.specs.declared.frame.Frame.TheVariants.{Answer, Done, HintPart, Refused, Stale, Welcome};
-ghost use Rattle.digit_pack.specs.Layout.{digit_cols};
-ghost use Rattle.server_core.specs.Serving.{setting_of, has_part, part_words, answer_words};
+ghost use Rattle.frame_codec.specs.declared.frame.Frame.TheVariants.{Answer, Done, HintPart, Stale, Welcome};
+ghost use Rattle.frame_codec.specs.Refusals.{refused};
+ghost use Rattle.pir_schemes.specs.Schemes.{scheme_byte};
+ghost use Rattle.pir_schemes.specs.Plans.{profile_of};
+ghost use Rattle.pir_schemes.specs.Retrievals.{answer_words};
+ghost use Rattle.server_core.specs.Serving.{setting_of, has_part, part_words, words_asked};
 
-use frame_codec::{Bytes32, Frame, Words, write_frame};
+use frame_codec::{Bytes32, Frame, Refusal, Words, write_frame};
 use matrix_u32::Kernel;
+use pir_schemes::{PROFILE, Scheme};
 use std::alloc::{AllocError, Global};
-use version_store::{Scheme, Store};
-
-/// The one profile that there is.
-pub const PROFILE: u16 = 1;
-
-/// The byte of the one scheme that is offered.
-pub const SIMPLE: u8 = 0;
+use version_store::Store;
 
 /// The room that every reply but a hint's part and an answer fits into.
 pub const SHORT_REPLY: usize = 64;
@@ -31,12 +29,12 @@ fn put(reply: &Frame, out: &mut Vec<u8>)
 }
 
 /// Adds a refusal.
-pub fn put_refused(code: u8, out: &mut Vec<u8>)
+pub fn put_refused(why: Refusal, out: &mut Vec<u8>)
     requires { vec_len out.old + 64 ≤ vec_capacity out.old }
-    ensures items { out.new.items ≡ out.old.items ++ spelling (Refused code) }
-    ensures fits { IsFrame (Refused code) }
+    ensures items { out.new.items ≡ out.old.items ++ spelling (refused why) }
+    ensures fits { IsFrame (refused why) }
 {
-    put(&Frame::Refused { code }, out);
+    put(&Frame::Refused { code: why.code() }, out);
 }
 
 /// Adds that it is done.
@@ -51,8 +49,8 @@ pub fn put_done(version: u64, out: &mut Vec<u8>)
 /// Adds the current version and its record count.
 pub fn put_stale<K: Kernel>(store: &Store<K>, out: &mut Vec<u8>)
     requires { vec_len out.old + 64 ≤ vec_capacity out.old }
-    ensures items { out.new.items ≡ out.old.items ++ spelling (Stale store.now.version store.now.edition.shape.count) }
-    ensures fits { IsFrame (Stale store.now.version store.now.edition.shape.count) }
+    ensures items { out.new.items ≡ out.old.items ++ spelling (Stale store.now.version (length store.now.edition.records)) }
+    ensures fits { IsFrame (Stale store.now.version (length store.now.edition.records)) }
 {
     let reply = Frame::Stale {
         version: store.version(),
@@ -64,10 +62,12 @@ pub fn put_stale<K: Kernel>(store: &Store<K>, out: &mut Vec<u8>)
 /// Adds the sizes, the current version and the public seed.
 pub fn put_welcome<K: Kernel>(store: &Store<K>, out: &mut Vec<u8>)
     requires { vec_len out.old + 64 ≤ vec_capacity out.old }
-    ensures items { out.new.items ≡ out.old.items ++ spelling (Welcome 1 store.now.edition.shape.width store.now.edition.shape.record_len
-        store.now.edition.shape.groups store.now.edition.shape.count store.now.version store.now.edition.dimension store.now.edition.seed) }
-    ensures fits { IsFrame (Welcome 1 store.now.edition.shape.width store.now.edition.shape.record_len
-        store.now.edition.shape.groups store.now.edition.shape.count store.now.version store.now.edition.dimension store.now.edition.seed) }
+    ensures items { out.new.items ≡ out.old.items ++ spelling (Welcome (profile_of store.now.edition.plan)
+        store.now.edition.plan.width store.now.edition.plan.record_len store.now.edition.plan.groups
+        (length store.now.edition.records) store.now.version store.now.edition.plan.dimension store.now.edition.plan.seed) }
+    ensures fits { IsFrame (Welcome (profile_of store.now.edition.plan)
+        store.now.edition.plan.width store.now.edition.plan.record_len store.now.edition.plan.groups
+        (length store.now.edition.records) store.now.version store.now.edition.plan.dimension store.now.edition.plan.seed) }
 {
     let layout = store.layout();
     let reply = Frame::Welcome {
@@ -83,33 +83,36 @@ pub fn put_welcome<K: Kernel>(store: &Store<K>, out: &mut Vec<u8>)
     put(&reply, out);
 }
 
-/// The words of a part of the hint.
-pub fn part_of_hint<K: Kernel>(store: &Store<K>, part: u32) -> Option<&[u32]>
-    ensures none { IfNone result (has_part (setting_of store.now) store.now.edition.records part ≡ false) }
-    ensures some { IfSome result (λ words. has_part (setting_of store.now) store.now.edition.records part ≡ true) }
-    ensures words { IfSome result (λ words. words.now ≡ part_words (setting_of store.now) store.now.edition.records part) }
+/// The words of a part of a scheme's hint.
+pub fn part_of_hint<K: Kernel>(store: &Store<K>, scheme: Scheme, part: u32) -> Option<&[u32]>
+    ensures none { IfNone result (has_part (setting_of store.now) scheme store.now.edition.records part ≡ false) }
+    ensures some { IfSome result (λ words.
+        has_part (setting_of store.now) scheme store.now.edition.records part ≡ true) }
+    ensures words { IfSome result (λ words.
+        words.now ≡ part_words (setting_of store.now) scheme store.now.edition.records part) }
     ensures few { IfSome result (λ words. length words.now ≤ 65536) }
 {
-    store.hint_words(Scheme::Simple, part as usize)
+    store.hint_words(scheme, part as usize)
 }
 
-/// Adds a part of the hint. Only want of memory gives an `Err`, and then nothing was added.
+/// Adds a part of a scheme's hint. Only refused memory gives an `Err`, and then nothing was added.
 pub fn put_part(
     alloc: Global,
+    scheme: Scheme,
     version: u64,
     part: u32,
     words: &[u32],
     out: &mut Vec<u8>,
 ) -> Result<(), AllocError>
     requires { length words.now ≤ 65536 }
-    ensures ok { OnOk result (out.new.items ≡ out.old.items ++ spelling (HintPart 0 version part words.now)) }
-    ensures fits { OnOk result (IsFrame (HintPart 0 version part words.now)) }
+    ensures ok { OnOk result (out.new.items ≡ out.old.items ++ spelling (HintPart (scheme_byte scheme) version part words.now)) }
+    ensures fits { OnOk result (IsFrame (HintPart (scheme_byte scheme) version part words.now)) }
     ensures err { OnErr result (out.new.items ≡ out.old.items) }
     ensures room { vec_capacity out.old ≤ vec_capacity out.new }
 {
     let words = Words::new(words.to_vec(alloc)?);
     let reply = Frame::HintPart {
-        scheme: SIMPLE,
+        scheme: scheme.byte(),
         version,
         part,
         words,
@@ -117,41 +120,44 @@ pub fn put_part(
     write_frame(&reply, out)
 }
 
-/// Adds the answer to a query. Only want of memory gives an `Err`, and then nothing was added.
+/// Adds the answer to a query. Only refused memory gives an `Err`, and then nothing was added.
 ///
-/// It is one pass over the digits; the answer's words are moved into the reply, and their bytes written once.
+/// The answer's words are moved into the reply, and their bytes written once.
 pub fn put_answer<K: Kernel>(
-    alloc: Global,
     store: &Store<K>,
+    scheme: Scheme,
     words: &Words,
     out: &mut Vec<u8>,
 ) -> Result<(), AllocError>
-    requires { length words.now ≡ digit_cols store.now.edition.shape }
-    ensures ok { OnOk result (out.new.items ≡ out.old.items ++ spelling (Answer 0 store.now.version (answer_words (setting_of store.now) store.now.edition.records words.now))) }
-    ensures fits { OnOk result (IsFrame (Answer 0 store.now.version (answer_words (setting_of store.now) store.now.edition.records words.now))) }
+    requires { length words.now ≡ words_asked (setting_of store.now) scheme store.now.edition.records }
+    ensures ok { OnOk result (out.new.items ≡ out.old.items ++ spelling (Answer (scheme_byte scheme) store.now.version
+        (answer_words scheme store.now.edition.plan store.now.edition.records words.now))) }
+    ensures fits { OnOk result (IsFrame (Answer (scheme_byte scheme) store.now.version
+        (answer_words scheme store.now.edition.plan store.now.edition.records words.now))) }
     ensures err { OnErr result (out.new.items ≡ out.old.items) }
     ensures room { vec_capacity out.old ≤ vec_capacity out.new }
 {
-    let answer = answer_to(alloc, store, words.as_slice())?;
+    let answer = answer_to(store, scheme, words.as_slice())?;
     let reply = Frame::Answer {
-        scheme: SIMPLE,
+        scheme: scheme.byte(),
         version: store.version(),
         words: Words::new(answer),
     };
     write_frame(&reply, out)
 }
 
-/// The words that answer a query.
+/// The words that answer a query: at most 342 digits times 6150 words, and 6144 more.
 fn answer_to<K: Kernel>(
-    alloc: Global,
     store: &Store<K>,
+    scheme: Scheme,
     words: &[u32],
 ) -> Result<Vec<u32>, AllocError>
-    requires { length words.now ≡ digit_cols store.now.edition.shape }
-    ensures words { IfOk result (λ v. v.items ≡ answer_words (setting_of store.now) store.now.edition.records words.now) }
-    ensures few { IfOk result (λ v. length v.items ≤ 4096) }
+    requires { length words.now ≡ words_asked (setting_of store.now) scheme store.now.edition.records }
+    ensures words { IfOk result (λ v.
+        v.items ≡ answer_words scheme store.now.edition.plan store.now.edition.records words.now) }
+    ensures few { IfOk result (λ v. length v.items ≤ 2109444) }
 {
     store.layout();
-    let answer = store.answer_simple(alloc, words)?;
+    let answer = store.answer(scheme, words)?;
     Ok(answer)
 }

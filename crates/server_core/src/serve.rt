@@ -2,24 +2,21 @@
 
 ghost use Rattle.std.specs.Prelude.{◌≡◌, ◌≤◌, ◌+◌, ◌++◌, vec_len, vec_capacity, OnErr, IfOk};
 ghost use Rattle.frame_codec.specs.Frames.{IsFrame, spelling};
-ghost use Rattle.frame_codec.specs.declared.frame.Frame.TheVariants.{Edit, Hello, HintAsk, Publish, Query, Refused};
+ghost use Rattle.frame_codec.specs.declared.frame.Frame.TheVariants.{Edit, Hello, HintAsk, Publish, Query};
+ghost use Rattle.frame_codec.specs.Refusals.{refused};
 ghost use Rattle.version_store.specs.Histories.{History, StandsFor};
 ghost use Rattle.server_core.specs.Serving.{setting_of, is_publisher_key, is_reader_key, Serves, ServedAll, BrokenOff, IsFull};
 
-use crate::refusal::{
-    BAD_FRAME, BAD_INDEX, BAD_KEY, BAD_LENGTH, BAD_PART, BAD_PROFILE, BAD_QUERY_LENGTH, BAD_SCHEME,
-    MEMORY, NOT_PUBLISHER, NOT_WELCOME, NOTHING_TO_PUBLISH, VERSIONS_USED_UP,
-};
 use crate::replies::{
-    PROFILE, SHORT_REPLY, SIMPLE, part_of_hint, put_answer, put_done, put_part, put_refused,
-    put_stale, put_welcome,
+    SHORT_REPLY, part_of_hint, put_answer, put_done, put_part, put_refused, put_stale, put_welcome,
 };
 use crate::standing::Standing;
-use frame_codec::{Bytes, Bytes32, Frame, Words};
+use frame_codec::{Bytes, Bytes32, Frame, Refusal, Words};
 use matrix_u32::Kernel;
+use pir_schemes::{PROFILE, Scheme};
 use sha2::{Digest, Sha256};
 use std::alloc::{AllocError, Global};
-use version_store::{EditError, PublishError, Scheme, Store};
+use version_store::{EditError, PublishError, Store};
 
 /// Whether a key is a reader's.
 fn is_reader_key(key: &[u8]) -> bool
@@ -47,7 +44,7 @@ fn serve_hello<K: Kernel>(
     ensures { (h : History) → StandsFor store.now h → Serves (setting_of store.now) h standing (Hello profile key.now) store.now result out.old.items out.new.items }
 {
     if profile != PROFILE {
-        put_refused(BAD_PROFILE, out);
+        put_refused(Refusal::BadProfile, out);
         return standing;
     }
     if is_reader_key(key.as_slice()) {
@@ -58,7 +55,7 @@ fn serve_hello<K: Kernel>(
         put_welcome(store, out);
         return Standing::Publisher;
     }
-    put_refused(BAD_KEY, out);
+    put_refused(Refusal::BadKey, out);
     standing
 }
 
@@ -76,19 +73,19 @@ fn serve_hint_ask<K: Kernel>(
     ensures { (h : History) → StandsFor store.now h → Serves (setting_of store.now) h standing (HintAsk scheme version part) store.now standing out.old.items out.new.items }
 {
     if !standing.is_welcome() {
-        return put_refused(NOT_WELCOME, out);
+        return put_refused(Refusal::NotWelcome, out);
     }
-    if scheme != SIMPLE {
-        return put_refused(BAD_SCHEME, out);
-    }
+    let Some(scheme) = Scheme::of_byte(scheme) else {
+        return put_refused(Refusal::BadScheme, out);
+    };
     if version != store.version() {
         return put_stale(store, out);
     }
-    match part_of_hint(store, part) {
-        None => put_refused(BAD_PART, out),
+    match part_of_hint(store, scheme, part) {
+        None => put_refused(Refusal::BadPart, out),
         Some(words) => {
-            if put_part(alloc, version, part, words, out).is_err() {
-                put_refused(MEMORY, out);
+            if put_part(alloc, scheme, version, part, words, out).is_err() {
+                put_refused(Refusal::Memory, out);
             }
         }
     }
@@ -96,7 +93,6 @@ fn serve_hint_ask<K: Kernel>(
 
 /// Answers a query.
 fn serve_query<K: Kernel>(
-    alloc: Global,
     store: &Store<K>,
     standing: Standing,
     scheme: u8,
@@ -108,21 +104,24 @@ fn serve_query<K: Kernel>(
     ensures { (h : History) → StandsFor store.now h → Serves (setting_of store.now) h standing (Query scheme version words.now) store.now standing out.old.items out.new.items }
 {
     if !standing.is_welcome() {
-        put_refused(NOT_WELCOME, out);
-    } else if scheme != SIMPLE {
-        put_refused(BAD_SCHEME, out);
-    } else if version != store.version() {
-        put_stale(store, out);
-    } else if words.as_slice().len() != store.query_words(Scheme::Simple) {
-        put_refused(BAD_QUERY_LENGTH, out);
-    } else if put_answer(alloc, store, words, out).is_err() {
-        put_refused(MEMORY, out);
+        return put_refused(Refusal::NotWelcome, out);
+    }
+    let Some(scheme) = Scheme::of_byte(scheme) else {
+        return put_refused(Refusal::BadScheme, out);
+    };
+    if version != store.version() {
+        return put_stale(store, out);
+    }
+    if words.as_slice().len() != store.query_words(scheme) {
+        return put_refused(Refusal::BadQueryLength, out);
+    }
+    if put_answer(store, scheme, words, out).is_err() {
+        put_refused(Refusal::Memory, out);
     }
 }
 
 /// Edits a record of the draft.
 fn serve_edit<K: Kernel>(
-    alloc: Global,
     store: &mut Store<K>,
     standing: Standing,
     index: u32,
@@ -133,44 +132,39 @@ fn serve_edit<K: Kernel>(
     ensures { (h : History) → StandsFor store.old h → Serves (setting_of store.old) h standing (Edit index bytes.now) store.new standing out.old.items out.new.items }
 {
     if !standing.is_welcome() {
-        put_refused(NOT_WELCOME, out);
+        put_refused(Refusal::NotWelcome, out);
         return;
     }
     if !standing.is_publisher() {
-        put_refused(NOT_PUBLISHER, out);
+        put_refused(Refusal::NotPublisher, out);
         return;
     }
-    match store.edit(alloc, index as usize, bytes.as_slice()) {
+    match store.edit(index as usize, bytes.as_slice()) {
         Ok(()) => put_done(store.version(), out),
-        Err(EditError::BadIndex) => put_refused(BAD_INDEX, out),
-        Err(EditError::BadLength) => put_refused(BAD_LENGTH, out),
-        Err(EditError::Memory) => put_refused(MEMORY, out),
+        Err(EditError::BadIndex) => put_refused(Refusal::BadIndex, out),
+        Err(EditError::BadLength) => put_refused(Refusal::BadLength, out),
+        Err(EditError::Memory) => put_refused(Refusal::Memory, out),
     }
 }
 
 /// Publishes the draft.
-fn serve_publish<K: Kernel>(
-    alloc: Global,
-    store: &mut Store<K>,
-    standing: Standing,
-    out: &mut Vec<u8>,
-)
+fn serve_publish<K: Kernel>(store: &mut Store<K>, standing: Standing, out: &mut Vec<u8>)
     requires { vec_len out.old + 64 ≤ vec_capacity out.old }
     ensures { (h : History) → StandsFor store.old h → Serves (setting_of store.old) h standing Publish store.new standing out.old.items out.new.items }
 {
     if !standing.is_welcome() {
-        put_refused(NOT_WELCOME, out);
+        put_refused(Refusal::NotWelcome, out);
         return;
     }
     if !standing.is_publisher() {
-        put_refused(NOT_PUBLISHER, out);
+        put_refused(Refusal::NotPublisher, out);
         return;
     }
-    match store.publish(alloc) {
+    match store.publish() {
         Ok(version) => put_done(version, out),
-        Err(PublishError::NothingToPublish) => put_refused(NOTHING_TO_PUBLISH, out),
-        Err(PublishError::VersionsUsedUp) => put_refused(VERSIONS_USED_UP, out),
-        Err(PublishError::Memory) => put_refused(MEMORY, out),
+        Err(PublishError::NothingToPublish) => put_refused(Refusal::NothingToPublish, out),
+        Err(PublishError::VersionsUsedUp) => put_refused(Refusal::VersionsUsedUp, out),
+        Err(PublishError::Memory) => put_refused(Refusal::Memory, out),
     }
 }
 
@@ -178,10 +172,10 @@ fn serve_publish<K: Kernel>(
 fn serve_bad_frame(out: &mut Vec<u8>) -> Standing
     requires { vec_len out.old + 64 ≤ vec_capacity out.old }
     ensures standing { result ≡ Standing.Closed }
-    ensures items { out.new.items ≡ out.old.items ++ spelling (Refused 1) }
-    ensures fits { IsFrame (Refused 1) }
+    ensures items { out.new.items ≡ out.old.items ++ spelling (refused Refusal.BadFrame) }
+    ensures fits { IsFrame (refused Refusal.BadFrame) }
 {
-    put_refused(BAD_FRAME, out);
+    put_refused(Refusal::BadFrame, out);
     Standing::Closed
 }
 
@@ -211,15 +205,15 @@ fn serve_with_room<K: Kernel>(
             version,
             words,
         } => {
-            serve_query(alloc, store, standing, *scheme, *version, words, out);
+            serve_query(store, standing, *scheme, *version, words, out);
             standing
         }
         Frame::Edit { index, bytes } => {
-            serve_edit(alloc, store, standing, *index, bytes, out);
+            serve_edit(store, standing, *index, bytes, out);
             standing
         }
         Frame::Publish => {
-            serve_publish(alloc, store, standing, out);
+            serve_publish(store, standing, out);
             standing
         }
         Frame::Bye => Standing::Closed,

@@ -1,6 +1,7 @@
 //! Sessions over one store.
 
 ghost use Rattle.std.specs.Prelude.{◌≡◌, ◌≢◌, ◌⊎◌, ◌≤◌, ◌<◌, ◌^◌, ◌+◌, ◌↔◌, ℕ, length, OnOk, OnErr, IfOk, IsSome, Some, None, IsErrOf, is_some, slice_set, true, false};
+ghost use Rattle.pir_schemes.specs.Plans.{fits};
 ghost use Rattle.version_store.specs.Histories.{History, StandsFor, edited, published};
 ghost use Rattle.server_core.specs.Cores.{session_of, is_open, FeedsCore, HasFailed, OnNoSession};
 ghost use Rattle.server_core.specs.Serving.{setting_of, IsFull};
@@ -129,13 +130,13 @@ impl<K: Kernel> ServerCore<K> {
           marked = true;
         }) }
         ensures history { OnOk result ((h : History) → StandsFor self.old.store h → StandsFor self.new.store (edited i bytes.now h)) }
-        ensures bad_index { IsErrOf result EditError.BadIndex ↔ (self.old.store.edition.shape.count ≤ i) }
+        ensures bad_index { IsErrOf result EditError.BadIndex ↔ (length self.old.store.draft ≤ i) }
         ensures bad_length { IsErrOf result EditError.BadLength ↔
-            (i < self.old.store.edition.shape.count) × (length bytes.now ≢ self.old.store.edition.shape.record_len) }
+            (i < length self.old.store.draft) × (fits self.old.store.edition.plan bytes.now ≡ false) }
         ensures refused { OnErr result (self.new.store ≡ self.old.store) }
         ensures sessions { self.new.sessions ≡ self.old.sessions }
     {
-        self.store.edit(self.alloc, i, bytes)
+        self.store.edit(i, bytes)
     }
 
     /// Makes the draft the current version and answers its number, as [`Store::publish`] does. No session
@@ -153,7 +154,7 @@ impl<K: Kernel> ServerCore<K> {
         ensures refused { OnErr result (self.new.store ≡ self.old.store) }
         ensures sessions { self.new.sessions ≡ self.old.sessions }
     {
-        self.store.publish(self.alloc)
+        self.store.publish()
     }
 
     /// Takes the next piece of a session's stream, and adds to `out` the replies to the frames that are whole

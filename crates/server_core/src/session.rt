@@ -1,17 +1,16 @@
 //! One session.
 
 ghost use Rattle.std.specs.Prelude.{◌≡◌, ◌⊎◌, ◌++◌, IfOk, IsErr, None, OnErr, OnOk};
-ghost use Rattle.frame_codec.specs.declared.frame.Frame.TheVariants.{Refused};
+ghost use Rattle.frame_codec.specs.Refusals.{refused};
 ghost use Rattle.frame_codec.specs.Frames.{IsFrame, spelling};
 ghost use Rattle.version_store.specs.Histories.{History, StandsFor};
 ghost use Rattle.server_core.specs.Serving.{setting_of, is_closed, IsFull};
 ghost use Rattle.server_core.specs.Sessions.{new_session, Ended, Fed, ServedFrames, StoppedFrames};
 
-use crate::refusal::BAD_FRAME;
 use crate::replies::{SHORT_REPLY, put_refused};
 use crate::serve::serve_frames;
 use crate::standing::Standing;
-use frame_codec::{Frame, ReadFault, Reader};
+use frame_codec::{Frame, ReadFault, Reader, Refusal};
 use matrix_u32::Kernel;
 use std::alloc::{AllocError, Global};
 use std::marker::Model;
@@ -131,12 +130,12 @@ fn end_piece(
 /// Refuses what can't be read, and closes the session. At an `Err` memory was refused, and nothing was added.
 fn refuse(out: &mut Vec<u8>) -> Result<Standing, AllocError>
     ensures closed { IfOk result (λ after. after ≡ Standing.Closed) }
-    ensures items { OnOk result (out.new.items ≡ out.old.items ++ spelling (Refused 1)) }
-    ensures fits { OnOk result (IsFrame (Refused 1)) }
+    ensures items { OnOk result (out.new.items ≡ out.old.items ++ spelling (refused Refusal.BadFrame)) }
+    ensures fits { OnOk result (IsFrame (refused Refusal.BadFrame)) }
     ensures err { OnErr result (out.new.items ≡ out.old.items) }
     ensures full { OnErr result (IsFull out.new) }
 {
     out.reserve(SHORT_REPLY)?;
-    put_refused(BAD_FRAME, out);
+    put_refused(Refusal::BadFrame, out);
     Ok(Standing::Closed)
 }

@@ -8,6 +8,8 @@ use std::process::Abort;
 use std::test::Fail;
 use version_store::{Header, Store};
 
+mod texts;
+
 /// The SHA-256 digest of 32 bytes 01.
 const PUBLISHER: [u8; 32] = [
     0x72, 0xcd, 0x6e, 0x84, 0x22, 0xc4, 0x07, 0xfb, 0x6d, 0x09, 0x86, 0x90, 0xf1, 0x13, 0x0b, 0x7d,
@@ -218,6 +220,27 @@ fn refusals_come_in_this_order(rt: HostRuntime) -> Result<(), Fail> {
     for (asked, told) in REFUSALS {
         check(&rt, rt.alloc(), &mut server, 0, asked, told)?;
     }
+    Ok(())
+}
+
+// An ask for part 0 of the hint of DoublePIR, and a query of it with three words.
+const DOUBLE_HINT_ASK: &[u8] = &[0x0d, 0, 0, 0, 0x03, 1, 1, 0, 0, 0, 0, 0, 0, 0, 0, 0, 0, 0];
+
+const DOUBLE_QUERY: &[u8] = &[
+    0x15, 0, 0, 0, 0x05, 1, 1, 0, 0, 0, 0, 0, 0, 0, 1, 0, 0, 0, 2, 0, 0, 0, 3, 0, 0, 0,
+];
+
+#[test]
+fn hints_and_answers_of_double_pir(rt: HostRuntime) -> Result<(), Fail> {
+    let alloc = rt.alloc();
+    let mut server = server(&rt, alloc, RECORDS, 1)?;
+    let stream = joined(alloc, &[GREETING, ZEROS, DOUBLE_HINT_ASK, DOUBLE_QUERY])?;
+    let mut out = Vec::new(alloc);
+    server.feed(0, &stream, &mut out)?;
+    // after the 58 bytes of the Welcome a part of four words, and then an answer of twelve
+    assert_eq!(rt; out.len(), 58 + 34 + 62);
+    assert_eq!(rt; &out[58..65], [29, 0, 0, 0, 0x83, 1, 1].as_slice());
+    assert_eq!(rt; &out[92..99], [57, 0, 0, 0, 0x85, 1, 1].as_slice());
     Ok(())
 }
 

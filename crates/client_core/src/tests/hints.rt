@@ -75,7 +75,8 @@ fn a_sync_drops_the_hint(rt: HostRuntime) -> Result<(), Fail> {
     Ok(())
 }
 
-fn asks_for_the_other_scheme(
+/// Asks for a hint of DoublePIR, which the server refuses at first, and takes its six words.
+fn fetches_a_double_hint(
     rt: &(impl Abort + AllocGlobal),
     client: &mut ClientCore<Plain>,
 ) -> Result<(), Fail> {
@@ -84,14 +85,25 @@ fn asks_for_the_other_scheme(
     let frame = refused(rt, 13)?;
     feeds(rt, client, frame.as_slice(), "refused 13 ")?;
     makes(client, Wanted::Sync(Scheme::Double))?;
-    let frame = part(rt, 1, 1, 0, &[0, 0, 0])?;
-    feeds(rt, client, frame.as_slice(), "BadReply ")
+    let frame = part(rt, 1, 1, 0, &[0; 6])?;
+    feeds(rt, client, frame.as_slice(), "synced double 1 ")
 }
 
 #[test]
-fn the_other_scheme_is_asked_for_and_refused(rt: HostRuntime) -> Result<(), Fail> {
+fn a_double_hint_is_fetched_and_asked_with(rt: HostRuntime) -> Result<(), Fail> {
     let mut client = guest(&rt, ONE_RECORD, 0)?;
-    asks_for_the_other_scheme(&rt, &mut client)
+    fetches_a_double_hint(&rt, &mut client)?;
+    // ten words: one for the column, and for each of three digits one for each of three rows
+    let front = [49, 0, 0, 0, 5, 1, 1, 0];
+    sends(&rt, &mut client, Wanted::Ask(0), 54, &front)
+}
+
+#[test]
+fn parts_of_two_schemes_do_not_mix(rt: HostRuntime) -> Result<(), Fail> {
+    let mut client = guest(&rt, ONE_RECORD, 0)?;
+    makes(&mut client, Wanted::Sync(Scheme::Double))?;
+    let frame = part(&rt, 0, 1, 0, &[0; 6])?;
+    feeds(&rt, &mut client, frame.as_slice(), "BadReply ")
 }
 
 /// Feeds one byte after another, of which the last alone brings an event.

@@ -1,12 +1,13 @@
 use Rattle.std.proofs.Common.{◌≡◌, ℕ, ◌+◌, ◌<◌, List, [], ◌∷◌, ◌++◌, length, take, drop, arith, ap, ◌∙◌, sym, subst, get_or}
-use Rattle.std.specs.Io.KnownBytes.{Appends}
-use Rattle.std.proofs.KnownBytes.{Appends-trans}
+use Rattle.connection_io.specs.Calls.{Sends}
+use Rattle.connection_io.proofs.Parts.{sends_both}
 use Rattle.std.proofs.lemmas.List.{take_more, take-append-drop}
 use Rattle.frame_codec.specs.declared.frame.Frame.{Frame}
 use Rattle.once_session.specs.declared.stage.Stage.{Stage}
 use Rattle.once_session.specs.Courses.{next, reply, reply_bytes, replies_to, stage_after, spellings}
 use Rattle.once_session.specs.Outputs.{IsFrontOf}
 use Rattle.once_session.proofs.CourseLemmas.{stage_after-append, output-append, output-more, front_behind, front_ahead, front_taken}
+use Rattle.once_session.proofs.TurnLemmas.{sends_before}
 use Rattle.once_session.proofs.engine.serve_frames.Goals as goal
 
 -- the frames up to one and this one
@@ -26,8 +27,8 @@ loop-frame-preserved g c =
     record {
       stage = c.in_default.ensures.stage.0 ∙ ap (λ s. next s f) c.loop-frame.invariant.stage ∙ sym (ap (stage_after st) more ∙ stage_after-append st fs (f ∷ []));
       table = c.in_default.ensures.stage.1;
-      written = subst (Appends (g.W.Write.contents c.args.writer.now) (g.W.Write.contents c.serve_frame.new.writer)) bytes
-          (Appends-trans (g.W.Write.contents c.args.writer.now) (g.W.Write.contents c.loop-frame.writer) (g.W.Write.contents c.serve_frame.new.writer) _ _ c.loop-frame.invariant.written c.in_default.ensures.all);
+      written = subst (λ (b : List ℕ). Sends g.C.Connection.does c.args.connection.now b c.serve_frame.new.connection) bytes
+          (sends_both g.C.Connection.does c.args.connection.now c.loop-frame.connection c.serve_frame.new.connection _ _ c.loop-frame.invariant.written c.in_default.ensures.all);
     }
 
 pub returns-in-Err-clause-front : goal.returns-in-Err-clause-front
@@ -46,6 +47,6 @@ returns-in-Err-clause-front g c =
     ∙ sym (output-append st (take (k + 1) c.args.frames.now) (drop (k + 1) c.args.frames.now))
     ∙ ap (λ gs. spellings (replies_to st gs)) (take-append-drop (k + 1) c.args.frames.now) in (
       before ++ take part.0 one,
-      Appends-trans (g.W.Write.contents c.args.writer.now) (g.W.Write.contents c.loop-frame.writer) (g.W.Write.contents c.serve_frame.new.writer) _ _ c.loop-frame.invariant.written part.1,
+      sends_before g.C.Connection.does c.in-Err.fault c.args.connection.now c.loop-frame.connection c.serve_frame.new.connection _ _ c.loop-frame.invariant.written part.1,
       subst (IsFrontOf (before ++ take part.0 one)) all (front_ahead (before ++ take part.0 one) (before ++ one) later (front_behind before (take part.0 one) one (front_taken part.0 one))),
     )

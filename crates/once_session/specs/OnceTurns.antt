@@ -1,0 +1,88 @@
+-- What is done over a connection, turn by turn.
+use Rattle.std.specs.Prelude.{◌≡◌, ◌<◌, ◌⊎◌, ℕ, List, [], ◌++◌, length, Bool, true, false, Option, Some, Result, Ok, Err}
+use Rattle.std.specs.List.{FoldsTo}
+use Rattle.connection_io.specs.Calls.{Call, Read, ReadFails, Sends, SendsUntilFault}
+use Rattle.connection_io.specs.Turns.{Turn, ReadsPiece}
+use Rattle.once_session.specs.declared.stage.Stage.{Stage}
+use Rattle.once_session.specs.declared.stage.Stage.TheVariants.{Fresh}
+use Rattle.once_session.specs.declared.engine.OnceFault.{OnceFault}
+use Rattle.once_session.specs.declared.engine.OnceFault.TheVariants as fault
+use Rattle.once_session.specs.Outputs.{goes_on, is_done, Turns, Finishes}
+
+-- bytes that went out before a fault: a write failed behind them, or another fault came
+abbrev pub SendsBefore : {C : Type 0} → (C → Call → C → Type 0) → OnceFault → C → List ℕ → C → Type 0
+SendsBefore does fault.Write a bytes b = SendsUntilFault does a bytes b
+SendsBefore does _ a bytes b = Sends does a bytes b
+
+-- how replies went out: all of them, or those before a fault
+abbrev pub WritesReplies : {C : Type 0} → (C → Call → C → Type 0) → Result (Unit {0}) OnceFault → C → List ℕ → C → Type 0
+WritesReplies does (Ok done) a bytes b = Sends does a bytes b
+WritesReplies does (Err e) a bytes b = SendsBefore does e a bytes b
+
+-- how far the work has come: its stage, and the bytes of an unfinished frame
+pub record Work : Type 0 where
+  pub stage : Stage
+  pub unfinished : List ℕ
+
+-- nothing has come
+abbrev pub fresh : Work
+fresh = record { stage = Fresh; unfinished = [] }
+
+-- A piece came, in one read: it was served, and the replies went out before any other call.
+pub record TakesPiece {C : Type 0} (does : C → Call → C → Type 0) (old : Work) (a : C) (answer : Result (Unit {0}) OnceFault) (turn : Turn) (new : Stage) (codec : Option (List ℕ)) (b : C) : Type 0 where
+  pub middle : C
+  pub reads : ReadsPiece does a turn.piece middle
+  pub writes : WritesReplies does answer middle turn.output b
+  pub turned : Turns answer old.stage (old.unfinished ++ turn.piece) new codec turn.output
+
+-- a turn after which the work goes on
+pub record LeavesOpen {C : Type 0} (does : C → Call → C → Type 0) (old : Work) (a : C) (turn : Turn) (new : Work) (b : C) : Type 0 where
+  pub takes : TakesPiece does old a (Ok tt) turn new.stage (Some new.unfinished) b
+  pub going : goes_on new.stage ≡ true
+
+-- such turns, one after another
+abbrev pub GoesOn : {C : Type 0} → (C → Call → C → Type 0) → Work → C → List Turn → Work → C → Type 0
+GoesOn {C = C} does old a turns new b = FoldsTo {P = Work × C} (λ p turn q. LeavesOpen does p.0 p.1 turn q.0 q.1) (old, a) turns (new, b)
+
+-- the work ended with a piece: well, by a Bye, or not
+pub record EndsByPiece {C : Type 0} (does : C → Call → C → Type 0) (old : Work) (a : C) (well : Bool) (b : C) : Type 0 where
+  pub turn : Turn
+  pub stage : Stage
+  pub codec : Option (List ℕ)
+  pub takes : TakesPiece does old a (Ok tt) turn stage codec b
+  pub over : goes_on stage ≡ false
+  pub well_is : is_done stage ≡ well
+
+-- or the stream ended, and what was left of it was answered
+pub record EndsByEnd {C : Type 0} (does : C → Call → C → Type 0) (old : Work) (a : C) (answer : Result (Unit {0}) OnceFault) (b : C) : Type 0 where
+  pub middle : C
+  pub reads : does a (Read 65536 []) middle
+  pub out : List ℕ
+  pub writes : WritesReplies does answer middle out b
+  pub finishes : Finishes answer old.unfinished out
+
+-- a fault at a piece or at the end
+abbrev pub BreaksOff : {C : Type 0} → (C → Call → C → Type 0) → Work → C → OnceFault → C → Type 0
+BreaksOff does old a e b =
+    ((turn : Turn) × (stage : Stage) × (codec : Option (List ℕ)) × TakesPiece does old a (Err e) turn stage codec b) ⊎ EndsByEnd does old a (Err e) b
+
+-- the last turn behind so many, of which there may be `turns`
+abbrev pub EndsTurns : {C : Type 0} → (C → Call → C → Type 0) → ℕ → ℕ → Work → C → Result (Unit {0}) OnceFault → C → Type 0
+EndsTurns does turns count old a (Ok done) b = (count < turns) × (EndsByPiece does old a true b ⊎ EndsByEnd does old a (Ok tt) b)
+EndsTurns does turns count old a (Err fault.BadInput) b = (count < turns) × (EndsByPiece does old a false b ⊎ EndsByEnd does old a (Err fault.BadInput) b)
+EndsTurns does turns count old a (Err fault.Read) b = (count < turns) × does a ReadFails b
+EndsTurns does turns count old a (Err fault.Write) b = (count < turns) × BreaksOff does old a fault.Write b
+EndsTurns does turns count old a (Err fault.Memory) b = (count < turns) × BreaksOff does old a fault.Memory b
+EndsTurns does turns count old a (Err fault.TurnsUsedUp) b = (count ≡ turns) × (b ≡ a)
+
+-- Turn after turn, each with a read of its own: those that left the work open, and the last. There is no call behind it.
+pub record ServesTurns {C : Type 0} (does : C → Call → C → Type 0) (turns : ℕ) (a : C) (result : Result (Unit {0}) OnceFault) (b : C) : Type 0 where
+  pub before : List Turn
+  pub work : Work
+  pub middle : C
+  pub go_on : GoesOn does fresh a before work middle
+  pub ends : EndsTurns does turns (length before) work middle result b
+
+-- the same, or there was no memory to begin with, and no call was made
+abbrev pub ServesOver : {C : Type 0} → (C → Call → C → Type 0) → ℕ → C → Result (Unit {0}) OnceFault → C → Type 0
+ServesOver does turns a result b = ((result ≡ Err fault.Memory) × (b ≡ a)) ⊎ ServesTurns does turns a result b

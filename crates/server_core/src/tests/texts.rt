@@ -1,0 +1,29 @@
+//! What each fault prints.
+
+use super::*;
+
+#[test]
+fn each_open_error_has_its_text(rt: HostRuntime) -> Result<(), Fail> {
+    let texts = [
+        (OpenError::IdInUse, "there is a session of this number"),
+        (OpenError::Memory, "out of memory"),
+    ];
+    for (fault, text) in texts {
+        let told = format!(in rt.alloc(); "{fault}")?;
+        assert_eq!(rt; told.as_str(), text);
+    }
+    Ok(())
+}
+
+#[test]
+fn each_feed_error_has_its_text(rt: HostRuntime) -> Result<(), Fail> {
+    let texts = [
+        (FeedError::NoSession, "there is no session of this number"),
+        (FeedError::Memory, "out of memory"),
+    ];
+    for (fault, text) in texts {
+        let told = format!(in rt.alloc(); "{fault}")?;
+        assert_eq!(rt; told.as_str(), text);
+    }
+    Ok(())
+}
