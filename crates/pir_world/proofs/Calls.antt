@@ -4,10 +4,9 @@ use Rattle.std.specs.Prelude.{nat_lt, is_some, if◌then◌else◌}
 use Rattle.std.specs.List.{AllByRecursion}
 use Rattle.std.proofs.lemmas.List.{append-nil}
 use Rattle.std.proofs.lemmas.Bool.{ltb-true, eqb-true}
-use Rattle.digit_pack.specs.Layout.{Shape}
+use Rattle.pir_schemes.specs.declared.scheme.Scheme.{Scheme}
+use Rattle.pir_schemes.specs.Laws.{RetrievalGivesTheRecord}
 use Rattle.frame_codec.specs.declared.frame.Frame.{Frame}
-use Rattle.version_store.specs.declared.scheme.Scheme.{Scheme}
-use Rattle.version_store.specs.declared.scheme.Scheme.TheVariants.{Simple, Double}
 use Rattle.version_store.specs.Histories.{History}
 use Rattle.server_core.specs.declared.standing.Standing.{Standing}
 use Rattle.server_core.specs.declared.standing.Standing.TheVariants.{Reader}
@@ -17,14 +16,14 @@ use Rattle.client_core.specs.declared.state.Known.{Known}
 use Rattle.client_core.specs.declared.state.Hint.{Hint}
 use Rattle.client_core.specs.declared.state.Call.{Call}
 use Rattle.client_core.specs.declared.state.Call.TheVariants.{Idle, Hello, Sync, Ask, Edit, Publish}
-use Rattle.client_core.specs.States.{is_idle, is_ready, known_version, known_count}
+use Rattle.client_core.specs.States.{is_idle, is_ready, known_version, known_count, scheme_held}
 use Rattle.client_core.specs.Calls.{refusal, called, call_frame}
 use Rattle.client_core.specs.Calls.{Hello as want_hello, Sync as want_sync, Ask as want_ask}
 use Rattle.client_core.specs.Replies.{takes}
 use Rattle.client_core.specs.Feeding.{takes_all, fault_of}
 use Rattle.pir_world.specs.Runs.{Wire, Link, Entry, arrived, behind, link_called, link_told, link_served, turn_of, told_by, reacts, reader_key}
-use Rattle.pir_world.specs.Headlines.{IsVersion, QuietRetrievalGivesItsRecord, IsRight, seed_of}
-use Rattle.pir_world.specs.Invariants.{IsSetting, GoodHistory, KnownIs, PartsAre, IsReply, InFlight, Phase, LinkInv}
+use Rattle.pir_world.specs.Headlines.{HasVersion, IsRight, seed_of}
+use Rattle.pir_world.specs.Invariants.{GoodHistory, KnownIs, SyncIs, IsReply, InFlight, Phase, LinkInv}
 use Rattle.pir_world.proofs.Wires.{none_arrives, one_arrives, Split, IsFew, split_few}
 use Rattle.pir_world.proofs.Serves.{served_link}
 use Rattle.pir_world.proofs.Takes.{ClientInv, taken, hint_long}
@@ -35,15 +34,22 @@ idle_is : (call : Call) → is_idle call ≡ true → call ≡ Idle
 idle_is Idle e = refl
 idle_is (Hello key) e = absurd cc
 idle_is (Sync scheme v p) e = absurd cc
-idle_is (Ask i v n) e = absurd cc
+idle_is (Ask i s v n) e = absurd cc
 idle_is (Edit i bytes) e = absurd cc
 idle_is Publish e = absurd cc
 
 -- a hint of the version known is held
-ready : (k : Option Known) (o : Option Hint) → is_ready k o ≡ true → (is_some k ≡ true) × ((y : Hint) × (o ≡ Some y) × (y.version ≡ known_version k))
+record Ready (k : Option Known) (o : Option Hint) : Type 0 where
+  known : Known
+  known_is : k ≡ Some known
+  hint : Hint
+  hint_is : o ≡ Some hint
+  version_is : hint.version ≡ known.version
+
+ready : (k : Option Known) (o : Option Hint) → is_ready k o ≡ true → Ready k o
 ready None o e = absurd cc
 ready (Some k) None e = absurd cc
-ready (Some k) (Some y) e = (refl, (y, refl, eqb-true y.version k.version e))
+ready (Some k) (Some y) e = record { known = k; known_is = refl; hint = y; hint_is = refl; version_is = eqb-true y.version k.version e }
 
 -- an `if` that ends in None was taken there
 then_none : {A : Type 0} (b : Bool) (x : Option A) (y : A) → (if b then x else Some y) ≡ None → (b ≡ true) × (x ≡ None)
@@ -60,15 +66,19 @@ idle_phase x h st seed c call up down e p = let P : Call → Type 0 = λ y. Phas
 flight : (x : Setting) (h : History) (st : Standing) (seed : List ℕ) (c : ClientState) (call : Call) (up down : List Frame) → (up ≡ []) × (down ≡ []) → InFlight x h st seed c call (up ++ call_frame c call ∷ []) down
 flight x h st seed c call up down p = inl (rw p.0 refl, p.1)
 
-known_of : (x : Setting) (h : History) (st : Standing) (k : Option Known) → KnownIs x h st k → is_some k ≡ true → IsVersion h (known_version k) × (known_count k ≡ x.shape.count)
-known_of x h st None k e = absurd cc
-known_of x h st (Some y) k e = (k.4, ap (λ (l : Shape). l.count) k.1)
+first_parts : (x : Setting) (h : History) (st : Standing) (s : Scheme) (k : Option Known) → GoodHistory x h → KnownIs x h st k → is_some k ≡ true → SyncIs x h s (known_version k) 0 k []
+first_parts x h st s None g k e = absurd cc
+first_parts x h st s (Some y) g k e = record {
+  k = y;
+  known_is = refl;
+  asked = refl;
+  records = k.1.records;
+  version_is = k.1.version_is;
+  parts_are = refl;
+  further = hint_long x s k.1.records (g.versions y.version k.1.records k.1.version_is).plan;
+}
 
-first_parts : (x : Setting) (h : History) (scheme : Scheme) (v : ℕ) → IsSetting x → IsVersion h v → PartsAre x h scheme v 0 []
-first_parts x h Simple v s p = record { records = p.0; version_is = p.1; parts_are = refl; further = hint_long x p.0 s }
-first_parts x h Double v s p = tt
-
-module _ (x : Setting) (h : History) (seed : List ℕ) (l : Link) (s : IsSetting x) (i : LinkInv x h seed l) where
+module _ (x : Setting) (h : History) (seed : List ℕ) (l : Link) (g : GoodHistory x h) (i : LinkInv x h seed l) where
   nothing_waits : l.client.call ≡ Idle → (l.up.frames ≡ []) × (l.down.frames ≡ [])
   nothing_waits e = idle_phase x h l.standing seed l.client l.client.call l.up.frames l.down.frames e i.phase
 
@@ -92,14 +102,13 @@ module _ (x : Setting) (h : History) (seed : List ℕ) (l : Link) (s : IsSetting
       let a = else_none l.client.failed _ _ e in
       let b = then_none (is_some l.client.known) _ _ a.1 in
       let d = then_none (is_idle l.client.call) _ _ b.1 in
-      let r = known_of x h l.standing l.client.known i.known b.0 in
       record {
         seed_is = i.seed_is;
         alive = i.alive;
         unclosed = i.unclosed;
         known = i.known;
         hint = tt;
-        call = (b.0, first_parts x h scheme (known_version l.client.known) s r.0);
+        call = first_parts x h l.standing scheme l.client.known g i.known b.0;
         phase = flight x h l.standing seed (called (want_sync scheme) l.client) (Sync scheme (known_version l.client.known) 0) l.up.frames l.down.frames (nothing_waits (idle_is l.client.call d.0));
       }
 
@@ -110,16 +119,25 @@ module _ (x : Setting) (h : History) (seed : List ℕ) (l : Link) (s : IsSetting
       let d = then_none (is_idle l.client.call) _ _ b.1 in
       let f = then_none (nat_lt j (known_count l.client.known)) _ _ d.1 in
       let r = ready l.client.known l.client.hint b.0 in
-      let count = (known_of x h l.standing l.client.known i.known r.0).1 in
       let lt : j < known_count l.client.known = ltb-true j (known_count l.client.known) f.0 in
+      let version : known_version l.client.known ≡ r.known.version = ap known_version r.known_is in
       record {
         seed_is = i.seed_is;
         alive = i.alive;
         unclosed = i.unclosed;
         known = i.known;
         hint = i.hint;
-        call = (r.0, record { inside = omega (arith, lt, count); hint = r.1.0; hint_is = r.1.1; version_is = r.1.2 });
-        phase = flight x h l.standing seed (called (want_ask j) l.client) (Ask j (known_version l.client.known) l.client.number) l.up.frames l.down.frames (nothing_waits (idle_is l.client.call d.0));
+        call = record {
+          k = r.known;
+          known_is = r.known_is;
+          asked = sym version;
+          inside = omega (arith, lt, ap known_count r.known_is);
+          hint = r.hint;
+          hint_is = r.hint_is;
+          scheme_is = sym (ap scheme_held r.hint_is);
+          version_is = r.version_is ∙ sym version;
+        };
+        phase = flight x h l.standing seed (called (want_ask j) l.client) (Ask j (scheme_held l.client.hint) (known_version l.client.known) l.client.number) l.up.frames l.down.frames (nothing_waits (idle_is l.client.call d.0));
       }
 
 -- ---- a delivery to the client
@@ -128,11 +146,11 @@ pub record ToldLink (x : Setting) (seeds : List (List ℕ)) (h : History) (k : �
   pub link : LinkInv x h (seed_of seeds k) l
   pub right : AllByRecursion (IsRight x seeds h) es
 
-module _ (law : QuietRetrievalGivesItsRecord) (x : Setting) (seeds : List (List ℕ)) (k : ℕ) (h : History) (l : Link) (s : IsSetting x) (g : GoodHistory x h) (i : LinkInv x h (seed_of seeds k) l) where
+module _ (law : RetrievalGivesTheRecord) (x : Setting) (seeds : List (List ℕ)) (k : ℕ) (h : History) (l : Link) (g : GoodHistory x h) (i : LinkInv x h (seed_of seeds k) l) where
   client_inv : ClientInv x h (seed_of seeds k) l.standing l.client
   client_inv = record { seed_is = i.seed_is; alive = i.alive; known = i.known; hint = i.hint; call = i.call }
 
-  -- the link where these replies arrive and this is behind them
+  -- the link where these replies arrive and this is after them
   abbrev with_replies : List Frame → Wire → Link
   with_replies fs b = record { client = (takes_all l.client fs).state; standing = l.standing; up = record { frames = l.up.frames ++ (takes_all l.client fs).sends; got = l.up.got }; down = b }
 
@@ -142,7 +160,7 @@ module _ (law : QuietRetrievalGivesItsRecord) (x : Setting) (seeds : List (List 
     right = tt;
   })
 
-  -- behind a reply without a fault nothing more is told of none
+  -- after a reply without a fault nothing more is told of none
   abbrev told_one : Frame → List Entry
   told_one r = told_by k l.client (r ∷ [])
 
@@ -152,7 +170,7 @@ module _ (law : QuietRetrievalGivesItsRecord) (x : Setting) (seeds : List (List 
   one_reply : (fs : List Frame) (b : Wire) (r : Frame) → fs ≡ r ∷ [] → b.frames ≡ [] → l.up.frames ≡ [] → IsReply x h l.standing (seed_of seeds k) l.client.call r
       → ToldLink x seeds h k (with_replies fs b) (told_by k l.client fs)
   one_reply fs b r e d u p =
-      let t = taken law x seeds k h l.standing l.client s g client_inv r p in
+      let t = taken law x seeds k h l.standing l.client g client_inv r p in
       rw e (record {
         link = record { seed_is = t.client.seed_is; alive = t.client.alive; unclosed = i.unclosed; known = t.client.known; hint = t.client.hint; call = t.client.call; phase = rw (u, d) t.phase };
         right = subst (λ (es : List Entry). AllByRecursion (IsRight x seeds h) es) (sym (told_one_is r t.no_fault)) t.right;
@@ -169,7 +187,7 @@ module _ (law : QuietRetrievalGivesItsRecord) (x : Setting) (seeds : List (List 
   told_phase most Idle e p = let a = none_arrives l.down most p.1 in no_reply (arrived l.down most) (behind l.down most) a.0 (a.1 ∙ sym p.1)
   told_phase most (Hello key) e p = told_flight most (Hello key) e p
   told_phase most (Sync scheme v q) e p = told_flight most (Sync scheme v q) e p
-  told_phase most (Ask j v m) e p = told_flight most (Ask j v m) e p
+  told_phase most (Ask j z v m) e p = told_flight most (Ask j z v m) e p
   told_phase most (Edit j bytes) e p = absurd p
   told_phase most Publish e p = absurd p
 
@@ -181,7 +199,7 @@ module _ (law : QuietRetrievalGivesItsRecord) (x : Setting) (seeds : List (List 
   front_flight call fs more e (inl a) p = rw a.0 refl
   front_flight call fs more e (inr a) (inl p) = rw (a.0 ∙ p.1) refl
   front_flight call fs more e (inr a) (inr p) =
-      let t = taken law x seeds k h l.standing l.client s g client_inv p.1.0 (subst (λ (y : Call). IsReply x h l.standing (seed_of seeds k) y p.1.0) e p.1.2) in
+      let t = taken law x seeds k h l.standing l.client g client_inv p.1.0 (subst (λ (y : Call). IsReply x h l.standing (seed_of seeds k) y p.1.0) e p.1.2) in
       rw (a.0 ∙ p.1.1) t.no_fault
 
   front_phase : (call : Call) (fs more : List Frame) → call ≡ l.client.call → Split l.down.frames fs more → Phase x h l.standing (seed_of seeds k) l.client call l.up.frames l.down.frames → (takes_all l.client fs).fault ≡ None
@@ -189,7 +207,7 @@ module _ (law : QuietRetrievalGivesItsRecord) (x : Setting) (seeds : List (List 
   front_phase Idle fs more e (inr a) p = rw (a.0 ∙ p.1) refl
   front_phase (Hello key) fs more e a p = front_flight (Hello key) fs more e a p
   front_phase (Sync scheme v q) fs more e a p = front_flight (Sync scheme v q) fs more e a p
-  front_phase (Ask j v m) fs more e a p = front_flight (Ask j v m) fs more e a p
+  front_phase (Ask j z v m) fs more e a p = front_flight (Ask j z v m) fs more e a p
   front_phase (Edit j bytes) fs more e a p = absurd p
   front_phase Publish fs more e a p = absurd p
 
@@ -205,7 +223,7 @@ pub record ServedInv (x : Setting) (seeds : List (List ℕ)) (h : History) (seed
 
 known_then : (x : Setting) (h : History) (st st2 : Standing) (k : Option Known) → (st ≡ Reader → st2 ≡ Reader) → KnownIs x h st k → KnownIs x h st2 k
 known_then x h st st2 None f k = tt
-known_then x h st st2 (Some y) f k = (f k.0, k.1, k.2, k.3, k.4)
+known_then x h st st2 (Some y) f k = (f k.0, k.1)
 
 few_flight : (x : Setting) (h : History) (st : Standing) (seed : List ℕ) (c : ClientState) (call : Call) (up down : List Frame) → InFlight x h st seed c call up down → IsFew up × IsFew down
 few_flight x h st seed c call up down (inl p) = (inr (call_frame c call, p.0), inl p.1)
@@ -215,7 +233,7 @@ pub few_frames : (x : Setting) (h : History) (st : Standing) (seed : List ℕ) (
 few_frames x h st seed c Idle up down p = (inl p.0, inl p.1)
 few_frames x h st seed c (Hello key) up down p = few_flight x h st seed c (Hello key) up down p
 few_frames x h st seed c (Sync scheme v q) up down p = few_flight x h st seed c (Sync scheme v q) up down p
-few_frames x h st seed c (Ask j v m) up down p = few_flight x h st seed c (Ask j v m) up down p
+few_frames x h st seed c (Ask j z v m) up down p = few_flight x h st seed c (Ask j z v m) up down p
 few_frames x h st seed c (Edit j bytes) up down p = absurd p
 few_frames x h st seed c Publish up down p = absurd p
 

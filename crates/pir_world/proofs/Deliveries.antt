@@ -18,8 +18,9 @@ use Rattle.client_core.specs.declared.state.ClientFault.TheVariants.{Memory}
 use Rattle.client_core.specs.declared.state.Event.{Event}
 use Rattle.client_core.specs.Feeding.{Client, Course, takes_all, FeedsOpen, FeedsFailed, Follows, Gives, ends_with, failing}
 use Rattle.pir_world.specs.Runs.{Link, serves, arrived, behind, sent, link_told, turn_of, link_served}
-use Rattle.pir_world.specs.Headlines.{QuietRetrievalGivesItsRecord, seed_of}
-use Rattle.pir_world.specs.Invariants.{IsSetting, GoodHistory, LinkInv}
+use Rattle.pir_schemes.specs.Laws.{RetrievalGivesTheRecord}
+use Rattle.pir_world.specs.Headlines.{seed_of}
+use Rattle.pir_world.specs.Invariants.{GoodHistory, LinkInv}
 use Rattle.pir_world.specs.Sides.{Side, Carries, EndIs, TakesDelivery, front, rest}
 use Rattle.pir_world.proofs.Bytes.{delivered, memory_alone, front_read, carries_more}
 use Rattle.pir_world.proofs.Wires.{Split, IsFew, split_front}
@@ -34,7 +35,7 @@ pub record EndTold (e : Side) (session : Session) (l : Link) (most : ℕ) (event
   pub events_are : events ≡ (takes_all l.client (arrived l.down most)).events
   pub good : (takes_all l.client (arrived l.down most)).fault ≡ None
 
-module _ (law : QuietRetrievalGivesItsRecord) (x : Setting) (seeds : List (List ℕ)) (k : ℕ) (h : History) (l : Link) (s : IsSetting x) (g : GoodHistory x h) (inv : LinkInv x h (seed_of seeds k) l) (e e2 : Side) (session : Session) (most : ℕ) (i : EndIs e session l) where
+module _ (law : RetrievalGivesTheRecord) (x : Setting) (seeds : List (List ℕ)) (k : ℕ) (h : History) (l : Link) (g : GoodHistory x h) (inv : LinkInv x h (seed_of seeds k) l) (e e2 : Side) (session : Session) (most : ℕ) (i : EndIs e session l) where
   abbrev Told : List Event → Option ClientFault → Type 0
   Told events fault = (fault ≡ Some Memory) ⊎ ((fault ≡ None) × EndTold e2 session l most events)
 
@@ -44,7 +45,7 @@ module _ (law : QuietRetrievalGivesItsRecord) (x : Setting) (seeds : List (List 
       let m : ℕ = min most (length e.down) in
       let r = front_read e.client.reader e.down l.down m answer frames e2.client.reader i.down reads in
       let few = few_frames x h l.standing (seed_of seeds k) l.client l.client.call l.up.frames l.down.frames inv.phase in
-      let f : (takes_all l.client frames).fault ≡ None = front_good law x seeds k h l s g inv frames r.0 (split_front l.down.frames frames r.0 few.1 r.1) in
+      let f : (takes_all l.client frames).fault ≡ None = front_good law x seeds k h l g inv frames r.0 (split_front l.down.frames frames r.0 few.1 r.1) in
       subst (λ (c : ClientState). (takes_all c frames).fault ≡ None) (sym i.client_is) f
 
   told_well : (frames : List Frame) (done : Unit {0}) → Feeds e.client.reader (front most e.down) (Ok done) frames e2.client.reader → (out : List ℕ) (events : List Event)

@@ -1,20 +1,18 @@
 -- No answer is older than what was told before.
-use Rattle.std.proofs.Common.{ℕ, ◌≤◌, ◌*◌, ◌^◌, Bool, List, [], ◌∷◌, refl, inl, inr}
-use Rattle.std.specs.Prelude.{nat_lt}
+use Rattle.std.proofs.Common.{ℕ, ◌≤◌, Bool, List, [], ◌∷◌, Option, Some, None, refl, inl, inr}
 use Rattle.std.specs.List.{AllByRecursion}
 use Rattle.std.proofs.lemmas.Bool.{cond_both}
-use Rattle.digit_pack.specs.Layout.{Shape, record_bytes}
-use Rattle.digit_pack.specs.Digits.{number_of}
+use Rattle.pir_schemes.specs.Laws.{RetrievalGivesTheRecord}
 use Rattle.frame_codec.specs.declared.frame.Frame.{Frame}
 use Rattle.version_store.specs.Histories.{History, number}
 use Rattle.server_core.specs.declared.standing.Standing.{Standing}
 use Rattle.server_core.specs.Serving.{Setting, is_closed}
 use Rattle.client_core.specs.declared.state.Event.{Event}
 use Rattle.client_core.specs.declared.state.Event.TheVariants.{Welcomed, Synced, Retrieved, Unreadable, Stale, Done, Refused}
-use Rattle.client_core.specs.Replies.{record_event}
+use Rattle.client_core.specs.Replies.{event_of}
 use Rattle.pir_world.specs.declared.steps.Outcome.TheVariants.{Edited, EditRefused, Published, PublishRefused, Told, CallRefused, Failed}
 use Rattle.pir_world.specs.Runs.{Turn, Entry, Served, Ended, Plain, serves, arrived, behind, opening, setting_in}
-use Rattle.pir_world.specs.Headlines.{QuietRetrievalGivesItsRecord, IsRight, IsRightEvent, seed_of}
+use Rattle.pir_world.specs.Headlines.{IsRight, IsRightEvent, seed_of}
 use Rattle.pir_world.specs.Freshness.{NamesUpTo, ToldUpTo, IsFresh, AnswersAreFresh}
 use Rattle.pir_world.proofs.Wires.{IsFew, split_few}
 use Rattle.pir_world.proofs.Calls.{few_frames}
@@ -22,9 +20,9 @@ use Rattle.pir_world.proofs.Deliveries.{few_of_split}
 use Rattle.pir_world.proofs.Keeping.{run_inv}
 use Rattle.pir_world.proofs.Opening.{opening_inv}
 
-record_up_to : (l : Shape) (i v n : ℕ) (digits : List ℕ) → v ≤ n → NamesUpTo n (record_event l i v digits)
-unfolding record_event
-record_up_to l i v n digits le = cond_both (nat_lt (number_of l.width digits) (2 ^ (8 * l.record_len))) (Retrieved i v (record_bytes l digits)) (Unreadable i v) (λ e. NamesUpTo n e) (λ t. le) (λ t. le)
+record_up_to : (i v n : ℕ) (given : Option (List ℕ)) → v ≤ n → NamesUpTo n (event_of i v given)
+record_up_to i v n (Some bytes) le = le
+record_up_to i v n None le = le
 
 event_up_to : (h : History) (e : Event) → IsRightEvent h e → NamesUpTo (number h) e
 event_up_to h (Welcomed v) p = p.1.0
@@ -38,16 +36,12 @@ event_up_to h (Refused code) p = tt
 module _ (x : Setting) (seeds : List (List ℕ)) (h : History) where
   entry_up_to : (e : Entry) → IsRight x seeds h e → ToldUpTo (number h) e
   entry_up_to (Served k f now reply) p = tt
-  entry_up_to (Ended k r reply event) (inl a) = rw a.event_is (record_up_to x.shape r.index r.version (number h) _ a.version_is.0)
-  entry_up_to (Ended k r reply event) (inr (inl s)) = rw s.event_is s.version_is.1.0
+  entry_up_to (Ended k r reply event) (inl a) = rw a.event_is (record_up_to r.index r.version (number h) _ a.version_is.0)
+  entry_up_to (Ended k r reply event) (inr (inl s)) = rw s.event_is s.version_is.0
   entry_up_to (Ended k r reply event) (inr (inr p)) = rw p.1 tt
   entry_up_to (Plain (Told k event)) p = event_up_to h event p
   entry_up_to (Plain (Published v)) p = p.1.0
-  entry_up_to (Plain (Edited i)) p = tt
-  entry_up_to (Plain (EditRefused i fault)) p = tt
-  entry_up_to (Plain (PublishRefused fault)) p = tt
-  entry_up_to (Plain (CallRefused k fault)) p = tt
-  entry_up_to (Plain (Failed k fault)) p = tt
+  entry_up_to (Plain _) p = tt
 
   all_up_to : (es : List Entry) → AllByRecursion (IsRight x seeds h) es → AllByRecursion (ToldUpTo (number h)) es
   all_up_to [] p = tt
@@ -58,7 +52,7 @@ one_fresh : (x : Setting) (short : Bool) (k : ℕ) (h : History) (st : Standing)
 one_fresh x short k h st log fs (inl e) told = rw e tt
 one_fresh x short k h st log fs (inr p) told = rw p.1 (cond_both (is_closed st) _ _ (λ (t : Turn). AllByRecursion (IsFresh h log) t.log) (λ c. tt) (λ c. ((refl, told), tt)))
 
-pub fresh : QuietRetrievalGivesItsRecord → AnswersAreFresh
+pub fresh : RetrievalGivesTheRecord → AnswersAreFresh
 fresh law h records seeds steps s o run short k most l at =
     let inv = run_inv law (setting_in h) seeds (opening h records seeds) steps s run (opening_inv h records seeds o) in
     let i = inv.links k l at in

@@ -3,6 +3,8 @@ use Rattle.std.proofs.Common.{◌≡◌, ℕ, ◌+◌, ◌^◌, ◌<◌, All, Bo
 use Rattle.std.specs.Prelude.{nat_lt, ◌==◌, slice_get, slice_set}
 use Rattle.std.specs.List.{AllByRecursion}
 use Rattle.std.proofs.lemmas.Bool.{cases_eq, cond_both, eqb-true}
+use Rattle.pir_schemes.specs.Plans.{fits}
+use Rattle.pir_schemes.specs.Laws.{RetrievalGivesTheRecord}
 use Rattle.version_store.specs.Histories.{History, number, edited, published}
 use Rattle.server_core.specs.Serving.{Setting}
 use Rattle.client_core.specs.declared.state.CallFault.{CallFault}
@@ -13,7 +15,7 @@ use Rattle.pir_world.specs.declared.steps.Step.TheVariants.{Edit, Publish, Hello
 use Rattle.pir_world.specs.declared.steps.Outcome.{Outcome}
 use Rattle.pir_world.specs.declared.steps.Outcome.TheVariants.{Edited, EditRefused, Published, PublishRefused, CallRefused}
 use Rattle.pir_world.specs.Runs.{State, Link, Entry, Plain, after, called_at, served_at, told_at, call_at, with_link, with_history, edit_after, publish_after, link_called, link_told, link_served, turn_of, told_by, arrived, reader_key, FitsStep, Steps, Run}
-use Rattle.pir_world.specs.Headlines.{QuietRetrievalGivesItsRecord, IsRight, IsRightOutcome, seed_of}
+use Rattle.pir_world.specs.Headlines.{IsRight, IsRightOutcome, seed_of}
 use Rattle.pir_world.specs.Invariants.{GoodHistory, LinkInv, Inv}
 use Rattle.pir_world.proofs.Later.{IsLater, later_published, same_history, newest, good_published, good_edited, link_later, entries_later, get_same, get_other}
 use Rattle.pir_world.proofs.Calls.{called_hello, called_sync, called_ask, told_inv, served_inv}
@@ -27,7 +29,6 @@ module _ (x : Setting) (seeds : List (List ℕ)) (s : State) (inv : Inv x seeds 
   at_one : (k : ℕ) (l m : Link) (h : History) (es : List Entry) → slice_get s.links k ≡ Some l → h ≡ s.history → LinkInv x s.history (seed_of seeds k) m → AllByRecursion (IsRight x seeds s.history) es
       → Inv x seeds (with_link s h k m es)
   at_one k l m h es at e i right = rw e (record {
-    setting = inv.setting;
     history = inv.history;
     links = λ j y f. elim (cases_eq j k) [
       | inl same ↦ let g : Some m ≡ Some y = sym (get_same s.links k m l at) ∙ ap (λ (n : ℕ). slice_get (slice_set s.links k m) n) (sym same) ∙ f in
@@ -40,7 +41,6 @@ module _ (x : Setting) (seeds : List (List ℕ)) (s : State) (inv : Inv x seeds 
 
   at_history : (h : History) (o : Outcome) → GoodHistory x h → IsLater s.history h → IsRightOutcome h o → Inv x seeds (with_history s h o)
   at_history h o g later right = record {
-    setting = inv.setting;
     history = g;
     links = λ j y f. link_later x s.history h later (seed_of seeds j) y (inv.links j y f);
     entries = all_append (IsRight x seeds h) s.log (Plain o ∷ []) (entries_later x s.history h later seeds s.log inv.entries) (right, tt);
@@ -62,17 +62,17 @@ module _ (x : Setting) (seeds : List (List ℕ)) (s : State) (inv : Inv x seeds 
       let d = served_inv short most x seeds k s.history (seed_of seeds k) l (inv.links k l at) in
       at_one k l (link_served x short k most s.history l) (turn_of x short k most s.history l).history (turn_of x short k most s.history l).log at d.history_is d.link d.right
 
-  told_at_inv : QuietRetrievalGivesItsRecord → (k most : ℕ) (o : Option Link) → slice_get s.links k ≡ o → Inv x seeds (told_at s k most o)
+  told_at_inv : RetrievalGivesTheRecord → (k most : ℕ) (o : Option Link) → slice_get s.links k ≡ o → Inv x seeds (told_at s k most o)
   told_at_inv law k most None at = inv
   told_at_inv law k most (Some l) at =
-      let d = told_inv law x seeds k s.history l inv.setting inv.history (inv.links k l at) most in
+      let d = told_inv law x seeds k s.history l inv.history (inv.links k l at) most in
       at_one k l (link_told most l) s.history (told_by k l.client (arrived l.down most)) at refl d.link d.right
 
   edit_inv : (i : ℕ) (bytes : List ℕ) → All (λ b. b < 2 ^ 8) bytes → Inv x seeds (edit_after x s i bytes)
-  edit_inv i bytes fits =
-      cond_both (nat_lt i x.shape.count) _ _ (λ t. Inv x seeds t)
-      (λ t. cond_both (length bytes == x.shape.record_len) _ _ (λ t. Inv x seeds t)
-      (λ u. at_history (edited i bytes s.history) (Edited i) (good_edited x s.history i bytes (record { len = eqb-true _ _ u; each = fits }) inv.history) (λ v records p. p) tt)
+  edit_inv i bytes small =
+      cond_both (nat_lt i (length s.history.draft)) _ _ (λ t. Inv x seeds t)
+      (λ t. cond_both (fits x.plan bytes) _ _ (λ t. Inv x seeds t)
+      (λ u. at_history (edited i bytes s.history) (Edited i) (good_edited x s.history i bytes (record { len = eqb-true _ _ u; each = small }) inv.history) (λ v records p. p) tt)
       (λ u. at_history s.history (EditRefused i _) inv.history (same_history s.history) tt))
       (λ t. at_history s.history (EditRefused i _) inv.history (same_history s.history) tt)
 
@@ -87,20 +87,20 @@ module _ (x : Setting) (seeds : List (List ℕ)) (s : State) (inv : Inv x seeds 
       new_version : (h : History) → IsRightOutcome (published h) (Published (number h + 1))
       new_version h = let e : number (published h) ≡ number h + 1 = omega arith in (h.draft, let n = newest (published h) in rw (← e) n)
 
-  pub after_inv : QuietRetrievalGivesItsRecord → (short : Bool) (step : Step) → FitsStep step → Inv x seeds (after x short s step)
-  after_inv law short (Edit i bytes) fits = edit_inv i bytes fits
-  after_inv law short Publish fits = publish_inv
-  after_inv law short (Hello k) fits = called_inv (want_hello reader_key) k (slice_get s.links k) refl (λ l i e. called_hello x s.history (seed_of seeds k) l inv.setting i e)
-  after_inv law short (Sync k scheme) fits = called_inv (want_sync scheme) k (slice_get s.links k) refl (λ l i e. called_sync x s.history (seed_of seeds k) l inv.setting i scheme e)
-  after_inv law short (Ask k j) fits = called_inv (want_ask j) k (slice_get s.links k) refl (λ l i e. called_ask x s.history (seed_of seeds k) l inv.setting i j e)
-  after_inv law short (ToServer k most) fits = served_at_inv short k most (slice_get s.links k) refl
-  after_inv law short (ToClient k most) fits = told_at_inv law k most (slice_get s.links k) refl
+  pub after_inv : RetrievalGivesTheRecord → (short : Bool) (step : Step) → FitsStep step → Inv x seeds (after x short s step)
+  after_inv law short (Edit i bytes) small = edit_inv i bytes small
+  after_inv law short Publish small = publish_inv
+  after_inv law short (Hello k) small = called_inv (want_hello reader_key) k (slice_get s.links k) refl (λ l i e. called_hello x s.history (seed_of seeds k) l inv.history i e)
+  after_inv law short (Sync k scheme) small = called_inv (want_sync scheme) k (slice_get s.links k) refl (λ l i e. called_sync x s.history (seed_of seeds k) l inv.history i scheme e)
+  after_inv law short (Ask k j) small = called_inv (want_ask j) k (slice_get s.links k) refl (λ l i e. called_ask x s.history (seed_of seeds k) l inv.history i j e)
+  after_inv law short (ToServer k most) small = served_at_inv short k most (slice_get s.links k) refl
+  after_inv law short (ToClient k most) small = told_at_inv law k most (slice_get s.links k) refl
 
-pub step_inv : QuietRetrievalGivesItsRecord → (x : Setting) (seeds : List (List ℕ)) (s : State) (step : Step) (t : State) → Steps x s step t → Inv x seeds s → Inv x seeds t
+pub step_inv : RetrievalGivesTheRecord → (x : Setting) (seeds : List (List ℕ)) (s : State) (step : Step) (t : State) → Steps x s step t → Inv x seeds s → Inv x seeds t
 step_inv law x seeds s step t (f, inl e) inv = rw e (after_inv x seeds s inv law false step f)
 step_inv law x seeds s step t (f, inr e) inv = rw e (after_inv x seeds s inv law true step f)
 
-pub run_inv : QuietRetrievalGivesItsRecord → (x : Setting) (seeds : List (List ℕ)) (s : State) (steps : List Step) (t : State) → Run x s steps t → Inv x seeds s → Inv x seeds t
+pub run_inv : RetrievalGivesTheRecord → (x : Setting) (seeds : List (List ℕ)) (s : State) (steps : List Step) (t : State) → Run x s steps t → Inv x seeds s → Inv x seeds t
 run_inv law x seeds s [] t e inv = rw e inv
 run_inv law x seeds s (step ∷ steps) t r inv = run_inv law x seeds r.0 steps t r.2 (step_inv law x seeds s step r.0 r.1 inv)
 

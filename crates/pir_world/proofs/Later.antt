@@ -1,16 +1,17 @@
 -- What a later history keeps.
-use Rattle.std.proofs.Common.{◌≡◌, ℕ, zero, suc, ◌-◌, ◌<◌, ◌⊎◌, List, [], ◌∷◌, Option, Some, None, refl, sym, ap, ◌∙◌, arith, inl, inr}
+use Rattle.std.proofs.Common.{◌≡◌, ℕ, zero, suc, ◌-◌, ◌<◌, ◌≤◌, ◌⊎◌, List, [], ◌∷◌, length, Option, Some, None, refl, sym, ap, ◌∙◌, arith, inl, inr}
 use Rattle.std.specs.Prelude.{slice_get, slice_set}
 use Rattle.std.specs.List.{AllByRecursion}
-use Rattle.std.proofs.lemmas.Bool.{cases_lt}
+use Rattle.std.proofs.lemmas.Bool.{cases_lt, le-ltb}
 use Rattle.std.proofs.lemmas.Option.{slice_get_within}
 use Rattle.std.proofs.lemmas.List.{length-set}
-use Rattle.digit_pack.specs.Layout.{Shape, IsRecord, record_at}
+use Rattle.digit_pack.specs.Layout.{IsRecord, record_at}
+use Rattle.pir_schemes.specs.declared.scheme.Scheme.{Scheme}
+use Rattle.pir_schemes.specs.Schemes.{scheme_of_byte}
+use Rattle.pir_schemes.specs.Plans.{Plan, shape_at, IsPlan}
 use Rattle.frame_codec.specs.declared.frame.Frame.{Frame}
-use Rattle.frame_codec.specs.declared.frame.Frame.TheVariants.{Load, Hello as hello_frame, HintAsk, Query, Edit as edit_frame, Publish as publish_frame, Bye, Welcome, HintPart, Answer, Stale as stale_frame, Done as done_frame, Refused as refused_frame}
-use Rattle.version_store.specs.declared.scheme.Scheme.{Scheme}
-use Rattle.version_store.specs.declared.scheme.Scheme.TheVariants.{Simple, Double}
-use Rattle.version_store.specs.Histories.{History, number, edited, published}
+use Rattle.frame_codec.specs.declared.frame.Frame.TheVariants.{Query}
+use Rattle.version_store.specs.Histories.{History, number, records_of, edited, published}
 use Rattle.server_core.specs.declared.standing.Standing.{Standing}
 use Rattle.server_core.specs.Serving.{Setting}
 use Rattle.client_core.specs.declared.state.ClientState.{ClientState}
@@ -23,32 +24,46 @@ use Rattle.client_core.specs.declared.state.Event.TheVariants.{Welcomed, Synced,
 use Rattle.pir_world.specs.declared.steps.Outcome.{Outcome}
 use Rattle.pir_world.specs.declared.steps.Outcome.TheVariants.{Edited, EditRefused, Published, PublishRefused, Told, CallRefused, Failed}
 use Rattle.pir_world.specs.Runs.{Link, Retrieval, Entry, Served, Ended, Plain}
-use Rattle.pir_world.specs.Headlines.{HasVersion, IsVersion, HintIs, IsRightEnd, IsServed, IsRightEvent, IsRightOutcome, IsRight, seed_of}
-use Rattle.pir_world.specs.Invariants.{GoodHistory, KnownIs, PartsAre, CallIs, IsReplyOf, IsPartReply, IsReply, InFlight, Phase, LinkInv}
+use Rattle.pir_world.specs.Headlines.{HasVersion, IsVersion, HintIs, IsRightEnd, IsRightQuery, IsServed, IsRightEvent, IsRightOutcome, IsRight, seed_of}
+use Rattle.pir_world.specs.Invariants.{AreRecords, GoodHistory, IsKnownOf, KnownIs, CallIs, IsReplyOf, IsReply, InFlight, Phase, LinkInv}
 
 -- each version of one history is one of the other
 abbrev pub IsLater : History → History → Type 0
 IsLater h h2 = (v : ℕ) (records : List (List ℕ)) → HasVersion h v records → HasVersion h2 v records
 
+-- the records of a version up to the current one
+pub records_at : (h : History) (v : ℕ) → v ≤ number h → records_of h v ≡ slice_get (h.current ∷ h.past) (number h - v)
+records_at h v le = rw (le-ltb (number h) v le) refl
+
 pub later_published : (h : History) → IsLater h (published h)
 later_published h v records p =
     let e : number (published h) - v ≡ suc (number h - v) = omega (arith, p.0) in
-    (omega (arith, p.0), rw e p.1)
+    let le : v ≤ number (published h) = omega (arith, p.0) in
+    (le, records_at (published h) v le ∙ ap (slice_get (h.draft ∷ h.current ∷ h.past)) e ∙ sym (records_at h v p.0) ∙ p.1)
 
 pub same_history : (h : History) → IsLater h h
 same_history h v records p = p
 
 pub newest : (h : History) → HasVersion h (number h) h.current
-newest h = let z : number h - number h ≡ 0 = omega arith in (omega arith, rw z refl)
+newest h =
+    let z : number h - number h ≡ 0 = omega arith in
+    let le : number h ≤ number h = omega arith in
+    (le, records_at h (number h) le ∙ ap (slice_get (h.current ∷ h.past)) z)
 
 version_cases : (h : History) (v : ℕ) (records : List (List ℕ)) → HasVersion (published h) v records → HasVersion h v records ⊎ (records ≡ h.draft)
 version_cases h v records p = elim (cases_lt (number h) v) [
-  | inl lt ↦ let z : number (published h) - v ≡ 0 = omega (arith, lt) in let e : Some h.draft ≡ Some records = rw z at p.1 in inr (cc)
-  | inr le ↦ let e : number (published h) - v ≡ suc (number h - v) = omega (arith, le) in inl (le, rw e at p.1)
+  | inl lt ↦
+      let z : number (published h) - v ≡ 0 = omega (arith, lt) in
+      let e : Some h.draft ≡ Some records = sym (records_at (published h) v p.0 ∙ ap (slice_get (h.draft ∷ h.current ∷ h.past)) z) ∙ p.1 in
+      inr (cc)
+  | inr le ↦
+      let e : number (published h) - v ≡ suc (number h - v) = omega (arith, le) in
+      inl (le, records_at h v le ∙ sym (records_at (published h) v p.0 ∙ ap (slice_get (h.draft ∷ h.current ∷ h.past)) e) ∙ p.1)
 ]
 
 pub version_positive : (x : Setting) (h : History) (v : ℕ) (records : List (List ℕ)) → GoodHistory x h → HasVersion h v records → 0 < v
-version_positive x h v records g p = omega (arith, g.first, slice_get_within (h.current ∷ h.past) (number h - v) records p.1)
+version_positive x h v records g p =
+    omega (arith, g.first, slice_get_within (h.current ∷ h.past) (number h - v) records (sym (records_at h v p.0) ∙ p.1))
 
 pub one_version : (h : History) (v : ℕ) (xs ys : List (List ℕ)) → HasVersion h v xs → HasVersion h v ys → xs ≡ ys
 one_version h v xs ys p q = let e : Some xs ≡ Some ys = sym p.1 ∙ q.1 in cc
@@ -60,18 +75,30 @@ good_published x h g = record {
   draft = g.draft;
 }
 
-record_set : (l : Shape) (records : List (List ℕ)) (i j : ℕ) (bytes : List ℕ) → IsRecord l bytes → IsRecord l (record_at records j) → IsRecord l (record_at (slice_set records i bytes) j)
-record_set l [] i j bytes new old = old
-record_set l (r ∷ rs) zero zero bytes new old = new
-record_set l (r ∷ rs) zero (suc j) bytes new old = old
-record_set l (r ∷ rs) (suc i) zero bytes new old = old
-record_set l (r ∷ rs) (suc i) (suc j) bytes new old = record_set l rs i j bytes new old
+-- what a record is doesn't depend on how many there are
+pub recount : (p : Plan) (n m : ℕ) (bytes : List ℕ) → IsRecord (shape_at p n) bytes → IsRecord (shape_at p m) bytes
+recount p n m bytes r = record { len = r.len; each = r.each }
 
-pub good_edited : (x : Setting) (h : History) (i : ℕ) (bytes : List ℕ) → IsRecord x.shape bytes → GoodHistory x h → GoodHistory x (edited i bytes h)
+record_set : (p : Plan) (n : ℕ) (records : List (List ℕ)) (i j : ℕ) (bytes : List ℕ) → IsRecord (shape_at p n) bytes → IsRecord (shape_at p n) (record_at records j) → IsRecord (shape_at p n) (record_at (slice_set records i bytes) j)
+record_set p n [] i j bytes new old = old
+record_set p n (r ∷ rs) zero zero bytes new old = new
+record_set p n (r ∷ rs) zero (suc j) bytes new old = old
+record_set p n (r ∷ rs) (suc i) zero bytes new old = old
+record_set p n (r ∷ rs) (suc i) (suc j) bytes new old = record_set p n rs i j bytes new old
+
+edited_records : (p : Plan) (records : List (List ℕ)) (i : ℕ) (bytes : List ℕ) → IsRecord (shape_at p (length records)) bytes → AreRecords p records → AreRecords p (slice_set records i bytes)
+edited_records p records i bytes fits r =
+    let n = length-set records i bytes in
+    record {
+      plan = rw n r.plan;
+      each = λ j lt. recount p (length records) (length (slice_set records i bytes)) _ (record_set p (length records) records i j bytes fits (r.each j (omega (arith, lt, n))));
+    }
+
+pub good_edited : (x : Setting) (h : History) (i : ℕ) (bytes : List ℕ) → IsRecord (shape_at x.plan (length h.draft)) bytes → GoodHistory x h → GoodHistory x (edited i bytes h)
 good_edited x h i bytes fits g = record {
   first = g.first;
   versions = λ v records p. g.versions v records p;
-  draft = record { count = length-set h.draft i bytes ∙ g.draft.count; each = λ j lt. record_set x.shape h.draft i j bytes fits (g.draft.each j lt) };
+  draft = edited_records x.plan h.draft i bytes fits g.draft;
 }
 
 -- ---- what is said of versions
@@ -80,40 +107,43 @@ module _ (x : Setting) (h h2 : History) (later : IsLater h h2) where
   version_later : (v : ℕ) → IsVersion h v → IsVersion h2 v
   version_later v p = (p.0, later _ _ p.1)
 
+  known_of_later : (y : Known) → IsKnownOf x h y → IsKnownOf x h2 y
+  known_of_later y k = record { records = k.records; version_is = later _ _ k.version_is; layout_is = k.layout_is; dimension_is = k.dimension_is; seed_is = k.seed_is }
+
   known_later : (st : Standing) (k : Option Known) → KnownIs x h st k → KnownIs x h2 st k
   known_later st None k = tt
-  known_later st (Some y) k = (k.0, k.1, k.2, k.3, version_later _ k.4)
+  known_later st (Some y) k = (k.0, known_of_later y k.1)
 
   pub hint_later : (o : Option Hint) → HintIs x h o → HintIs x h2 o
   hint_later None p = tt
   hint_later (Some y) p = (p.0, later _ _ p.1, p.2)
 
-  parts_later : (scheme : Scheme) (v p : ℕ) (parts : List ℕ) → PartsAre x h scheme v p parts → PartsAre x h2 scheme v p parts
-  parts_later Simple v p parts a = record { records = a.records; version_is = later _ _ a.version_is; parts_are = a.parts_are; further = a.further }
-  parts_later Double v p parts a = tt
-
   call_later : (c : ClientState) (call : Call) → CallIs x h c call → CallIs x h2 c call
   call_later c Idle p = tt
   call_later c (Hello key) p = p
-  call_later c (Sync scheme v p) q = (q.0, parts_later scheme v p c.parts q.1)
-  call_later c (Ask i v n) q = q
+  call_later c (Sync scheme v p) q = record {
+    k = q.k;
+    known_is = q.known_is;
+    asked = q.asked;
+    records = q.records;
+    version_is = later _ _ q.version_is;
+    parts_are = q.parts_are;
+    further = q.further;
+  }
+  call_later c (Ask i s v n) q = q
   call_later c (Edit i bytes) q = q
   call_later c Publish q = q
 
   reply_of_later : (v : ℕ) (r : Frame) (answer : List (List ℕ) → Frame) → IsReplyOf x h v r answer → IsReplyOf x h2 v r answer
   reply_of_later v r answer (inl e) = inl e
-  reply_of_later v r answer (inr (inl p)) = inr (inl (p.0, version_later _ p.1, p.2, p.3))
+  reply_of_later v r answer (inr (inl p)) = inr (inl (p.0, p.1, later _ _ p.2, p.3, p.4))
   reply_of_later v r answer (inr (inr p)) = inr (inr (p.0, later _ _ p.1, p.2))
-
-  part_reply_later : (scheme : Scheme) (v p : ℕ) (r : Frame) → IsPartReply x h scheme v p r → IsPartReply x h2 scheme v p r
-  part_reply_later Simple v p r q = reply_of_later v r _ q
-  part_reply_later Double v p r q = q
 
   reply_later : (st : Standing) (seed : List ℕ) (call : Call) (r : Frame) → IsReply x h st seed call r → IsReply x h2 st seed call r
   reply_later st seed Idle r p = p
-  reply_later st seed (Hello key) r p = (p.0, (p.1.0, version_later _ p.1.1, p.1.2))
-  reply_later st seed (Sync scheme v p) r q = part_reply_later scheme v p r q
-  reply_later st seed (Ask i v n) r q = reply_of_later v r _ q
+  reply_later st seed (Hello key) r p = (p.0, (p.1.0, p.1.1, later _ _ p.1.2, p.1.3))
+  reply_later st seed (Sync s v p) r q = reply_of_later v r _ q
+  reply_later st seed (Ask i s v n) r q = reply_of_later v r _ q
   reply_later st seed (Edit i bytes) r q = q
   reply_later st seed Publish r q = q
 
@@ -125,7 +155,7 @@ module _ (x : Setting) (h h2 : History) (later : IsLater h h2) where
   phase_later st seed c Idle up down p = p
   phase_later st seed c (Hello key) up down p = flight_later st seed c (Hello key) up down p
   phase_later st seed c (Sync scheme v p) up down q = flight_later st seed c (Sync scheme v p) up down q
-  phase_later st seed c (Ask i v n) up down q = flight_later st seed c (Ask i v n) up down q
+  phase_later st seed c (Ask i s v n) up down q = flight_later st seed c (Ask i s v n) up down q
   phase_later st seed c (Edit i bytes) up down q = q
   phase_later st seed c Publish up down q = q
 
@@ -141,8 +171,8 @@ module _ (x : Setting) (h h2 : History) (later : IsLater h h2) where
   }
 
   end_later : (seed : List ℕ) (r : Retrieval) (reply : Frame) (e : Event) → IsRightEnd x h seed r reply e → IsRightEnd x h2 seed r reply e
-  end_later seed r reply e (inl a) = inl (record { records = a.records; version_is = later _ _ a.version_is; inside = a.inside; answer_is = a.answer_is; event_is = a.event_is; quiet = a.quiet })
-  end_later seed r reply e (inr (inl s)) = inr (inl (record { now = s.now; version_is = version_later _ s.version_is; later = s.later; reply_is = s.reply_is; event_is = s.event_is }))
+  end_later seed r reply e (inl a) = inl (record { records = a.records; version_is = later _ _ a.version_is; inside = a.inside; answer_is = a.answer_is; event_is = a.event_is; quiet = a.quiet; certain = a.certain })
+  end_later seed r reply e (inr (inl s)) = inr (inl (record { now = s.now; records = s.records; version_is = later _ _ s.version_is; later = s.later; reply_is = s.reply_is; event_is = s.event_is }))
   end_later seed r reply e (inr (inr p)) = inr (inr p)
 
   event_later : (e : Event) → IsRightEvent h e → IsRightEvent h2 e
@@ -163,20 +193,13 @@ module _ (x : Setting) (h h2 : History) (later : IsLater h h2) where
   outcome_later (PublishRefused fault) p = tt
   outcome_later (CallRefused k fault) p = tt
 
+  query_later : (scheme : Option Scheme) (version now : ℕ) (words : List ℕ) (reply : Option Frame) → IsRightQuery x h scheme version now words reply → IsRightQuery x h2 scheme version now words reply
+  query_later None version now words reply p = p
+  query_later (Some s) version now words reply p = record { records = p.records; version_is = later _ _ p.version_is; stale = p.stale; answered = p.answered }
+
   served_later : (now : ℕ) (f : Frame) (reply : Option Frame) → IsServed x h now f reply → IsServed x h2 now f reply
-  served_later now (Query scheme version words) reply p = record { records = p.records; version_is = later _ _ p.version_is; stale = p.stale; answered = p.answered }
-  served_later now (Load record_len groups width records) reply p = tt
-  served_later now (hello_frame profile key) reply p = tt
-  served_later now (HintAsk scheme version part) reply p = tt
-  served_later now (edit_frame index bytes) reply p = tt
-  served_later now publish_frame reply p = tt
-  served_later now Bye reply p = tt
-  served_later now (Welcome profile width record_len groups count version dimension seed) reply p = tt
-  served_later now (HintPart scheme version part words) reply p = tt
-  served_later now (Answer scheme version words) reply p = tt
-  served_later now (stale_frame version count) reply p = tt
-  served_later now (done_frame version) reply p = tt
-  served_later now (refused_frame code) reply p = tt
+  served_later now (Query scheme version words) reply p = query_later (scheme_of_byte scheme) version now words reply p
+  served_later now _ reply p = tt
 
   entry_later : (seeds : List (List ℕ)) (e : Entry) → IsRight x seeds h e → IsRight x seeds h2 e
   entry_later seeds (Served k f now reply) p = served_later now f reply p

@@ -1,4 +1,3 @@
-pub mod Reading
 pub mod Later
 pub mod Wires
 pub mod Serves

@@ -1,16 +1,18 @@
 -- A world as it begins, and so every run.
-use Rattle.std.proofs.Common.{◌≡◌, ℕ, zero, suc, ◌-◌, ◌*◌, ◌^◌, ◌<◌, ◌≤◌, List, [], ◌∷◌, length, map, take, drop, Option, Some, refl, sym, ap, subst, arith}
+use Rattle.std.proofs.Common.{◌≡◌, ℕ, zero, suc, ◌-◌, ◌*◌, ◌^◌, ◌<◌, ◌≤◌, List, [], ◌∷◌, length, map, take, drop, Option, Some, refl, sym, ap, subst, ◌∙◌, arith}
 use Rattle.std.specs.Prelude.{slice_get}
 use Rattle.std.proofs.lemmas.List.{length-take, length-drop}
 use Rattle.std.proofs.lemmas.List.Elements.{All-take, All-drop}
 use Rattle.std.proofs.Math.Nat.{mul-le-mul_right}
 use Rattle.matrix_u32.proofs.Products.{at-list_of_any, length-list_of}
 use Rattle.digit_pack.specs.Layout.{IsRecord, records_in, record_at}
+use Rattle.pir_schemes.specs.Plans.{plan_of, shape_at, IsPlan}
+use Rattle.pir_schemes.specs.Laws.{RetrievalGivesTheRecord}
 use Rattle.snapshot_file.specs.declared.snapshot.Header.{Header}
 use Rattle.snapshot_file.specs.Snapshots.{shape_of}
 use Rattle.version_store.specs.Histories.{number}
 use Rattle.pir_world.specs.Runs.{Link, opening, setting_in, fresh_link}
-use Rattle.pir_world.specs.Headlines.{IsOpening, QuietRetrievalGivesItsRecord, EveryRunIsRight, seed_of}
+use Rattle.pir_world.specs.Headlines.{IsOpening, EveryRunIsRight, seed_of}
 use Rattle.pir_world.specs.Invariants.{AreRecords, LinkInv, Inv}
 use Rattle.version_store.specs.Histories.{Held, StandsFor, opened}
 use Rattle.version_store.specs.Openings.{held_of}
@@ -22,6 +24,7 @@ use Rattle.pir_world.specs.Runs.{silent}
 use Rattle.pir_world.specs.Sides.{Side, Carries, EndIs, Matched, IsParts, fresh_side}
 use Rattle.pir_world.specs.Worlds.{Kept, IsRunOf}
 use Rattle.pir_world.proofs.Keeping.{run_inv}
+use Rattle.pir_world.proofs.Later.{records_at}
 
 only_one : {X : Type 0} (r s : X) (i : ℕ) → slice_get (r ∷ []) i ≡ Some s → r ≡ s
 only_one r s zero e = cc
@@ -32,8 +35,10 @@ link_of [] k l e = absurd cc
 link_of (s ∷ seeds) zero l e = cc
 link_of (s ∷ seeds) (suc k) l e = link_of seeds k l e
 
-opening_records : (h : Header) (bytes : List ℕ) → IsOpening h bytes → AreRecords (shape_of h) (records_in (shape_of h) bytes)
-opening_records h bytes o = record { count = length-list_of h.count _; each = one }
+opening_records : (h : Header) (bytes : List ℕ) → IsOpening h bytes → AreRecords (setting_in h).plan (records_in (shape_of h) bytes)
+opening_records h bytes o =
+    let n : length (records_in (shape_of h) bytes) ≡ h.count = length-list_of h.count _ in
+    record { plan = rw n (record { layout = o.sound.sizes.layout; low = o.sound.sizes.low; high = o.sound.sizes.high }); each = λ i lt. rw n (one i (omega (arith, lt, n))) }
   where
     one : (i : ℕ) → i < h.count → IsRecord (shape_of h) (record_at (records_in (shape_of h) bytes) i)
     one i lt =
@@ -47,10 +52,10 @@ pub opening_inv : (h : Header) (bytes : List ℕ) (seeds : List (List ℕ)) → 
 opening_inv h bytes seeds o =
     let all = opening_records h bytes o in
     record {
-      setting = record { layout = o.sound.sizes.layout; low = o.sound.sizes.low; high = o.sound.sizes.high };
       history = record {
         first = o.sound.version;
-        versions = λ v records p. subst (λ (r : List (List ℕ)). AreRecords (shape_of h) r) (only_one (records_in (shape_of h) bytes) records (number (opening h bytes seeds).history - v) p.1) all;
+        versions = λ v records p. subst (λ (r : List (List ℕ)). AreRecords (setting_in h).plan r)
+            (only_one (records_in (shape_of h) bytes) records (number (opening h bytes seeds).history - v) (sym (records_at (opening h bytes seeds).history v p.0) ∙ p.1)) all;
         draft = all;
       };
       links = λ k l e. subst (λ (m : Link). LinkInv (setting_in h) (opening h bytes seeds).history (seed_of seeds k) m) (link_of seeds k l e)
@@ -58,7 +63,7 @@ opening_inv h bytes seeds o =
       entries = tt;
     }
 
-pub headline : QuietRetrievalGivesItsRecord → EveryRunIsRight
+pub headline : RetrievalGivesTheRecord → EveryRunIsRight
 headline law h bytes seeds steps last o r =
     let inv = run_inv law (setting_in h) seeds (opening h bytes seeds) steps last r (opening_inv h bytes seeds o) in
     record { entries = inv.entries; hints = λ k l e. (inv.links k l e).hint }

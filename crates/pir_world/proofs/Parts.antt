@@ -27,7 +27,8 @@ use Rattle.frame_codec.specs.Frames.{IsFrame, spelling}
 use Rattle.pir_world.specs.declared.steps.Outcome.{Outcome}
 use Rattle.pir_world.specs.declared.steps.Outcome.TheVariants.{Told, CallRefused}
 use Rattle.pir_world.specs.Runs.{State, Link, Turn, turns, turn_more, sent, with_history, Entry, Plain, arrived, told_by, reacts, tells, link_told, link_served, link_called, turn_of, outcomes_of, outcome_of, called_at, served_at, told_at}
-use Rattle.pir_world.specs.Headlines.{QuietRetrievalGivesItsRecord, seed_of}
+use Rattle.pir_schemes.specs.Laws.{RetrievalGivesTheRecord}
+use Rattle.pir_world.specs.Headlines.{seed_of}
 use Rattle.pir_world.specs.Invariants.{Inv, LinkInv}
 use Rattle.pir_world.specs.Sides.{Side, Carries, EndIs, TakesDelivery, ServesDelivery, MakesCall, Matched, IsParts, front}
 use Rattle.pir_world.proofs.Later.{get_same, get_other}
@@ -70,12 +71,12 @@ tells_event : (k : ℕ) (c : Call) (reply : Frame) (e : Event) → outcome_of (t
 tells_event k call.Idle reply e = refl
 tells_event k (call.Hello key) reply e = refl
 tells_event k (call.Sync scheme version part) reply e = refl
-tells_event k (call.Ask i v n) reply e = refl
+tells_event k (call.Ask i s v n) reply e = refl
 tells_event k (call.Edit i bytes) reply e = refl
 tells_event k call.Publish reply e = refl
 
 reacts_events : (k : ℕ) (c : Call) (reply : Frame) (r : Reaction) → fault_of r ≡ None → outcomes_of (reacts k c reply r) ≡ map (Told k) (events_of r)
-reacts_events k c reply (Asks version part) e = refl
+reacts_events k c reply (Asks scheme version part) e = refl
 reacts_events k c reply (Tells event) e = append-nil _ ∙ tells_event k c reply event
 reacts_events k c reply (Fails fault) e = absurd cc
 
@@ -106,12 +107,12 @@ serves_silent x short k t (f ∷ fs) e = serves_silent x short k (turn_more x sh
 -- ---- the three kinds of step at a client
 
 module _ (x : Setting) (core : Core) (ends : List Side) (os : List Outcome) (s : State) (k : ℕ) (e e2 : Side) (p : IsParts x core ends os s) (at : slice_get ends k ≡ Some e) where
-  pub parts_told : QuietRetrievalGivesItsRecord → (seeds : List (List ℕ)) (most : ℕ) (out : List ℕ) (events : List Event) (fault : Option ClientFault) → Inv x seeds s → TakesDelivery most e out events fault e2
+  pub parts_told : RetrievalGivesTheRecord → (seeds : List (List ℕ)) (most : ℕ) (out : List ℕ) (events : List Event) (fault : Option ClientFault) → Inv x seeds s → TakesDelivery most e out events fault e2
       → (fault ≡ Some Memory) ⊎ ((fault ≡ None) × IsParts x core (slice_set ends k e2) (os ++ map (Told k) events) (told_at s k most (slice_get s.links k)))
   parts_told law seeds most out events fault inv d =
       let m = met x core ends os s k e p at in
       let i = inv.links k m.link m.link_is in
-      elim (told_end law x seeds k s.history m.link inv.setting inv.history i e e2 m.session most m.end_is out events fault d) [
+      elim (told_end law x seeds k s.history m.link inv.history i e e2 m.session most m.end_is out events fault d) [
         | inl none ↦ inl none
         | inr t ↦ inr (t.0, go m i t.1)
       ]

@@ -4,26 +4,26 @@ use Rattle.std.specs.Prelude.{◌==◌, option_to_list, is_some, replicate}
 use Rattle.std.specs.List.{AllByRecursion}
 use Rattle.std.proofs.lemmas.List.{append-nil}
 use Rattle.std.proofs.lemmas.Bool.{cases_Bool, eqb-true, eqb-false, eq-eqb, lt-ltb}
-use Rattle.digit_pack.specs.Layout.{digit_cols}
+use Rattle.pir_schemes.specs.declared.scheme.Scheme.{Scheme}
+use Rattle.pir_schemes.specs.declared.scheme.Scheme.TheVariants.{Simple, Double}
+use Rattle.pir_schemes.specs.Schemes.{scheme_byte, scheme_of_byte}
+use Rattle.pir_schemes.specs.Plans.{shape_at, client_profile}
+use Rattle.pir_schemes.proofs.Lengths.{length_query}
 use Rattle.frame_codec.specs.declared.frame.Frame.{Frame}
 use Rattle.frame_codec.specs.declared.frame.Frame.TheVariants as frame
-use Rattle.version_store.specs.declared.scheme.Scheme.{Scheme}
-use Rattle.version_store.specs.declared.scheme.Scheme.TheVariants.{Simple, Double}
-use Rattle.version_store.specs.Editions.{public_matrix}
 use Rattle.version_store.specs.Histories.{History, number}
 use Rattle.server_core.specs.declared.standing.Standing.{Standing}
 use Rattle.server_core.specs.declared.standing.Standing.TheVariants.{Reader}
-use Rattle.server_core.specs.Serving.{Setting, Outcome, is_closed, is_reader_key, has_part, hint_words}
+use Rattle.server_core.specs.Serving.{Setting, Outcome, is_closed, is_reader_key, has_part, hint_words, words_asked}
 use Rattle.client_core.specs.declared.state.ClientState.{ClientState}
 use Rattle.client_core.specs.declared.state.Known.{Known}
 use Rattle.client_core.specs.declared.state.Call.{Call}
 use Rattle.client_core.specs.declared.state.Hint.{Hint}
 use Rattle.client_core.specs.declared.state.Call.TheVariants.{Idle, Hello, Sync, Ask, Edit, Publish}
-use Rattle.client_core.specs.Calls.{call_frame, query_words, scheme_byte}
-use Rattle.client_core.proofs.Queries.{length_query}
+use Rattle.client_core.specs.Calls.{call_frame, call_words}
 use Rattle.pir_world.specs.Runs.{Turn, Retrieval, served_or, serves, reader_key}
-use Rattle.pir_world.specs.Headlines.{HasVersion, IsVersion, IsServed, IsRight, HintIs, asked_words}
-use Rattle.pir_world.specs.Invariants.{KnownIs, SyncIs, PartsAre, CallIs, IsReply, InFlight, Phase}
+use Rattle.pir_world.specs.Headlines.{HasVersion, IsVersion, IsRightReply, IsRightQuery, IsServed, IsRight, HintIs, asked_words}
+use Rattle.pir_world.specs.Invariants.{IsKnownOf, KnownIs, SyncIs, CallIs, IsReply, InFlight, Phase}
 use Rattle.pir_world.proofs.Later.{newest, one_version}
 use Rattle.pir_world.proofs.Wires.{Split}
 
@@ -42,111 +42,111 @@ now_is h v e = subst (λ (n : ℕ). HasVersion h n h.current) (sym e) (newest h)
 before_now : (h : History) (v : ℕ) (records : List (List ℕ)) → HasVersion h v records → (v ≡ number h → ⊥) → v < number h
 before_now h v records p ne = omega (arith, p.0, ne)
 
-pub reader_from_known : (x : Setting) (h : History) (st : Standing) (k : Option Known) → KnownIs x h st k → is_some k ≡ true → st ≡ Reader
-reader_from_known x h st None k e = absurd cc
-reader_from_known x h st (Some y) k e = k.0
-
 reader_key_is : is_reader_key (replicate 32 0) ≡ true
 unfolding is_reader_key
 reader_key_is = refl
 
-welcomed : (short : Bool) (x : Setting) (h : History) (seed : List ℕ) (st : Standing) → Replied x h seed st (Hello reader_key) (frame.Hello 1 reader_key) (served_or short x h st (frame.Hello 1 reader_key))
-welcomed false x h seed st = rw reader_key_is (record { history_is = refl; unclosed = refl; reader = λ e. refl; reply = (_, refl, (refl, (number h, (h.current, newest h), refl))); right = tt })
-welcomed true x h seed st = rw reader_key_is (record { history_is = refl; unclosed = refl; reader = λ e. refl; reply = (_, refl, (refl, (number h, (h.current, newest h), refl))); right = tt })
+welcomed : (short : Bool) (x : Setting) (h : History) (seed : List ℕ) (st : Standing) → Replied x h seed st (Hello reader_key) (frame.Hello client_profile reader_key) (served_or short x h st (frame.Hello client_profile reader_key))
+welcomed false x h seed st = rw reader_key_is (record { history_is = refl; unclosed = refl; reader = λ e. refl; reply = (_, refl, (refl, (number h, h.current, newest h, refl))); right = tt })
+welcomed true x h seed st = rw reader_key_is (record { history_is = refl; unclosed = refl; reader = λ e. refl; reply = (_, refl, (refl, (number h, h.current, newest h, refl))); right = tt })
+
+-- a scheme's byte names it
+byte_names : (s : Scheme) → scheme_of_byte (scheme_byte s) ≡ Some s
+byte_names Simple = refl
+byte_names Double = refl
+
+-- a right reply is one to the query that names its scheme
+right_query : (x : Setting) (h : History) (s : Scheme) (v now : ℕ) (words : List ℕ) (reply : Option Frame) → IsRightReply x h s v now words reply → IsServed x h now (frame.Query (scheme_byte s) v words) reply
+right_query x h s v now words reply r = let P : Option Scheme → Type 0 = λ o. IsRightQuery x h o v now words reply in subst P (sym (byte_names s)) r
 
 -- ---- a part of the hint
 
-part_there : (x : Setting) (records : List (List ℕ)) (p : ℕ) → 65536 * p < length (hint_words x records) → has_part x records p ≡ true
+part_there : (x : Setting) (s : Scheme) (records : List (List ℕ)) (p : ℕ) → 65536 * p < length (hint_words x s records) → has_part x s records p ≡ true
 unfolding has_part
-part_there x records p lt = lt-ltb _ _ lt
+part_there x s records p lt = lt-ltb _ _ lt
 
-module _ (x : Setting) (h : History) (seed : List ℕ) (v p : ℕ) where
-  double_served : (short : Bool) → Replied x h seed Reader (Sync Double v p) (frame.HintAsk 1 v p) (served_or short x h Reader (frame.HintAsk 1 v p))
-  double_served false = record { history_is = refl; unclosed = refl; reader = λ e. e; reply = (_, refl, refl); right = tt }
-  double_served true = record { history_is = refl; unclosed = refl; reader = λ e. e; reply = (_, refl, refl); right = tt }
-
-  now : (short : Bool) → (v == number h) ≡ true → has_part x h.current p ≡ true → Replied x h seed Reader (Sync Simple v p) (frame.HintAsk 0 v p) (served_or short x h Reader (frame.HintAsk 0 v p))
+module _ (x : Setting) (h : History) (seed : List ℕ) (s : Scheme) (v p : ℕ) where
+  now : (short : Bool) → (v == number h) ≡ true → has_part x s h.current p ≡ true → Replied x h seed Reader (Sync s v p) (frame.HintAsk (scheme_byte s) v p) (served_or short x h Reader (frame.HintAsk (scheme_byte s) v p))
   now false t in_ =
       let e : v ≡ number h = eqb-true v (number h) t in
-      rw (t, in_) (record { history_is = refl; unclosed = refl; reader = λ e. e; reply = (_, refl, inr (inr (h.current, now_is h v e, rw e refl))); right = tt })
-  now true t in_ = rw (t, in_) (record { history_is = refl; unclosed = refl; reader = λ e. e; reply = (_, refl, inl refl); right = tt })
+      rw (byte_names s, t, in_) (record { history_is = refl; unclosed = refl; reader = λ e. e; reply = (_, refl, inr (inr (h.current, now_is h v e, rw e refl))); right = tt })
+  now true t in_ = rw (byte_names s, t, in_) (record { history_is = refl; unclosed = refl; reader = λ e. e; reply = (_, refl, inl refl); right = tt })
 
-  old : (short : Bool) → (v == number h) ≡ false → v < number h → Replied x h seed Reader (Sync Simple v p) (frame.HintAsk 0 v p) (served_or short x h Reader (frame.HintAsk 0 v p))
-  old false t lt = rw t (record { history_is = refl; unclosed = refl; reader = λ e. e; reply = (_, refl, inr (inl (number h, (h.current, newest h), lt, refl))); right = tt })
-  old true t lt = rw t (record { history_is = refl; unclosed = refl; reader = λ e. e; reply = (_, refl, inr (inl (number h, (h.current, newest h), lt, refl))); right = tt })
+  old : (short : Bool) → (v == number h) ≡ false → v < number h → Replied x h seed Reader (Sync s v p) (frame.HintAsk (scheme_byte s) v p) (served_or short x h Reader (frame.HintAsk (scheme_byte s) v p))
+  old false t lt = rw (byte_names s, t) (record { history_is = refl; unclosed = refl; reader = λ e. e; reply = (_, refl, inr (inl (number h, h.current, newest h, lt, refl))); right = tt })
+  old true t lt = rw (byte_names s, t) (record { history_is = refl; unclosed = refl; reader = λ e. e; reply = (_, refl, inr (inl (number h, h.current, newest h, lt, refl))); right = tt })
 
-  part_served : (short : Bool) (parts : List ℕ) → SyncIs x h v p parts → Replied x h seed Reader (Sync Simple v p) (frame.HintAsk 0 v p) (served_or short x h Reader (frame.HintAsk 0 v p))
-  part_served short parts s = elim (cases_Bool (v == number h)) [
+  replied_sync : (short : Bool) (known : Option Known) (parts : List ℕ) → SyncIs x h s v p known parts → Replied x h seed Reader (Sync s v p) (frame.HintAsk (scheme_byte s) v p) (served_or short x h Reader (frame.HintAsk (scheme_byte s) v p))
+  replied_sync short known parts i = elim (cases_Bool (v == number h)) [
     | inl t ↦
-        let e : s.records ≡ h.current = one_version h v s.records h.current s.version_is (now_is h v (eqb-true v (number h) t)) in
-        now short t (part_there x h.current p (subst (λ (r : List (List ℕ)). 65536 * p < length (hint_words x r)) e s.further))
-    | inr t ↦ old short t (before_now h v s.records s.version_is (eqb-false v (number h) t))
+        let e : i.records ≡ h.current = one_version h v i.records h.current i.version_is (now_is h v (eqb-true v (number h) t)) in
+        now short t (part_there x s h.current p (subst (λ (r : List (List ℕ)). 65536 * p < length (hint_words x s r)) e i.further))
+    | inr t ↦ old short t (before_now h v i.records i.version_is (eqb-false v (number h) t))
   ]
-
-replied_sync : (short : Bool) (x : Setting) (h : History) (seed : List ℕ) (scheme : Scheme) (v p : ℕ) (parts : List ℕ) → PartsAre x h scheme v p parts →
-    Replied x h seed Reader (Sync scheme v p) (frame.HintAsk (scheme_byte scheme) v p) (served_or short x h Reader (frame.HintAsk (scheme_byte scheme) v p))
-replied_sync short x h seed Simple v p parts s = part_served x h seed v p short parts s
-replied_sync short x h seed Double v p parts s = double_served x h seed v p short
 
 -- ---- a query
 
--- the words of a client's query
-pub asked_is : (x : Setting) (h : History) (st : Standing) (k : Option Known) (seed : List ℕ) (r : Retrieval) → KnownIs x h st k → is_some k ≡ true → query_words k seed r.number r.index ≡ asked_words x seed r
-asked_is x h st None seed r k e = absurd cc
-asked_is x h st (Some y) seed r k e = rw (k.1, k.2, k.3) refl
+-- the words of a client's query, where what it knows is the version's
+pub asked_is : (x : Setting) (h : History) (y : Known) (records : List (List ℕ)) (seed : List ℕ) (r : Retrieval) → IsKnownOf x h y → HasVersion h y.version records →
+    call_words (Some y) r.scheme seed r.number r.index ≡ asked_words x.plan records seed r
+asked_is x h y records seed r k p =
+    let same : k.records ≡ records = one_version h y.version k.records records k.version_is p in
+    rw (k.layout_is, k.dimension_is, k.seed_is, same) refl
 
-module _ (x : Setting) (h : History) (seed : List ℕ) (i v n : ℕ) (records : List (List ℕ)) (there : HasVersion h v records) where
-  retrieval : Retrieval
-  retrieval = record { index = i; version = v; number = n }
+module _ (x : Setting) (h : History) (seed : List ℕ) (i : ℕ) (s : Scheme) (v n : ℕ) (records : List (List ℕ)) (there : HasVersion h v records) where
+  abbrev retrieval : Retrieval
+  retrieval = record { index = i; scheme = s; version = v; number = n }
 
-  words_fit : (length (asked_words x seed (record { index = i; version = v; number = n })) == digit_cols x.shape) ≡ true
-  words_fit = eq-eqb _ _ (length_query x.shape (public_matrix x.shape x.dimension x.seed) seed n i)
+  words_fit : (length (asked_words x.plan records seed retrieval) == words_asked x s records) ≡ true
+  words_fit = eq-eqb _ _ (length_query s (shape_at x.plan (length records)) x.plan.dimension x.plan.seed seed n i)
 
   -- the words that are asked, under a short name
-  answer_now : (short : Bool) (words : List ℕ) → words ≡ asked_words x seed (record { index = i; version = v; number = n }) → (v == number h) ≡ true → (length words == digit_cols x.shape) ≡ true →
-      Replied x h seed Reader (Ask i v n) (frame.Query 0 v words) (served_or short x h Reader (frame.Query 0 v words))
-  answer_now false words w t fit =
+  answer_now : (short : Bool) (words : List ℕ) → words ≡ asked_words x.plan records seed retrieval → (v == number h) ≡ true → records ≡ h.current → (length words == words_asked x s h.current) ≡ true →
+      Replied x h seed Reader (Ask i s v n) (frame.Query (scheme_byte s) v words) (served_or short x h Reader (frame.Query (scheme_byte s) v words))
+  answer_now false words w t same fit =
       let e : v ≡ number h = eqb-true v (number h) t in
-      rw (t, fit) (record {
+      rw (byte_names s, t, fit) (record {
         history_is = refl;
         unclosed = refl;
         reader = λ e. e;
-        reply = (_, refl, inr (inr (h.current, now_is h v e, rw (e, w) refl)));
-        right = record { records = h.current; version_is = newest h; stale = λ ne. absurd (ne e); answered = λ same. inl refl };
+        reply = (_, refl, inr (inr (h.current, now_is h v e, rw (e, w, same) refl)));
+        right = right_query x h s v (number h) words _ (record { records = h.current; version_is = newest h; stale = λ ne. absurd (ne e); answered = λ same. inl refl });
       })
-  answer_now true words w t fit =
+  answer_now true words w t same fit =
       let e : v ≡ number h = eqb-true v (number h) t in
-      rw (t, fit) (record {
+      rw (byte_names s, t, fit) (record {
         history_is = refl;
         unclosed = refl;
         reader = λ e. e;
         reply = (_, refl, inl refl);
-        right = record { records = h.current; version_is = newest h; stale = λ ne. absurd (ne e); answered = λ same. inr refl };
+        right = right_query x h s v (number h) words _ (record { records = h.current; version_is = newest h; stale = λ ne. absurd (ne e); answered = λ same. inr refl });
       })
 
-  answer_old : (short : Bool) (words : List ℕ) → (v == number h) ≡ false → Replied x h seed Reader (Ask i v n) (frame.Query 0 v words) (served_or short x h Reader (frame.Query 0 v words))
+  answer_old : (short : Bool) (words : List ℕ) → (v == number h) ≡ false → Replied x h seed Reader (Ask i s v n) (frame.Query (scheme_byte s) v words) (served_or short x h Reader (frame.Query (scheme_byte s) v words))
   answer_old false words t =
       let ne : v ≡ number h → ⊥ = eqb-false v (number h) t in
-      rw t (record {
+      rw (byte_names s, t) (record {
         history_is = refl;
         unclosed = refl;
         reader = λ e. e;
-        reply = (_, refl, inr (inl (number h, (h.current, newest h), before_now h v records there ne, refl)));
-        right = record { records = h.current; version_is = newest h; stale = λ other. refl; answered = λ same. absurd (ne same) };
+        reply = (_, refl, inr (inl (number h, h.current, newest h, before_now h v records there ne, refl)));
+        right = right_query x h s v (number h) words _ (record { records = h.current; version_is = newest h; stale = λ other. refl; answered = λ same. absurd (ne same) });
       })
   answer_old true words t =
       let ne : v ≡ number h → ⊥ = eqb-false v (number h) t in
-      rw t (record {
+      rw (byte_names s, t) (record {
         history_is = refl;
         unclosed = refl;
         reader = λ e. e;
-        reply = (_, refl, inr (inl (number h, (h.current, newest h), before_now h v records there ne, refl)));
-        right = record { records = h.current; version_is = newest h; stale = λ other. refl; answered = λ same. absurd (ne same) };
+        reply = (_, refl, inr (inl (number h, h.current, newest h, before_now h v records there ne, refl)));
+        right = right_query x h s v (number h) words _ (record { records = h.current; version_is = newest h; stale = λ other. refl; answered = λ same. absurd (ne same) });
       })
 
-  pub replied_ask : (short : Bool) (words : List ℕ) → words ≡ asked_words x seed (record { index = i; version = v; number = n }) → Replied x h seed Reader (Ask i v n) (frame.Query 0 v words) (served_or short x h Reader (frame.Query 0 v words))
+  pub replied_ask : (short : Bool) (words : List ℕ) → words ≡ asked_words x.plan records seed retrieval → Replied x h seed Reader (Ask i s v n) (frame.Query (scheme_byte s) v words) (served_or short x h Reader (frame.Query (scheme_byte s) v words))
   replied_ask short words w = elim (cases_Bool (v == number h)) [
-    | inl t ↦ answer_now short words w t (rw w words_fit)
+    | inl t ↦
+        let same : records ≡ h.current = one_version h v records h.current there (now_is h v (eqb-true v (number h) t)) in
+        answer_now short words w t same (ap (λ (z : List ℕ). length z == words_asked x s h.current) w ∙ ap (λ (r : List (List ℕ)). length (asked_words x.plan records seed retrieval) == words_asked x s r) (sym same) ∙ words_fit)
     | inr t ↦ answer_old short words t
   ]
 
@@ -168,7 +168,7 @@ module _ (x : Setting) (seeds : List (List ℕ)) (k : ℕ) (h : History) (seed :
   flight_phase s Idle up down r e d p = absurd p
   flight_phase s (Hello key) up down r e d p = inr (e, (r, d, p))
   flight_phase s (Sync scheme v q) up down r e d p = inr (e, (r, d, p))
-  flight_phase s (Ask i v n) up down r e d p = inr (e, (r, d, p))
+  flight_phase s (Ask i z v n) up down r e d p = inr (e, (r, d, p))
   flight_phase s (Edit i bytes) up down r e d p = absurd p
   flight_phase s Publish up down r e d p = absurd p
 
@@ -189,10 +189,13 @@ module _ (x : Setting) (seeds : List (List ℕ)) (k : ℕ) (h : History) (seed :
   served_flight short call up fs up2 down (inr a) o r (inl p) ph = frame_comes short call fs up2 down o (a.0 ∙ p.0) a.1 p.1 r
   served_flight short call up fs up2 down (inr a) o r (inr p) ph = nothing_comes short call fs up2 down o (a.0 ∙ p.0) (rw (a.1, ← p.0) ph)
 
-  ask_version : (o : Option Hint) (y : Hint) (v : ℕ) → HintIs x h o → o ≡ Some y → y.version ≡ v → IsVersion h v
-  ask_version o y v hint at e =
+  hint_version : (o : Option Hint) (y : Hint) (v : ℕ) → HintIs x h o → o ≡ Some y → y.version ≡ v → IsVersion h v
+  hint_version o y v hint at e =
       let f : HintIs x h (Some y) = subst (λ (z : Option Hint). HintIs x h z) at hint in
       (f.0, subst (λ (n : ℕ). HasVersion h n f.0) e f.1)
+
+  known_is : (o : Option Known) (y : Known) → KnownIs x h st o → o ≡ Some y → (st ≡ Reader) × IsKnownOf x h y
+  known_is o y k e = let P : Option Known → Type 0 = λ z. KnownIs x h st z in subst P e k
 
   -- the outstanding call's frame is served
   replied : (short : Bool) (call : Call) → (call ≡ Idle → ⊥) → c.seed ≡ seed → KnownIs x h st c.known → HintIs x h c.hint → CallIs x h c call → Replied x h seed st call (call_frame c call) (served_or short x h st (call_frame c call))
@@ -200,12 +203,17 @@ module _ (x : Setting) (seeds : List (List ℕ)) (k : ℕ) (h : History) (seed :
   replied short (Hello key) busy s known hint i = rw i (welcomed short x h seed st)
   replied short (Sync scheme v p) busy s known hint i =
       subst (λ (y : Standing). Replied x h seed y (Sync scheme v p) (frame.HintAsk (scheme_byte scheme) v p) (served_or short x h y (frame.HintAsk (scheme_byte scheme) v p)))
-      (sym (reader_from_known x h st c.known known i.0)) (replied_sync short x h seed scheme v p c.parts i.1)
-  replied short (Ask j v n) busy s known hint i =
-      let there = ask_version c.hint i.1.hint v hint i.1.hint_is i.1.version_is in
-      let w : query_words c.known c.seed n j ≡ asked_words x seed (record { index = j; version = v; number = n }) = asked_is x h st c.known c.seed (record { index = j; version = v; number = n }) known i.0 ∙ ap (λ (y : List ℕ). asked_words x y (record { index = j; version = v; number = n })) s in
-      subst (λ (y : Standing). Replied x h seed y (Ask j v n) (frame.Query 0 v (query_words c.known c.seed n j)) (served_or short x h y (frame.Query 0 v (query_words c.known c.seed n j))))
-      (sym (reader_from_known x h st c.known known i.0)) (replied_ask x h seed j v n there.0 there.1 short (query_words c.known c.seed n j) w)
+      (sym (known_is c.known i.k known i.known_is).0) (replied_sync x h seed scheme v p short c.known c.parts i)
+  replied short (Ask j scheme v n) busy s known hint i =
+      let y = known_is c.known i.k known i.known_is in
+      let there = hint_version c.hint i.hint v hint i.hint_is i.version_is in
+      let r : Retrieval = record { index = j; scheme = scheme; version = v; number = n } in
+      let w : call_words c.known scheme c.seed n j ≡ asked_words x.plan there.0 seed r =
+      ap (λ (o : Option Known). call_words o scheme c.seed n j) i.known_is
+      ∙ asked_is x h i.k there.0 c.seed r y.1 (subst (λ (m : ℕ). HasVersion h m there.0) (sym i.asked) there.1)
+      ∙ ap (λ (z : List ℕ). asked_words x.plan there.0 z r) s in
+      subst (λ (z : Standing). Replied x h seed z (Ask j scheme v n) (frame.Query (scheme_byte scheme) v (call_words c.known scheme c.seed n j)) (served_or short x h z (frame.Query (scheme_byte scheme) v (call_words c.known scheme c.seed n j))))
+      (sym y.0) (replied_ask x h seed j scheme v n there.0 there.1 short (call_words c.known scheme c.seed n j) w)
   replied short (Edit j bytes) busy s known hint i = absurd i
   replied short Publish busy s known hint i = absurd i
 
@@ -216,6 +224,6 @@ module _ (x : Setting) (seeds : List (List ℕ)) (k : ℕ) (h : History) (seed :
   served_link short Idle up fs up2 down (inr a) o s known hint i p = nothing_comes short Idle fs up2 down o (a.0 ∙ p.0) (a.1, p.1)
   served_link short (Hello key) up fs up2 down a o s known hint i p = served_flight short (Hello key) up fs up2 down a o (replied short (Hello key) (λ e. (cc)) s known hint i) p p
   served_link short (Sync scheme v q) up fs up2 down a o s known hint i p = served_flight short (Sync scheme v q) up fs up2 down a o (replied short (Sync scheme v q) (λ e. (cc)) s known hint i) p p
-  served_link short (Ask j v n) up fs up2 down a o s known hint i p = served_flight short (Ask j v n) up fs up2 down a o (replied short (Ask j v n) (λ e. (cc)) s known hint i) p p
+  served_link short (Ask j z v n) up fs up2 down a o s known hint i p = served_flight short (Ask j z v n) up fs up2 down a o (replied short (Ask j z v n) (λ e. (cc)) s known hint i) p p
   served_link short (Edit j bytes) up fs up2 down a o s known hint i p = absurd p
   served_link short Publish up fs up2 down a o s known hint i p = absurd p

@@ -22,21 +22,15 @@ NamesUpTo n (Refused code) = Unit {0}
 
 -- nor does any outcome, nor what ended a retrieval
 abbrev pub ToldUpTo : ℕ → Entry → Type 0
-ToldUpTo n (Served k f now reply) = Unit {0}
 ToldUpTo n (Ended k r reply event) = NamesUpTo n event
 ToldUpTo n (Plain (Told k event)) = NamesUpTo n event
 ToldUpTo n (Plain (Published v)) = v ≤ n
-ToldUpTo n (Plain (Edited i)) = Unit {0}
-ToldUpTo n (Plain (EditRefused i fault)) = Unit {0}
-ToldUpTo n (Plain (PublishRefused fault)) = Unit {0}
-ToldUpTo n (Plain (CallRefused k fault)) = Unit {0}
-ToldUpTo n (Plain (Failed k fault)) = Unit {0}
+ToldUpTo n _ = Unit {0}
 
 -- a frame is served while the version that is current then is `now`, and nobody was told of a later one before
 abbrev pub IsFresh : History → List Entry → Entry → Type 0
 IsFresh h before (Served k f now reply) = (now ≡ number h) × AllByRecursion (ToldUpTo now) before
-IsFresh h before (Ended k r reply event) = Unit {0}
-IsFresh h before (Plain o) = Unit {0}
+IsFresh h before _ = Unit {0}
 
 -- So it is at every delivery to the server in every run. An answer is of the version that is current when its query is served, so it is never older than a version that anybody had been told of before.
 abbrev pub AnswersAreFresh : Type 0

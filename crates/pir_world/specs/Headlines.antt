@@ -1,20 +1,24 @@
 -- What is right of a run.
 use Rattle.std.specs.Prelude.{◌≡◌, ◌≢◌, ◌≤◌, ◌<◌, ◌⊎◌, ℕ, List, [], length, All, ◌^◌, Option, Some, None, slice_get, slice_index_or}
 use Rattle.std.specs.List.{AllByRecursion}
-use Rattle.digit_pack.specs.Layout.{IsLayout, IsRecord, digit_cols, digit_matrix, record_at}
-use Rattle.simple_scheme.specs.Simple.{hint_of, query_of, reading, IsQuietRetrieval}
+use Rattle.digit_pack.specs.Layout.{record_at}
+use Rattle.pir_schemes.specs.declared.scheme.Scheme.{Scheme}
+use Rattle.pir_schemes.specs.Schemes.{scheme_byte, scheme_of_byte}
+use Rattle.pir_schemes.specs.Plans.{Plan, shape_at, record_of}
+use Rattle.pir_schemes.specs.Laws.{IsCertainOf}
+use Rattle.pir_schemes.specs.Retrievals.{hint_matrix, query_words, answer_words, reading, IsQuietOf}
 use Rattle.frame_codec.specs.declared.frame.Frame.{Frame}
 use Rattle.frame_codec.specs.declared.frame.Frame.TheVariants as frame
+use Rattle.frame_codec.specs.declared.refusal.Refusal.TheVariants as refusal
+use Rattle.frame_codec.specs.Refusals.{code_of, refused}
 use Rattle.snapshot_file.specs.declared.snapshot.Header.{Header}
-use Rattle.version_store.specs.Editions.{public_matrix}
 use Rattle.version_store.specs.Openings.{IsSound}
 use Rattle.version_store.specs.Histories.{History, number, records_of}
-use Rattle.matrix_u32.specs.Matrix.{WordMatrix}
-use Rattle.server_core.specs.Serving.{Setting, answer_words}
+use Rattle.server_core.specs.Serving.{Setting}
 use Rattle.client_core.specs.declared.state.Hint.{Hint}
 use Rattle.client_core.specs.declared.state.Event.{Event}
 use Rattle.client_core.specs.declared.state.Event.TheVariants.{Welcomed, Synced, Retrieved, Unreadable, Stale, Done, Refused}
-use Rattle.client_core.specs.Replies.{record_event}
+use Rattle.client_core.specs.Replies.{event_of}
 use Rattle.pir_world.specs.declared.steps.Step.{Step}
 use Rattle.pir_world.specs.declared.steps.Outcome.{Outcome}
 use Rattle.pir_world.specs.declared.steps.Outcome.TheVariants.{Edited, EditRefused, Published, PublishRefused, Told, CallRefused, Failed}
@@ -28,60 +32,68 @@ HasVersion h v records = (v ≤ number h) × (records_of h v ≡ Some records)
 abbrev pub IsVersion : History → ℕ → Type 0
 IsVersion h v = (records : List (List ℕ)) × HasVersion h v records
 
--- the words of a retrieval's query, for the client's seed
-abbrev pub asked_words : Setting → List ℕ → Retrieval → List ℕ
-asked_words x seed r = query_of x.shape (public_matrix x.shape x.dimension x.seed) seed r.number r.index
+-- the words of a retrieval's query on some records, for the client's seed
+abbrev pub asked_words : Plan → List (List ℕ) → List ℕ → Retrieval → List ℕ
+asked_words p records seed r =
+    query_words r.scheme (shape_at p (length records)) p.dimension p.seed seed r.number r.index
 
--- the hint of some records, made from scratch
-abbrev pub hint_matrix : Setting → List (List ℕ) → WordMatrix
-hint_matrix x records = hint_of (digit_matrix x.shape records) (public_matrix x.shape x.dimension x.seed)
+-- the words of its answer on some records
+abbrev pub given_words : Plan → List (List ℕ) → List ℕ → Retrieval → List ℕ
+given_words p records seed r = answer_words r.scheme p records (asked_words p records seed r)
 
--- the digits that a retrieval's answer on some records gives under their hint
-abbrev pub digits_read : Setting → List (List ℕ) → List ℕ → Retrieval → List ℕ
-digits_read x records seed r = reading x.shape (hint_matrix x records) seed r.number r.index (answer_words x records (asked_words x seed r))
+-- the record that its answer gives under their hint, if any
+abbrev pub record_read : Plan → List (List ℕ) → List ℕ → Retrieval → Option (List ℕ)
+record_read p records seed r =
+    let l = shape_at p (length records) in
+    record_of l (reading r.scheme l (hint_matrix r.scheme p records) seed r.number r.index (given_words p records seed r))
 
 -- the noise sums of a retrieval on some records stay below half of delta
-abbrev pub IsQuietOn : Setting → List (List ℕ) → List ℕ → Retrieval → Type 0
-IsQuietOn x records seed r = IsQuietRetrieval x.shape records seed r.number (digit_cols x.shape) r.index
+abbrev pub IsQuietOn : Plan → List (List ℕ) → List ℕ → Retrieval → Type 0
+IsQuietOn p records seed r = IsQuietOf r.scheme p records seed r.number r.index
 
--- An answered retrieval: the answer is that of the version named, and the event is what it says. Where the retrieval is quiet, that is the record's bytes in this version.
+-- An answered retrieval: the answer is that of the version named, and the event is what it says. Where the retrieval is quiet, and on a certain shape always, that is the record's bytes in this version.
 pub record IsAnswered (x : Setting) (h : History) (seed : List ℕ) (r : Retrieval) (reply : Frame) (event : Event) : Type 0 where
   pub records : List (List ℕ)
   pub version_is : HasVersion h r.version records
   pub inside : r.index < length records
-  pub answer_is : reply ≡ frame.Answer 0 r.version (answer_words x records (asked_words x seed r))
-  pub event_is : event ≡ record_event x.shape r.index r.version (digits_read x records seed r)
-  pub quiet : IsQuietOn x records seed r → event ≡ Retrieved r.index r.version (record_at records r.index)
+  pub answer_is : reply ≡ frame.Answer (scheme_byte r.scheme) r.version (given_words x.plan records seed r)
+  pub event_is : event ≡ event_of r.index r.version (record_read x.plan records seed r)
+  pub quiet : IsQuietOn x.plan records seed r → event ≡ Retrieved r.index r.version (record_at records r.index)
+  pub certain : IsCertainOf r.scheme (shape_at x.plan (length records)) → event ≡ Retrieved r.index r.version (record_at records r.index)
 
 -- A stale retrieval: a later version than the one named was current, and the client was told which.
-pub record IsStale (x : Setting) (h : History) (r : Retrieval) (reply : Frame) (event : Event) : Type 0 where
+pub record IsStale (h : History) (r : Retrieval) (reply : Frame) (event : Event) : Type 0 where
   pub now : ℕ
-  pub version_is : IsVersion h now
-  pub later : r.version < now
-  pub reply_is : reply ≡ frame.Stale now x.shape.count
-  pub event_is : event ≡ Stale now
-
--- a record of its bytes that stands in the records is what a quiet retrieval's answer gives
-abbrev pub QuietRetrievalGivesItsRecord : Type 0
-QuietRetrievalGivesItsRecord = (x : Setting) (records : List (List ℕ)) (seed : List ℕ) (r : Retrieval) →
-    IsLayout x.shape → r.index < x.shape.count → IsRecord x.shape (record_at records r.index) → IsQuietOn x records seed r →
-    record_event x.shape r.index r.version (digits_read x records seed r) ≡ Retrieved r.index r.version (record_at records r.index)
-
--- how a retrieval ends: with its answer, as stale, or refused because the server had no memory
-abbrev pub IsRightEnd : Setting → History → List ℕ → Retrieval → Frame → Event → Type 0
-IsRightEnd x h seed r reply event =
-    IsAnswered x h seed r reply event ⊎ IsStale x h r reply event ⊎ ((reply ≡ frame.Refused 12) × (event ≡ Refused 12))
-
--- A query was served while `now` was current: it is refused as stale, with the current version, exactly where it names another. Else it is answered on that version's records, or refused for want of memory.
-pub record IsRightReply (x : Setting) (h : History) (version now : ℕ) (words : List ℕ) (reply : Option Frame) : Type 0 where
   pub records : List (List ℕ)
   pub version_is : HasVersion h now records
-  pub stale : version ≢ now → reply ≡ Some (frame.Stale now x.shape.count)
-  pub answered : version ≡ now → (reply ≡ Some (frame.Answer 0 now (answer_words x records words))) ⊎ (reply ≡ Some (frame.Refused 12))
+  pub later : r.version < now
+  pub reply_is : reply ≡ frame.Stale now (length records)
+  pub event_is : event ≡ Stale now
+
+-- how a retrieval ends: with its answer, as stale, or refused because the server was out of memory
+abbrev pub IsRightEnd : Setting → History → List ℕ → Retrieval → Frame → Event → Type 0
+IsRightEnd x h seed r reply event =
+    IsAnswered x h seed r reply event ⊎ IsStale h r reply event
+    ⊎ ((reply ≡ refused refusal.Memory) × (event ≡ Refused (code_of refusal.Memory)))
+
+-- A query of a scheme was served while `now` was current: it is refused as stale, with the current version, exactly where it names another. Else it is answered on that version's records, or refused because the server was out of memory.
+pub record IsRightReply (x : Setting) (h : History) (scheme : Scheme) (version now : ℕ) (words : List ℕ) (reply : Option Frame) : Type 0 where
+  pub records : List (List ℕ)
+  pub version_is : HasVersion h now records
+  pub stale : version ≢ now → reply ≡ Some (frame.Stale now (length records))
+  pub answered : version ≡ now →
+      (reply ≡ Some (frame.Answer (scheme_byte scheme) now (answer_words scheme x.plan records words)))
+      ⊎ (reply ≡ Some (refused refusal.Memory))
+
+-- no client sends a query of another scheme
+abbrev pub IsRightQuery : Setting → History → Option Scheme → ℕ → ℕ → List ℕ → Option Frame → Type 0
+IsRightQuery x h None version now words reply = ⊥
+IsRightQuery x h (Some scheme) version now words reply = IsRightReply x h scheme version now words reply
 
 -- how a frame was served, where it is a query
 abbrev pub IsServed : Setting → History → ℕ → Frame → Option Frame → Type 0
-IsServed x h now (frame.Query scheme version words) reply = IsRightReply x h version now words reply
+IsServed x h now (frame.Query scheme version words) reply =
+    IsRightQuery x h (scheme_of_byte scheme) version now words reply
 IsServed x h now f reply = Unit {0}
 
 -- an event of another call names a version that there is, and no retrieval ends so
@@ -99,10 +111,7 @@ abbrev pub IsRightOutcome : History → Outcome → Type 0
 IsRightOutcome h (Told k e) = IsRightEvent h e
 IsRightOutcome h (Failed k fault) = ⊥
 IsRightOutcome h (Published v) = IsVersion h v
-IsRightOutcome h (Edited i) = Unit {0}
-IsRightOutcome h (EditRefused i fault) = Unit {0}
-IsRightOutcome h (PublishRefused fault) = Unit {0}
-IsRightOutcome h (CallRefused k fault) = Unit {0}
+IsRightOutcome h _ = Unit {0}
 
 -- the seed of client k
 abbrev pub seed_of : List (List ℕ) → ℕ → List ℕ
@@ -113,10 +122,10 @@ IsRight x seeds h (Served k f now reply) = IsServed x h now f reply
 IsRight x seeds h (Ended k r reply event) = IsRightEnd x h (seed_of seeds k) r reply event
 IsRight x seeds h (Plain o) = IsRightOutcome h o
 
--- the hint that a client holds is that of a version, made from scratch
+-- the hint that a client holds is its scheme's of a version, made from scratch
 abbrev pub HintIs : Setting → History → Option Hint → Type 0
 HintIs x h None = Unit {0}
-HintIs x h (Some hint) = (records : List (List ℕ)) × HasVersion h hint.version records × (hint.matrix ≡ hint_matrix x records)
+HintIs x h (Some hint) = (records : List (List ℕ)) × HasVersion h hint.version records × (hint.matrix ≡ hint_matrix hint.scheme x.plan records)
 
 -- In a run from an opening: all that was written down is right, and so is every hint.
 pub record Headline (x : Setting) (seeds : List (List ℕ)) (s : State) : Type 0 where

@@ -2,7 +2,10 @@
 use Rattle.std.specs.Prelude.{◌≡◌, ◌<◌, ◌+◌, ◌-◌, ◌^◌, ◌⊎◌, ℕ, List, [], ◌∷◌, ◌++◌, length, min, map, replicate, All, Bool, true, false, Option, Some, None, slice_set, slice_get, nat_lt, nat_le, ◌==◌, cond, is_some, if◌then◌else◌, option_to_list}
 use Rattle.std.specs.List.{flat_map}
 use Rattle.digit_pack.specs.Layout.{records_in}
+use Rattle.pir_schemes.specs.declared.scheme.Scheme.{Scheme}
+use Rattle.pir_schemes.specs.Plans.{plan_of, fits}
 use Rattle.frame_codec.specs.declared.frame.Frame.{Frame}
+use Rattle.frame_codec.specs.declared.refusal.Refusal.TheVariants as refusal
 use Rattle.frame_codec.specs.Frames.{spelling}
 use Rattle.snapshot_file.specs.declared.snapshot.Header.{Header}
 use Rattle.snapshot_file.specs.Snapshots.{shape_of}
@@ -43,7 +46,7 @@ silent = record { frames = []; got = 0 }
 abbrev pub sent : Wire → List Frame → Wire
 sent w fs = record { frames = w.frames ++ fs; got = w.got }
 
--- the frames that are whole within the first n bytes, and what is behind them
+-- the frames that are whole within the first n bytes, and what is after them
 abbrev pub whole : List Frame → ℕ → List Frame
 whole [] n = []
 whole (f ∷ fs) n = if nat_le (length (spelling f)) n then f ∷ whole fs (n - length (spelling f)) else []
@@ -65,9 +68,10 @@ behind w most = unread w.frames (reach w most)
 
 -- ---- what is written down of a run
 
--- an accepted call that asks for a record: its index, the version that the client's hint names, the number spent
+-- an accepted call that asks for a record: its index, the scheme and the version that the client's hint names, the number spent
 pub record Retrieval : Type 0 where
   pub index : ℕ
+  pub scheme : Scheme
   pub version : ℕ
   pub number : ℕ
 
@@ -88,10 +92,10 @@ outcomes_of log = flat_map outcome_of log
 
 -- ---- the server's side of a link
 
--- what a frame leads to; short says that the server finds no memory where the checks end with memory
+-- what a frame leads to; short says that the server is out of memory where the checks end with memory
 abbrev pub served_or : Bool → Setting → History → Standing → Frame → Reply
 served_or false x h st f = served x h st f
-served_or true x h st f = if takes_memory x h st f then refuses 12 st h else served x h st f
+served_or true x h st f = if takes_memory x h st f then refuses refusal.Memory st h else served x h st f
 
 pub record Turn : Type 0 where
   pub history : History
@@ -99,7 +103,7 @@ pub record Turn : Type 0 where
   pub replies : List Frame
   pub log : List Entry
 
--- a frame is served; behind a closing one none is
+-- a frame is served; after a closing one none is
 abbrev pub turn_more : Setting → Bool → ℕ → Turn → Frame → Turn
 turn_more x short k t f =
     if is_closed t.standing then t
@@ -141,15 +145,11 @@ link_told most l =
 
 -- an event ends the outstanding call
 abbrev pub tells : ℕ → Call → Frame → Event → Entry
-tells k call.Idle reply e = Plain (Told k e)
-tells k (call.Hello key) reply e = Plain (Told k e)
-tells k (call.Sync scheme version part) reply e = Plain (Told k e)
-tells k (call.Ask i v n) reply e = Ended k (record { index = i; version = v; number = n }) reply e
-tells k (call.Edit i bytes) reply e = Plain (Told k e)
-tells k call.Publish reply e = Plain (Told k e)
+tells k (call.Ask i s v n) reply e = Ended k (record { index = i; scheme = s; version = v; number = n }) reply e
+tells k _ reply e = Plain (Told k e)
 
 abbrev pub reacts : ℕ → Call → Frame → Reaction → List Entry
-reacts k c reply (Asks version part) = []
+reacts k c reply (Asks scheme version part) = []
 reacts k c reply (Tells e) = tells k c reply e ∷ []
 reacts k c reply (Fails fault) = Plain (Failed k fault) ∷ []
 
@@ -204,8 +204,8 @@ reader_key = replicate 32 0
 -- the publisher's edits and publications
 abbrev pub edit_after : Setting → State → ℕ → List ℕ → State
 edit_after x s i bytes =
-    if nat_lt i x.shape.count then (
-    if length bytes == x.shape.record_len then with_history s (edited i bytes s.history) (Edited i)
+    if nat_lt i (length s.history.draft) then (
+    if fits x.plan bytes then with_history s (edited i bytes s.history) (Edited i)
     else with_history s s.history (EditRefused i edit_error.BadLength))
     else with_history s s.history (EditRefused i edit_error.BadIndex)
 
@@ -229,14 +229,9 @@ after x short s (ToClient k most) = told_at s k most (slice_get s.links k)
 -- an edit's bytes are bytes
 abbrev pub FitsStep : Step → Type 0
 FitsStep (Edit i bytes) = All (λ b. b < 2 ^ 8) bytes
-FitsStep Publish = Unit {0}
-FitsStep (Hello k) = Unit {0}
-FitsStep (Sync k scheme) = Unit {0}
-FitsStep (Ask k i) = Unit {0}
-FitsStep (ToServer k most) = Unit {0}
-FitsStep (ToClient k most) = Unit {0}
+FitsStep _ = Unit {0}
 
--- one step: the server has memory for its reply, or has none
+-- one step: the server has memory for its reply, or is out of it
 abbrev pub Steps : Setting → State → Step → State → Type 0
 Steps x s step t = FitsStep step × ((t ≡ after x false s step) ⊎ (t ≡ after x true s step))
 
@@ -251,7 +246,7 @@ fresh_link seed = record { client = fresh seed 0; standing = Stranger; up = sile
 
 -- what a snapshot fixes for every version
 abbrev pub setting_in : Header → Setting
-setting_in h = record { shape = shape_of h; dimension = h.dimension; seed = h.seed; publisher = h.publisher }
+setting_in h = record { plan = plan_of (shape_of h) h.dimension h.seed; publisher = h.publisher }
 
 -- one version of some records, with a client for each seed
 abbrev pub opening : Header → List ℕ → List (List ℕ) → State

@@ -2,15 +2,7 @@
 //! in its proof; the call costs nothing.
 
 ghost use Rattle.pir_world.specs.Freshness.{AnswersAreFresh};
-ghost use Rattle.pir_world.specs.Headlines.{EveryRunIsRight, QuietRetrievalGivesItsRecord};
-
-/// A quiet retrieval's answer reads as its record's bytes.
-pub fn quiet_retrieval_gives_its_record()
-    ensures { QuietRetrievalGivesItsRecord }
-{
-    simple_scheme::laws::quiet_retrieval_reads_the_record();
-    digit_pack::laws::pack_unpacks();
-}
+ghost use Rattle.pir_world.specs.Headlines.{EveryRunIsRight};
 
 /// In every run of every list of steps, for all seeds: an answered retrieval whose noise sums stay below half
 /// of delta gives its record's bytes in the version that its hint names, a query is refused as stale exactly
@@ -18,7 +10,7 @@ pub fn quiet_retrieval_gives_its_record()
 pub fn every_run_is_right()
     ensures { EveryRunIsRight }
 {
-    quiet_retrieval_gives_its_record();
+    pir_schemes::laws::retrieval_gives_the_record();
 }
 
 /// An answer is of the version that is current when its query is served, and nobody had been told of a later
@@ -26,5 +18,5 @@ pub fn every_run_is_right()
 pub fn answers_are_fresh()
     ensures { AnswersAreFresh }
 {
-    quiet_retrieval_gives_its_record();
+    pir_schemes::laws::retrieval_gives_the_record();
 }

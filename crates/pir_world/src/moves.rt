@@ -10,10 +10,10 @@ ghost use Rattle.pir_world.specs.Invariants.{Inv};
 ghost use Rattle.pir_world.specs.Sides.{Side, IsParts, want_of, has_client};
 
 use crate::ends::{End, Request};
-use crate::laws::quiet_retrieval_gives_its_record;
 use crate::steps::{Outcome, Step};
 use client_core::{ClientFault, Event, Fed};
 use matrix_u32::Kernel;
+use pir_schemes::laws::retrieval_gives_the_record;
 use server_core::ServerCore;
 use std::alloc::{AllocError, Global};
 use version_store::{EditError, PublishError};
@@ -173,7 +173,7 @@ fn tell<K: Kernel>(
     ensures clients { length ends.new.items ≡ length ends.old.items }
     ensures none { OnErr result (outcomes.new.items ≡ outcomes.old.items) }
 {
-    quiet_retrieval_gives_its_record();
+    retrieval_gives_the_record();
     let taken = match ends[k].take(most) {
         Ok(taken) => taken,
         Err(_) => return Err(AllocError),

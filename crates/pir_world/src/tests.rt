@@ -11,6 +11,7 @@ use std::test::Fail;
 use version_store::{OpenError, Snapshot, Store};
 
 mod by_hand;
+mod texts;
 
 /// A store of records of one byte.
 #[derive(Clone, Copy)]
@@ -178,7 +179,7 @@ fn cut_query(rt: &(impl Abort + AllocGlobal), world: &mut World<Plain>) -> Resul
     greet(world, 0)?;
     greet(world, 1)?;
     sync(world, 0, Scheme::Simple, 1)?;
-    sync(world, 1, Scheme::Simple, 1)?;
+    sync(world, 1, Scheme::Double, 1)?;
     ask(world, 0, 1)?;
     to_server(world, 0, 11)?;
     ask(world, 1, 1)?;
@@ -191,7 +192,7 @@ fn cut_query(rt: &(impl Abort + AllocGlobal), world: &mut World<Plain>) -> Resul
     exchange(world, 0)?;
     assert_eq!(rt;
         told(rt, world)?.as_str(),
-        "0 welcomed 1;1 welcomed 1;0 simple 1;1 simple 1;edited 1;version 2;0 stale 2;1 retrieved 1 1 c8;0 simple 2;0 retrieved 1 2 64;"
+        "0 welcomed 1;1 welcomed 1;0 simple 1;1 double 1;edited 1;version 2;0 stale 2;1 retrieved 1 1 c8;0 simple 2;0 retrieved 1 2 64;"
     );
     Ok(())
 }
@@ -286,7 +287,7 @@ fn refusals(rt: &(impl Abort + AllocGlobal), world: &mut World<Plain>) -> Result
     sync(world, 1, Scheme::Double, 1)?;
     assert_eq!(rt;
         told(rt, world)?.as_str(),
-        "not published;edit 2 refused;edit 0 refused;1 call refused;1 welcomed 1;1 refused 13;"
+        "not published;edit 2 refused;edit 0 refused;1 call refused;1 welcomed 1;1 double 1;"
     );
     assert_eq!(rt; steps(world), 10);
     Ok(())

@@ -11,7 +11,7 @@ ghost use Rattle.pir_world.specs.Sides.{fresh_side, has_client};
 ghost use Rattle.pir_world.specs.Worlds.{IsNew, IsRunOf};
 
 use crate::ends::End;
-use crate::laws::{every_run_is_right, quiet_retrieval_gives_its_record};
+use crate::laws::every_run_is_right;
 use crate::moves::{make, names_client};
 use crate::steps::{Outcome, Step, StepFault};
 use matrix_u32::Kernel;
@@ -127,7 +127,7 @@ impl<K: Kernel> World<K> {
         ensures memory { IsErrOf result StepFault.Memory → (self.new.broken ≡ true) × (self.new.outcomes ≡ self.old.outcomes) × (self.new.steps ≡ self.old.steps) }
         ensures opening { (self.new.header ≡ self.old.header) × (self.new.records ≡ self.old.records) × (self.new.seeds ≡ self.old.seeds) × (length self.new.ends ≡ length self.old.ends) }
     {
-        quiet_retrieval_gives_its_record();
+        pir_schemes::laws::retrieval_gives_the_record();
         if self.broken {
             return Err(StepFault::Broken);
         }

@@ -1,0 +1,17 @@
+//! What each fault prints.
+
+use super::*;
+
+#[test]
+fn each_step_fault_has_its_text(rt: HostRuntime) -> Result<(), Fail> {
+    let texts = [
+        (StepFault::NoClient, "there is no such client"),
+        (StepFault::Memory, "out of memory"),
+        (StepFault::Broken, "the world is broken"),
+    ];
+    for (fault, text) in texts {
+        let told = format!(in rt.alloc(); "{fault}")?;
+        assert_eq!(rt; told.as_str(), text);
+    }
+    Ok(())
+}
