@@ -5,6 +5,7 @@ use Rattle.client_core.specs.declared.state.Call.TheVariants as call
 use Rattle.client_core.specs.declared.state.Event.{Event}
 use Rattle.client_core.specs.declared.state.Event.TheVariants.{Unreadable, Stale, Refused}
 use Rattle.client_core.specs.Feeding.{Client}
+use Rattle.pir_schemes.specs.declared.scheme.Scheme.{Scheme}
 use Rattle.session_engines.specs.Conversing.{Converses}
 use Rattle.command_words.specs.declared.failure.Failure.{Failure}
 use Rattle.command_words.specs.declared.failure.Failure.TheVariants as failure
@@ -29,9 +30,10 @@ pub record EndedWith (call : Call) (event : Event) (new : Client) : Type 0 where
   pub out : List ℕ
   pub came : Converses old first 0 (Ok event) read out None new
 
--- the same for the ask for a record, whatever its version and number
+-- the same for the ask for a record, whatever its scheme, version and number
 abbrev pub Asked : ℕ → Event → Client → Type 0
-Asked index event new = (version : ℕ) × (number : ℕ) × EndedWith (call.Ask index version number) event new
+Asked index event new =
+    (scheme : Scheme) × (version : ℕ) × (number : ℕ) × EndedWith (call.Ask index scheme version number) event new
 
 -- the server said so, and nothing on the way to it failed
 abbrev pub IsSaid : Failure → Type 0

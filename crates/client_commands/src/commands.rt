@@ -4,7 +4,8 @@ ghost use Rattle.std.specs.Prelude.{◌≡◌, ◌≤◌, ◌+◌, ◌⊎◌, �
 ghost use Rattle.client_core.specs.declared.state.Call.TheVariants as Call;
 ghost use Rattle.client_core.specs.declared.state.Event.TheVariants.{Done};
 ghost use Rattle.client_core.specs.declared.state.Event.TheVariants as event;
-ghost use Rattle.client_core.specs.Calls.{scheme_byte};
+ghost use Rattle.pir_schemes.specs.Schemes.{scheme_byte};
+ghost use Rattle.pir_schemes.specs.Plans.{client_profile};
 ghost use Rattle.frame_codec.specs.declared.frame.Frame.TheVariants as frame;
 ghost use Rattle.client_commands.specs.Done.{EndedWith, Asked, IsSaid, IsTrueOf};
 ghost use Rattle.client_commands.specs.Sent.{Sends};
@@ -51,7 +52,7 @@ pub fn get<K: Kernel, R: Read, W: Write>(
     scheme: Scheme,
     index: u32,
 ) -> Result<Retrieved, Failure>
-    ensures sends { OnOk result ((version : ℕ) × Sends (W.contents writer.old) (W.contents writer.new) (frame.Hello 1 (replicate 32 0)) (frame.HintAsk (scheme_byte scheme) version 0)) }
+    ensures sends { OnOk result ((version : ℕ) × Sends (W.contents writer.old) (W.contents writer.new) (frame.Hello client_profile (replicate 32 0)) (frame.HintAsk (scheme_byte scheme) version 0)) }
     ensures record { IfOk result (λ r. (r.index ≡ index) × Asked index (event.Retrieved r.index r.version r.bytes) client.new) }
     ensures spends { IfOk result (λ _. client.new.state.number ≡ client.old.state.number + 1) }
     ensures said { IfErr result (λ failure. IsTrueOf failure client.new) }
@@ -93,7 +94,7 @@ pub fn put<K: Kernel, R: Read, W: Write>(
     bytes: &[u8],
 ) -> Result<u64, Failure>
     requires { length bytes.now ≤ 65535 }
-    ensures sends { OnOk result (Sends (W.contents writer.old) (W.contents writer.new) (frame.Hello 1 key) (frame.Edit index bytes.now)) }
+    ensures sends { OnOk result (Sends (W.contents writer.old) (W.contents writer.new) (frame.Hello client_profile key) (frame.Edit index bytes.now)) }
     ensures version { IfOk result (λ version. EndedWith (Call.Edit index bytes.now) (Done version) client.new) }
     ensures said { IfErr result (λ failure. IsTrueOf failure client.new) }
     ensures number { client.new.state.number ≡ client.old.state.number }
@@ -118,7 +119,7 @@ pub fn publish<K: Kernel, R: Read, W: Write>(
     writer: &mut W,
     key: [u8; 32],
 ) -> Result<u64, Failure>
-    ensures sends { OnOk result (Sends (W.contents writer.old) (W.contents writer.new) (frame.Hello 1 key) frame.Publish) }
+    ensures sends { OnOk result (Sends (W.contents writer.old) (W.contents writer.new) (frame.Hello client_profile key) frame.Publish) }
     ensures version { IfOk result (λ version. EndedWith Call.Publish (Done version) client.new) }
     ensures said { IfErr result (λ failure. IsTrueOf failure client.new) }
     ensures number { client.new.state.number ≡ client.old.state.number }

@@ -1,5 +1,5 @@
 -- Pieces of a server's stream, one after another.
-use Rattle.std.proofs.Common.{◌≡◌, ◌<◌, ◌+◌, ◌⊎◌, ◌||◌, ℕ, Bool, true, false, List, [], ◌∷◌, ◌++◌, length, take, Option, Some, None, is_some, Result, Ok, Err, refl, sym, ap, subst, ◌∙◌, append_assoc, arith, inl, inr}
+use Rattle.std.proofs.Common.{◌≡◌, ◌+◌, ℕ, Bool, true, false, List, [], ◌∷◌, ◌++◌, length, take, Option, Some, None, is_some, Result, Ok, Err, refl, sym, ap, subst, ◌∙◌, append_assoc, arith, inl, inr}
 use Rattle.std.specs.Prelude.{MatchBool, if◌then◌else◌}
 use Rattle.std.specs.List.{flat_map, AllByRecursion}
 use Rattle.std.proofs.lemmas.List.{append-nil, length-append}
@@ -18,11 +18,11 @@ use Rattle.client_core.specs.declared.state.Call.TheVariants.{Idle, Hello, Sync,
 use Rattle.client_core.specs.declared.state.ClientFault.{ClientFault}
 use Rattle.client_core.specs.declared.state.ClientFault.TheVariants as client
 use Rattle.client_core.specs.declared.state.Event.{Event}
-use Rattle.version_store.specs.declared.scheme.Scheme.TheVariants.{Simple, Double}
+use Rattle.pir_schemes.specs.declared.scheme.Scheme.{Scheme}
+use Rattle.pir_schemes.specs.Retrievals.{hint_len}
 use Rattle.digit_pack.specs.Layout.{Shape}
-use Rattle.client_core.specs.States.{hint_len}
-use Rattle.client_core.specs.Replies.{Taken, faulty, takes, takes_welcome, takes_part, takes_answer, takes_stale, takes_done, takes_refused, is_welcome, welcomed, is_part, more_parts, takes_simple_part, answered, staled}
-use Rattle.client_core.specs.Feeding.{Client, Course, start, goes_on, course_more, runs, takes_all, sends_of, events_of, fault_of, codec_fault, failing, ends_with, Gives, Follows, BreaksOff, FeedsOpen, FeedsFailed, FeedsClient}
+use Rattle.client_core.specs.Replies.{Taken, faulty, takes, takes_welcome, takes_part, takes_answer, takes_stale, takes_done, takes_refused, is_welcome, is_part, more_parts, takes_asked_part, answered, staled}
+use Rattle.client_core.specs.Feeding.{Client, Course, start, goes_on, course_more, runs, takes_all, sends_of, fault_of, codec_fault, failing, ends_with, Gives, Follows, BreaksOff, FeedsOpen, FeedsFailed, FeedsClient}
 use Rattle.client_core.proofs.Courses.{runs_append, fault_stays}
 use Rattle.session_engines.proofs.Streams.{each_both, take_both, feeds_both}
 
@@ -41,22 +41,21 @@ sound_welcome : (call : Call) (c : ClientState) (profile : ℕ) (l : Shape) (n v
 sound_welcome Idle c profile l n v seed = bad c client.BadReply
 sound_welcome (Hello key) c profile l n v seed = either c (is_welcome profile l n v) _ (faulty c client.BadWelcome) (λ _. (refl, refl)) (bad c client.BadWelcome)
 sound_welcome (Sync s w p) c profile l n v seed = bad c client.BadReply
-sound_welcome (Ask i w k) c profile l n v seed = bad c client.BadReply
+sound_welcome (Ask i s w k) c profile l n v seed = bad c client.BadReply
 sound_welcome (Edit i b) c profile l n v seed = bad c client.BadReply
 sound_welcome Publish c profile l n v seed = bad c client.BadReply
 
-sound_simple : (known : Option Known) (c : ClientState) (asked next scheme version part : ℕ) (words : List ℕ) → IsSound c (takes_simple_part known c asked next scheme version part words)
-sound_simple None c asked next scheme version part words = bad c client.BadReply
-sound_simple (Some k) c asked next scheme version part words =
-    either c (is_part (hint_len k) asked next scheme version part words) (more_parts k c asked next (c.parts ++ words)) (faulty c client.BadReply)
+sound_asked : (known : Option Known) (s : Scheme) (c : ClientState) (asked next scheme version part : ℕ) (words : List ℕ) → IsSound c (takes_asked_part known s c asked next scheme version part words)
+sound_asked None s c asked next scheme version part words = bad c client.BadReply
+sound_asked (Some k) s c asked next scheme version part words =
+    either c (is_part s (hint_len s k.layout k.dimension) asked next scheme version part words) (more_parts s k c asked next (c.parts ++ words)) (faulty c client.BadReply)
     (either c _ _ _ (λ _. (refl, refl)) (λ _. (refl, refl))) (bad c client.BadReply)
 
 sound_part : (call : Call) (c : ClientState) (scheme version part : ℕ) (words : List ℕ) → IsSound c (takes_part call c scheme version part words)
 sound_part Idle c scheme version part words = bad c client.BadReply
 sound_part (Hello key) c scheme version part words = bad c client.BadReply
-sound_part (Sync Simple v p) c scheme version part words = sound_simple c.known c v p scheme version part words
-sound_part (Sync Double v p) c scheme version part words = bad c client.BadReply
-sound_part (Ask i v k) c scheme version part words = bad c client.BadReply
+sound_part (Sync s v p) c scheme version part words = sound_asked c.known s c v p scheme version part words
+sound_part (Ask i s v k) c scheme version part words = bad c client.BadReply
 sound_part (Edit i b) c scheme version part words = bad c client.BadReply
 sound_part Publish c scheme version part words = bad c client.BadReply
 
@@ -69,7 +68,7 @@ sound_answer : (call : Call) (c : ClientState) (scheme version : ℕ) (words : L
 sound_answer Idle c scheme version words = bad c client.BadReply
 sound_answer (Hello key) c scheme version words = bad c client.BadReply
 sound_answer (Sync s v p) c scheme version words = bad c client.BadReply
-sound_answer (Ask i v k) c scheme version words = sound_answered c.known c.hint c i v k scheme version words
+sound_answer (Ask i s v k) c scheme version words = sound_answered c.known c.hint c i v k scheme version words
 sound_answer (Edit i b) c scheme version words = bad c client.BadReply
 sound_answer Publish c scheme version words = bad c client.BadReply
 
@@ -81,7 +80,7 @@ sound_stale : (call : Call) (c : ClientState) (version count : ℕ) → IsSound 
 sound_stale Idle c version count = bad c client.BadReply
 sound_stale (Hello key) c version count = bad c client.BadReply
 sound_stale (Sync s v p) c version count = sound_staled c.known (record c { parts = [] }) c v version count (refl, refl)
-sound_stale (Ask i v k) c version count = sound_staled c.known c c v version count (refl, refl)
+sound_stale (Ask i s v k) c version count = sound_staled c.known c c v version count (refl, refl)
 sound_stale (Edit i b) c version count = bad c client.BadReply
 sound_stale Publish c version count = bad c client.BadReply
 
@@ -89,7 +88,7 @@ sound_done : (call : Call) (c : ClientState) (version : ℕ) → IsSound c (take
 sound_done Idle c version = bad c client.BadReply
 sound_done (Hello key) c version = bad c client.BadReply
 sound_done (Sync s v p) c version = bad c client.BadReply
-sound_done (Ask i v k) c version = bad c client.BadReply
+sound_done (Ask i s v k) c version = bad c client.BadReply
 sound_done (Edit i b) c version = λ _. (refl, refl)
 sound_done Publish c version = λ _. (refl, refl)
 
@@ -97,7 +96,7 @@ sound_refused : (call : Call) (c : ClientState) (code : ℕ) → IsSound c (take
 sound_refused Idle c code = bad c client.BadReply
 sound_refused (Hello key) c code = λ _. (refl, refl)
 sound_refused (Sync s v p) c code = λ _. (refl, refl)
-sound_refused (Ask i v k) c code = λ _. (refl, refl)
+sound_refused (Ask i s v k) c code = λ _. (refl, refl)
 sound_refused (Edit i b) c code = λ _. (refl, refl)
 sound_refused Publish c code = λ _. (refl, refl)
 

@@ -2,3 +2,6 @@ pub mod Streams
 pub mod Sessions
 pub mod Clients
 pub mod Conversations
+pub mod Turns
+pub mod ServingPairs
+pub mod ConversingPairs

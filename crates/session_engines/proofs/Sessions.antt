@@ -1,8 +1,7 @@
 -- Pieces of a session's stream, one after another.
-use Rattle.std.proofs.Common.{◌≡◌, ◌≢◌, ◌<◌, ◌≤◌, ◌+◌, ◌⊎◌, not, ℕ, Bool, true, false, List, [], ◌∷◌, ◌++◌, length, take, Option, Some, None, Result, Ok, Err, IsErr, refl, sym, ap, subst, ◌∙◌, append_assoc, arith, inl, inr}
+use Rattle.std.proofs.Common.{◌≡◌, ◌≢◌, ◌+◌, not, ℕ, Bool, true, false, List, [], ◌∷◌, ◌++◌, length, take, Option, Some, Result, Ok, Err, refl, sym, ap, subst, ◌∙◌, append_assoc, arith, inl, inr}
 use Rattle.std.specs.Prelude.{MatchBool, option_to_list}
 use Rattle.std.specs.List.{flat_map}
-use Rattle.std.specs.Io.KnownBytes.{IsAtEnd}
 use Rattle.std.specs.declared.alloc.AllocError.{AllocError}
 use Rattle.std.proofs.lemmas.List.{append-nil, length-append}
 use Rattle.std.proofs.lemmas.List.Concat.{flat_map-append}
@@ -22,7 +21,6 @@ use Rattle.server_core.specs.declared.standing.Standing.TheVariants as standing
 use Rattle.server_core.specs.Serving.{Setting, setting_of, ServesAll, is_closed}
 use Rattle.server_core.specs.Sessions.{Session, new_session, AfterReading, EndsPiece, IsStop, ServesPiece, BreaksOff, FeedsSession, Fed}
 use Rattle.session_engines.specs.declared.serving.Ending.{Ending}
-use Rattle.session_engines.specs.declared.serving.Ending.TheVariants.{Closed, EndOfInput}
 use Rattle.session_engines.specs.declared.serving.ServeFault.{ServeFault}
 use Rattle.session_engines.specs.declared.serving.ServeFault.TheVariants as fault
 use Rattle.session_engines.specs.Serving.{IsServed, ServesStream, ServesPiece as TurnServes}

@@ -1,7 +1,7 @@
 -- Two pieces of a stream are one.
-use Rattle.std.proofs.Common.{◌≡◌, ◌≢◌, ◌<◌, ◌≤◌, ◌+◌, ◌*◌, min, suc, ℕ, List, [], ◌∷◌, ◌++◌, length, take, drop, Option, Some, None, Result, Ok, Err, refl, sym, ap, subst, ◌∙◌, append_assoc, arith}
+use Rattle.std.proofs.Common.{◌≡◌, ◌<◌, ◌+◌, suc, ℕ, List, [], ◌∷◌, ◌++◌, length, take, drop, Option, Some, None, Result, Ok, Err, sym, ap, subst, ◌∙◌, append_assoc, arith}
 use Rattle.std.specs.List.{AllByRecursion}
-use Rattle.std.proofs.lemmas.List.{take-append-drop, length-drop, length-append, length-take}
+use Rattle.std.proofs.lemmas.List.{take-append-drop, length-drop}
 use Rattle.frame_codec.specs.declared.frame.Frame.{Frame}
 use Rattle.frame_codec.specs.declared.reader.ReadFault.{ReadFault}
 use Rattle.frame_codec.specs.declared.reader.ReadFault.TheVariants.{Failed}
@@ -38,17 +38,3 @@ cut_behind a b c f = (f.0, ap (λ (x : List ℕ). a ++ x) f.1 ∙ sym (append_as
 
 pub cut_taken : (n : ℕ) (xs : List ℕ) → n < length xs → IsCutOff (take n xs) xs
 cut_taken n xs lt = (drop n xs, sym (take-append-drop n xs), omega (arith, length-drop n xs))
-
--- ---- how many bytes so many reads give
-
--- none of them gives more than a piece
-pub piece_most : (read buffer : List ℕ) (n turn turns : ℕ) → length read ≤ 65536 * turn → turn < turns → length buffer ≡ 65536 → length (read ++ take n buffer) ≤ 65536 * turns
-piece_most read buffer n turn turns most lt room =
-    omega (arith, length-append read (take n buffer), length-take n buffer, room, most, lt)
-
--- and each gives one at least, but at the end
-pub piece_least : (read buffer : List ℕ) (n turn : ℕ) → turn ≤ length read → n ≢ 0 → n ≤ length buffer → turn + 1 ≤ length (read ++ take n buffer)
-piece_least read buffer n turn least some within = omega (arith, length-append read (take n buffer), length-take n buffer, least, some, within)
-
-pub whole_most : (read : List ℕ) (turn turns : ℕ) → length read ≤ 65536 * turn → turn ≤ turns → length read ≤ 65536 * turns
-whole_most read turn turns most le = omega (arith, most, le)

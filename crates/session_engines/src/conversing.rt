@@ -3,9 +3,11 @@
 ghost use Rattle.std.specs.Prelude.{◌≡◌, ◌≤◌, ◌<◌, ◌*◌, ℕ, List, [], length, Option, Some, None};
 ghost use Rattle.std.specs.Io.KnownBytes.{Appends, Consumes};
 ghost use Rattle.session_engines.specs.Conversing.{converse_fault, HearsPiece, Hears, Converses};
+ghost use Rattle.session_engines.specs.ConversingTurns.{WritesSayings, HearsTurn, HearsTurns, ConversesOver};
 
 use client_core::{ClientCore, ClientFault, Event};
-use engine_io::{piece_buffer, read_piece, write_out};
+use connection_io::{Connection, Pair, receive, send};
+use engine_io::piece_buffer;
 use matrix_u32::Kernel;
 use std::alloc::Global;
 use std::io::{Read, Write};
@@ -53,48 +55,70 @@ fn fault_of(fault: ClientFault) -> ConverseFault
 }
 
 // Gives the client a piece, and writes what it says to it. Answers the first event, where there is one.
-fn take_piece<K: Kernel, W: Write>(
+fn take_piece<K: Kernel, C: Connection>(
     client: &mut ClientCore<K>,
     piece: &[u8],
-    writer: &mut W,
+    connection: &mut C,
 ) -> Result<Option<Event>, ConverseFault>
-    ensures { (bytes : List ℕ) × Appends (W.contents writer.old) (W.contents writer.new) bytes
+    ensures { (bytes : List ℕ) × WritesSayings C.does result connection.old bytes connection.new
         × HearsPiece client.old piece.now result client.new bytes }
 {
     let fed = client.feed(piece);
-    let Ok(()) = write_out(writer, &fed.out) else {
+    let Ok(()) = send(connection, &fed.out) else {
         return Err(ConverseFault::Write);
     };
     if let Some(event) = fed.events.into_iter().next() {
         return Ok(Some(event));
     }
-    match fed.fault {
-        None => Ok(None),
-        Some(fault) => Err(fault_of(fault)),
+    let Some(fault) = fed.fault else {
+        return Ok(None);
+    };
+    Err(fault_of(fault))
+}
+
+/// Makes one turn of a client: reads a piece of at most 65,536 bytes, gives it to the client, and writes all that
+/// the client says to it. Answers the first event that came of it, or `None` where none did.
+///
+/// `buffer` has room for a piece, as `engine_io::piece_buffer` makes it: what it held is lost.
+///
+/// # Errors
+///
+/// `Ended` exactly when the read gave no byte, and `Read` exactly when it failed: the client is as it was.
+/// `Write` where a write failed, after which there is no other: a part of what the client says went out, from its
+/// start on. `BadWelcome`, `BadReply`, `Failed` and `Memory` where the client answered so, and before any event.
+pub fn converse_turn<K: Kernel, C: Connection>(
+    client: &mut ClientCore<K>,
+    connection: &mut C,
+    buffer: &mut Vec<u8>,
+) -> Result<Option<Event>, ConverseFault>
+    requires { length buffer.old.items ≡ 65536 }
+    ensures turn { HearsTurn C.does client.old connection.old result client.new connection.new }
+    ensures room { length buffer.new.items ≡ 65536 }
+{
+    let Ok(n) = receive(connection, buffer) else {
+        return Err(ConverseFault::Read);
+    };
+    if n == 0 {
+        return Err(ConverseFault::Ended);
+    }
+    match take_piece(client, &buffer[..n], connection) {
+        Ok(found) => Ok(found),
+        Err(fault) => Err(fault),
     }
 }
 
-// Gives the client what the server says, until an event comes of it.
-fn hear<K: Kernel, R: Read, W: Write>(
+// Makes turns until an event comes of one.
+fn hear<K: Kernel, C: Connection>(
     client: &mut ClientCore<K>,
     buffer: &mut Vec<u8>,
-    reader: &mut R,
-    writer: &mut W,
+    connection: &mut C,
     turns: u64,
 ) -> Result<Event, ConverseFault>
     requires { length buffer.old.items ≡ 65536 }
-    ensures { (read : List ℕ) × (out : List ℕ) × Consumes (R.remaining reader.old) (R.remaining reader.new) read
-        × Appends (W.contents writer.old) (W.contents writer.new) out × (length read ≤ 65536 * turns)
-        × Hears client.old turns result read out (R.remaining reader.new) client.new }
+    ensures { HearsTurns C.does turns client.old connection.old result client.new connection.new }
 {
     'turns: for _ in 0..turns {
-        let Ok(n) = read_piece(reader, buffer) else {
-            return Err(ConverseFault::Read);
-        };
-        if n == 0 {
-            return Err(ConverseFault::Ended);
-        }
-        match take_piece(client, &buffer[..n], writer) {
+        match converse_turn(client, connection, buffer) {
             Ok(Some(event)) => return Ok(event),
             Ok(None) => {}
             Err(fault) => return Err(fault),
@@ -103,9 +127,36 @@ fn hear<K: Kernel, R: Read, W: Write>(
     Err(ConverseFault::TurnsUsedUp)
 }
 
+/// Writes `first`, which a call of the client gave, and then makes at most `turns` turns over a connection, each
+/// of them [`converse_turn`], until one brings an event. After the event, and after a fault, no call is made.
+///
+/// # Errors
+///
+/// `Memory` where there was none for a piece, and no call was made. `Write` where a write of `first` failed: a
+/// part of it went out, and nothing was read. Those of the last turn. `TurnsUsedUp` where no event came in all
+/// turns.
+pub fn converse_over<K: Kernel, C: Connection>(
+    alloc: Global,
+    client: &mut ClientCore<K>,
+    first: &[u8],
+    connection: &mut C,
+    turns: u64,
+) -> Result<Event, ConverseFault>
+    ensures { ConversesOver C.does client.old first.now connection.old turns result client.new connection.new }
+{
+    let Ok(mut buffer) = piece_buffer(alloc) else {
+        return Err(ConverseFault::Memory);
+    };
+    let Ok(()) = send(connection, first) else {
+        return Err(ConverseFault::Write);
+    };
+    hear(client, &mut buffer, connection, turns)
+}
+
 /// Writes `first`, which a call of the client gave, and gives the client what the server says, in at most
-/// `turns` reads of at most 65,536 bytes each, until the first event comes of it. What the client says to a
-/// piece is written before the next is read, and before an event or a fault of the piece is answered.
+/// `turns` reads of at most 65,536 bytes each, until the first event comes of it: [`converse_over`] the two. What
+/// the client says to a piece is written before the next is read, and before an event or a fault of the piece is
+/// answered.
 ///
 /// With an event, `first` was written, and behind it exactly what the client said to all that was read. An
 /// event is answered also where a fault follows it in its piece: the next call then answers `Failed`.
@@ -125,15 +176,15 @@ pub fn converse<K: Kernel, R: Read, W: Write>(
     writer: &mut W,
     turns: u64,
 ) -> Result<Event, ConverseFault>
-    ensures { (read : List ℕ) × (out : List ℕ) × Consumes (R.remaining reader.old) (R.remaining reader.new) read
-        × Appends (W.contents writer.old) (W.contents writer.new) out × (length read ≤ 65536 * turns)
+    ensures { (read : List ℕ) × (out : List ℕ)
+        × Consumes (R.remaining reader.old) (R.remaining reader.new) read
+        × Appends (W.contents writer.old) (W.contents writer.new) out
+        × (length read ≤ 65536 * turns)
         × Converses client.old first.now turns result read out (R.remaining reader.new) client.new }
 {
-    let Ok(mut buffer) = piece_buffer(alloc) else {
-        return Err(ConverseFault::Memory);
-    };
-    let Ok(()) = write_out(writer, first) else {
-        return Err(ConverseFault::Write);
-    };
-    hear(client, &mut buffer, reader, writer, turns)
+    let mut pair = Pair::new(reader, writer);
+    match converse_over(alloc, client, first, &mut pair, turns) {
+        Ok(event) => Ok(event),
+        Err(fault) => Err(fault),
+    }
 }

@@ -7,8 +7,8 @@
 mod conversing;
 mod serving;
 
-pub use conversing::{ConverseFault, converse};
-pub use serving::{Ending, ServeFault, serve};
+pub use conversing::{ConverseFault, converse, converse_over, converse_turn};
+pub use serving::{Ending, ServeFault, serve, serve_over, serve_turn};
 
 #[cfg(test)]
 mod tests;

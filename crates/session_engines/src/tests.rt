@@ -11,7 +11,10 @@ use std::test::Fail;
 use version_store::{Header, Store};
 
 mod conversing;
+mod large;
 mod serving;
+mod texts;
+mod turns;
 
 // The SHA-256 digest of 32 bytes 01.
 const PUBLISHER: [u8; 32] = [

@@ -1,4 +1,5 @@
 use Rattle.std.proofs.Common.{◌∙◌}
+use Rattle.pir_schemes.specs.Plans.{client_profile}
 use Rattle.client_core.specs.Calls.{Hello, Edit}
 use Rattle.frame_codec.specs.declared.frame.Frame.TheVariants as frame
 use Rattle.client_commands.proofs.Conversations.{calling_spends_no_number}
@@ -8,7 +9,7 @@ use Rattle.client_commands.proofs.commands.put.Goals as goal
 
 pub returns-clause-sends : goal.returns-clause-sends
 returns-clause-sends g c =
-    on_ok c.done_version.result _ (both_went (frame.Hello 1 c.args.key) (frame.Edit c.args.index c.args.bytes.now) _ _ _
+    on_ok c.done_version.result _ (both_went (frame.Hello client_profile c.args.key) (frame.Edit c.args.index c.args.bytes.now) _ _ _
     (call_went (λ v. v.items) (Hello c.args.key) _ _ c.hello-sent.result _ _ c.in_ok-event_of.ensures.made c.hello-sent.ensures.accepted c.in_ok-event_of.ensures.sends)
     (call_went (λ v. v.items) (Edit c.args.index c.args.bytes.now) _ _ c.edit-sent.result _ _ c.in_ok-event.ensures.made c.edit-sent.ensures.accepted c.in_ok-event.ensures.sends))
 
