@@ -4,8 +4,8 @@ use Rattle.std.specs.Str.Parse.{IsNumeral, digits_value}
 use Rattle.clap.specs.declared.parser.matches.Found.{Found}
 use Rattle.clap.specs.Matches.{first_value}
 use Rattle.hex.specs.Hex.{decode_of}
-use Rattle.version_store.specs.declared.scheme.Scheme.{Scheme}
-use Rattle.version_store.specs.declared.scheme.Scheme.TheVariants.{Simple, Double}
+use Rattle.pir_schemes.specs.declared.scheme.Scheme.{Scheme}
+use Rattle.pir_schemes.specs.declared.scheme.Scheme.TheVariants.{Simple, Double}
 use Rattle.pir_client.specs.declared.command_line.Task.{Task}
 use Rattle.pir_client.specs.declared.command_line.Task.TheVariants.{Get, Put, Publish, Rehearse}
 

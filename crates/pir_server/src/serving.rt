@@ -29,8 +29,8 @@ const NO_CONNECTION: Failure = Failure::Fault("Connect");
 /// # Errors
 ///
 /// In this order: those of the file, the snapshot and the store, `Connect` where the port can't be listened
-/// on, and at the end `File` where the file can't be written. `Memory` where there was none. A connection that
-/// ends with a fault is told on standard error, and ends nothing else.
+/// on, and at the end `File` where the file can't be made anew and `Write` where it can't be written. `Memory`
+/// where there was none. A connection that ends with a fault is told on standard error, and ends nothing else.
 pub fn serve_file(rt: &HostRuntime, serving: &Serving<'_>) -> Result<(), Failure> {
     let store = store_of(rt, serving.file)?;
     let opened = store.version();
@@ -45,10 +45,7 @@ pub fn serve_file(rt: &HostRuntime, serving: &Serving<'_>) -> Result<(), Failure
     if core.store().version() == opened {
         return Ok(());
     }
-    match write_file(rt, serving.file, core.store()) {
-        Err(Failure::Fault(_)) => Err(Failure::Fault("File")),
-        other => other,
-    }
+    write_file(rt, serving.file, core.store())
 }
 
 // Listens on a port of 127.0.0.1, and tells which one it is.

@@ -180,7 +180,7 @@ const STEPS: &[(&str, &str)] = &[
     ),
     (
         "hello 0\nto-server 0 all\nto-client 0 all\nhello 0\nask 0 1\nsync 0 double\nto-server 0 all\nto-client 0 all\n",
-        "client 0: welcomed 1\nclient 0: call refused AlreadyWelcome\nclient 0: call refused NotReady\nclient 0: server refused 13\n",
+        "client 0: welcomed 1\nclient 0: call refused AlreadyWelcome\nclient 0: call refused NotReady\nclient 0: synced double 1\n",
     ),
     (
         "hello 0\nto-server 0 all\nto-client 0 all\nsync 0 simple\nto-server 0 all\nto-client 0 all\nask 0 2\nask 0 0\nto-server 0 all\nto-client 0 all\n",
