@@ -4,25 +4,25 @@ use Rattle.std.specs.Prelude.{IfOk, IsOk, OnOk}
 use Rattle.std.specs.Io.KnownBytes.{Appends}
 use Rattle.std.proofs.KnownBytes.{Appends-trans}
 use Rattle.frame_codec.specs.declared.frame.Frame.{Frame}
-use Rattle.frame_codec.specs.Frames.{spelling}
+use Rattle.frame_codec.specs.Frames.{encoding}
 use Rattle.client_core.specs.declared.state.ClientState.{ClientState}
 use Rattle.client_core.specs.declared.state.CallFault.{CallFault}
 use Rattle.client_core.specs.declared.state.Event.{Event}
 use Rattle.client_core.specs.Feeding.{Client}
 use Rattle.session_engines.specs.Conversing.{Converses}
-use Rattle.client_core.specs.Calls.{Want, call_frame, called, Accepts}
+use Rattle.client_core.specs.Calls.{Want, call_frame, state_after_call, Accepts}
 use Rattle.client_commands.specs.Sent.{Sends}
 
 -- the frame of an accepted call
 abbrev pub frame_of : Want → ClientState → Frame
-frame_of want old = call_frame (called want old) (called want old).call
+frame_of want old = call_frame (state_after_call want old) (state_after_call want old).call
 
-pub accepted_bytes : (want : Want) (old new : ClientState) (bytes : List ℕ) → Accepts old want new bytes → bytes ≡ spelling (frame_of want old)
-accepted_bytes want old new bytes a = a.written ∙ ap (λ (c : ClientState). spelling (call_frame c c.call)) a.state
+pub accepted_bytes : (want : Want) (old new : ClientState) (bytes : List ℕ) → Accepts old want new bytes → bytes ≡ encoding (frame_of want old)
+accepted_bytes want old new bytes a = a.written ∙ ap (λ (c : ClientState). encoding (call_frame c c.call)) a.state
 
--- a frame went out at the front, and the client may have said more
+-- a frame went out at the beginning, and the client may have said more
 abbrev pub Went : Option (List ℕ) → Option (List ℕ) → Frame → Type 0
-Went old new frame = (said : List ℕ) × Appends old new (spelling frame ++ said)
+Went old new frame = (said : List ℕ) × Appends old new (encoding frame ++ said)
 
 -- a call that was made sent its frame
 pub call_went : {V : Type 0} → (items : V → List ℕ) (want : Want) (old new : ClientState) (result : Result V CallFault) (before after : Option (List ℕ)) → IsOk result
@@ -34,18 +34,18 @@ call_went items want old new (Ok v) before after ok a s =
 -- two frames, one after the other
 pub both_went : (first second : Frame) (a b c : Option (List ℕ)) → Went a b first → Went b c second → Sends a c first second
 both_went first second a b c p q =
-    (p.0, q.0, subst (Appends a c) (append_assoc (spelling first) p.0 (spelling second ++ q.0)) (Appends-trans a b c _ _ p.1 q.1))
+    (p.0, q.0, subst (Appends a c) (append_assoc (encoding first) p.0 (encoding second ++ q.0)) (Appends-trans a b c _ _ p.1 q.1))
 
--- and more behind them
+-- and more after them
 pub more_went : (first second third : Frame) (a b c : Option (List ℕ)) → Sends a b first second → Went b c third → Sends a c first second
 more_went first second third a b c p q =
-    let behind : List ℕ = spelling third ++ q.0 in
+    let beyond : List ℕ = encoding third ++ q.0 in
     let sent = Appends-trans a b c _ _ p.2 q.1 in (
       p.0,
-      p.1 ++ behind,
+      p.1 ++ beyond,
       subst (Appends a c)
-          (append_assoc (spelling first) (p.0 ++ (spelling second ++ p.1)) behind
-          ∙ ap (λ (x : List ℕ). spelling first ++ x) (append_assoc p.0 (spelling second ++ p.1) behind ∙ ap (λ (x : List ℕ). p.0 ++ x) (append_assoc (spelling second) p.1 behind)))
+          (append_assoc (encoding first) (p.0 ++ (encoding second ++ p.1)) beyond
+          ∙ ap (λ (x : List ℕ). encoding first ++ x) (append_assoc p.0 (encoding second ++ p.1) beyond ∙ ap (λ (x : List ℕ). p.0 ++ x) (append_assoc (encoding second) p.1 beyond)))
           sent,
     )
 
@@ -55,11 +55,11 @@ on_ok (Ok x) P p = p
 on_ok (Err e) P p = tt
 
 -- what a conversation that came to an event has written
-pub said_behind : {V : Type 0} → (items : V → List ℕ) (sent : Result V CallFault) (v : V) (before after : Option (List ℕ))
+pub said_after : {V : Type 0} → (items : V → List ℕ) (sent : Result V CallFault) (v : V) (before after : Option (List ℕ))
     (old : Client) (first : List ℕ) (turns : ℕ) (event : Event) (read out : List ℕ) (left : Option (List ℕ)) (new : Client)
     → sent ≡ Ok v → first ≡ items v → Appends before after out → Converses old first turns (Ok event) read out left new
     → IfOk sent (λ v. (said : List ℕ) × Appends before after (items v ++ said))
-said_behind items sent v before after old first turns event read out left new is same went (inl h) = absurd h
-said_behind {V = V} items sent v before after old first turns event read out left new is same went (inr h) =
+said_after items sent v before after old first turns event read out left new is same went (inl h) = absurd h
+said_after {V = V} items sent v before after old first turns event read out left new is same went (inr h) =
     let P : Result V CallFault → Type 0 = λ r. IfOk r (λ v. (said : List ℕ) × Appends before after (items v ++ said)) in
     subst P (sym is) (h.0, subst (λ (x : List ℕ). Appends before after (x ++ h.0)) same (subst (Appends before after) h.1 went))

@@ -2,9 +2,9 @@
 use Rattle.std.specs.Prelude.{ℕ, List, ◌++◌, Option}
 use Rattle.std.specs.Io.KnownBytes.{Appends}
 use Rattle.frame_codec.specs.declared.frame.Frame.{Frame}
-use Rattle.frame_codec.specs.Frames.{spelling}
+use Rattle.frame_codec.specs.Frames.{encoding}
 
--- what was written begins with one frame, and has another behind what the client said in between
+-- what was written begins with one frame, and has another after what the client said in between
 abbrev pub Sends : Option (List ℕ) → Option (List ℕ) → Frame → Frame → Type 0
 Sends old new first second =
-    (between : List ℕ) × (behind : List ℕ) × Appends old new (spelling first ++ (between ++ (spelling second ++ behind)))
+    (between : List ℕ) × (beyond : List ℕ) × Appends old new (encoding first ++ (between ++ (encoding second ++ beyond)))

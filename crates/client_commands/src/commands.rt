@@ -10,7 +10,7 @@ ghost use Rattle.frame_codec.specs.declared.frame.Frame.TheVariants as frame;
 ghost use Rattle.client_commands.specs.Done.{EndedWith, Asked, IsSaid, IsTrueOf};
 ghost use Rattle.client_commands.specs.Sent.{Sends};
 
-use crate::connection::event_of;
+use crate::connection::exchange;
 use client_core::{ClientCore, Event, Scheme};
 use command_words::Failure;
 use frame_codec::Bytes;
@@ -37,7 +37,7 @@ pub struct Retrieved {
 
 /// Retrieves record `index` privately: hello as a reader, sync, ask. One number of the client is spent with a
 /// record, and one at most with a failure, whatever the server says. With a record, what was sent begins with a
-/// reader's hello, and has the ask for the scheme's hint behind it.
+/// reader's hello, and has the ask for the scheme's hint after it.
 ///
 /// # Errors
 ///
@@ -52,18 +52,24 @@ pub fn get<K: Kernel, R: Read, W: Write>(
     scheme: Scheme,
     index: u32,
 ) -> Result<Retrieved, Failure>
-    ensures sends { OnOk result ((version : ℕ) × Sends (W.contents writer.old) (W.contents writer.new) (frame.Hello client_profile (replicate 32 0)) (frame.HintAsk (scheme_byte scheme) version 0)) }
-    ensures record { IfOk result (λ r. (r.index ≡ index) × Asked index (event.Retrieved r.index r.version r.bytes) client.new) }
+    ensures sends { OnOk result ((version : ℕ) ×
+        Sends (W.contents writer.old) (W.contents writer.new)
+        (frame.Hello client_profile (replicate 32 0))
+        (frame.HintAsk (scheme_byte scheme) version 0)) }
+    ensures record { IfOk result (λ r. (r.index ≡ index) ×
+        Asked index (event.Retrieved r.index r.version r.bytes) client.new) }
     ensures spends { IfOk result (λ _. client.new.state.number ≡ client.old.state.number + 1) }
     ensures said { IfErr result (λ failure. IsTrueOf failure client.new) }
-    ensures spends_no_more { IfErr result (λ _. (client.new.state.number ≡ client.old.state.number) ⊎ (client.new.state.number ≡ client.old.state.number + 1)) }
+    ensures spends_no_more { IfErr result
+        (λ _. (client.new.state.number ≡ client.old.state.number) ⊎
+        (client.new.state.number ≡ client.old.state.number + 1)) }
 {
     let sent = client.hello(READER);
-    event_of(alloc, client, sent, reader, writer)?;
+    exchange(alloc, client, sent, reader, writer)?;
     let sent = client.sync(scheme);
-    event_of(alloc, client, sent, reader, writer)?;
+    exchange(alloc, client, sent, reader, writer)?;
     let sent = client.ask(index);
-    match event_of(alloc, client, sent, reader, writer)? {
+    match exchange(alloc, client, sent, reader, writer)? {
         Event::Retrieved {
             index,
             version,
@@ -79,7 +85,7 @@ pub fn get<K: Kernel, R: Read, W: Write>(
 
 /// Gives the server these bytes for record `index` of the next version: the publisher's hello, edit. Answers
 /// the current version, and spends no number. Then what was sent begins with the hello with this key, and has the
-/// edit behind it.
+/// edit after it.
 ///
 /// # Errors
 ///
@@ -94,20 +100,22 @@ pub fn put<K: Kernel, R: Read, W: Write>(
     bytes: &[u8],
 ) -> Result<u64, Failure>
     requires { length bytes.now ≤ 65535 }
-    ensures sends { OnOk result (Sends (W.contents writer.old) (W.contents writer.new) (frame.Hello client_profile key) (frame.Edit index bytes.now)) }
-    ensures version { IfOk result (λ version. EndedWith (Call.Edit index bytes.now) (Done version) client.new) }
+    ensures sends { OnOk result (Sends (W.contents writer.old) (W.contents writer.new)
+        (frame.Hello client_profile key) (frame.Edit index bytes.now)) }
+    ensures version { IfOk result (λ version. EndedWith (Call.Edit index bytes.now)
+        (Done version) client.new) }
     ensures said { IfErr result (λ failure. IsTrueOf failure client.new) }
     ensures number { client.new.state.number ≡ client.old.state.number }
 {
     let sent = client.hello(key);
-    event_of(alloc, client, sent, reader, writer)?;
+    exchange(alloc, client, sent, reader, writer)?;
     let sent = client.edit(index, bytes);
-    let event = event_of(alloc, client, sent, reader, writer)?;
+    let event = exchange(alloc, client, sent, reader, writer)?;
     done_version(&event)
 }
 
 /// Makes the edits the next version: the publisher's hello, publish. Answers the new version,
-/// and spends no number. Then what was sent begins with the hello with this key, and has the publication behind it.
+/// and spends no number. Then what was sent begins with the hello with this key, and has the publication after it.
 ///
 /// # Errors
 ///
@@ -119,15 +127,16 @@ pub fn publish<K: Kernel, R: Read, W: Write>(
     writer: &mut W,
     key: [u8; 32],
 ) -> Result<u64, Failure>
-    ensures sends { OnOk result (Sends (W.contents writer.old) (W.contents writer.new) (frame.Hello client_profile key) frame.Publish) }
+    ensures sends { OnOk result (Sends (W.contents writer.old) (W.contents writer.new)
+        (frame.Hello client_profile key) frame.Publish) }
     ensures version { IfOk result (λ version. EndedWith Call.Publish (Done version) client.new) }
     ensures said { IfErr result (λ failure. IsTrueOf failure client.new) }
     ensures number { client.new.state.number ≡ client.old.state.number }
 {
     let sent = client.hello(key);
-    event_of(alloc, client, sent, reader, writer)?;
+    exchange(alloc, client, sent, reader, writer)?;
     let sent = client.publish();
-    let event = event_of(alloc, client, sent, reader, writer)?;
+    let event = exchange(alloc, client, sent, reader, writer)?;
     done_version(&event)
 }
 

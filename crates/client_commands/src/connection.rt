@@ -17,7 +17,7 @@ const TURNS: u64 = 1_000_000;
 
 /// Sends what a call gave, and answers the event that it brought. What the server said against it is a
 /// failure.
-pub(crate) fn event_of<K: Kernel, R: Read, W: Write>(
+pub(crate) fn exchange<K: Kernel, R: Read, W: Write>(
     alloc: Global,
     client: &mut ClientCore<K>,
     sent: Result<Vec<u8>, CallFault>,
@@ -29,7 +29,8 @@ pub(crate) fn event_of<K: Kernel, R: Read, W: Write>(
     ensures came { IfOk result (λ event. EndedWith client.old.state.call event client.new) }
     ensures number { client.new.state.number ≡ client.old.state.number }
     ensures said { IfErr result (λ failure. IsTrueOf failure client.new) }
-    ensures sends { OnOk result (IfOk sent (λ first. (said : List ℕ) × Appends (W.contents writer.old) (W.contents writer.new) (first.items ++ said))) }
+    ensures sends { OnOk result (IfOk sent (λ first. (said : List ℕ) ×
+        Appends (W.contents writer.old) (W.contents writer.new) (first.items ++ said))) }
 {
     let first = match sent {
         Ok(first) => first,

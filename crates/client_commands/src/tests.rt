@@ -57,7 +57,7 @@ impl Read for Replies {
     }
 }
 
-// How long the frame at the front is, by the low bytes of its length.
+// How long the frame at the beginning is, by the low bytes of its length.
 fn frame_len(rest: &[u8]) -> usize {
     match rest {
         [low, high, ..] => 5 + usize::from(*low) + 256 * usize::from(*high),
@@ -89,7 +89,7 @@ fn got(
 }
 
 // What a get came to, as a line.
-fn told(alloc: Global, outcome: &Result<Retrieved, Failure>) -> Result<String, Fail> {
+fn reported(alloc: Global, outcome: &Result<Retrieved, Failure>) -> Result<String, Fail> {
     match outcome {
         Ok(record) => {
             let bytes = hex_of(alloc, record.bytes.as_slice())?;
@@ -122,7 +122,7 @@ fn gets(
     let mut writer = Vec::new(rt.alloc());
     let mut client = client(rt.alloc());
     let outcome = got(rt.alloc(), &mut client, &mut reader, &mut writer, index);
-    assert_eq!(rt; told(rt.alloc(), &outcome)?.as_str(), wanted);
+    assert_eq!(rt; reported(rt.alloc(), &outcome)?.as_str(), wanted);
     assert_eq!(rt; writer.len(), written);
     Ok(())
 }

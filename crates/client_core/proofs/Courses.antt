@@ -4,19 +4,19 @@ use Rattle.std.specs.List.{flat_map, AllByRecursion}
 use Rattle.std.proofs.lemmas.List.{take_more, take-append-drop}
 use Rattle.std.proofs.lemmas.List.Concat.{flat_map-append}
 use Rattle.frame_codec.specs.declared.frame.Frame.{Frame}
-use Rattle.frame_codec.specs.Frames.{IsFrame, spelling}
+use Rattle.frame_codec.specs.Frames.{IsFrame, encoding}
 use Rattle.client_core.specs.declared.state.ClientState.{ClientState}
 use Rattle.client_core.specs.declared.state.ClientFault.{ClientFault}
 use Rattle.client_core.specs.declared.state.Event.{Event}
 use Rattle.client_core.specs.States.{IsState, Keeps}
-use Rattle.client_core.specs.Replies.{takes}
+use Rattle.client_core.specs.Replies.{reaction_to_reply}
 use Rattle.client_core.specs.Feeding.{Course, start, goes_on, course_more, runs, takes_all, sends_of, events_of, fault_of, Gives, Follows}
 
 pub runs_append : (k : Course) (fs gs : List Frame) → runs k (fs ++ gs) ≡ runs (runs k fs) gs
 runs_append k [] gs = refl
 runs_append k (f ∷ fs) gs = runs_append (course_more k f) fs gs
 
--- behind a fault nothing is taken
+-- after a fault nothing is taken
 pub fault_stays : (k : Course) (gs : List Frame) (x : ClientFault) → k.fault ≡ Some x → runs k gs ≡ k
 fault_stays k [] x e = refl
 fault_stays k (g ∷ gs) x e =
@@ -32,12 +32,12 @@ each_both (f ∷ fs) gs all more = (all.0, each_both fs gs all.1 more)
 
 -- the course one frame further
 course_next : (c : ClientState) (fs : List Frame) (i : ℕ) (f : Frame) → i < length fs → f ≡ get_or fs i f → (takes_all c (take i fs)).fault ≡ None
-    → takes_all c (take (i + 1) fs) ≡ goes_on (takes_all c (take i fs)) (takes (takes_all c (take i fs)).state f)
+    → takes_all c (take (i + 1) fs) ≡ goes_on (takes_all c (take i fs)) (reaction_to_reply (takes_all c (take i fs)).state f)
 course_next c fs i f lt e none =
     let t : take (i + 1) fs ≡ take i fs ++ f ∷ [] = take_more fs i f lt ∙ ap (λ (x : Frame). take i fs ++ x ∷ []) (sym e) in
     ap (λ (x : List Frame). runs (start c) x) t ∙ runs_append (start c) (take i fs) (f ∷ []) ∙ go (takes_all c (take i fs)) none
   where
-    go : (k : Course) → k.fault ≡ None → course_more k f ≡ goes_on k (takes k.state f)
+    go : (k : Course) → k.fault ≡ None → course_more k f ≡ goes_on k (reaction_to_reply k.state f)
     go k none = rw none refl
 
 -- the first i frames were taken, and all is well
@@ -50,18 +50,18 @@ pub record SoFar (c : ClientState) (k : Course) (state : ClientState) (out : Lis
 
 -- what one more reply added
 pub record Adds (state : ClientState) (f : Frame) (state2 : ClientState) (out out2 : List ℕ) (events events2 : List Event) (fault : Option ClientFault) : Type 0 where
-  pub fault_is : fault ≡ fault_of (takes state f).reaction
-  pub state_is : state2 ≡ (takes state f).state
-  pub written : out2 ≡ out ++ flat_map spelling (sends_of (takes state f).reaction)
-  pub each : AllByRecursion IsFrame (sends_of (takes state f).reaction)
-  pub told : events2 ≡ events ++ events_of (takes state f).reaction
+  pub fault_is : fault ≡ fault_of (reaction_to_reply state f).reaction
+  pub state_is : state2 ≡ (reaction_to_reply state f).state
+  pub written : out2 ≡ out ++ flat_map encoding (sends_of (reaction_to_reply state f).reaction)
+  pub each : AllByRecursion IsFrame (sends_of (reaction_to_reply state f).reaction)
+  pub reported : events2 ≡ events ++ events_of (reaction_to_reply state f).reaction
 
 gives_more : (k : Course) (f : Frame) (state2 : ClientState) (out out2 : List ℕ) (events events2 : List Event) (fault : Option ClientFault) → Gives k out events → Adds k.state f state2 out out2 events events2 fault
-    → Gives (goes_on k (takes k.state f)) out2 events2
+    → Gives (goes_on k (reaction_to_reply k.state f)) out2 events2
 gives_more k f state2 out out2 events events2 fault g a = record {
-  written = a.written ∙ ap (λ (x : List ℕ). x ++ flat_map spelling (sends_of (takes k.state f).reaction)) g.written ∙ sym (flat_map-append spelling k.sends (sends_of (takes k.state f).reaction));
-  each = each_both k.sends (sends_of (takes k.state f).reaction) g.each a.each;
-  told = a.told ∙ ap (λ (x : List Event). x ++ events_of (takes k.state f).reaction) g.told;
+  written = a.written ∙ ap (λ (x : List ℕ). x ++ flat_map encoding (sends_of (reaction_to_reply k.state f).reaction)) g.written ∙ sym (flat_map-append encoding k.sends (sends_of (reaction_to_reply k.state f).reaction));
+  each = each_both k.sends (sends_of (reaction_to_reply k.state f).reaction) g.each a.each;
+  reported = a.reported ∙ ap (λ (x : List Event). x ++ events_of (reaction_to_reply k.state f).reaction) g.reported;
 }
 
 adds_at : (state k_state : ClientState) (f : Frame) (state2 : ClientState) (out out2 : List ℕ) (events events2 : List Event) (fault : Option ClientFault) → state ≡ k_state
@@ -90,5 +90,5 @@ bad c fs i f state state2 out out2 events events2 x lt e s a =
     let b = adds_at state k.state f state2 out out2 events events2 (Some x) s.state_is a in
     let here : (takes_all c (take (i + 1) fs)).fault ≡ Some x = ap (λ (y : Course). y.fault) n ∙ sym b.fault_is in
     let all : takes_all c fs ≡ runs (takes_all c (take (i + 1) fs)) (drop (i + 1) fs) = ap (λ (y : List Frame). takes_all c y) (sym (take-append-drop (i + 1) fs)) ∙ runs_append (start c) (take (i + 1) fs) (drop (i + 1) fs) in
-    let whole : takes_all c fs ≡ goes_on k (takes k.state f) = all ∙ fault_stays (takes_all c (take (i + 1) fs)) (drop (i + 1) fs) x here ∙ n in
+    let whole : takes_all c fs ≡ goes_on k (reaction_to_reply k.state f) = all ∙ fault_stays (takes_all c (take (i + 1) fs)) (drop (i + 1) fs) x here ∙ n in
     rw whole (record { gives = gives_more k f state2 out out2 events events2 (Some x) s.gives b; fault_is = b.fault_is; state = b.state_is })

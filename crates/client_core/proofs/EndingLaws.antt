@@ -11,7 +11,7 @@ use Rattle.pir_schemes.specs.Schemes.{scheme_byte}
 use Rattle.pir_schemes.specs.Plans.{record_of}
 use Rattle.pir_schemes.specs.Retrievals.{hint_len, answer_count, reading}
 use Rattle.client_core.specs.declared.state.ClientState.{ClientState}
-use Rattle.client_core.specs.declared.state.Known.{Known}
+use Rattle.client_core.specs.declared.state.ServerInfo.{ServerInfo}
 use Rattle.client_core.specs.declared.state.Hint.{Hint}
 use Rattle.client_core.specs.declared.state.Call.{Call}
 use Rattle.client_core.specs.declared.state.Call.TheVariants.{Idle, Hello, Sync, Ask, Edit, Publish}
@@ -19,9 +19,9 @@ use Rattle.client_core.specs.declared.state.Event.{Event}
 use Rattle.client_core.specs.declared.state.Event.TheVariants.{Welcomed, Synced, Retrieved, Unreadable, Stale, Done, Refused}
 use Rattle.client_core.specs.declared.state.ClientFault.{ClientFault}
 use Rattle.client_core.specs.declared.state.Reaction.{Reaction}
-use Rattle.client_core.specs.declared.state.Reaction.TheVariants.{Asks, Tells, Fails}
+use Rattle.client_core.specs.declared.state.Reaction.TheVariants.{Asks, Reports, Fails}
 use Rattle.client_core.specs.States.{is_layout}
-use Rattle.client_core.specs.Replies.{Taken, takes, is_welcome, takes_welcome, is_part, more_parts, takes_asked_part, takes_part, event_of, is_answer, answered, takes_answer, with_count, staled, takes_stale, takes_done, takes_refused}
+use Rattle.client_core.specs.Replies.{Taken, reaction_to_reply, is_welcome, takes_welcome, is_part, more_parts, takes_asked_part, takes_part, event_of, is_answer, answered, takes_answer, with_count, staled, takes_stale, takes_done, takes_refused}
 use Rattle.client_core.specs.Feeding.{Client, Course, start, goes_on, course_more, runs, takes_all, sends_of, events_of, fault_of, failing, ends_with, codec_fault, Follows, BreaksOff, FeedsOpen, FeedsFailed}
 use Rattle.client_core.specs.Endings.{Ends, FirstEventEndsTheCall, FeedingSpendsNoNumber}
 use Rattle.client_core.proofs.NumberLaws.{takes_number}
@@ -29,7 +29,7 @@ use Rattle.client_core.proofs.NumberLaws.{takes_number}
 -- ---- what a reply leads to, by the call: its end, a failure, or a call that ends with the same events
 
 abbrev by_reaction : Call → Call → Reaction → Type 0
-by_reaction call next (Tells e) = Ends call e
+by_reaction call next (Reports e) = Ends call e
 by_reaction call next (Asks s v p) = (e : Event) → Ends next e → Ends call e
 by_reaction call next (Fails f) = Unit {0}
 
@@ -58,7 +58,7 @@ next_part s v p q (Stale version) h = h
 next_part s v p q (Done version) h = h
 next_part s v p q (Refused code) h = h
 
-asked_part_reacts : (known : Option Known) (s : Scheme) (c : ClientState) (v p scheme version part : ℕ) (words : List ℕ) → ReactsTo (Sync s v p) (takes_asked_part known s c v p scheme version part words)
+asked_part_reacts : (known : Option ServerInfo) (s : Scheme) (c : ClientState) (v p scheme version part : ℕ) (words : List ℕ) → ReactsTo (Sync s v p) (takes_asked_part known s c v p scheme version part words)
 asked_part_reacts None s c v p scheme version part words = tt
 asked_part_reacts (Some k) s c v p scheme version part words =
     if_reacts (Sync s v p) (is_part s (hint_len s k.layout k.dimension) v p scheme version part words) (more_parts s k c v p (c.parts ++ words)) _
@@ -84,7 +84,7 @@ asked_version s scheme version v b h =
     let y = and_parts (version == v) b x.1 in
     eqb-true version v y.0
 
-answered_reacts : (x : Scheme) (known : Option Known) (hint : Option Hint) (c : ClientState) (i v m scheme version : ℕ) (words : List ℕ) → ReactsTo (Ask i x v m) (answered known hint c i v m scheme version words)
+answered_reacts : (x : Scheme) (known : Option ServerInfo) (hint : Option Hint) (c : ClientState) (i v m scheme version : ℕ) (words : List ℕ) → ReactsTo (Ask i x v m) (answered known hint c i v m scheme version words)
 answered_reacts x None hint c i v m scheme version words = tt
 answered_reacts x (Some k) None c i v m scheme version words = tt
 answered_reacts x (Some k) (Some h) c i v m scheme version words =
@@ -108,13 +108,13 @@ another_version version v b h = let x = and_parts (not (version == v)) b h in eq
     denied true h = absurd cc
     denied false h = refl
 
-stale_sync_reacts : (known : Option Known) (after c : ClientState) (s : Scheme) (v p version count : ℕ) → ReactsTo (Sync s v p) (staled known after c v version count)
+stale_sync_reacts : (known : Option ServerInfo) (after c : ClientState) (s : Scheme) (v p version count : ℕ) → ReactsTo (Sync s v p) (staled known after c v version count)
 stale_sync_reacts None after c s v p version count = tt
 stale_sync_reacts (Some k) after c s v p version count =
     let b = nat_lt 0 version && is_layout (with_count k.layout count) in
     if_reacts (Sync s v p) (not (version == v) && b) _ _ (another_version version v b) tt
 
-stale_ask_reacts : (x : Scheme) (known : Option Known) (after c : ClientState) (i v m version count : ℕ) → ReactsTo (Ask i x v m) (staled known after c v version count)
+stale_ask_reacts : (x : Scheme) (known : Option ServerInfo) (after c : ClientState) (i v m version count : ℕ) → ReactsTo (Ask i x v m) (staled known after c v version count)
 stale_ask_reacts x None after c i v m version count = tt
 stale_ask_reacts x (Some k) after c i v m version count =
     let b = nat_lt 0 version && is_layout (with_count k.layout count) in
@@ -144,7 +144,7 @@ refused_reacts (Ask i x v m) c code = tt
 refused_reacts (Edit i b) c code = tt
 refused_reacts Publish c code = tt
 
-reacts : (c : ClientState) (f : Frame) → ReactsTo c.call (takes c f)
+reacts : (c : ClientState) (f : Frame) → ReactsTo c.call (reaction_to_reply c f)
 reacts c (frame.Welcome profile width record_len groups count version dimension seed) = welcome_reacts c.call c profile (shape width record_len groups count) dimension version seed
 reacts c (frame.HintPart scheme version part words) = part_reacts c.call c scheme version part words
 reacts c (frame.Answer scheme version words) = answer_reacts c.call c scheme version words
@@ -155,7 +155,7 @@ reacts c _ = tt
 
 -- ---- replies one after another
 
--- a course's events stand at the front of those behind more frames
+-- a course's events stand at the beginning of those after more frames
 events_begin : (k : Course) (fs : List Frame) → (rest : List Event) × ((runs k fs).events ≡ k.events ++ rest)
 events_begin k [] = ([], sym (append-nil k.events))
 events_begin k (f ∷ fs) =
@@ -166,9 +166,9 @@ events_begin k (f ∷ fs) =
     more : (k : Course) (f : Frame) → (rest : List Event) × ((course_more k f).events ≡ k.events ++ rest)
     more k f = by (is_some k.fault)
       where
-        by : (b : Bool) → (rest : List Event) × ((cond b k (goes_on k (takes k.state f))).events ≡ k.events ++ rest)
+        by : (b : Bool) → (rest : List Event) × ((cond b k (goes_on k (reaction_to_reply k.state f))).events ≡ k.events ++ rest)
         by true = ([], sym (append-nil k.events))
-        by false = (events_of (takes k.state f).reaction, refl)
+        by false = (events_of (reaction_to_reply k.state f).reaction, refl)
 
 abbrev course : ClientState → List Frame → List Event → Option ClientFault → Course
 course c sends events fault = record { state = c; sends = sends; events = events; fault = fault }
@@ -182,7 +182,7 @@ on_reaction : (call : Call) (here : Call) (c : ClientState) (sends : List Frame)
     → by_reaction here c.call r → ((e : Event) → Ends here e → Ends call e)
     → (runs (course c (sends ++ sends_of r) ([] ++ events_of r) (fault_of r)) fs).events ≡ event ∷ later → Ends call event
 on_reaction call here c sends (Asks s v p) fs event later again by leads h = again c (sends ++ sends_of (Asks s v p)) None (λ _ e x. leads e (by e x)) h
-on_reaction call here c sends (Tells e) fs event later again by leads h =
+on_reaction call here c sends (Reports e) fs event later again by leads h =
     let b = events_begin (course c (sends ++ []) (e ∷ []) None) fs in
     let same : e ∷ b.0 ≡ event ∷ later = sym b.1 ∙ h in
     let head : e ≡ event = ap (λ (x : List Event). first x e) same in
@@ -198,7 +198,7 @@ first_of : (call : Call) (fs : List Frame) (event : Event) (later : List Event) 
 first_of call [] event later c sends o leads h = absurd (let bad : ◌≡◌ {A = List Event} [] (event ∷ later) = h in cc)
 first_of call (f ∷ fs) event later c sends (Some x) leads h = first_of call fs event later c sends (Some x) leads h
 first_of call (f ∷ fs) event later c sends None leads h =
-    on_reaction call c.call (takes c f).state sends (takes c f).reaction fs event later (first_of call fs event later) (reacts c f) (leads refl) h
+    on_reaction call c.call (reaction_to_reply c f).state sends (reaction_to_reply c f).reaction fs event later (first_of call fs event later) (reacts c f) (leads refl) h
 
 first_ends : (c : ClientState) (frames : List Frame) (event : Event) (later : List Event) → (takes_all c frames).events ≡ event ∷ later → Ends c.call event
 first_ends c frames event later h = first_of c.call frames event later c [] None (λ _ e x. x) h
@@ -217,7 +217,7 @@ runs_number : (k : Course) (fs : List Frame) → (runs k fs).state.number ≡ k.
 runs_number k [] = refl
 runs_number k (f ∷ fs) = runs_number (course_more k f) fs ∙ more (is_some k.fault)
   where
-    more : (b : Bool) → (cond b k (goes_on k (takes k.state f))).state.number ≡ k.state.number
+    more : (b : Bool) → (cond b k (goes_on k (reaction_to_reply k.state f))).state.number ≡ k.state.number
     more true = refl
     more false = takes_number k.state f
 
@@ -227,8 +227,8 @@ open_ends : (old new : Client) (piece out : List ℕ) (event : Event) (later : L
 open_ends old new piece out event later fault f = by f.takes
   where
     by : (Follows (ends_with (takes_all old.state f.frames) f.answer) out (event ∷ later) fault new.state ⊎ BreaksOff old.state f.frames out (event ∷ later) fault new.state) → Ends old.state.call event
-    by (inl w) = first_ends old.state f.frames event later (sym (failing_same (takes_all old.state f.frames) (codec_fault f.answer)).0 ∙ sym w.gives.told)
-    by (inr b) = first_ends old.state (take b.n f.frames) event later (sym b.gives.told)
+    by (inl w) = first_ends old.state f.frames event later (sym (failing_same (takes_all old.state f.frames) (codec_fault f.answer)).0 ∙ sym w.gives.reported)
+    by (inr b) = first_ends old.state (take b.n f.frames) event later (sym b.gives.reported)
 
 open_number : (old new : Client) (piece out : List ℕ) (events : List Event) (fault : Option ClientFault) → FeedsOpen old piece out events fault new → new.state.number ≡ old.state.number
 open_number old new piece out events fault f = by f.takes

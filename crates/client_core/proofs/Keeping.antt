@@ -13,14 +13,14 @@ use Rattle.pir_schemes.specs.Parts.{part_len}
 use Rattle.pir_schemes.specs.Plans.{plan_of, profile_of}
 use Rattle.pir_schemes.specs.Retrievals.{hint_rows, hint_len}
 use Rattle.client_core.specs.declared.state.ClientState.{ClientState}
-use Rattle.client_core.specs.declared.state.Known.{Known}
+use Rattle.client_core.specs.declared.state.ServerInfo.{ServerInfo}
 use Rattle.client_core.specs.declared.state.Hint.{Hint}
 use Rattle.client_core.specs.declared.state.Call.{Call}
 use Rattle.client_core.specs.declared.state.Call.TheVariants.{Idle, Hello, Sync, Ask, Edit, Publish}
 use Rattle.client_core.specs.declared.state.Event.TheVariants.{Welcomed}
 use Rattle.client_core.specs.declared.state.ClientFault.TheVariants.{BadWelcome, BadReply}
 use Rattle.client_core.specs.States.{IsState, IsKnown, Keeps, KnownFits, HintFits, CallFits, is_layout}
-use Rattle.client_core.specs.Replies.{Taken, takes, faulty, ended, is_welcome, takes_welcome, is_part, more_parts, takes_asked_part, takes_part, is_answer, answered, takes_answer, with_count, staled, takes_stale, takes_done, takes_refused}
+use Rattle.client_core.specs.Replies.{Taken, reaction_to_reply, faulty, ended, is_welcome, takes_welcome, is_part, more_parts, takes_asked_part, takes_part, is_answer, answered, takes_answer, with_count, staled, takes_stale, takes_done, takes_refused}
 use Rattle.client_core.proofs.Layouts.{layout_means}
 
 pub faulty_keeps : (c : ClientState) → IsState c → Keeps c (record c { failed = true })
@@ -38,16 +38,16 @@ if_keeps c false x y p q = q refl
 
 -- ---- Welcome
 
-no_hint : (known : Option Known) (hint : Option Hint) (key parts : List ℕ) (k : Known) → CallFits (Hello key) known parts → HintFits known hint → HintFits (Some k) hint
+no_hint : (known : Option ServerInfo) (hint : Option Hint) (key parts : List ℕ) (k : ServerInfo) → CallFits (Hello key) known parts → HintFits known hint → HintFits (Some k) hint
 no_hint None None key parts k a b = tt
 no_hint None (Some h) key parts k a b = absurd b
 no_hint (Some j) hint key parts k a b = absurd a
 
-told : ℕ → Shape → ℕ → List ℕ → Known
-told version l n seed = record { version = version; layout = l; dimension = n; seed = seed }
+reported : ℕ → Shape → ℕ → List ℕ → ServerInfo
+reported version l n seed = record { version = version; layout = l; dimension = n; seed = seed }
 
-welcome_known : (profile : ℕ) (l : Shape) (n version : ℕ) (seed : List ℕ) → is_welcome profile l n version ≡ true → IsKnown (told version l n seed)
-unfolding told
+welcome_known : (profile : ℕ) (l : Shape) (n version : ℕ) (seed : List ℕ) → is_welcome profile l n version ≡ true → IsKnown (reported version l n seed)
+unfolding reported
 welcome_known profile l n version seed h =
     let a = and_parts (profile == profile_of (plan_of l n [])) (is_layout l && ((nat_le 1 n && nat_le n 1024) && nat_lt 0 version)) h in
     let b = and_parts (is_layout l) ((nat_le 1 n && nat_le n 1024) && nat_lt 0 version) a.1 in
@@ -56,23 +56,23 @@ welcome_known profile l n version seed h =
     record { layout = layout_means l b.0; low = leb-true 1 n e.0; high = leb-true n 1024 e.1 }
 
 welcomed_keeps : (c : ClientState) (key : List ℕ) (profile : ℕ) (l : Shape) (n version : ℕ) (seed : List ℕ) → IsState c → CallFits (Hello key) c.known c.parts
-    → is_welcome profile l n version ≡ true → Keeps c (record c { known = Some (told version l n seed); call = Idle })
+    → is_welcome profile l n version ≡ true → Keeps c (record c { known = Some (reported version l n seed); call = Idle })
 welcomed_keeps c key profile l n version seed s fits is = record {
   good = record {
     number = s.number;
     known = welcome_known profile l n version seed is;
-    hint = no_hint c.known c.hint key c.parts (told version l n seed) fits s.hint;
+    hint = no_hint c.known c.hint key c.parts (reported version l n seed) fits s.hint;
     call = tt;
   };
   number = refl;
 }
 
 welcome_keeps : (call : Call) (c : ClientState) (profile : ℕ) (l : Shape) (n version : ℕ) (seed : List ℕ) → IsState c → CallFits call c.known c.parts → Keeps c (takes_welcome call c profile l n version seed).state
-unfolding told
+unfolding reported
 welcome_keeps Idle c profile l n version seed s fits = faulty_keeps c s
 welcome_keeps (Hello key) c profile l n version seed s fits =
     if_keeps c (is_welcome profile l n version)
-    (ended (record c { known = Some (told version l n seed) }) (Welcomed version))
+    (ended (record c { known = Some (reported version l n seed) }) (Welcomed version))
     (faulty c BadWelcome)
     (welcomed_keeps c key profile l n version seed s fits)
     (λ _. faulty_keeps c s)
@@ -98,7 +98,7 @@ part_fits total p parts words e le len ne =
     let other : length (parts ++ words) ≢ total = eqb-false (length (parts ++ words)) total ne in
     (omega arith, omega arith)
 
-more_keeps : (x : Scheme) (k : Known) (c : ClientState) (v p : ℕ) (words : List ℕ) → c.known ≡ Some k → IsState c → length c.parts ≡ 65536 * p
+more_keeps : (x : Scheme) (k : ServerInfo) (c : ClientState) (v p : ℕ) (words : List ℕ) → c.known ≡ Some k → IsState c → length c.parts ≡ 65536 * p
     → length c.parts ≤ hint_len x k.layout k.dimension → length words ≡ part_len (hint_len x k.layout k.dimension) p
     → Keeps c (more_parts x k c v p (c.parts ++ words)).state
 more_keeps x k c v p words e s len le is =
@@ -106,7 +106,7 @@ more_keeps x k c v p words e s len le is =
     (λ whole. record { good = record { number = s.number; known = s.known; hint = rw e (refl, refl); call = tt }; number = refl })
     (λ other. record { good = record { number = s.number; known = s.known; hint = s.hint; call = rw e (part_fits (hint_len x k.layout k.dimension) p c.parts words len le is other) }; number = refl })
 
-asked_part_keeps : (known : Option Known) (x : Scheme) (c : ClientState) (v p scheme version part : ℕ) (words : List ℕ) → c.known ≡ known → IsState c → CallFits (Sync x v p) known c.parts
+asked_part_keeps : (known : Option ServerInfo) (x : Scheme) (c : ClientState) (v p scheme version part : ℕ) (words : List ℕ) → c.known ≡ known → IsState c → CallFits (Sync x v p) known c.parts
     → Keeps c (takes_asked_part known x c v p scheme version part words).state
 asked_part_keeps None x c v p scheme version part words e s fits = faulty_keeps c s
 asked_part_keeps (Some k) x c v p scheme version part words e s fits =
@@ -124,7 +124,7 @@ part_keeps Publish c scheme version part words s fits = faulty_keeps c s
 
 -- ---- Answer
 
-answered_keeps : (known : Option Known) (hint : Option Hint) (c : ClientState) (i v m scheme version : ℕ) (words : List ℕ) → IsState c → Keeps c (answered known hint c i v m scheme version words).state
+answered_keeps : (known : Option ServerInfo) (hint : Option Hint) (c : ClientState) (i v m scheme version : ℕ) (words : List ℕ) → IsState c → Keeps c (answered known hint c i v m scheme version words).state
 answered_keeps None hint c i v m scheme version words s = faulty_keeps c s
 answered_keeps (Some k) None c i v m scheme version words s = faulty_keeps c s
 answered_keeps (Some k) (Some h) c i v m scheme version words s =
@@ -140,26 +140,26 @@ answer_keeps Publish c scheme version words s = faulty_keeps c s
 
 -- ---- Stale
 
-same_rows : (k : Known) (version count : ℕ) (hint : Option Hint) → HintFits (Some k) hint → HintFits (Some (record k { version = version; layout = with_count k.layout count })) hint
+same_rows : (k : ServerInfo) (version count : ℕ) (hint : Option Hint) → HintFits (Some k) hint → HintFits (Some (record k { version = version; layout = with_count k.layout count })) hint
 same_rows k version count None fits = tt
 same_rows k version count (Some h) fits = (fits.0 ∙ rows_stay h.scheme k count, fits.1)
   where
-    rows_stay : (s : Scheme) (k : Known) (count : ℕ) → hint_rows s k.layout k.dimension ≡ hint_rows s (with_count k.layout count) k.dimension
+    rows_stay : (s : Scheme) (k : ServerInfo) (count : ℕ) → hint_rows s k.layout k.dimension ≡ hint_rows s (with_count k.layout count) k.dimension
     rows_stay Simple k count = refl
     rows_stay Double k count = refl
 
-stale_known : (k : Known) (asked version count : ℕ) → IsKnown k → (not (version == asked) && (nat_lt 0 version && is_layout (with_count k.layout count))) ≡ true
+stale_known : (k : ServerInfo) (asked version count : ℕ) → IsKnown k → (not (version == asked) && (nat_lt 0 version && is_layout (with_count k.layout count))) ≡ true
     → IsKnown (record k { version = version; layout = with_count k.layout count })
 stale_known k asked version count old h =
     let a = and_parts (not (version == asked)) (nat_lt 0 version && is_layout (with_count k.layout count)) h in
     let b = and_parts (nat_lt 0 version) (is_layout (with_count k.layout count)) a.1 in
     record { layout = layout_means (with_count k.layout count) b.1; low = old.low; high = old.high }
 
-staled_keeps : (known : Option Known) (c after : ClientState) (asked version count : ℕ) → c.known ≡ known → IsState c → after.number ≡ c.number → after.hint ≡ c.hint → Keeps c (staled known after c asked version count).state
+staled_keeps : (known : Option ServerInfo) (c after : ClientState) (asked version count : ℕ) → c.known ≡ known → IsState c → after.number ≡ c.number → after.hint ≡ c.hint → Keeps c (staled known after c asked version count).state
 staled_keeps None c after asked version count e s en eh = faulty_keeps c s
 staled_keeps (Some k) c after asked version count e s en eh =
-    let known : IsKnown k = let P : Option Known → Type 0 = KnownFits in subst P e s.known in
-    let hint : HintFits (Some k) c.hint = let P : Option Known → Type 0 = λ o. HintFits o c.hint in subst P e s.hint in
+    let known : IsKnown k = let P : Option ServerInfo → Type 0 = KnownFits in subst P e s.known in
+    let hint : HintFits (Some k) c.hint = let P : Option ServerInfo → Type 0 = λ o. HintFits o c.hint in subst P e s.hint in
     if_keeps c (not (version == asked) && (nat_lt 0 version && is_layout (with_count k.layout count))) _ (faulty c BadReply)
     (λ is. record {
       good = record { number = rw en s.number; known = stale_known k asked version count known is; hint = rw eh (same_rows k version count c.hint hint); call = tt };
@@ -195,7 +195,7 @@ refused_keeps Publish c code s = ended_keeps c s
 
 -- ---- any frame
 
-pub takes_keeps : (c : ClientState) (f : Frame) → IsState c → Keeps c (takes c f).state
+pub takes_keeps : (c : ClientState) (f : Frame) → IsState c → Keeps c (reaction_to_reply c f).state
 takes_keeps c (frame.Welcome profile width record_len groups count version dimension seed) s = welcome_keeps c.call c profile (shape width record_len groups count) dimension version seed s s.call
 takes_keeps c (frame.HintPart scheme version part words) s = part_keeps c.call c scheme version part words s s.call
 takes_keeps c (frame.Answer scheme version words) s = answer_keeps c.call c scheme version words s

@@ -6,12 +6,12 @@ use Rattle.frame_codec.specs.declared.frame.Frame.TheVariants as frame
 use Rattle.digit_pack.specs.Layout.{Shape, shape}
 use Rattle.pir_schemes.specs.declared.scheme.Scheme.{Scheme}
 use Rattle.client_core.specs.declared.state.ClientState.{ClientState}
-use Rattle.client_core.specs.declared.state.Known.{Known}
+use Rattle.client_core.specs.declared.state.ServerInfo.{ServerInfo}
 use Rattle.client_core.specs.declared.state.Hint.{Hint}
 use Rattle.client_core.specs.declared.state.Call.{Call}
 use Rattle.client_core.specs.declared.state.Call.TheVariants as call
 use Rattle.client_core.specs.Calls.{Want, Hello, Sync, Ask, Edit, Publish}
-use Rattle.client_core.specs.Replies.{Taken, takes, takes_welcome, more_parts, takes_asked_part, takes_part, answered, takes_answer, staled, takes_stale, takes_done, takes_refused}
+use Rattle.client_core.specs.Replies.{Taken, reaction_to_reply, takes_welcome, more_parts, takes_asked_part, takes_part, answered, takes_answer, staled, takes_stale, takes_done, takes_refused}
 use Rattle.client_core.specs.Laws.{Happening, Accepted, Lacking, Taken as Reply, Failing, after, numbers, NoNumberTwice}
 
 -- ---- no reply changes the number
@@ -28,7 +28,7 @@ welcome_number (call.Ask i x v m) c profile l n version seed = refl
 welcome_number (call.Edit i b) c profile l n version seed = refl
 welcome_number call.Publish c profile l n version seed = refl
 
-asked_part_number : (known : Option Known) (s : Scheme) (c : ClientState) (v p scheme version part : ℕ) (words : List ℕ) → (takes_asked_part known s c v p scheme version part words).state.number ≡ c.number
+asked_part_number : (known : Option ServerInfo) (s : Scheme) (c : ClientState) (v p scheme version part : ℕ) (words : List ℕ) → (takes_asked_part known s c v p scheme version part words).state.number ≡ c.number
 asked_part_number None s c v p scheme version part words = refl
 asked_part_number (Some k) s c v p scheme version part words = either c.number _ (more_parts s k c v p (c.parts ++ words)) _ (either c.number _ _ _ refl refl) refl
 
@@ -40,7 +40,7 @@ part_number (call.Ask i x v m) c scheme version part words = refl
 part_number (call.Edit i b) c scheme version part words = refl
 part_number call.Publish c scheme version part words = refl
 
-answered_number : (known : Option Known) (hint : Option Hint) (c : ClientState) (i v m scheme version : ℕ) (words : List ℕ) → (answered known hint c i v m scheme version words).state.number ≡ c.number
+answered_number : (known : Option ServerInfo) (hint : Option Hint) (c : ClientState) (i v m scheme version : ℕ) (words : List ℕ) → (answered known hint c i v m scheme version words).state.number ≡ c.number
 answered_number None hint c i v m scheme version words = refl
 answered_number (Some k) None c i v m scheme version words = refl
 answered_number (Some k) (Some h) c i v m scheme version words = either c.number _ _ _ refl refl
@@ -53,7 +53,7 @@ answer_number (call.Ask i x v m) c scheme version words = answered_number c.know
 answer_number (call.Edit i b) c scheme version words = refl
 answer_number call.Publish c scheme version words = refl
 
-staled_number : (known : Option Known) (later c : ClientState) (asked version count : ℕ) → later.number ≡ c.number → (staled known later c asked version count).state.number ≡ c.number
+staled_number : (known : Option ServerInfo) (later c : ClientState) (asked version count : ℕ) → later.number ≡ c.number → (staled known later c asked version count).state.number ≡ c.number
 staled_number None later c asked version count e = refl
 staled_number (Some k) later c asked version count e = either c.number _ _ _ e refl
 
@@ -81,7 +81,7 @@ refused_number (call.Ask i x v m) c code = refl
 refused_number (call.Edit i b) c code = refl
 refused_number call.Publish c code = refl
 
-pub takes_number : (c : ClientState) (f : Frame) → (takes c f).state.number ≡ c.number
+pub takes_number : (c : ClientState) (f : Frame) → (reaction_to_reply c f).state.number ≡ c.number
 takes_number c (frame.Welcome profile width record_len groups count version dimension seed) = welcome_number c.call c profile (shape width record_len groups count) dimension version seed
 takes_number c (frame.HintPart scheme version part words) = part_number c.call c scheme version part words
 takes_number c (frame.Answer scheme version words) = answer_number c.call c scheme version words

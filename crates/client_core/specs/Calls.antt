@@ -2,13 +2,13 @@
 use Rattle.std.specs.Prelude.{◌≡◌, ◌+◌, ◌^◌, ℕ, List, [], Option, Some, None, is_some, nat_lt, if◌then◌else◌, ◌⊎◌}
 use Rattle.frame_codec.specs.declared.frame.Frame.{Frame}
 use Rattle.frame_codec.specs.declared.frame.Frame.TheVariants as frame
-use Rattle.frame_codec.specs.Frames.{IsFrame, spelling}
+use Rattle.frame_codec.specs.Frames.{IsFrame, encoding}
 use Rattle.pir_schemes.specs.declared.scheme.Scheme.{Scheme}
 use Rattle.pir_schemes.specs.Schemes.{scheme_byte}
 use Rattle.pir_schemes.specs.Plans.{client_profile}
 use Rattle.pir_schemes.specs.Retrievals.{query_words}
 use Rattle.client_core.specs.declared.state.ClientState.{ClientState}
-use Rattle.client_core.specs.declared.state.Known.{Known}
+use Rattle.client_core.specs.declared.state.ServerInfo.{ServerInfo}
 use Rattle.client_core.specs.declared.state.Call.{Call}
 use Rattle.client_core.specs.declared.state.Call.TheVariants as call
 use Rattle.client_core.specs.declared.state.CallFault.{CallFault}
@@ -45,12 +45,12 @@ refusal (Edit i bytes) c = change_refusal c
 refusal Publish c = change_refusal c
 
 -- the state after an accepted call
-abbrev pub called : Want → ClientState → ClientState
-called (Hello key) c = record c { call = call.Hello key }
-called (Sync scheme) c = record c { call = call.Sync scheme (known_version c.known) 0; hint = None; parts = [] }
-called (Ask i) c = record c { call = call.Ask i (scheme_held c.hint) (known_version c.known) c.number; number = c.number + 1 }
-called (Edit i bytes) c = record c { call = call.Edit i bytes }
-called Publish c = record c { call = call.Publish }
+abbrev pub state_after_call : Want → ClientState → ClientState
+state_after_call (Hello key) c = record c { call = call.Hello key }
+state_after_call (Sync scheme) c = record c { call = call.Sync scheme (known_version c.known) 0; hint = None; parts = [] }
+state_after_call (Ask i) c = record c { call = call.Ask i (scheme_held c.hint) (known_version c.known) c.number; number = c.number + 1 }
+state_after_call (Edit i bytes) c = record c { call = call.Edit i bytes }
+state_after_call Publish c = record c { call = call.Publish }
 
 -- the state after a call that passed its checks and found no memory: only the number of a retrieval is spent
 abbrev pub spent : Want → ClientState → ClientState
@@ -58,7 +58,7 @@ spent (Ask i) c = record c { number = c.number + 1 }
 spent _ c = c
 
 -- the words of the query for a record
-abbrev pub call_words : Option Known → Scheme → List ℕ → ℕ → ℕ → List ℕ
+abbrev pub call_words : Option ServerInfo → Scheme → List ℕ → ℕ → ℕ → List ℕ
 call_words None scheme seed number i = []
 call_words (Some k) scheme seed number i = query_words scheme k.layout k.dimension k.seed seed number i
 
@@ -74,8 +74,8 @@ call_frame c call.Publish = frame.Publish
 -- an accepted call: no check refuses it, and the bytes to send are its frame's
 pub record Accepts (old : ClientState) (want : Want) (new : ClientState) (bytes : List ℕ) : Type 0 where
   pub may : refusal want old ≡ None
-  pub state : new ≡ called want old
-  pub written : bytes ≡ spelling (call_frame new new.call)
+  pub state : new ≡ state_after_call want old
+  pub written : bytes ≡ encoding (call_frame new new.call)
   pub fits : IsFrame (call_frame new new.call)
 
 -- a refused call: by the first check that applies, and nothing changes; or memory was refused

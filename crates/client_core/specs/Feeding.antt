@@ -5,15 +5,15 @@ use Rattle.frame_codec.specs.declared.frame.Frame.{Frame}
 use Rattle.frame_codec.specs.declared.frame.Frame.TheVariants as frame
 use Rattle.frame_codec.specs.declared.reader.ReadFault.{ReadFault}
 use Rattle.frame_codec.specs.declared.reader.ReadFault.TheVariants as read_fault
-use Rattle.frame_codec.specs.Frames.{IsFrame, spelling}
+use Rattle.frame_codec.specs.Frames.{IsFrame, encoding}
 use Rattle.frame_codec.specs.Streams.{Feeds}
 use Rattle.client_core.specs.declared.state.ClientState.{ClientState}
 use Rattle.client_core.specs.declared.state.Event.{Event}
 use Rattle.client_core.specs.declared.state.ClientFault.{ClientFault}
 use Rattle.client_core.specs.declared.state.ClientFault.TheVariants.{BadReply, Memory, Failed}
 use Rattle.client_core.specs.declared.state.Reaction.{Reaction}
-use Rattle.client_core.specs.declared.state.Reaction.TheVariants.{Asks, Tells, Fails}
-use Rattle.client_core.specs.Replies.{Taken, takes}
+use Rattle.client_core.specs.declared.state.Reaction.TheVariants.{Asks, Reports, Fails}
+use Rattle.client_core.specs.Replies.{Taken, reaction_to_reply}
 use Rattle.pir_schemes.specs.Schemes.{scheme_byte}
 
 -- a client as contracts see it: its state, and the bytes of an unfinished frame, None once the stream has failed
@@ -28,7 +28,7 @@ sends_of _ = []
 
 -- the event that it tells
 abbrev pub events_of : Reaction → List Event
-events_of (Tells e) = e ∷ []
+events_of (Reports e) = e ∷ []
 events_of _ = []
 
 -- its fault
@@ -36,7 +36,7 @@ abbrev pub fault_of : Reaction → Option ClientFault
 fault_of (Fails f) = Some f
 fault_of _ = None
 
--- where a client stands behind some replies: what it has sent and told, and its fault
+-- where a client stands after some replies: what it has sent and told, and its fault
 pub record Course : Type 0 where
   pub state : ClientState
   pub sends : List Frame
@@ -49,9 +49,9 @@ start c = record { state = c; sends = []; events = []; fault = None }
 abbrev pub goes_on : Course → Taken → Course
 goes_on k t = record { state = t.state; sends = k.sends ++ sends_of t.reaction; events = k.events ++ events_of t.reaction; fault = fault_of t.reaction }
 
--- one more frame; behind a fault none is taken
+-- one more frame; after a fault none is taken
 abbrev pub course_more : Course → Frame → Course
-course_more k f = if is_some k.fault then k else goes_on k (takes k.state f)
+course_more k f = if is_some k.fault then k else goes_on k (reaction_to_reply k.state f)
 
 abbrev pub runs : Course → List Frame → Course
 runs k [] = k
@@ -61,7 +61,7 @@ runs k (f ∷ fs) = runs (course_more k f) fs
 abbrev pub takes_all : ClientState → List Frame → Course
 takes_all c fs = runs (start c) fs
 
--- what the codec's answer says behind the frames: every fault but want of memory is a bad reply
+-- what the codec's answer says after the frames: every fault but refused memory is a bad reply
 abbrev pub codec_fault : Result (Unit {0}) ReadFault → Option ClientFault
 codec_fault (Ok done) = None
 codec_fault (Err read_fault.TooLong) = Some BadReply
@@ -70,20 +70,20 @@ codec_fault (Err read_fault.BadPayload) = Some BadReply
 codec_fault (Err read_fault.Memory) = Some Memory
 codec_fault (Err read_fault.Failed) = Some BadReply
 
--- the client fails behind the frames, if it did not among them
+-- the client fails after the frames, if it did not among them
 abbrev pub failing : Course → Option ClientFault → Course
 failing k None = k
 failing k (Some f) = if is_some k.fault then k else record k { state = record k.state { failed = true }; fault = Some f }
 
--- the frames of a piece, and then what the codec answered behind them
+-- the frames of a piece, and then what the codec answered after them
 abbrev pub ends_with : Course → Result (Unit {0}) ReadFault → Course
 ends_with k answer = failing k (codec_fault answer)
 
 -- the bytes and the events that were given are those of a course
 pub record Gives (k : Course) (out : List ℕ) (events : List Event) : Type 0 where
-  pub written : out ≡ flat_map spelling k.sends
+  pub written : out ≡ flat_map encoding k.sends
   pub each : AllByRecursion IsFrame k.sends
-  pub told : events ≡ k.events
+  pub reported : events ≡ k.events
 
 -- the course was gone to its end
 pub record Follows (k : Course) (out : List ℕ) (events : List Event) (fault : Option ClientFault) (new : ClientState) : Type 0 where
@@ -106,7 +106,7 @@ pub record FeedsOpen (old : Client) (piece : List ℕ) (out : List ℕ) (events 
   pub answer : Result (Unit {0}) ReadFault
   pub frames : List Frame
   pub reads : Feeds old.reader piece answer frames new.reader
-  pub takes : Follows (ends_with (takes_all old.state frames) answer) out events fault new.state ⊎ BreaksOff old.state frames out events fault new.state
+  pub reaction_to_reply : Follows (ends_with (takes_all old.state frames) answer) out events fault new.state ⊎ BreaksOff old.state frames out events fault new.state
 
 -- a piece fed to one that had: nothing comes of it
 pub record FeedsFailed (old : Client) (out : List ℕ) (events : List Event) (fault : Option ClientFault) (new : Client) : Type 0 where

@@ -8,15 +8,15 @@ use Rattle.pir_schemes.specs.Schemes.{scheme_byte}
 use Rattle.pir_schemes.specs.Parts.{part_of}
 use Rattle.pir_schemes.specs.Retrievals.{hint_rows, hint_len}
 use Rattle.client_core.specs.declared.state.ClientState.{ClientState}
-use Rattle.client_core.specs.declared.state.Known.{Known}
+use Rattle.client_core.specs.declared.state.ServerInfo.{ServerInfo}
 use Rattle.client_core.specs.declared.state.Hint.{Hint}
 use Rattle.client_core.specs.declared.state.Call.TheVariants.{Sync}
 use Rattle.client_core.specs.declared.state.Event.TheVariants.{Synced}
-use Rattle.client_core.specs.Calls.{Want, Hello, Sync as sync, Ask, Edit, Publish, called, spent}
-use Rattle.client_core.specs.Replies.{takes, hint_made}
+use Rattle.client_core.specs.Calls.{Want, Hello, Sync as sync, Ask, Edit, Publish, state_after_call, spent}
+use Rattle.client_core.specs.Replies.{reaction_to_reply, hint_made}
 use Rattle.client_core.specs.Feeding.{takes_all}
 
--- what happens to a client: a call is accepted, a call finds no memory, a reply is taken, the client fails
+-- what happens to a client: a call is accepted, a call is refused memory, a reply is taken, the client fails
 pub data Happening : Type 0 where
   Accepted : (want : Want) → Happening
   Lacking : (want : Want) → Happening
@@ -25,9 +25,9 @@ pub data Happening : Type 0 where
 
 -- the state after it
 abbrev pub after : ClientState → Happening → ClientState
-after c (Accepted want) = called want c
+after c (Accepted want) = state_after_call want c
 after c (Lacking want) = spent want c
-after c (Taken reply) = (takes c reply).state
+after c (Taken reply) = (reaction_to_reply c reply).state
 after c Failing = record c { failed = true }
 
 -- the number of the query that a call sends
@@ -57,15 +57,15 @@ ArePartsFrom s v j (f ∷ fs) words =
     (here : List ℕ) × (rest : List ℕ) × (f ≡ frame.HintPart (scheme_byte s) v j here) × (words ≡ here ++ rest) × ArePartsFrom s v (j + 1) fs rest
 
 -- the replies since a sync began made it end with its hint
-pub record IsSyncedBy (c : ClientState) (s : Scheme) (k : Known) (v version : ℕ) (replies : List Frame) : Type 0 where
+pub record IsSyncedBy (c : ClientState) (s : Scheme) (k : ServerInfo) (v version : ℕ) (replies : List Frame) : Type 0 where
   pub known : c.known ≡ Some k
   pub asked : c.call ≡ Sync s v 0
   pub none : c.parts ≡ []
   pub good : (takes_all c replies).fault ≡ None
-  pub told : (takes_all c replies).events ≡ Synced s version ∷ []
+  pub reported : (takes_all c replies).events ≡ Synced s version ∷ []
 
 -- the hint held is made of the parts that came, in order, all of the one version asked
-pub record IsMadeOfParts (c : ClientState) (s : Scheme) (k : Known) (v version : ℕ) (replies : List Frame) : Type 0 where
+pub record IsMadeOfParts (c : ClientState) (s : Scheme) (k : ServerInfo) (v version : ℕ) (replies : List Frame) : Type 0 where
   pub words : List ℕ
   pub parts : ArePartsFrom s v 0 replies words
   pub count : length words ≡ hint_len s k.layout k.dimension
@@ -74,7 +74,7 @@ pub record IsMadeOfParts (c : ClientState) (s : Scheme) (k : Known) (v version :
 
 -- so it is after every sync
 abbrev pub SyncedHintIsMadeOfParts : Type 0
-SyncedHintIsMadeOfParts = (c : ClientState) (s : Scheme) (k : Known) (v version : ℕ) (replies : List Frame) → IsSyncedBy c s k v version replies → IsMadeOfParts c s k v version replies
+SyncedHintIsMadeOfParts = (c : ClientState) (s : Scheme) (k : ServerInfo) (v version : ℕ) (replies : List Frame) → IsSyncedBy c s k v version replies → IsMadeOfParts c s k v version replies
 
 -- each reply is a part of these words, from part j on
 abbrev pub ArePartsOf : Scheme → List ℕ → ℕ → ℕ → List Frame → Type 0
@@ -83,6 +83,6 @@ ArePartsOf s whole v j (f ∷ fs) = (f ≡ frame.HintPart (scheme_byte s) v j (p
 
 -- where the parts are those of a hint, the hint held is that hint
 abbrev pub PartsOfAHintMakeIt : Type 0
-PartsOfAHintMakeIt = (c : ClientState) (s : Scheme) (k : Known) (v version : ℕ) (replies : List Frame) (hint : WordMatrix) →
+PartsOfAHintMakeIt = (c : ClientState) (s : Scheme) (k : ServerInfo) (v version : ℕ) (replies : List Frame) (hint : WordMatrix) →
     IsSyncedBy c s k v version replies → hint.rows ≡ hint_rows s k.layout k.dimension → hint.cols ≡ k.dimension → IsWhole hint → ArePartsOf s hint.words v 0 replies →
     (takes_all c replies).state.hint ≡ Some (record { scheme = s; version = v; matrix = hint })

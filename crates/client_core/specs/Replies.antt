@@ -9,7 +9,7 @@ use Rattle.pir_schemes.specs.Parts.{part_len}
 use Rattle.pir_schemes.specs.Plans.{Plan, plan_of, profile_of, record_of}
 use Rattle.pir_schemes.specs.Retrievals.{hint_rows, hint_len, answer_count, reading}
 use Rattle.client_core.specs.declared.state.ClientState.{ClientState}
-use Rattle.client_core.specs.declared.state.Known.{Known}
+use Rattle.client_core.specs.declared.state.ServerInfo.{ServerInfo}
 use Rattle.client_core.specs.declared.state.Hint.{Hint}
 use Rattle.client_core.specs.declared.state.Call.{Call}
 use Rattle.client_core.specs.declared.state.Call.TheVariants.{Idle, Hello, Sync, Ask, Edit, Publish}
@@ -18,7 +18,7 @@ use Rattle.client_core.specs.declared.state.Event.TheVariants.{Welcomed, Synced,
 use Rattle.client_core.specs.declared.state.ClientFault.{ClientFault}
 use Rattle.client_core.specs.declared.state.ClientFault.TheVariants.{BadWelcome, BadReply}
 use Rattle.client_core.specs.declared.state.Reaction.{Reaction}
-use Rattle.client_core.specs.declared.state.Reaction.TheVariants.{Asks, Tells, Fails}
+use Rattle.client_core.specs.declared.state.Reaction.TheVariants.{Asks, Reports, Fails}
 use Rattle.client_core.specs.States.{is_layout}
 
 -- what a reply leads to: the state after it, and what comes of it
@@ -32,7 +32,7 @@ faulty c f = record { state = record c { failed = true }; reaction = Fails f }
 
 -- the end of the call
 abbrev pub ended : ClientState → Event → Taken
-ended c e = record { state = record c { call = Idle }; reaction = Tells e }
+ended c e = record { state = record c { call = Idle }; reaction = Reports e }
 
 -- ---- Welcome
 
@@ -60,7 +60,7 @@ is_part s total asked next scheme version part words =
     (scheme == scheme_byte s) && ((version == asked) && ((part == next) && (length words == part_len total next)))
 
 -- a scheme's hint of a version, of these words
-abbrev pub hint_made : Scheme → Known → ℕ → List ℕ → Hint
+abbrev pub hint_made : Scheme → ServerInfo → ℕ → List ℕ → Hint
 hint_made s k version words = record {
   scheme = s;
   version = version;
@@ -68,14 +68,14 @@ hint_made s k version words = record {
 }
 
 -- the last part makes the hint whole, and after another the next part is asked for
-abbrev pub more_parts : Scheme → Known → ClientState → ℕ → ℕ → List ℕ → Taken
+abbrev pub more_parts : Scheme → ServerInfo → ClientState → ℕ → ℕ → List ℕ → Taken
 more_parts s k c version part words =
     if length words == hint_len s k.layout k.dimension
     then ended (record c { hint = Some (hint_made s k version words); parts = [] }) (Synced s version)
     else record { state = record c { call = Sync s version (part + 1); parts = words }; reaction = Asks s version (part + 1) }
 
 -- it counts against the layout known
-abbrev pub takes_asked_part : Option Known → Scheme → ClientState → ℕ → ℕ → ℕ → ℕ → ℕ → List ℕ → Taken
+abbrev pub takes_asked_part : Option ServerInfo → Scheme → ClientState → ℕ → ℕ → ℕ → ℕ → ℕ → List ℕ → Taken
 takes_asked_part None s c asked next scheme version part words = faulty c BadReply
 takes_asked_part (Some k) s c asked next scheme version part words =
     if is_part s (hint_len s k.layout k.dimension) asked next scheme version part words
@@ -94,12 +94,12 @@ event_of i version (Some bytes) = Retrieved i version bytes
 event_of i version None = Unreadable i version
 
 -- an answer of the scheme and the version asked, with as many words as the scheme wants
-abbrev pub is_answer : Scheme → Known → ℕ → ℕ → ℕ → List ℕ → Bool
+abbrev pub is_answer : Scheme → ServerInfo → ℕ → ℕ → ℕ → List ℕ → Bool
 is_answer s k asked scheme version words =
     (scheme == scheme_byte s) && ((version == asked) && (length words == answer_count s k.layout k.dimension))
 
 -- it is read with the hint held, and in the hint's scheme
-abbrev pub answered : Option Known → Option Hint → ClientState → ℕ → ℕ → ℕ → ℕ → ℕ → List ℕ → Taken
+abbrev pub answered : Option ServerInfo → Option Hint → ClientState → ℕ → ℕ → ℕ → ℕ → ℕ → List ℕ → Taken
 answered None hint c i asked number scheme version words = faulty c BadReply
 answered (Some k) None c i asked number scheme version words = faulty c BadReply
 answered (Some k) (Some h) c i asked number scheme version words =
@@ -119,7 +119,7 @@ abbrev pub with_count : Shape → ℕ → Shape
 with_count l count = shape l.width l.record_len l.groups count
 
 -- the version and the count told are the last known, where these are another version than asked and a count within the limits. The state is the one given first
-abbrev pub staled : Option Known → ClientState → ClientState → ℕ → ℕ → ℕ → Taken
+abbrev pub staled : Option ServerInfo → ClientState → ClientState → ℕ → ℕ → ℕ → Taken
 staled None after c asked version count = faulty c BadReply
 staled (Some k) after c asked version count =
     if not (version == asked) && (nat_lt 0 version && is_layout (with_count k.layout count))
@@ -149,11 +149,11 @@ takes_refused _ c code = ended c (Refused code)
 -- ---- any frame
 
 -- what a frame leads to; the kinds that no reply has, and those that answer no call yet, are bad
-abbrev pub takes : ClientState → Frame → Taken
-takes c (frame.Welcome profile width record_len groups count version dimension seed) = takes_welcome c.call c profile (shape width record_len groups count) dimension version seed
-takes c (frame.HintPart scheme version part words) = takes_part c.call c scheme version part words
-takes c (frame.Answer scheme version words) = takes_answer c.call c scheme version words
-takes c (frame.Stale version count) = takes_stale c.call c version count
-takes c (frame.Done version) = takes_done c.call c version
-takes c (frame.Refused code) = takes_refused c.call c code
-takes c _ = faulty c BadReply
+abbrev pub reaction_to_reply : ClientState → Frame → Taken
+reaction_to_reply c (frame.Welcome profile width record_len groups count version dimension seed) = takes_welcome c.call c profile (shape width record_len groups count) dimension version seed
+reaction_to_reply c (frame.HintPart scheme version part words) = takes_part c.call c scheme version part words
+reaction_to_reply c (frame.Answer scheme version words) = takes_answer c.call c scheme version words
+reaction_to_reply c (frame.Stale version count) = takes_stale c.call c version count
+reaction_to_reply c (frame.Done version) = takes_done c.call c version
+reaction_to_reply c (frame.Refused code) = takes_refused c.call c code
+reaction_to_reply c _ = faulty c BadReply

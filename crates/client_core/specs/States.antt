@@ -5,7 +5,7 @@ use Rattle.pir_schemes.specs.declared.scheme.Scheme.{Scheme}
 use Rattle.pir_schemes.specs.declared.scheme.Scheme.TheVariants.{Simple}
 use Rattle.pir_schemes.specs.Retrievals.{hint_rows, hint_len}
 use Rattle.client_core.specs.declared.state.ClientState.{ClientState}
-use Rattle.client_core.specs.declared.state.Known.{Known}
+use Rattle.client_core.specs.declared.state.ServerInfo.{ServerInfo}
 use Rattle.client_core.specs.declared.state.Hint.{Hint}
 use Rattle.client_core.specs.declared.state.Call.{Call}
 use Rattle.client_core.specs.declared.state.Call.TheVariants.{Idle, Hello, Sync, Ask, Edit, Publish}
@@ -16,17 +16,17 @@ is_idle Idle = true
 is_idle _ = false
 
 -- the last version known, 0 before the Welcome
-abbrev pub known_version : Option Known → ℕ
+abbrev pub known_version : Option ServerInfo → ℕ
 known_version None = 0
 known_version (Some k) = k.version
 
 -- the count of records known
-abbrev pub known_count : Option Known → ℕ
+abbrev pub known_count : Option ServerInfo → ℕ
 known_count None = 0
 known_count (Some k) = k.layout.count
 
 -- a hint of the last version known is held
-abbrev pub is_ready : Option Known → Option Hint → Bool
+abbrev pub is_ready : Option ServerInfo → Option Hint → Bool
 is_ready None hint = false
 is_ready (Some k) None = false
 is_ready (Some k) (Some h) = h.version == k.version
@@ -49,25 +49,25 @@ abbrev pub fresh : List ℕ → ℕ → ClientState
 fresh seed number = record { seed = seed; number = number; known = None; hint = None; parts = []; call = Idle; failed = false }
 
 -- what the server told is within the limits
-pub record IsKnown (k : Known) : Type 0 where
+pub record IsKnown (k : ServerInfo) : Type 0 where
   pub layout : IsLayout k.layout
   pub low : 1 ≤ k.dimension
   pub high : k.dimension ≤ 1024
 
 -- the same, where the Welcome came
-abbrev pub KnownFits : Option Known → Type 0
+abbrev pub KnownFits : Option ServerInfo → Type 0
 KnownFits None = Unit {0}
 KnownFits (Some k) = IsKnown k
 
 -- a hint has the rows that its scheme wants, and n columns
-abbrev pub HintFits : Option Known → Option Hint → Type 0
+abbrev pub HintFits : Option ServerInfo → Option Hint → Type 0
 HintFits None None = Unit {0}
 HintFits None (Some h) = ⊥
 HintFits (Some k) None = Unit {0}
 HintFits (Some k) (Some h) = (h.matrix.rows ≡ hint_rows h.scheme k.layout k.dimension) × (h.matrix.cols ≡ k.dimension)
 
 -- hello comes before the Welcome; the parts that came are whole ones of the hint; a record asked for is one that there is
-abbrev pub CallFits : Call → Option Known → List ℕ → Type 0
+abbrev pub CallFits : Call → Option ServerInfo → List ℕ → Type 0
 CallFits Idle known parts = Unit {0}
 CallFits (Hello key) None parts = Unit {0}
 CallFits (Hello key) (Some k) parts = ⊥

@@ -1,13 +1,14 @@
 //! What a call asks of the client, and the bytes that it sends.
 
-ghost use Rattle.std.specs.Prelude.{◌≡◌, ◌≤◌, ◌<◌, ◌+◌, ◌^◌, None, Some, IfOk, IfErr, MatchResult, length};
-ghost use Rattle.frame_codec.specs.Frames.{IsFrame, payload_size, payload_limit, spelling};
+ghost use Rattle.std.specs.Prelude.{◌≡◌, ◌≤◌, ◌<◌, ◌+◌, ◌^◌, None, Some, IfOk, IfErr, MatchResult,
+    length};
+ghost use Rattle.frame_codec.specs.Frames.{IsFrame, payload_size, payload_limit, encoding};
 ghost use Rattle.pir_schemes.specs.Schemes.{scheme_byte};
 ghost use Rattle.pir_schemes.specs.Retrievals.{query_words};
 ghost use Rattle.client_core.specs.States.{IsKnown, is_ready, is_idle, known_count, scheme_held};
 ghost use Rattle.client_core.specs.Calls.{Want, refusal, hello_refusal, change_refusal};
 
-use crate::state::{Call, CallFault, ClientState, Hint, Known};
+use crate::state::{Call, CallFault, ClientState, Hint, ServerInfo};
 use frame_codec::{Bytes, Frame, Words, write_frame};
 use matrix_u32::Kernel;
 use pir_schemes::{Scheme, query};
@@ -25,7 +26,7 @@ fn is_no_call(call: &Call) -> bool
     }
 }
 
-fn has_hint(known: &Option<Known>, hint: &Option<Hint>) -> bool
+fn has_hint(known: &Option<ServerInfo>, hint: &Option<Hint>) -> bool
     ensures { result ≡ is_ready known.now hint.now }
 {
     match known {
@@ -39,7 +40,8 @@ fn has_hint(known: &Option<Known>, hint: &Option<Hint>) -> bool
 
 /// The checks of `hello`, in their order.
 pub(crate) fn may_hello(state: &ClientState) -> Result<(), CallFault>
-    ensures { MatchResult result (λ _. hello_refusal state.now ≡ None) (λ e. hello_refusal state.now ≡ Some e) }
+    ensures { MatchResult result (λ _. hello_refusal state.now ≡ None)
+        (λ e. hello_refusal state.now ≡ Some e) }
 {
     if state.failed {
         return Err(CallFault::Failed);
@@ -54,8 +56,9 @@ pub(crate) fn may_hello(state: &ClientState) -> Result<(), CallFault>
 }
 
 /// The checks of `sync`, `edit` and `publish`, in their order. Answers what is known.
-pub(crate) fn may_change(state: &ClientState) -> Result<Known, CallFault>
-    ensures { MatchResult result (λ k. (change_refusal state.now ≡ None) × (state.now.known ≡ Some k)) (λ e. change_refusal state.now ≡ Some e) }
+pub(crate) fn may_change(state: &ClientState) -> Result<ServerInfo, CallFault>
+    ensures { MatchResult result (λ k. (change_refusal state.now ≡ None) ×
+        (state.now.known ≡ Some k)) (λ e. change_refusal state.now ≡ Some e) }
 {
     if state.failed {
         return Err(CallFault::Failed);
@@ -70,8 +73,9 @@ pub(crate) fn may_change(state: &ClientState) -> Result<Known, CallFault>
 }
 
 /// The checks of `ask`, in their order. Answers what is known.
-pub(crate) fn may_ask(state: &ClientState, index: u32) -> Result<Known, CallFault>
-    ensures { MatchResult result (λ k. (refusal (Want.Ask index) state.now ≡ None) × (state.now.known ≡ Some k) × (index < k.layout.count) × (state.now.number < 2 ^ 62))
+pub(crate) fn may_ask(state: &ClientState, index: u32) -> Result<ServerInfo, CallFault>
+    ensures { MatchResult result (λ k. (refusal (Want.Ask index) state.now ≡ None) ×
+        (state.now.known ≡ Some k) × (index < k.layout.count) × (state.now.number < 2 ^ 62))
         (λ e. refusal (Want.Ask index) state.now ≡ Some e) }
 {
     if state.failed {
@@ -117,9 +121,9 @@ pub(crate) fn scheme_of(hint: &Option<Hint>) -> Scheme
 }
 
 /// The bytes of a frame.
-pub(crate) fn spelled(alloc: Global, frame: &Frame) -> Result<Vec<u8>, CallFault>
+pub(crate) fn encoded(alloc: Global, frame: &Frame) -> Result<Vec<u8>, CallFault>
     requires { payload_size frame.now ≤ payload_limit }
-    ensures bytes { IfOk result (λ v. v.items ≡ spelling frame.now) }
+    ensures bytes { IfOk result (λ v. v.items ≡ encoding frame.now) }
     ensures frame { IfOk result (λ _. IsFrame frame.now) }
     ensures memory { IfErr result (λ e. e ≡ CallFault.Memory) }
 {
@@ -133,7 +137,7 @@ pub(crate) fn spelled(alloc: Global, frame: &Frame) -> Result<Vec<u8>, CallFault
 /// The bytes of the edit of a record.
 pub(crate) fn edit_bytes(alloc: Global, index: u32, bytes: &[u8]) -> Result<Vec<u8>, CallFault>
     requires { length bytes.now ≤ 65535 }
-    ensures bytes { IfOk result (λ v. v.items ≡ spelling (Frame.Edit index bytes.now)) }
+    ensures bytes { IfOk result (λ v. v.items ≡ encoding (Frame.Edit index bytes.now)) }
     ensures frame { IfOk result (λ _. IsFrame (Frame.Edit index bytes.now)) }
     ensures memory { IfErr result (λ e. e ≡ CallFault.Memory) }
 {
@@ -144,7 +148,7 @@ pub(crate) fn edit_bytes(alloc: Global, index: u32, bytes: &[u8]) -> Result<Vec<
         index,
         bytes: Bytes::new(copy),
     };
-    spelled(alloc, &frame)
+    encoded(alloc, &frame)
 }
 
 /// The bytes of the query for a record.
@@ -153,7 +157,7 @@ pub(crate) fn query_bytes<K: Kernel>(
     alloc: Global,
     kernel: K,
     scheme: Scheme,
-    known: &Known,
+    known: &ServerInfo,
     seed: &[u8; 32],
     number: u64,
     index: u32,
@@ -161,10 +165,13 @@ pub(crate) fn query_bytes<K: Kernel>(
     requires known { IsKnown known.now }
     requires number { number < 2 ^ 62 }
     requires record { index < known.now.layout.count }
-    ensures bytes { IfOk result (λ v. v.items ≡ spelling (Frame.Query (scheme_byte scheme) known.now.version
-        (query_words scheme known.now.layout known.now.dimension known.now.seed seed.now number index))) }
+    ensures bytes { IfOk result (λ v. v.items ≡
+        encoding (Frame.Query (scheme_byte scheme) known.now.version
+        (query_words scheme known.now.layout known.now.dimension known.now.seed seed.now number
+            index))) }
     ensures frame { IfOk result (λ _. IsFrame (Frame.Query (scheme_byte scheme) known.now.version
-        (query_words scheme known.now.layout known.now.dimension known.now.seed seed.now number index))) }
+        (query_words scheme known.now.layout known.now.dimension known.now.seed seed.now number
+            index))) }
     ensures memory { IfErr result (λ e. e ≡ CallFault.Memory) }
 {
     let n = known.dimension;
@@ -188,5 +195,5 @@ pub(crate) fn query_bytes<K: Kernel>(
         version: known.version,
         words: Words::new(words),
     };
-    spelled(alloc, &frame)
+    encoded(alloc, &frame)
 }

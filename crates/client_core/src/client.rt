@@ -1,17 +1,18 @@
 //! The client.
 
-ghost use Rattle.std.specs.Prelude.{◌≡◌, ◌≤◌, ◌<◌, ◌^◌, [], List, ℕ, None, Some, IfOk, IfErr, MatchResult, length};
-ghost use Rattle.frame_codec.specs.Frames.{spelling};
+ghost use Rattle.std.specs.Prelude.{◌≡◌, ◌≤◌, ◌<◌, ◌^◌, [], List, ℕ, None, Some, IfOk, IfErr,
+    MatchResult, length};
+ghost use Rattle.frame_codec.specs.Frames.{encoding};
 ghost use Rattle.frame_codec.specs.declared.frame.Frame.{Frame};
 ghost use Rattle.pir_schemes.specs.Schemes.{scheme_byte};
 ghost use Rattle.pir_schemes.specs.Retrievals.{query_words};
-ghost use Rattle.client_core.specs.declared.state.Known.{Known};
+ghost use Rattle.client_core.specs.declared.state.ServerInfo.{ServerInfo};
 ghost use Rattle.client_core.specs.States.{fresh, scheme_held};
 ghost use Rattle.client_core.specs.Calls.{Want, Accepts, Refuses};
 ghost use Rattle.client_core.specs.Feeding.{Client, FeedsClient};
 
 use crate::calls::{
-    edit_bytes, may_ask, may_change, may_hello, query_bytes, scheme_of, spelled, spend_number,
+    edit_bytes, may_ask, may_change, may_hello, query_bytes, scheme_of, encoded, spend_number,
 };
 use crate::parts::Parts;
 use crate::state::{Call, CallFault, ClientFault, ClientState, Event};
@@ -87,8 +88,10 @@ impl<K: Kernel> ClientCore<K> {
     ///
     /// Refused in this order: `Failed`, `AlreadyWelcome`, `Busy`, `Memory`. A refusal changes nothing.
     pub fn hello(&mut self, key: [u8; 32]) -> Result<Vec<u8>, CallFault>
-        ensures accepted { IfOk result (λ bytes. Accepts self.old.state (Want.Hello key) self.new.state bytes.items) }
-        ensures refused { IfErr result (λ e. Refuses self.old.state (Want.Hello key) e self.new.state) }
+        ensures accepted { IfOk result (λ bytes. Accepts self.old.state
+            (Want.Hello key) self.new.state bytes.items) }
+        ensures refused { IfErr result
+            (λ e. Refuses self.old.state (Want.Hello key) e self.new.state) }
         ensures reader { self.new.reader ≡ self.old.reader }
     {
         may_hello(&self.state)?;
@@ -96,7 +99,7 @@ impl<K: Kernel> ClientCore<K> {
             profile: PROFILE,
             key: Bytes32::copied(&key),
         };
-        let bytes = spelled(self.alloc, &frame)?;
+        let bytes = encoded(self.alloc, &frame)?;
         self.state.call = Call::Hello { key };
         Ok(bytes)
     }
@@ -107,8 +110,10 @@ impl<K: Kernel> ClientCore<K> {
     /// Refused in this order: `Failed`, `NotReady` (no Welcome came yet), `Busy`, `Memory`. A refusal changes
     /// nothing.
     pub fn sync(&mut self, scheme: Scheme) -> Result<Vec<u8>, CallFault>
-        ensures accepted { IfOk result (λ bytes. Accepts self.old.state (Want.Sync scheme) self.new.state bytes.items) }
-        ensures refused { IfErr result (λ e. Refuses self.old.state (Want.Sync scheme) e self.new.state) }
+        ensures accepted { IfOk result (λ bytes. Accepts self.old.state
+            (Want.Sync scheme) self.new.state bytes.items) }
+        ensures refused { IfErr result
+            (λ e. Refuses self.old.state (Want.Sync scheme) e self.new.state) }
         ensures reader { self.new.reader ≡ self.old.reader }
     {
         let known = may_change(&self.state)?;
@@ -118,7 +123,7 @@ impl<K: Kernel> ClientCore<K> {
             version,
             part: 0,
         };
-        let bytes = spelled(self.alloc, &frame)?;
+        let bytes = encoded(self.alloc, &frame)?;
         self.state.hint = None;
         self.state.parts = Parts::none(self.alloc);
         self.state.call = Call::Sync {
@@ -137,11 +142,15 @@ impl<K: Kernel> ClientCore<K> {
     /// `SeedUsedUp` (the next number is 2^62); `Memory`. The number is spent where only `Memory` is left, and
     /// nothing else changes by a refusal.
     pub fn ask(&mut self, index: u32) -> Result<Vec<u8>, CallFault>
-        ensures accepted { IfOk result (λ bytes. Accepts self.old.state (Want.Ask index) self.new.state bytes.items) }
-        ensures query { IfOk result (λ bytes. (k : Known) × (self.old.state.known ≡ Some k)
-            × (bytes.items ≡ spelling (Frame.Query (scheme_byte (scheme_held self.old.state.hint)) k.version
-            (query_words (scheme_held self.old.state.hint) k.layout k.dimension k.seed self.old.state.seed self.old.state.number index)))) }
-        ensures refused { IfErr result (λ e. Refuses self.old.state (Want.Ask index) e self.new.state) }
+        ensures accepted { IfOk result (λ bytes. Accepts self.old.state
+            (Want.Ask index) self.new.state bytes.items) }
+        ensures query { IfOk result (λ bytes. (k : ServerInfo) × (self.old.state.known ≡ Some k)
+            × (bytes.items ≡ encoding
+                (Frame.Query (scheme_byte (scheme_held self.old.state.hint)) k.version
+            (query_words (scheme_held self.old.state.hint) k.layout k.dimension k.seed
+                self.old.state.seed self.old.state.number index)))) }
+        ensures refused { IfErr result
+            (λ e. Refuses self.old.state (Want.Ask index) e self.new.state) }
         ensures reader { self.new.reader ≡ self.old.reader }
     {
         let known = may_ask(&self.state, index)?;
@@ -173,8 +182,10 @@ impl<K: Kernel> ClientCore<K> {
     /// nothing.
     pub fn edit(&mut self, index: u32, bytes: &[u8]) -> Result<Vec<u8>, CallFault>
         requires { length bytes.now ≤ 65535 }
-        ensures accepted { IfOk result (λ sent. Accepts self.old.state (Want.Edit index bytes.now) self.new.state sent.items) }
-        ensures refused { IfErr result (λ e. Refuses self.old.state (Want.Edit index bytes.now) e self.new.state) }
+        ensures accepted { IfOk result (λ sent. Accepts self.old.state
+            (Want.Edit index bytes.now) self.new.state sent.items) }
+        ensures refused { IfErr result
+            (λ e. Refuses self.old.state (Want.Edit index bytes.now) e self.new.state) }
         ensures reader { self.new.reader ≡ self.old.reader }
     {
         may_change(&self.state)?;
@@ -194,12 +205,13 @@ impl<K: Kernel> ClientCore<K> {
     /// Refused in this order: `Failed`, `NotReady` (no Welcome came yet), `Busy`, `Memory`. A refusal changes
     /// nothing.
     pub fn publish(&mut self) -> Result<Vec<u8>, CallFault>
-        ensures accepted { IfOk result (λ bytes. Accepts self.old.state Want.Publish self.new.state bytes.items) }
+        ensures accepted { IfOk result
+            (λ bytes. Accepts self.old.state Want.Publish self.new.state bytes.items) }
         ensures refused { IfErr result (λ e. Refuses self.old.state Want.Publish e self.new.state) }
         ensures reader { self.new.reader ≡ self.old.reader }
     {
         may_change(&self.state)?;
-        let bytes = spelled(self.alloc, &Frame::Publish)?;
+        let bytes = encoded(self.alloc, &Frame::Publish)?;
         self.state.call = Call::Publish;
         Ok(bytes)
     }
@@ -212,7 +224,8 @@ impl<K: Kernel> ClientCore<K> {
     /// frame; `Memory` where memory was refused; `Failed` where an earlier feed had a fault. After each of
     /// them every call answers `Failed`.
     pub fn feed(&mut self, piece: &[u8]) -> Fed
-        ensures { FeedsClient self.old piece.now result.out.items result.events.items result.fault self.new }
+        ensures { FeedsClient self.old piece.now result.out.items result.events.items result.fault
+            self.new }
     {
         let mut out = Vec::new(self.alloc);
         let mut events = Vec::new(self.alloc);

@@ -2,7 +2,8 @@
 //! hand in its proof; the call costs nothing.
 
 ghost use Rattle.client_core.specs.Endings.{FirstEventEndsTheCall, FeedingSpendsNoNumber};
-ghost use Rattle.client_core.specs.Laws.{NoNumberTwice, SyncedHintIsMadeOfParts, PartsOfAHintMakeIt};
+ghost use Rattle.client_core.specs.Laws.{NoNumberTwice, SyncedHintIsMadeOfParts,
+    PartsOfAHintMakeIt};
 
 /// The numbers of the queries that a client sends grow, whatever calls and replies come: no number is used
 /// twice, and none below the first.

@@ -1,9 +1,11 @@
 //! What comes of a reply: a function for each kind.
 
-ghost use Rattle.std.specs.Prelude.{◌≡◌, ◌≤◌, ◌<◌, ◌*◌, ◌^◌, ◌++◌, [], length, IfOk, IfErr, OnOk, OnErr, IfSome, IfNone, MatchOption, true, false};
+ghost use Rattle.std.specs.Prelude.{◌≡◌, ◌≤◌, ◌<◌, ◌*◌, ◌^◌, ◌++◌, [], length, IfOk, IfErr, OnOk,
+    OnErr, IfSome, IfNone, MatchOption, true, false};
 ghost use Rattle.digit_pack.specs.Layout.{shape, IsLayout};
 ghost use Rattle.pir_schemes.specs.Plans.{record_of};
-ghost use Rattle.pir_schemes.specs.Retrievals.{hint_rows as rows_of_hint, answer_count as words_of_answer, reading};
+ghost use Rattle.pir_schemes.specs.Retrievals.{hint_rows as rows_of_hint,
+    answer_count as words_of_answer, reading};
 ghost use Rattle.client_core.specs.States.{IsState, IsKnown, is_layout};
 ghost use Rattle.client_core.specs.Replies.{
   faulty,
@@ -22,7 +24,7 @@ ghost use Rattle.client_core.specs.Replies.{
 };
 
 use crate::parts::Parts;
-use crate::state::{Call, ClientFault, ClientState, Event, Hint, Known, Reaction};
+use crate::state::{Call, ClientFault, ClientState, Event, Hint, ServerInfo, Reaction};
 use digit_pack::Layout;
 use frame_codec::{Bytes, Bytes32, Words};
 use matrix_u32::{Kernel, Matrix};
@@ -47,14 +49,15 @@ fn ends(state: &mut ClientState, event: Event) -> Reaction
     ensures reaction { result ≡ (ended state.old event).reaction }
 {
     state.call = Call::Idle;
-    Reaction::Tells(event)
+    Reaction::Reports(event)
 }
 
 // The layout of these sizes, where it is within the limits.
 #[tactic(auto, using(crate::proofs::Layouts::layout_accepted, crate::proofs::Layouts::layout_refused))]
 fn layout_of(width: u32, record_len: usize, groups: usize, count: usize) -> Option<Layout>
     ensures { MatchOption result (is_layout (shape width record_len groups count) ≡ false)
-        (λ l. (is_layout (shape width record_len groups count) ≡ true) × (l ≡ shape width record_len groups count) × IsLayout l) }
+        (λ l. (is_layout (shape width record_len groups count) ≡ true) ×
+            (l ≡ shape width record_len groups count) × IsLayout l) }
 {
     match Layout::new(width, record_len, groups, count) {
         Ok(layout) => Some(layout),
@@ -76,8 +79,12 @@ pub(crate) struct Sizes {
 
 /// A Welcome answers hello alone.
 pub(crate) fn take_welcome(state: &mut ClientState, sizes: Sizes, seed: &Bytes32) -> Reaction
-    ensures state { state.new ≡ (takes_welcome state.old.call state.old sizes.profile (shape sizes.width sizes.record_len sizes.groups sizes.count) sizes.dimension sizes.version seed.now).state }
-    ensures reaction { result ≡ (takes_welcome state.old.call state.old sizes.profile (shape sizes.width sizes.record_len sizes.groups sizes.count) sizes.dimension sizes.version seed.now).reaction }
+    ensures state { state.new ≡ (takes_welcome state.old.call state.old sizes.profile
+        (shape sizes.width sizes.record_len sizes.groups sizes.count) sizes.dimension sizes.version
+        seed.now).state }
+    ensures reaction { result ≡ (takes_welcome state.old.call state.old sizes.profile
+        (shape sizes.width sizes.record_len sizes.groups sizes.count) sizes.dimension sizes.version
+        seed.now).reaction }
 {
     match &state.call {
         Call::Hello { .. } => {}
@@ -101,7 +108,7 @@ pub(crate) fn take_welcome(state: &mut ClientState, sizes: Sizes, seed: &Bytes32
     }
     let mut copy = [0; 32];
     copy.copy_from_slice(seed.as_slice());
-    state.known = Some(Known {
+    state.known = Some(ServerInfo {
         version: sizes.version,
         layout,
         dimension: sizes.dimension as usize,
@@ -120,8 +127,10 @@ pub(crate) fn take_part(
     words: &Words,
 ) -> Result<Reaction, AllocError>
     requires { IsState state.old }
-    ensures state { OnOk result (state.new ≡ (takes_part state.old.call state.old scheme version part words.now).state) }
-    ensures reaction { IfOk result (λ r. r ≡ (takes_part state.old.call state.old scheme version part words.now).reaction) }
+    ensures state { OnOk result (state.new ≡
+        (takes_part state.old.call state.old scheme version part words.now).state) }
+    ensures reaction { IfOk result
+        (λ r. r ≡ (takes_part state.old.call state.old scheme version part words.now).reaction) }
     ensures err { OnErr result (state.new ≡ state.old) }
 {
     let Call::Sync {
@@ -149,14 +158,16 @@ fn go_on(
     alloc: Global,
     state: &mut ClientState,
     scheme: Scheme,
-    known: &Known,
+    known: &ServerInfo,
     version: u64,
     part: u32,
 ) -> Reaction
     requires known { IsKnown known.now }
     requires part { part < 2 ^ 31 }
-    ensures state { state.new ≡ (more_parts scheme known.now state.old version part state.old.parts).state }
-    ensures reaction { result ≡ (more_parts scheme known.now state.old version part state.old.parts).reaction }
+    ensures state { state.new ≡
+        (more_parts scheme known.now state.old version part state.old.parts).state }
+    ensures reaction { result ≡
+        (more_parts scheme known.now state.old version part state.old.parts).reaction }
 {
     if state.parts.len() != hint_len(scheme, &known.layout, known.dimension) {
         let part = part + 1;
@@ -187,7 +198,7 @@ fn go_on(
 fn read_answer<K: Kernel>(
     alloc: Global,
     kernel: K,
-    known: &Known,
+    known: &ServerInfo,
     hint: &Hint,
     seed: &[u8; 32],
     number: u64,
@@ -196,13 +207,17 @@ fn read_answer<K: Kernel>(
     words: &[u32],
 ) -> Result<Event, AllocError>
     requires known { IsKnown known.now }
-    requires rows { hint.now.matrix.rows ≡ rows_of_hint hint.now.scheme known.now.layout known.now.dimension }
+    requires rows { hint.now.matrix.rows ≡
+        rows_of_hint hint.now.scheme known.now.layout known.now.dimension }
     requires cols { hint.now.matrix.cols ≡ known.now.dimension }
     requires number { number < 2 ^ 62 }
     requires record { index < known.now.layout.count }
-    requires words { length words.now ≡ words_of_answer hint.now.scheme known.now.layout known.now.dimension }
+    requires words { length words.now ≡
+        words_of_answer hint.now.scheme known.now.layout known.now.dimension }
     ensures { IfOk result (λ e. e ≡ event_of index version
-        (record_of known.now.layout (reading hint.now.scheme known.now.layout hint.now.matrix seed.now number index words.now))) }
+        (record_of known.now.layout
+            (reading hint.now.scheme known.now.layout hint.now.matrix seed.now number index
+            words.now))) }
 {
     match recover(
         alloc,
@@ -235,8 +250,10 @@ pub(crate) fn take_answer<K: Kernel>(
     words: &Words,
 ) -> Result<Reaction, AllocError>
     requires { IsState state.old }
-    ensures state { OnOk result (state.new ≡ (takes_answer state.old.call state.old scheme version words.now).state) }
-    ensures reaction { IfOk result (λ r. r ≡ (takes_answer state.old.call state.old scheme version words.now).reaction) }
+    ensures state { OnOk result (state.new ≡
+        (takes_answer state.old.call state.old scheme version words.now).state) }
+    ensures reaction { IfOk result
+        (λ r. r ≡ (takes_answer state.old.call state.old scheme version words.now).reaction) }
     ensures err { OnErr result (state.new ≡ state.old) }
 {
     let Call::Ask {
@@ -289,21 +306,22 @@ pub(crate) fn take_stale(
         Call::Ask { version, .. } => (version, false),
         _ => return fails(state, ClientFault::BadReply),
     };
-    let Some(told) = told_of(&state.known, asked, version, count) else {
+    let Some(reported) = reported_of(&state.known, asked, version, count) else {
         return fails(state, ClientFault::BadReply);
     };
     if in_sync {
         state.parts = Parts::none(alloc);
     }
-    state.known = Some(told);
+    state.known = Some(reported);
     ends(state, Event::Stale(version))
 }
 
 // What is known after Stale, where it may name this version and count.
-fn told_of(known: &Option<Known>, asked: u64, version: u64, count: u32) -> Option<Known>
+fn reported_of(known: &Option<ServerInfo>, asked: u64, version: u64, count: u32) -> Option<ServerInfo>
     ensures { (after c : ClientState) → MatchOption result
         (staled known.now after c asked version count ≡ faulty c ClientFault.BadReply)
-        (λ k. staled known.now after c asked version count ≡ ended (record after { known = Some k }) (Event.Stale version)) }
+        (λ k. staled known.now after c asked version count ≡
+            ended (record after { known = Some k }) (Event.Stale version)) }
 {
     let Some(known) = known else {
         return None;
@@ -313,7 +331,7 @@ fn told_of(known: &Option<Known>, asked: u64, version: u64, count: u32) -> Optio
     if version == asked || version == 0 {
         return None;
     }
-    Some(Known {
+    Some(ServerInfo {
         version,
         layout,
         dimension: known.dimension,

@@ -10,7 +10,7 @@ use thiserror::Error;
 /// What the server told of its store: the last version known, the layout with that version's count of
 /// records, the dimension n of the public matrix and the seed of its words.
 #[derive(Clone, Copy, Debug, PartialEq, Eq)]
-pub struct Known {
+pub struct ServerInfo {
     pub version: u64,
     pub layout: Layout,
     pub dimension: usize,
@@ -61,7 +61,7 @@ pub enum Call {
 pub struct ClientState {
     pub seed: [u8; 32],
     pub number: u64,
-    pub known: Option<Known>,
+    pub known: Option<ServerInfo>,
     pub hint: Option<Hint>,
     pub parts: Parts,
     pub call: Call,
@@ -145,6 +145,6 @@ pub enum Reaction {
         version: u64,
         part: u32,
     },
-    Tells(Event),
+    Reports(Event),
     Fails(ClientFault),
 }

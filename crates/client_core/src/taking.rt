@@ -1,12 +1,14 @@
 //! Replies taken one after another.
 
-ghost use Rattle.std.specs.Prelude.{◌≡◌, ◌++◌, ◌⊎◌, [], IfOk, OnOk, OnErr, true, false, length, None};
+ghost use Rattle.std.specs.Prelude.{◌≡◌, ◌++◌, ◌⊎◌, [], IfOk, OnOk, OnErr, true, false, length,
+    None};
 ghost use Rattle.std.specs.List.{flat_map, AllByRecursion};
 ghost use Rattle.frame_codec.specs.declared.frame.Frame.{Frame};
-ghost use Rattle.frame_codec.specs.Frames.{IsFrame, spelling};
+ghost use Rattle.frame_codec.specs.Frames.{IsFrame, encoding};
 ghost use Rattle.client_core.specs.States.{IsState, Keeps};
-ghost use Rattle.client_core.specs.Replies.{takes};
-ghost use Rattle.client_core.specs.Feeding.{sends_of, events_of, fault_of, takes_all, ends_with, codec_fault, Follows, BreaksOff};
+ghost use Rattle.client_core.specs.Replies.{reaction_to_reply};
+ghost use Rattle.client_core.specs.Feeding.{sends_of, events_of, fault_of, takes_all, ends_with,
+    codec_fault, Follows, BreaksOff};
 
 use crate::replies::{
     Sizes, take_answer, take_done, take_other, take_part, take_refused, take_stale, take_welcome,
@@ -24,8 +26,8 @@ fn take_frame<K: Kernel>(
     frame: &Frame,
 ) -> Result<Reaction, AllocError>
     requires { IsState state.old }
-    ensures state { OnOk result (state.new ≡ (takes state.old frame.now).state) }
-    ensures reaction { IfOk result (λ r. r ≡ (takes state.old frame.now).reaction) }
+    ensures state { OnOk result (state.new ≡ (reaction_to_reply state.old frame.now).state) }
+    ensures reaction { IfOk result (λ r. r ≡ (reaction_to_reply state.old frame.now).reaction) }
     ensures err { OnErr result (state.new ≡ state.old) }
 {
     match frame {
@@ -75,9 +77,10 @@ fn react(
     events: &mut Vec<Event>,
 ) -> Result<Option<ClientFault>, AllocError>
     ensures fault { IfOk result (λ f. f ≡ fault_of reaction) }
-    ensures written { OnOk result (out.new.items ≡ out.old.items ++ flat_map spelling (sends_of reaction)) }
+    ensures written { OnOk result (out.new.items ≡ out.old.items ++ flat_map encoding
+        (sends_of reaction)) }
     ensures each { OnOk result (AllByRecursion IsFrame (sends_of reaction)) }
-    ensures told { OnOk result (events.new.items ≡ events.old.items ++ events_of reaction) }
+    ensures reported { OnOk result (events.new.items ≡ events.old.items ++ events_of reaction) }
     ensures unwritten { OnErr result (out.new.items ≡ out.old.items) }
     ensures untold { OnErr result (events.new.items ≡ events.old.items) }
 {
@@ -95,7 +98,7 @@ fn react(
             write_frame(&frame, out)?;
             Ok(None)
         }
-        Reaction::Tells(event) => match events.push(event) {
+        Reaction::Reports(event) => match events.push(event) {
             Ok(()) => Ok(None),
             Err(_) => Err(AllocError),
         },
@@ -114,11 +117,15 @@ fn take_one<K: Kernel>(
     events: &mut Vec<Event>,
 ) -> Result<Option<ClientFault>, AllocError>
     requires { IsState state.old }
-    ensures fault { IfOk result (λ f. f ≡ fault_of (takes state.old frame.now).reaction) }
-    ensures state { OnOk result (state.new ≡ (takes state.old frame.now).state) }
-    ensures written { OnOk result (out.new.items ≡ out.old.items ++ flat_map spelling (sends_of (takes state.old frame.now).reaction)) }
-    ensures each { OnOk result (AllByRecursion IsFrame (sends_of (takes state.old frame.now).reaction)) }
-    ensures told { OnOk result (events.new.items ≡ events.old.items ++ events_of (takes state.old frame.now).reaction) }
+    ensures fault { IfOk result
+        (λ f. f ≡ fault_of (reaction_to_reply state.old frame.now).reaction) }
+    ensures state { OnOk result (state.new ≡ (reaction_to_reply state.old frame.now).state) }
+    ensures written { OnOk result (out.new.items ≡ out.old.items ++ flat_map encoding
+        (sends_of (reaction_to_reply state.old frame.now).reaction)) }
+    ensures each { OnOk result
+        (AllByRecursion IsFrame (sends_of (reaction_to_reply state.old frame.now).reaction)) }
+    ensures reported { OnOk result (events.new.items ≡ events.old.items ++ events_of
+        (reaction_to_reply state.old frame.now).reaction) }
     ensures unwritten { OnErr result (out.new.items ≡ out.old.items) }
     ensures untold { OnErr result (events.new.items ≡ events.old.items) }
     ensures keeps { Keeps state.old state.new }
@@ -127,7 +134,7 @@ fn take_one<K: Kernel>(
     react(reaction, out, events)
 }
 
-// Takes replies up to a bad one or to want of memory, and answers the fault.
+// Takes replies up to a bad one or to refused memory, and answers the fault.
 fn take_frames<K: Kernel>(
     alloc: Global,
     kernel: K,
@@ -138,8 +145,9 @@ fn take_frames<K: Kernel>(
 ) -> Option<ClientFault>
     requires good { IsState state.old }
     requires none_written { out.old.items ≡ [] }
-    requires none_told { events.old.items ≡ [] }
-    ensures takes { Follows (takes_all state.old frames.now) out.new.items events.new.items result state.new
+    requires none_reported { events.old.items ≡ [] }
+    ensures reaction_to_reply { Follows
+        (takes_all state.old frames.now) out.new.items events.new.items result state.new
         ⊎ BreaksOff state.old frames.now out.new.items events.new.items result state.new }
     ensures keeps { IsState state.new }
 {
@@ -156,8 +164,8 @@ fn take_frames<K: Kernel>(
     None
 }
 
-// The fault behind all frames of a piece, by what the codec answered.
-fn fault_behind(answer: Result<(), ReadFault>) -> Option<ClientFault>
+// The fault after all frames of a piece, by what the codec answered.
+fn fault_after(answer: Result<(), ReadFault>) -> Option<ClientFault>
     ensures { result ≡ codec_fault answer }
 {
     match answer {
@@ -167,7 +175,7 @@ fn fault_behind(answer: Result<(), ReadFault>) -> Option<ClientFault>
     }
 }
 
-/// Takes the frames of a piece, behind which the codec answered `answer`. Adds the bytes to send and the
+/// Takes the frames of a piece, after which the codec answered `answer`. Adds the bytes to send and the
 /// events, and answers the fault.
 pub(crate) fn take_piece<K: Kernel>(
     alloc: Global,
@@ -180,8 +188,10 @@ pub(crate) fn take_piece<K: Kernel>(
 ) -> Option<ClientFault>
     requires good { IsState state.old }
     requires none_written { out.old.items ≡ [] }
-    requires none_told { events.old.items ≡ [] }
-    ensures takes { Follows (ends_with (takes_all state.old frames.now) answer) out.new.items events.new.items result state.new
+    requires none_reported { events.old.items ≡ [] }
+    ensures reaction_to_reply { Follows
+        (ends_with (takes_all state.old frames.now) answer) out.new.items events.new.items result
+        state.new
         ⊎ BreaksOff state.old frames.now out.new.items events.new.items result state.new }
     ensures keeps { IsState state.new }
 {
@@ -189,9 +199,9 @@ pub(crate) fn take_piece<K: Kernel>(
     if fault.is_some() {
         return fault;
     }
-    let behind = fault_behind(answer);
-    if behind.is_some() {
+    let beyond = fault_after(answer);
+    if beyond.is_some() {
         state.failed = true;
     }
-    behind
+    beyond
 }

@@ -52,7 +52,7 @@ const ONE_RECORD: Store = Store {
     dimension: 1,
 };
 
-fn spell(rt: &(impl Abort + AllocGlobal), frame: Frame) -> Result<Vec<u8>, Fail> {
+fn encode(rt: &(impl Abort + AllocGlobal), frame: Frame) -> Result<Vec<u8>, Fail> {
     let mut out = Vec::new(rt.alloc());
     assert!(rt; frame.payload_len() <= 16_777_216);
     write_frame(&frame, &mut out)?;
@@ -60,7 +60,7 @@ fn spell(rt: &(impl Abort + AllocGlobal), frame: Frame) -> Result<Vec<u8>, Fail>
 }
 
 fn welcome(rt: &(impl Abort + AllocGlobal), store: Store) -> Result<Vec<u8>, Fail> {
-    spell(
+    encode(
         rt,
         Frame::Welcome {
             profile: store.profile,
@@ -83,7 +83,7 @@ fn part(
     words: &[u32],
 ) -> Result<Vec<u8>, Fail> {
     let words = Words::new(words.to_vec(rt.alloc())?);
-    spell(
+    encode(
         rt,
         Frame::HintPart {
             scheme,
@@ -101,7 +101,7 @@ fn answer(
     words: &[u32],
 ) -> Result<Vec<u8>, Fail> {
     let words = Words::new(words.to_vec(rt.alloc())?);
-    spell(
+    encode(
         rt,
         Frame::Answer {
             scheme,
@@ -112,15 +112,15 @@ fn answer(
 }
 
 fn stale(rt: &(impl Abort + AllocGlobal), version: u64, count: u32) -> Result<Vec<u8>, Fail> {
-    spell(rt, Frame::Stale { version, count })
+    encode(rt, Frame::Stale { version, count })
 }
 
 fn done(rt: &(impl Abort + AllocGlobal), version: u64) -> Result<Vec<u8>, Fail> {
-    spell(rt, Frame::Done { version })
+    encode(rt, Frame::Done { version })
 }
 
 fn refused(rt: &(impl Abort + AllocGlobal), code: u8) -> Result<Vec<u8>, Fail> {
-    spell(rt, Frame::Refused { code })
+    encode(rt, Frame::Refused { code })
 }
 
 fn add_event(alloc: Global, text: &mut String, event: &Event) -> Result<(), Fail> {
@@ -149,8 +149,8 @@ fn add_event(alloc: Global, text: &mut String, event: &Event) -> Result<(), Fail
     Ok(())
 }
 
-/// What came of a piece: each event and then the fault, with a space behind each.
-fn told(rt: &impl AllocGlobal, fed: &Fed) -> Result<String, Fail> {
+/// What came of a piece: each event and then the fault, with a space after each.
+fn reported(rt: &impl AllocGlobal, fed: &Fed) -> Result<String, Fail> {
     let mut text = String::new(rt.alloc());
     for event in fed.events.as_slice() {
         add_event(rt.alloc(), &mut text, event)?;
@@ -168,7 +168,7 @@ fn told(rt: &impl AllocGlobal, fed: &Fed) -> Result<String, Fail> {
 /// A call of a client.
 #[derive(Clone, Copy)]
 enum Wanted {
-    /// With this first byte of the key, and zeros behind it.
+    /// With this first byte of the key, and zeros after it.
     Hello(u8),
     Sync(Scheme),
     Ask(u32),
@@ -206,12 +206,12 @@ fn sends(
     client: &mut ClientCore<Plain>,
     wanted: Wanted,
     len: usize,
-    front: &[u8],
+    prefix: &[u8],
 ) -> Result<(), Fail> {
     let sent = call(client, wanted)?;
     assert_eq!(rt; sent.len(), len);
-    assert!(rt; front.len() <= sent.len());
-    assert_eq!(rt; &sent[..front.len()], front);
+    assert!(rt; prefix.len() <= sent.len());
+    assert_eq!(rt; &sent[..prefix.len()], prefix);
     Ok(())
 }
 
@@ -235,7 +235,7 @@ fn asks_on(
     sent: &[u8],
 ) -> Result<(), Fail> {
     let fed = client.feed(piece);
-    assert_eq!(rt; told(rt, &fed)?.as_str(), wanted);
+    assert_eq!(rt; reported(rt, &fed)?.as_str(), wanted);
     assert_eq!(rt; fed.out.as_slice(), sent);
     Ok(())
 }

@@ -8,7 +8,7 @@ use Rattle.command_words.specs.declared.failure.Failure.TheVariants.{Refused, St
 use Rattle.command_words.specs.declared.bad_line.BadLine.{BadLine}
 use Rattle.command_words.specs.declared.bad_line.BadLine.TheVariants as line
 
--- 1 for what the server said, 3 for a fault, 4 for want of memory
+-- 1 for what the server said, 3 for a fault, 4 for lack of memory
 abbrev pub status_of : Failure → ℕ
 status_of (Refused code) = 1
 status_of (Stale version) = 1
@@ -20,8 +20,8 @@ status_of Memory = 4
 abbrev pub AsksForHelp : ErrorKind → Type 0
 AsksForHelp kind = (kind ≡ DisplayHelp) ⊎ (kind ≡ DisplayVersion)
 
--- 0 where help was asked for, 2 for a bad command line, 4 for want of memory
-abbrev pub Tells : BadLine → ℕ → Type 0
-Tells (line.Form e) status = ((status ≡ 0) × AsksForHelp (kind_of e)) ⊎ ((status ≡ 2) × (AsksForHelp (kind_of e) → ⊥))
-Tells (line.Value takes) status = status ≡ 2
-Tells line.Memory status = status ≡ 4
+-- 0 where help was asked for, 2 for a bad command line, 4 for lack of memory
+abbrev pub Reports : BadLine → ℕ → Type 0
+Reports (line.Form e) status = ((status ≡ 0) × AsksForHelp (kind_of e)) ⊎ ((status ≡ 2) × (AsksForHelp (kind_of e) → ⊥))
+Reports (line.Value takes) status = status ≡ 2
+Reports line.Memory status = status ≡ 4

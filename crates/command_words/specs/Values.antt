@@ -18,9 +18,9 @@ IsNoNumber most None = Unit {0}
 IsNoNumber most (Some text) = IsNumeral 10 text → digits_value 10 text ≤ most → ⊥
 
 -- no text was given, or it isn't 64 hex digits
-abbrev pub IsNoThirtyTwo : Option (List ℕ) → Type 0
-IsNoThirtyTwo None = Unit {0}
-IsNoThirtyTwo (Some text) = length text ≡ 64 → AllPass is_hex_digit text → ⊥
+abbrev pub IsNoBytes32 : Option (List ℕ) → Type 0
+IsNoBytes32 None = Unit {0}
+IsNoBytes32 (Some text) = length text ≡ 64 → AllPass is_hex_digit text → ⊥
 
 -- no text was given, or it isn't 64 hex digits that are not all 0
 abbrev pub IsNoKey : Option (List ℕ) → Type 0

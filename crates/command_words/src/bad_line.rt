@@ -3,7 +3,7 @@
 ghost use Rattle.std.specs.Prelude.{◌≡◌, ◌⊎◌};
 ghost use Rattle.clap.specs.Values.{kind_of};
 ghost use Rattle.clap.specs.declared.error.kind.ErrorKind.TheVariants.{OutOfMemory};
-ghost use Rattle.command_words.specs.Statuses.{Tells};
+ghost use Rattle.command_words.specs.Statuses.{Reports};
 
 use clap::Error;
 use clap::error::ErrorKind;
@@ -23,7 +23,8 @@ pub enum BadLine {
 impl From<Error> for BadLine {
     ghost use Rattle.command_words.specs.declared.bad_line.BadLine.{BadLine};
 
-    ghost from_gives = { λ error bad. (bad ≡ BadLine.Form error) ⊎ ((bad ≡ BadLine.Memory) × (kind_of error ≡ OutOfMemory)) };
+    ghost from_gives = { λ error bad. (bad ≡ BadLine.Form error) ⊎
+        ((bad ≡ BadLine.Memory) × (kind_of error ≡ OutOfMemory)) };
 
     fn from(error: Error) -> BadLine {
         if error.kind() == ErrorKind::OutOfMemory {
@@ -55,9 +56,9 @@ impl<T: Drop> From<AllocFailed<T>> for BadLine {
 
 impl BadLine {
     /// Prints what is to be said, and answers the exit status: 0 for help, 2 for a bad command line and 4 for
-    /// want of memory.
-    pub fn tell<R: Print + Eprint>(&self, rt: &R) -> u8
-        ensures { Tells self.now result }
+    /// refused memory.
+    pub fn report<R: Print + Eprint>(&self, rt: &R) -> u8
+        ensures { Reports self.now result }
     {
         match self {
             BadLine::Form(error) => {

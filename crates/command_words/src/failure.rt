@@ -26,7 +26,7 @@ pub enum Failure {
 }
 
 impl Failure {
-    /// The exit status that tells it: 1 for what the server said, 3 for a fault, 4 for want of memory.
+    /// The exit status that tells it: 1 for what the server said, 3 for a fault, 4 for lack of memory.
     pub fn status(self) -> u8
         ensures { result ≡ status_of self }
     {

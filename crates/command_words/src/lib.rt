@@ -8,8 +8,8 @@ mod words;
 
 pub use bad_line::BadLine;
 pub use failure::Failure;
-pub use options::{key_at, number_at, option, text_at, thirty_two_at, word};
-pub use words::{decimal, key_of, record_bytes, thirty_two};
+pub use options::{key_at, number_at, option, text_at, bytes32_at, word};
+pub use words::{decimal, publisher_key, record_bytes, bytes32_from_hex};
 
 #[cfg(test)]
 mod tests;

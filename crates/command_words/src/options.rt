@@ -1,14 +1,15 @@
 //! Options and words of a command, and their values.
 
-ghost use Rattle.std.specs.Prelude.{◌≡◌, ◌≢◌, ◌≤◌, true, None, Some, replicate, Ok, IfOk, IfErr, MatchOption};
+ghost use Rattle.std.specs.Prelude.{◌≡◌, ◌≢◌, ◌≤◌, true, None, Some, replicate, Ok, IfOk, IfErr,
+    MatchOption};
 ghost use Rattle.std.specs.Str.Parse.{IsNumeral, digits_value};
 ghost use Rattle.clap.specs.declared.builder.action.ArgAction.{ArgAction};
 ghost use Rattle.clap.specs.Matches.{first_value, found_of};
 ghost use Rattle.hex.specs.Hex.{decode_of};
-ghost use Rattle.command_words.specs.Values.{IsNoNumber, IsNoThirtyTwo, IsNoKey};
+ghost use Rattle.command_words.specs.Values.{IsNoNumber, IsNoBytes32, IsNoKey};
 
 use crate::bad_line::BadLine;
-use crate::words::{decimal, key_of, thirty_two};
+use crate::words::{decimal, publisher_key, bytes32_from_hex};
 use clap::{Arg, ArgAction, ArgMatches};
 use std::alloc::Global;
 
@@ -51,8 +52,10 @@ pub fn text_at<'a>(
     name: &str,
     takes: &'static str,
 ) -> Result<&'a str, BadLine>
-    ensures found { IfOk result (λ text. first_value (found_of found.now) name.now ≡ Some text.now) }
-    ensures missing { IfErr result (λ bad. (bad ≡ BadLine.Value takes.entry) × (first_value (found_of found.now) name.now ≡ None)) }
+    ensures found { IfOk result (λ text. first_value (found_of found.now) name.now ≡
+        Some text.now) }
+    ensures missing { IfErr result (λ bad. (bad ≡ BadLine.Value takes.entry) ×
+        (first_value (found_of found.now) name.now ≡ None)) }
 {
     match found.get_str(name) {
         Some(text) => Ok(text),
@@ -72,8 +75,10 @@ pub fn number_at(
     takes: &'static str,
 ) -> Result<u64, BadLine>
     ensures most { IfOk result (λ n. n ≤ most) }
-    ensures value { IfOk result (λ n. MatchOption (first_value (found_of found.now) name.now) ⊥ (λ text. IsNumeral 10 text × (digits_value 10 text ≡ n))) }
-    ensures refused { IfErr result (λ bad. (bad ≡ BadLine.Value takes.entry) × IsNoNumber most (first_value (found_of found.now) name.now)) }
+    ensures value { IfOk result (λ n. MatchOption (first_value (found_of found.now) name.now) ⊥
+        (λ text. IsNumeral 10 text × (digits_value 10 text ≡ n))) }
+    ensures refused { IfErr result (λ bad. (bad ≡ BadLine.Value takes.entry) ×
+        IsNoNumber most (first_value (found_of found.now) name.now)) }
 {
     match decimal(text_at(found, name, takes)?) {
         Some(number) if number <= most => Ok(number),
@@ -86,15 +91,18 @@ pub fn number_at(
 /// # Errors
 ///
 /// `Value`, with what it takes, where none were given, and where they are not 64 hex digits.
-pub fn thirty_two_at(
+pub fn bytes32_at(
     found: &ArgMatches<'_>,
     name: &str,
     takes: &'static str,
 ) -> Result<[u8; 32], BadLine>
-    ensures value { IfOk result (λ bytes. MatchOption (first_value (found_of found.now) name.now) ⊥ (λ text. decode_of text ≡ Ok bytes)) }
-    ensures refused { IfErr result (λ bad. (bad ≡ BadLine.Value takes.entry) × IsNoThirtyTwo (first_value (found_of found.now) name.now)) }
+    ensures value { IfOk result
+        (λ bytes. MatchOption (first_value (found_of found.now) name.now) ⊥
+        (λ text. decode_of text ≡ Ok bytes)) }
+    ensures refused { IfErr result (λ bad. (bad ≡ BadLine.Value takes.entry) ×
+        IsNoBytes32 (first_value (found_of found.now) name.now)) }
 {
-    match thirty_two(text_at(found, name, takes)?) {
+    match bytes32_from_hex(text_at(found, name, takes)?) {
         Some(bytes) => Ok(bytes),
         None => Err(BadLine::Value(takes)),
     }
@@ -104,13 +112,15 @@ pub fn thirty_two_at(
 ///
 /// # Errors
 ///
-/// As those of [`thirty_two_at`], and where all bytes are zero.
+/// As those of [`bytes32_at`], and where all bytes are zero.
 pub fn key_at(found: &ArgMatches<'_>, name: &str, takes: &'static str) -> Result<[u8; 32], BadLine>
-    ensures value { IfOk result (λ key. MatchOption (first_value (found_of found.now) name.now) ⊥ (λ text. decode_of text ≡ Ok key)) }
+    ensures value { IfOk result (λ key. MatchOption (first_value (found_of found.now) name.now) ⊥
+        (λ text. decode_of text ≡ Ok key)) }
     ensures not_zero { IfOk result (λ key. key ≢ replicate 32 0) }
-    ensures refused { IfErr result (λ bad. (bad ≡ BadLine.Value takes.entry) × IsNoKey (first_value (found_of found.now) name.now)) }
+    ensures refused { IfErr result (λ bad. (bad ≡ BadLine.Value takes.entry) ×
+        IsNoKey (first_value (found_of found.now) name.now)) }
 {
-    match key_of(text_at(found, name, takes)?) {
+    match publisher_key(text_at(found, name, takes)?) {
         Some(key) => Ok(key),
         None => Err(BadLine::Value(takes)),
     }

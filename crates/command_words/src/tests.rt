@@ -1,6 +1,6 @@
 //! Words that are taken and refused, and the lines of failures.
 
-use crate::{Failure, decimal, key_of, record_bytes, thirty_two};
+use crate::{Failure, decimal, publisher_key, record_bytes, bytes32_from_hex};
 use std::alloc::Global;
 use std::process::Abort;
 use std::test::Fail;
@@ -38,13 +38,13 @@ fn numbers_are_digits_alone(rt: HostRuntime) {
 
 #[test]
 fn seeds_and_keys_are_64_digits(rt: HostRuntime) {
-    assert_eq!(rt; thirty_two(ZEROS), Some([0; 32]));
-    assert_eq!(rt; thirty_two(ONES), Some([1; 32]));
-    assert_eq!(rt; key_of(ONES), Some([1; 32]));
-    assert_eq!(rt; key_of(ZEROS), None);
+    assert_eq!(rt; bytes32_from_hex(ZEROS), Some([0; 32]));
+    assert_eq!(rt; bytes32_from_hex(ONES), Some([1; 32]));
+    assert_eq!(rt; publisher_key(ONES), Some([1; 32]));
+    assert_eq!(rt; publisher_key(ZEROS), None);
     let mixed = "abCDef0101010101010101010101010101010101010101010101010101010101";
     assert_eq!(rt;
-        key_of(mixed).map(|key| [key[0], key[1], key[2]]),
+        publisher_key(mixed).map(|key| [key[0], key[1], key[2]]),
         Some([0xab, 0xcd, 0xef])
     );
     for text in [
@@ -52,8 +52,8 @@ fn seeds_and_keys_are_64_digits(rt: HostRuntime) {
         "01",
         "0101010101010101010101010101010101010101010101010101010101010g01",
     ] {
-        assert_eq!(rt; thirty_two(text), None, "{text}");
-        assert_eq!(rt; key_of(text), None, "{text}");
+        assert_eq!(rt; bytes32_from_hex(text), None, "{text}");
+        assert_eq!(rt; publisher_key(text), None, "{text}");
     }
 }
 

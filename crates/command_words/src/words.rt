@@ -1,6 +1,7 @@
 //! Words as values.
 
-ghost use Rattle.std.specs.Prelude.{◌≡◌, ◌≢◌, ◌↔◌, ◌<◌, ◌≤◌, ◌^◌, ◌*◌, length, replicate, SomeIff, IsSome, IfSome, MatchOption, IfOk, Ok};
+ghost use Rattle.std.specs.Prelude.{◌≡◌, ◌≢◌, ◌↔◌, ◌<◌, ◌≤◌, ◌^◌, ◌*◌, length, replicate, SomeIff,
+    IsSome, IfSome, MatchOption, IfOk, Ok};
 ghost use Rattle.std.specs.List.{AllPass};
 ghost use Rattle.std.specs.Str.Parse.{IsNumeral, digits_value};
 ghost use Rattle.hex.specs.Hex.{decode_of, is_hex_digit};
@@ -14,7 +15,8 @@ const MAX_RECORD_BYTES: usize = 65_535;
 
 /// A number of decimal digits alone: no sign, but leading zeros are as good as none.
 pub fn decimal(text: &str) -> Option<u64>
-    ensures { SomeIff result (IsNumeral 10 text.now × (digits_value 10 text.now < 2 ^ 64)) (digits_value 10 text.now) }
+    ensures { SomeIff result (IsNumeral 10 text.now × (digits_value 10 text.now < 2 ^ 64))
+        (digits_value 10 text.now) }
 {
     // `parse` would take it.
     if text.starts_with('+') {
@@ -24,7 +26,7 @@ pub fn decimal(text: &str) -> Option<u64>
 }
 
 /// 32 bytes as 64 hex digits of either case.
-pub fn thirty_two(text: &str) -> Option<[u8; 32]>
+pub fn bytes32_from_hex(text: &str) -> Option<[u8; 32]>
     ensures value { IfSome result (λ bytes. decode_of text.now ≡ Ok bytes) }
     ensures found { IsSome result ↔ ((length text.now ≡ 64) × AllPass is_hex_digit text.now) }
 {
@@ -32,21 +34,23 @@ pub fn thirty_two(text: &str) -> Option<[u8; 32]>
 }
 
 /// A publisher's key: 32 bytes that are not all zero.
-pub fn key_of(text: &str) -> Option<[u8; 32]>
+pub fn publisher_key(text: &str) -> Option<[u8; 32]>
     ensures value { IfSome result (λ key. decode_of text.now ≡ Ok key) }
     ensures not_zero { IfSome result (λ key. key ≢ replicate 32 0) }
-    ensures found { IsSome result ↔ ((length text.now ≡ 64) × AllPass is_hex_digit text.now × (decode_of text.now ≢ Ok (replicate 32 0))) }
+    ensures found { IsSome result ↔ ((length text.now ≡ 64) × AllPass is_hex_digit text.now ×
+        (decode_of text.now ≢ Ok (replicate 32 0))) }
 {
-    let key = thirty_two(text)?;
+    let key = bytes32_from_hex(text)?;
     if key == [0; 32] {
         return None;
     }
     Some(key)
 }
 
-/// 1 to 65,535 bytes as two hex digits each. Only want of memory gives an `Err`.
+/// 1 to 65,535 bytes as two hex digits each. Only refused memory gives an `Err`.
 pub fn record_bytes(alloc: Global, text: &str) -> Result<Option<Vec<u8>>, AllocError>
-    ensures { IfOk result (λ found. MatchOption found (IsNoRecord text.now) (λ bytes. (decode_of text.now ≡ Ok bytes.items) × IsRecordLen (length bytes.items))) }
+    ensures { IfOk result (λ found. MatchOption found (IsNoRecord text.now)
+        (λ bytes. (decode_of text.now ≡ Ok bytes.items) × IsRecordLen (length bytes.items))) }
 {
     let bytes = match hex::decode(alloc, text) {
         Ok(bytes) => bytes,

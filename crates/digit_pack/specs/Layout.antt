@@ -40,7 +40,7 @@ first_row l i = i % l.groups * digits_per_record l
 abbrev pub record_at : List (List ℕ) → ℕ → List ℕ
 record_at records i = slice_index_or records i []
 
--- the records that bytes spell one after another
+-- the records that bytes encode one after another
 abbrev pub records_in : Shape → List ℕ → List (List ℕ)
 records_in l bytes = list_of l.count (λ i. take l.record_len (drop (i * l.record_len) bytes))
 

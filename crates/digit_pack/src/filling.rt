@@ -24,7 +24,8 @@ pub fn write_record(layout: &Layout, bytes: &mut [u8], i: usize, written: &[u8])
     requires count { length bytes.old ≡ layout.now.count * layout.now.record_len }
     requires index { i < layout.now.count }
     requires len { length written.now ≡ layout.now.record_len }
-    ensures { records_in layout.now bytes.new ≡ slice_set (records_in layout.now bytes.old) i written.now }
+    ensures { records_in layout.now bytes.new ≡
+        slice_set (records_in layout.now bytes.old) i written.now }
 {
     let len = layout.record_len();
     bytes[i * len..i * len + len].copy_from_slice(written);
@@ -43,7 +44,7 @@ pub fn write_digits<S: DigitStore>(digits: &mut S, first: usize, col: usize, wri
     }
 }
 
-/// The digit matrix of records that stand one after another in `bytes`, kept in a store. Only want of memory
+/// The digit matrix of records that stand one after another in `bytes`, kept in a store. Only refused memory
 /// gives an `Err`.
 pub fn digits_of_records<S: DigitStore + Drop>(
     alloc: Global,
@@ -51,7 +52,8 @@ pub fn digits_of_records<S: DigitStore + Drop>(
     bytes: &[u8],
 ) -> Result<S, AllocError>
     requires { length bytes.now ≡ layout.now.count * layout.now.record_len }
-    ensures { IfOk result (λ store. S.digits store ≡ digit_matrix layout.now (records_in layout.now bytes.now)) }
+    ensures { IfOk result (λ store. S.digits store ≡ digit_matrix layout.now
+        (records_in layout.now bytes.now)) }
 {
     let Ok(mut store) = S::zeros(alloc, layout.rows(), layout.cols()) else {
         return Err(AllocError);

@@ -1,6 +1,7 @@
 //! Where the digits of records stand.
 
-ghost use Rattle.std.specs.Prelude.{◌≡◌, ◌+◌, ◌*◌, ◌/◌, ◌%◌, ◌^◌, ◌<◌, ◌≤◌, IfOk, IfErr, MatchResult, length, slice_index, All};
+ghost use Rattle.std.specs.Prelude.{◌≡◌, ◌+◌, ◌*◌, ◌/◌, ◌%◌, ◌^◌, ◌<◌, ◌≤◌, IfOk, IfErr,
+    MatchResult, length, slice_index, All};
 ghost use Rattle.lane_kernels.specs.Digit.{digit};
 ghost use Rattle.digit_pack.specs.Digits.{number_of};
 ghost use Rattle.digit_pack.specs.Layout.{
@@ -68,11 +69,15 @@ impl Model for Layout {
 
     ghost Value = { Shape };
 
-    ghost view = { λ l. record { width = l.width; record_len = l.record_len; groups = l.groups; count = l.count } };
+    ghost view = { λ l. record { width = l.width; record_len = l.record_len; groups = l.groups;
+        count = l.count } };
 
-    ghost inverse = { λ s. record { width = s.width; record_len = s.record_len; groups = s.groups; count = s.count } };
+    ghost inverse = { λ s.
+        record { width = s.width; record_len = s.record_len; groups = s.groups; count = s.count } };
 
-    ghost invariant = { λ l. IsLayout (record { width = l.width; record_len = l.record_len; groups = l.groups; count = l.count }) };
+    ghost invariant = { λ l.
+        IsLayout (record { width = l.width; record_len = l.record_len; groups = l.groups; count =
+        l.count }) };
 }
 
 impl Layout {
@@ -85,7 +90,8 @@ impl Layout {
         groups: usize,
         count: usize,
     ) -> Result<Layout, LayoutError>
-        ensures accepted { IfOk result (λ l. (l ≡ shape width record_len groups count) × IsLayout l) }
+        ensures accepted { IfOk result (λ l. (l ≡ shape width record_len groups count) ×
+            IsLayout l) }
         ensures refused { IfErr result (IsLayoutFault (shape width record_len groups count)) }
     {
         if width < 6 || width > 10 {
@@ -213,7 +219,7 @@ fn digit_window(w: u32, digits: &[u32], first: usize) -> u32
     low + (middle << w) + (high << (w * 2))
 }
 
-/// Writes the bytes of the record that digits write into `out`. `BadDigits` exactly where they set a bit
+/// Writes the bytes of the record that digits write into `out`. `BadDigits` exactly when they set a bit
 /// past the record's last byte; `out` is then unchanged.
 pub fn unpack(layout: &Layout, digits: &[u32], out: &mut [u8]) -> Result<(), BadDigits>
     requires digits { length digits.now ≡ digits_per_record layout.now }

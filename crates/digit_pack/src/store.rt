@@ -1,7 +1,8 @@
 //! Stores of digits.
 
 ghost use Rattle.std.specs.Prelude.{◌≡◌, ◌<◌, ◌≤◌, ◌*◌, ◌⊎◌, IfOk, IfErr, length};
-ghost use Rattle.matrix_u32.specs.Matrix.{WordMatrix, IsWhole, entry, times_vector, with_entry, zero_matrix};
+ghost use Rattle.matrix_u32.specs.Matrix.{WordMatrix, IsWhole, entry, times_vector, with_entry,
+    zero_matrix};
 
 use matrix_u32::{Kernel, Matrix, MatrixError};
 use std::alloc::Global;
@@ -13,10 +14,11 @@ pub trait DigitStore: Sized {
     /// The matrix, however it is kept.
     ghost digits: { Self → WordMatrix };
 
-    /// Digits that are all 0. `TooLarge` exactly where there would be more than 33,554,432 of them; else the
+    /// Digits that are all 0. `TooLarge` exactly when there would be more than 33,554,432 of them; else the
     /// digits, or `Memory`.
     fn zeros(alloc: Global, rows: usize, cols: usize) -> Result<Self, MatrixError>
-        ensures zeros { IfOk result (λ s. (digits s ≡ zero_matrix rows cols) × (rows * cols ≤ 33554432)) }
+        ensures zeros { IfOk result (λ s. (digits s ≡ zero_matrix rows cols) ×
+            (rows * cols ≤ 33554432)) }
         ensures refused { IfErr result (λ e.
             ((e ≡ MatrixError.TooLarge) × (33554432 < rows * cols))
             ⊎ ((e ≡ MatrixError.Memory) × (rows * cols ≤ 33554432))) };

@@ -67,7 +67,7 @@ fn faults_are_printed(rt: HostRuntime) -> Result<(), Fail> {
 }
 
 #[test]
-fn a_layout_tells_its_sizes_and_places(rt: HostRuntime) -> Result<(), Fail> {
+fn a_layout_reports_its_sizes_and_places(rt: HostRuntime) -> Result<(), Fail> {
     let layout = Layout::new(6, 2, 4, 10)?;
     assert_eq!(rt; layout.width(), 6);
     assert_eq!(rt; layout.record_len(), 2);

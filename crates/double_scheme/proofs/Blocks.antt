@@ -1,4 +1,4 @@
--- Lists of equal blocks after a front.
+-- Lists of equal blocks after a prefix.
 use Rattle.std.proofs.Common.{◌≡◌, ℕ, zero, suc, ◌+◌, ◌*◌, ◌<◌, arith, ap, ◌∙◌, sym, List, ◌++◌, length, take, drop}
 use Rattle.std.proofs.lemmas.List.{take_at, drop_at, drop-drop, length-append}
 use Rattle.std.specs.Prelude.{flat_map}
@@ -18,12 +18,12 @@ blocks f b a (suc count) (suc d) e h =
     ∙ ap (λ l. take b (drop (d * b) l)) (drop_at (f a) (flat_map f (range_with_len (a + 1) count)) b (e a))
     ∙ blocks f b (a + 1) count d e (omega arith))
 
--- block d after a front
-pub block_after : (front : List ℕ) (f : ℕ → List ℕ) (n b count d : ℕ) → length front ≡ n → ((k : ℕ) → length (f k) ≡ b) → d < count →
-    take b (drop (n + d * b) (front ++ flat_map f (range_with_len 0 count))) ≡ f d
-block_after front f n b count d l e h =
-    ap (take b) (sym (drop-drop (d * b) n (front ++ flat_map f (range_with_len 0 count))))
-    ∙ ap (λ l. take b (drop (d * b) l)) (drop_at front (flat_map f (range_with_len 0 count)) n l)
+-- block d after a prefix
+pub block_after : (prefix : List ℕ) (f : ℕ → List ℕ) (n b count d : ℕ) → length prefix ≡ n → ((k : ℕ) → length (f k) ≡ b) → d < count →
+    take b (drop (n + d * b) (prefix ++ flat_map f (range_with_len 0 count))) ≡ f d
+block_after prefix f n b count d l e h =
+    ap (take b) (sym (drop-drop (d * b) n (prefix ++ flat_map f (range_with_len 0 count))))
+    ∙ ap (λ l. take b (drop (d * b) l)) (drop_at prefix (flat_map f (range_with_len 0 count)) n l)
     ∙ blocks f b 0 count d e h ∙ ap f (omega arith)
 
 -- how long the blocks are together

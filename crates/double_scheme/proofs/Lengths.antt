@@ -10,11 +10,11 @@ use Rattle.digit_pack.specs.Layout.{Shape, digit_rows, digit_cols, digits_per_re
 use Rattle.double_scheme.specs.Double.{first_query_of, part_query_of, query_of, query_words, first_answer_of, part_answer_of, part_of_query, answer_of, answer_words, words_of_part}
 use Rattle.double_scheme.proofs.Blocks.{length-blocks}
 
--- blocks of one length after a front
-after_front : (front : List ℕ) (f : ℕ → List ℕ) (n b count : ℕ) → length front ≡ n → ((k : ℕ) → length (f k) ≡ b) →
-    length (front ++ flat_map f (range_with_len 0 count)) ≡ n + count * b
-after_front front f n b count l e =
-    length-append front (flat_map f (range_with_len 0 count))
+-- blocks of one length after a prefix
+after_prefix : (prefix : List ℕ) (f : ℕ → List ℕ) (n b count : ℕ) → length prefix ≡ n → ((k : ℕ) → length (f k) ≡ b) →
+    length (prefix ++ flat_map f (range_with_len 0 count)) ≡ n + count * b
+after_prefix prefix f n b count l e =
+    length-append prefix (flat_map f (range_with_len 0 count))
     ∙ ap (λ k. k + length (flat_map f (range_with_len 0 count))) l
     ∙ ap (λ k. n + k) (length-blocks f b 0 count e)
 
@@ -22,7 +22,7 @@ pub length-query_of : (l : Shape) (a1 a2 : WordMatrix) (seed : List ℕ) (number
     length (query_of l a1 a2 seed number i) ≡ query_words l
 unfolding query_of
 length-query_of l a1 a2 seed number i rows1 rows2 =
-    after_front (first_query_of l a1 seed number i) (part_query_of l a2 seed number i) (digit_cols l) (digit_rows l) (digits_per_record l)
+    after_prefix (first_query_of l a1 seed number i) (part_query_of l a2 seed number i) (digit_cols l) (digit_rows l) (digits_per_record l)
     (length-list_of a1.rows _ ∙ rows1) (λ k. length-list_of a2.rows _ ∙ rows2)
 
 length-part : (w n : ℕ) (hint first : WordMatrix) (c : List ℕ) → hint.rows ≡ n * split_count w → first.rows ≡ split_count w →
@@ -41,7 +41,7 @@ unfolding answer_of
 length-answer_of l digits hint a2 words e =
     let first = first_answer_of l.width digits (take (digit_cols l) words) in
     let one : first.rows ≡ split_count l.width = mul_one (split_count l.width) in
-    after_front (product first a2).words (λ d. part_answer_of hint first (part_of_query l words d)) (a2.cols * split_count l.width) (words_of_part l.width a2.cols) (digits_per_record l)
+    after_prefix (product first a2).words (λ d. part_answer_of hint first (part_of_query l words d)) (a2.cols * split_count l.width) (words_of_part l.width a2.cols) (digits_per_record l)
     (length-hint l.width first a2 one) (λ k. length-part l.width a2.cols hint first (part_of_query l words k) e one)
   where
     mul_one : (n : ℕ) → 1 * n ≡ n

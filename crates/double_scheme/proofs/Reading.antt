@@ -22,11 +22,11 @@ unfolding reading
 length-reading l hint seed number answer = length-list_of (digits_per_record l) (digit_read l hint seed number answer)
 
 -- what was read from part d is the reading's digit d
-pub part_is : (l : Shape) (hint : WordMatrix) (seed : List ℕ) (number : ℕ) (answer : List ℕ) (d w front size v : ℕ) (h : WordMatrix) (s1 s2 part : List ℕ) →
-    w ≡ l.width → front ≡ hint.cols * split_count l.width → size ≡ words_of_part l.width hint.cols → h ≡ answer_hint w hint.cols answer →
-    s1 ≡ secret seed number hint.cols → s2 ≡ part_secret seed number hint.cols d → part ≡ take size (drop (front + d * size) answer) →
+pub part_is : (l : Shape) (hint : WordMatrix) (seed : List ℕ) (number : ℕ) (answer : List ℕ) (d w prefix size v : ℕ) (h : WordMatrix) (s1 s2 part : List ℕ) →
+    w ≡ l.width → prefix ≡ hint.cols * split_count l.width → size ≡ words_of_part l.width hint.cols → h ≡ answer_hint w hint.cols answer →
+    s1 ≡ secret seed number hint.cols → s2 ≡ part_secret seed number hint.cols d → part ≡ take size (drop (prefix + d * size) answer) →
     v ≡ part_read w hint.cols hint h s1 s2 part → v ≡ digit_read l hint seed number answer d
-part_is l hint seed number answer d w front size v h s1 s2 part ew ef es eh e1 e2 ep e =
+part_is l hint seed number answer d w prefix size v h s1 s2 part ew ef es eh e1 e2 ep e =
     let n : ℕ = hint.cols in
     let k : ℕ = n * split_count l.width in
     let words : part ≡ answer_part l.width n answer d =

@@ -24,9 +24,9 @@ module _ (l : Shape) (records : List (List ℕ)) (a1 a2 : WordMatrix) (seed : Li
   length-first_query = length-list_of a1.rows _ ∙ rows1
 
   -- a query's words are its first query and its parts
-  front : take (digit_cols l) (query_of l a1 a2 seed number i) ≡ first_query_of l a1 seed number i
+  prefix : take (digit_cols l) (query_of l a1 a2 seed number i) ≡ first_query_of l a1 seed number i
   unfolding query_of
-  front = take_at (first_query_of l a1 seed number i) _ (digit_cols l) length-first_query
+  prefix = take_at (first_query_of l a1 seed number i) _ (digit_cols l) length-first_query
 
   part : (d : ℕ) → d < digits_per_record l → part_of_query l (query_of l a1 a2 seed number i) d ≡ part_query_of l a2 seed number i d
   unfolding query_of
@@ -36,7 +36,7 @@ module _ (l : Shape) (records : List (List ℕ)) (a1 a2 : WordMatrix) (seed : Li
 
   -- the first answer to a query's words is that to its first query
   first_answer : first_answer_of l.width (digit_matrix l records) (take (digit_cols l) (query_of l a1 a2 seed number i)) ≡ first_answer_of l.width (digit_matrix l records) (first_query_of l a1 seed number i)
-  first_answer = ap (first_answer_of l.width (digit_matrix l records)) front
+  first_answer = ap (first_answer_of l.width (digit_matrix l records)) prefix
 
   length-hint_words : (f : WordMatrix) → f.rows ≡ split_count l.width → length (product f a2).words ≡ a2.cols * split_count l.width
   length-hint_words f e = length-list_of (f.rows * a2.cols) _ ∙ ap (λ k. k * a2.cols) e ∙ mul_comm (split_count l.width) a2.cols
@@ -49,10 +49,10 @@ module _ (l : Shape) (records : List (List ℕ)) (a1 a2 : WordMatrix) (seed : Li
       ∙ ap (λ k. k + length (times_vector f c)) (one ∙ ap (λ n. n * split_count l.width) (sym cols)) ∙ ap (λ k. a2.cols * split_count l.width + k) two
 
   -- an answer's words are the first answer's hint and its parts
-  answer_front : take (a2.cols * split_count l.width) (answer_of l (digit_matrix l records) (server_hint_of l.width (digit_matrix l records) a1) a2 (query_of l a1 a2 seed number i))
+  answer_prefix : take (a2.cols * split_count l.width) (answer_of l (digit_matrix l records) (server_hint_of l.width (digit_matrix l records) a1) a2 (query_of l a1 a2 seed number i))
       ≡ (product (first_answer_of l.width (digit_matrix l records) (first_query_of l a1 seed number i)) a2).words
   unfolding answer_of
-  answer_front =
+  answer_prefix =
       let first = first_answer_of l.width (digit_matrix l records) (take (digit_cols l) (query_of l a1 a2 seed number i)) in
       take_at (product first a2).words _ (a2.cols * split_count l.width) (length-hint_words first (omega arith))
       ∙ ap (λ f. (product f a2).words) first_answer
@@ -75,10 +75,10 @@ module _ (l : Shape) (records : List (List ℕ)) (a1 a2 : WordMatrix) (seed : Li
   length-answer =
       length-answer_of l (digit_matrix l records) (server_hint_of l.width (digit_matrix l records) a1) a2 (query_of l a1 a2 seed number i) (ap (λ n. n * split_count l.width) (sym cols))
 
-  -- the rows of the front of an answer are the rows of the first answer's hint
+  -- the rows of the prefix of an answer are the rows of the first answer's hint
   hint_row : (k : ℕ) → row (answer_hint l.width a2.cols (answer_of l (digit_matrix l records) (server_hint_of l.width (digit_matrix l records) a1) a2 (query_of l a1 a2 seed number i))) k
       ≡ row (product (first_answer_of l.width (digit_matrix l records) (first_query_of l a1 seed number i)) a2) k
-  hint_row k = ap (λ ws. list_of a2.cols (λ j. slice_index ws (k * a2.cols + j))) answer_front
+  hint_row k = ap (λ ws. list_of a2.cols (λ j. slice_index ws (k * a2.cols + j))) answer_prefix
 
   -- what a quiet part gives: the words of its row
   pub part_gives : QuietMatrixRowGivesItsEntry → SplitJoins → DigitsAreSmall → DecomposedStandsBelow → RecordStandsInside → IsShape l → i < l.count → IsQuietDouble l records a1 seed number i →

@@ -40,7 +40,7 @@ first_answer_of w digits c = decomposed w (product (one_row c) (transpose digits
 abbrev pub query_words : Shape → ℕ
 query_words l = digit_cols l + digits_per_record l * digit_rows l
 
--- the front of the query for record i: the encryption of its column
+-- the prefix of the query for record i: the encryption of its column
 abbrev pub first_query_of : Shape → WordMatrix → List ℕ → ℕ → ℕ → List ℕ
 first_query_of l a1 seed number i = cipher l.width a1 (secret seed number a1.cols) (query_noise seed number a1.rows) (column_of l i)
 

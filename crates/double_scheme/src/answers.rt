@@ -3,7 +3,8 @@
 ghost use Rattle.std.specs.Prelude.{◌≡◌, ◌+◌, ◌*◌, ◌≤◌, IfOk, length, take, drop};
 ghost use Rattle.lane_kernels.specs.Digit.{split_count};
 ghost use Rattle.digit_pack.specs.Layout.{digit_rows, digit_cols};
-ghost use Rattle.double_scheme.specs.Double.{first_answer_of, part_answer_of, query_words, answer_words, answer_of};
+ghost use Rattle.double_scheme.specs.Double.{first_answer_of, part_answer_of, query_words,
+    answer_words, answer_of};
 
 use crate::hints::decompose;
 use crate::queries::append;
@@ -22,7 +23,8 @@ fn first_answer<K: Kernel, S: DigitStore + Drop>(
     requires width { (6 ≤ w) × (w ≤ 10) }
     requires words { length words.now ≡ (S.digits digits.now).cols }
     requires rows { (S.digits digits.now).rows ≤ 4096 }
-    ensures { IfOk result (λ first. S.digits first ≡ first_answer_of w (S.digits digits.now) words.now) }
+    ensures { IfOk result (λ first. S.digits first ≡
+        first_answer_of w (S.digits digits.now) words.now) }
 {
     let rows = digits.rows();
     let column = simple_scheme::answer(alloc, kernel, digits, words)?;
@@ -44,7 +46,8 @@ fn part_answer<K: Kernel, S: DigitStore>(
 ) -> Result<Vec<u32>, AllocError>
     requires server { length part.now ≡ (S.digits server_hint.now).cols }
     requires first { length part.now ≡ (S.digits first.now).cols }
-    ensures { IfOk result (λ v. v.items ≡ part_answer_of (S.digits server_hint.now) (S.digits first.now) part.now) }
+    ensures { IfOk result (λ v. v.items ≡ part_answer_of (S.digits server_hint.now)
+        (S.digits first.now) part.now) }
 {
     let mut out = simple_scheme::answer(alloc, kernel, server_hint, part)?;
     let more = simple_scheme::answer(alloc, kernel, first, part)?;
@@ -80,7 +83,8 @@ pub fn answer<K: Kernel, S: DigitStore + Drop>(
     requires words { length words.now ≡ query_words layout.now }
     requires rows { (S.digits digits.now).rows ≡ digit_rows layout.now }
     requires cols { (S.digits digits.now).cols ≡ digit_cols layout.now }
-    requires server_rows { (S.digits server_hint.now).rows ≡ a2.now.cols * split_count layout.now.width }
+    requires server_rows { (S.digits server_hint.now).rows ≡
+        a2.now.cols * split_count layout.now.width }
     requires server_cols { (S.digits server_hint.now).cols ≡ digit_rows layout.now }
     requires second_rows { a2.now.rows ≡ digit_rows layout.now }
     requires second_cols { a2.now.cols ≤ 1024 }
@@ -90,8 +94,8 @@ pub fn answer<K: Kernel, S: DigitStore + Drop>(
 {
     let cols = layout.cols();
     let rows = layout.rows();
-    let front = part_of(words, 0, cols);
-    let first: S = first_answer(alloc, kernel, digits, layout.width(), front)?;
+    let prefix = part_of(words, 0, cols);
+    let first: S = first_answer(alloc, kernel, digits, layout.width(), prefix)?;
     let hint = simple_scheme::setup(alloc, kernel, &first, a2)?;
     let mut out = hint.words().to_vec(alloc)?;
     for d in 0..layout.digits_per_record() {

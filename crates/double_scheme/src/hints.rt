@@ -41,8 +41,10 @@ pub(crate) fn decompose<S: DigitStore + Drop>(
 fn decompose_row<S: DigitStore>(store: &mut S, a: &Matrix, w: u32, r: usize)
     requires width { (6 ≤ w) × (w ≤ 10) }
     requires row { r < a.now.cols * split_count w }
-    requires before { IsFilled (a.now.cols * split_count w) a.now.rows (r * a.now.rows + 0) (decomposed_at w (transpose a.now)) (S.digits store.old) }
-    ensures { IsFilled (a.now.cols * split_count w) a.now.rows ((r + 1) * a.now.rows + 0) (decomposed_at w (transpose a.now)) (S.digits store.new) }
+    requires before { IsFilled (a.now.cols * split_count w) a.now.rows (r * a.now.rows + 0)
+        (decomposed_at w (transpose a.now)) (S.digits store.old) }
+    ensures { IsFilled (a.now.cols * split_count w) a.now.rows ((r + 1) * a.now.rows + 0)
+        (decomposed_at w (transpose a.now)) (S.digits store.new) }
 {
     let count = split_count(w);
     for j in 0..a.rows() {
@@ -69,13 +71,17 @@ pub fn setup<K: Kernel, S: DigitStore + Drop>(
     requires cols { a2.now.cols ≡ hint.now.cols }
     requires row_limit { hint.now.rows ≤ 4096 }
     requires col_limit { hint.now.cols ≤ 1024 }
-    ensures server { IfOk result (λ hints. (digits a1 : WordMatrix) → a1.rows ≡ digits.cols → hint.now ≡ hint_of digits a1 →
+    ensures server { IfOk result (λ hints. (digits a1 : WordMatrix) → a1.rows ≡ digits.cols →
+        hint.now ≡ hint_of digits a1 →
         S.digits hints.0 ≡ server_hint_of w digits a1) }
-    ensures read_across { IfOk result (λ hints. S.digits hints.0 ≡ decomposed w (transpose hint.now)) }
+    ensures read_across { IfOk result (λ hints. S.digits hints.0 ≡
+        decomposed w (transpose hint.now)) }
     ensures client { IfOk result (λ hints. hints.1 ≡ client_hint_of (S.digits hints.0) a2.now) }
     ensures server_sizes { IfOk result (λ hints.
-        ((S.digits hints.0).rows ≡ a2.now.cols * split_count w) × ((S.digits hints.0).cols ≡ hint.now.rows)) }
-    ensures client_sizes { IfOk result (λ hints. (hints.1.rows ≡ a2.now.cols * split_count w) × (hints.1.cols ≡ a2.now.cols)) }
+        ((S.digits hints.0).rows ≡ a2.now.cols * split_count w) ×
+            ((S.digits hints.0).cols ≡ hint.now.rows)) }
+    ensures client_sizes { IfOk result (λ hints. (hints.1.rows ≡ a2.now.cols * split_count w) ×
+        (hints.1.cols ≡ a2.now.cols)) }
 {
     matrix_u32::laws::product_transposes();
     let server: S = decompose(alloc, hint, w)?;

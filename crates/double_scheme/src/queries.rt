@@ -11,7 +11,7 @@ use seed_expand::stream_words;
 use simple_scheme::noise_words;
 use std::alloc::{AllocError, Global};
 
-// Puts words behind others.
+// Puts words after others.
 pub(crate) fn append(out: &mut Vec<u32>, more: &[u32]) -> Result<(), AllocError>
     ensures { IfOk result (λ _. out.new.items ≡ out.old.items ++ more.now) }
 {
@@ -38,7 +38,8 @@ fn part_query<K: Kernel>(
     requires rows { a2.now.rows ≤ 4096 }
     requires cols { a2.now.cols ≤ 1024 }
     ensures { IfOk result (λ v. v.items ≡
-        cipher w a2.now (part_secret seed.now number a2.now.cols d) (part_noise seed.now number a2.now.rows d) place) }
+        cipher w a2.now (part_secret seed.now number a2.now.cols d)
+            (part_noise seed.now number a2.now.rows d) place) }
 {
     let n = a2.cols();
     let rows = a2.rows();
@@ -68,7 +69,8 @@ pub fn query<K: Kernel>(
     requires second_rows { a2.now.rows ≡ digit_rows layout.now }
     requires second_cols { a2.now.cols ≤ 1024 }
     requires record { i < layout.now.count }
-    ensures words { IfOk result (λ v. v.items ≡ query_of layout.now a1.now a2.now seed.now number i) }
+    ensures words { IfOk result (λ v. v.items ≡
+        query_of layout.now a1.now a2.now seed.now number i) }
     ensures count { IfOk result (λ v. length v.items ≡ query_words layout.now) }
 {
     let w = layout.width();

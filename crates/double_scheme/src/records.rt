@@ -1,10 +1,12 @@
 //! How an answer is read.
 
-ghost use Rattle.std.specs.Prelude.{◌≡◌, ◌+◌, ◌*◌, ◌^◌, ◌<◌, ◌≤◌, ◌↔◌, IfOk, IsTrue, All, length, drop};
+ghost use Rattle.std.specs.Prelude.{◌≡◌, ◌+◌, ◌*◌, ◌^◌, ◌<◌, ◌≤◌, ◌↔◌, IfOk, IsTrue, All, length,
+    drop};
 ghost use Rattle.matrix_u32.specs.Sum.{list_of};
 ghost use Rattle.lane_kernels.specs.Digit.{split_count};
 ghost use Rattle.digit_pack.specs.Layout.{digits_per_record};
-ghost use Rattle.double_scheme.specs.Double.{words_of_part, answer_words, answer_hint, second_word, part_read, digit_read, reading};
+ghost use Rattle.double_scheme.specs.Double.{words_of_part, answer_words, answer_hint, second_word,
+    part_read, digit_read, reading};
 ghost use Rattle.double_scheme.specs.Recovery.{ReadsRecord, GivesQuietRecord};
 
 use crate::answers::part_of;
@@ -88,12 +90,13 @@ fn read_part<K: Kernel>(
     requires part_words { length part_secret.now ≡ client_hint.now.cols }
     requires part { length part.now ≡ words_of_part w client_hint.now.cols }
     ensures { IfOk result (λ digit. digit ≡
-        part_read w client_hint.now.cols client_hint.now first_hint.now first_secret.now part_secret.now part.now) }
+        part_read w client_hint.now.cols client_hint.now first_hint.now first_secret.now
+            part_secret.now part.now) }
 {
-    let front = client_hint.rows();
+    let prefix = client_hint.rows();
     let mut digits = vec![in alloc; 0; split_count(w)]?;
     let mut row = vec![in alloc; 0; client_hint.cols()]?;
-    let row_words = part_of(part, 0, front);
+    let row_words = part_of(part, 0, prefix);
     read_words(
         kernel,
         w,
@@ -103,13 +106,13 @@ fn read_part<K: Kernel>(
         &mut digits,
         &mut row,
     );
-    let rest = rest_of(part, front);
+    let rest = rest_of(part, prefix);
     let word = read_word(kernel, w, first_hint, part_secret, rest, 0, &mut digits);
     let stripped = regev_core::strip(kernel, word, &row, first_secret);
     Ok(regev_core::round(stripped, w))
 }
 
-// The front of an answer: the hint of the first answer.
+// The prefix of an answer: the hint of the first answer.
 fn first_hint(alloc: Global, w: u32, n: usize, answer: &[u32]) -> Result<Matrix, AllocError>
     requires width { (6 ≤ w) × (w ≤ 10) }
     requires cols { n ≤ 1024 }
@@ -140,17 +143,18 @@ fn read_parts<K: Kernel>(
     requires cols { client_hint.now.cols ≤ 1024 }
     requires words { length answer.now ≡ answer_words layout.now client_hint.now.cols }
     requires room { length out.old ≡ digits_per_record layout.now }
-    ensures { IfOk result (λ _. out.new ≡ reading layout.now client_hint.now seed.now number answer.now) }
+    ensures { IfOk result (λ _. out.new ≡
+        reading layout.now client_hint.now seed.now number answer.now) }
 {
     let w = layout.width();
     let n = client_hint.cols();
-    let front = client_hint.rows();
-    let count = front + split_count(w);
+    let prefix = client_hint.rows();
+    let count = prefix + split_count(w);
     let hint = first_hint(alloc, w, n, answer)?;
     let s = stream_words(alloc, seed, 4 * number, 0, n)?;
     for d in 0..out.len() {
         let part_s = stream_words(alloc, seed, 4 * number + 2, (d * n) as u64, n)?;
-        let part = part_of(answer, front + d * count, count);
+        let part = part_of(answer, prefix + d * count, count);
         out[d] = read_part(alloc, kernel, w, client_hint, &hint, &s, &part_s, part)?;
     }
     Ok(())
@@ -196,9 +200,9 @@ fn is_whole(layout: &Layout, client_hint: &Matrix, answer: &[u32]) -> bool
     requires cols { client_hint.now.cols ≤ 1024 }
     ensures { IsTrue result ↔ (length answer.now ≡ answer_words layout.now client_hint.now.cols) }
 {
-    let front = client_hint.rows();
-    let part = front + split_count(layout.width());
-    answer.len() == front + layout.digits_per_record() * part
+    let prefix = client_hint.rows();
+    let part = prefix + split_count(layout.width());
+    answer.len() == prefix + layout.digits_per_record() * part
 }
 
 // The record that an answer reads as.
@@ -232,8 +236,8 @@ fn read_record<K: Kernel>(
 /// the retrieval. The hint has κ rows to a column, κ being the digits of a word, and at most 1024 columns.
 /// Which record was asked for stands in the query alone: the reading is the same for every i.
 ///
-/// `BadLength` exactly where the answer hasn't κ n + K κ (n + 1) words, for a hint of n columns and records
-/// of K digits; else `Memory`, or the bytes that the answer's reading writes, `BadDigits` exactly where the
+/// `BadLength` exactly when the answer hasn't κ n + K κ (n + 1) words, for a hint of n columns and records
+/// of K digits; else `Memory`, or the bytes that the answer's reading writes, `BadDigits` exactly when the
 /// digits read set a bit past the record's last byte. Where the hint and the answer are those of some
 /// records and the retrieval is quiet in both layers, it is the record.
 pub fn recover<K: Kernel>(
@@ -251,7 +255,8 @@ pub fn recover<K: Kernel>(
     requires cols { client_hint.now.cols ≤ 1024 }
     requires record { i < layout.now.count }
     ensures reading { ReadsRecord layout.now client_hint.now seed.now number answer.now result }
-    ensures quiet { GivesQuietRecord layout.now client_hint.now seed.now number i answer.now result }
+    ensures quiet { GivesQuietRecord layout.now client_hint.now seed.now number i answer.now result
+        }
 {
     laws::quiet_retrieval_reads_the_record();
     digit_pack::laws::pack_unpacks();

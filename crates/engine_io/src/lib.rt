@@ -27,7 +27,8 @@ pub struct ReadFailed;
 /// At `Ok` the writer has gained the bytes, after an error a part of them from their start on.
 pub fn write_out<W: Write>(writer: &mut W, bytes: &[u8]) -> Result<(), WriteFailed>
     ensures all { OnOk result (Appends (W.contents writer.old) (W.contents writer.new) bytes.now) }
-    ensures front { OnErr result ((n : ℕ) × (n < length bytes.now) × Appends (W.contents writer.old) (W.contents writer.new) (take n bytes.now)) }
+    ensures prefix { OnErr result ((n : ℕ) × (n < length bytes.now) ×
+        Appends (W.contents writer.old) (W.contents writer.new) (take n bytes.now)) }
 {
     let mut at = 0;
     while at < bytes.len() {
@@ -46,10 +47,11 @@ pub fn piece_buffer(alloc: Global) -> Result<Vec<u8>, AllocError>
     Vec::from_elem(alloc, 0u8, PIECE_LEN)
 }
 
-/// Reads a piece into the front of the buffer, and answers how many bytes it has. 0 is the end.
+/// Reads a piece into the beginning of the buffer, and answers how many bytes it has. 0 is the end.
 pub fn read_piece<R: Read>(reader: &mut R, buffer: &mut Vec<u8>) -> Result<usize, ReadFailed>
     requires { 0 < length buffer.old.items }
-    ensures piece { IfOk result (λ n. Consumes (R.remaining reader.old) (R.remaining reader.new) (take n buffer.new.items)) }
+    ensures piece { IfOk result (λ n. Consumes (R.remaining reader.old) (R.remaining reader.new)
+        (take n buffer.new.items)) }
     ensures within { IfOk result (λ n. n ≤ length buffer.new.items) }
     ensures end { IfOk result (λ n. n ≡ 0 → IsAtEnd (R.remaining reader.new)) }
     ensures kept { OnErr result (Keeps (R.remaining reader.old) (R.remaining reader.new)) }

@@ -51,7 +51,7 @@ fn all_is_written(rt: HostRuntime) -> Result<(), Fail> {
 }
 
 #[test]
-fn a_front_is_written_where_no_more_is_taken(rt: HostRuntime) -> Result<(), Fail> {
+fn a_prefix_is_written_where_no_more_is_taken(rt: HostRuntime) -> Result<(), Fail> {
     let mut writer = Narrow {
         bytes: Vec::new(rt.alloc()),
         most: 2,

@@ -4,10 +4,10 @@ use Rattle.std.specs.List.{flat_map, AllByRecursion}
 use Rattle.frame_codec.specs.declared.frame.Frame.{Frame}
 use Rattle.frame_codec.specs.declared.reader.ReadFault.{ReadFault}
 use Rattle.frame_codec.specs.declared.reader.ReadFault.TheVariants.{TooLong, UnknownKind, BadPayload, Memory, Failed}
-use Rattle.frame_codec.specs.Frames.{spelling, IsFrame}
+use Rattle.frame_codec.specs.Frames.{encoding, IsFrame}
 use Rattle.frame_codec.specs.Streams.{HasFrame, HasFault, StopsAt, Begins, Feeds, is_kind, kind_at}
 use Rattle.frame_codec.specs.Laws.{OneFault, FeedsDecide, FeedsBegin, FeedsAgree}
-use Rattle.frame_codec.proofs.Unique.{one_spelling, one_front, one_reading, fault_of_frame, regroup}
+use Rattle.frame_codec.proofs.Unique.{one_encoding, one_prefix, one_reading, fault_of_frame, regroup}
 
 -- ---- faults
 
@@ -33,11 +33,11 @@ one_fault BadPayload Failed bytes a b = absurd b
 one_fault Memory other bytes a b = absurd a
 one_fault Failed other bytes a b = absurd a
 
--- an answer that isn't want of memory
+-- an answer that isn't refused memory
 abbrev IsClear : Result (Unit {0}) ReadFault → Type 0
 IsClear answer = answer ≢ Err Memory
 
--- what stops a reader is a fault of the bytes or want of memory
+-- what stops a reader is a fault of the bytes or refused memory
 fault_stands : (fault : ReadFault) (bytes : List ℕ) → IsClear (Err fault) → StopsAt fault bytes → HasFault fault bytes
 fault_stands TooLong bytes clear h = h
 fault_stands UnknownKind bytes clear h = h
@@ -47,7 +47,7 @@ fault_stands Failed bytes clear h = h
 
 -- ---- where memory isn't refused
 
--- what is left where a piece's frames end has no frame at its front
+-- what is left where a piece's frames end has no frame at its prefix
 ends_without : (old : List ℕ) (piece : List ℕ) (answer : Result (Unit {0}) ReadFault) (frames : List Frame) (new : Option (List ℕ)) → Feeds (Some old) piece answer frames new → answer ≢ Err Memory
     → (rest : List ℕ) × Begins (old ++ piece) frames rest × (HasFrame rest → ⊥)
 ends_without old piece (Ok done) frames new f clear = (f.0, f.1.begins, f.1.partial.no_frame)
@@ -78,7 +78,7 @@ feeds_decide (Some old) piece (Err fault) (Err other) frames others new end f g 
 
 -- ---- where it may be refused
 
--- what stands in front of the end of a piece
+-- what stands before the end of a piece
 some_begin : (old piece : List ℕ) (answer : Result (Unit {0}) ReadFault) (frames : List Frame) (new : Option (List ℕ)) → Feeds (Some old) piece answer frames new → (rest : List ℕ) × Begins (old ++ piece) frames rest
 some_begin old piece (Ok done) frames new f = (f.0, f.1.begins)
 some_begin old piece (Err fault) frames new f = (f.0.0, f.0.1)
@@ -88,17 +88,17 @@ feeds_begin None piece answer other frames others new end f g clear = ([], rw (f
 feeds_begin (Some old) piece answer other frames others new end f g clear =
     let a = ends_without old piece answer frames new f clear in
     let b = some_begin old piece other others end g in
-    let m = one_front others frames b.0 a.0 b.1.each a.1.each (sym b.1.whole ∙ a.1.whole) a.2 in
+    let m = one_prefix others frames b.0 a.0 b.1.each a.1.each (sym b.1.whole ∙ a.1.whole) a.2 in
     (m.0, m.1)
 
 -- of two beginnings of one stream the shorter begins the other
-either_front : (fs gs : List Frame) (r s : List ℕ) → AllByRecursion IsFrame fs → AllByRecursion IsFrame gs → flat_map spelling fs ++ r ≡ flat_map spelling gs ++ s
+either_prefix : (fs gs : List Frame) (r s : List ℕ) → AllByRecursion IsFrame fs → AllByRecursion IsFrame gs → flat_map encoding fs ++ r ≡ flat_map encoding gs ++ s
     → ((more : List Frame) × (fs ≡ gs ++ more)) ⊎ ((more : List Frame) × (gs ≡ fs ++ more))
-either_front [] gs r s ff gg e = inr (gs, refl)
-either_front (f ∷ fs) [] r s ff gg e = inl (f ∷ fs, refl)
-either_front (f ∷ fs) (g ∷ gs) r s ff gg e =
-    let one = one_spelling f g (flat_map spelling fs ++ r) (flat_map spelling gs ++ s) ff.0 gg.0 (sym (regroup f fs r) ∙ e ∙ regroup g gs s) in
-    elim (either_front fs gs r s ff.1 gg.1 one.1) [
+either_prefix [] gs r s ff gg e = inr (gs, refl)
+either_prefix (f ∷ fs) [] r s ff gg e = inl (f ∷ fs, refl)
+either_prefix (f ∷ fs) (g ∷ gs) r s ff gg e =
+    let one = one_encoding f g (flat_map encoding fs ++ r) (flat_map encoding gs ++ s) ff.0 gg.0 (sym (regroup f fs r) ∙ e ∙ regroup g gs s) in
+    elim (either_prefix fs gs r s ff.1 gg.1 one.1) [
       | inl m ↦ inl (m.0, ap (λ (x : Frame). x ∷ fs) one.0 ∙ ap (λ (x : List Frame). g ∷ x) m.1)
       | inr m ↦ inr (m.0, ap (λ (x : Frame). x ∷ gs) (sym one.0) ∙ ap (λ (x : List Frame). f ∷ x) m.1)
     ]
@@ -108,4 +108,4 @@ feeds_agree None piece answer other frames others new end f g = inl ([], rw (f.1
 feeds_agree (Some old) piece answer other frames others new end f g =
     let a = some_begin old piece answer frames new f in
     let b = some_begin old piece other others end g in
-    either_front frames others a.0 b.0 a.1.each b.1.each (sym a.1.whole ∙ b.1.whole)
+    either_prefix frames others a.0 b.0 a.1.each b.1.each (sym a.1.whole ∙ b.1.whole)

@@ -1,7 +1,7 @@
 pub mod NumberBytes
 pub mod Payloads
 pub mod Feedings
-pub mod Fronts
+pub mod Prefixes
 pub mod Unique
 pub mod Runs
 pub mod Pieces

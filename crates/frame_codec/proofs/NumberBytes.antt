@@ -30,7 +30,7 @@ shifted_bytes : (j n x : ℕ) → bytes_low_first (suc j) n x ≡ bytes_low_firs
 shifted_bytes j zero x = refl
 shifted_bytes j (suc n) x = rw (shifted_byte j x, shifted_bytes (suc j) n x) refl
 
--- the bytes read are the number's only spelling
+-- the bytes read are the number's only encoding
 pub only_bytes : (n : ℕ) (bytes : List ℕ) → IsBytes bytes → n ≤ length bytes → little_bytes n (little_number n bytes) ≡ take n bytes
 only_bytes zero bytes fits le = refl
 only_bytes (suc n) [] fits le = absurd (omega arith)
@@ -64,10 +64,10 @@ pub length-number : (n x : ℕ) → length (number_bytes n x) ≡ n
 unfolding number_bytes
 length-number n x = length-bytes_low_first 0 n x
 
--- the number at the front, and then the other bytes
-pub front : (n : ℕ) (bytes : List ℕ) → IsBytes bytes → n ≤ length bytes → number_bytes n (number_in n bytes) ++ drop n bytes ≡ bytes
+-- the number at the beginning, and then the other bytes
+pub prefix : (n : ℕ) (bytes : List ℕ) → IsBytes bytes → n ≤ length bytes → number_bytes n (number_in n bytes) ++ drop n bytes ≡ bytes
 unfolding number_bytes number_in
-front n bytes fits le = ap (λ (x : List ℕ). x ++ drop n bytes) (only_bytes n bytes fits le) ∙ take-append-drop n bytes
+prefix n bytes fits le = ap (λ (x : List ℕ). x ++ drop n bytes) (only_bytes n bytes fits le) ∙ take-append-drop n bytes
 
 pub number_back : (n x : ℕ) (more : List ℕ) → x < 256 ^ n → number_in n (number_bytes n x ++ more) ≡ x
 unfolding number_bytes number_in
@@ -99,7 +99,7 @@ unfolding word_bytes
 length-words [] = refl
 length-words (w ∷ ws) = let ih : length (word_bytes ws) ≡ 4 * length ws = length-words ws in omega (arith, length-append (number_bytes 4 w) (word_bytes ws), length-number 4 w, ih)
 
--- the words that were read spell the bytes
+-- the words that were read encode the bytes
 pub words_read : (ws bytes : List ℕ) → IsBytes bytes → length bytes ≡ 4 * length ws → IsRead little_number 4 bytes ws → word_bytes ws ≡ bytes
 unfolding word_bytes number_in
 words_read [] [] fits len read = refl
@@ -108,25 +108,25 @@ words_read (w ∷ ws) bytes fits len read =
     let first : w ≡ number_in 4 bytes = read 0 (omega arith) in
     let shorter : length (drop 4 bytes) ≡ 4 * length ws = omega (arith, length-drop 4 bytes) in
     let rest : word_bytes ws ≡ drop 4 bytes = words_read ws (drop 4 bytes) (IsBytes-drop 4 bytes fits) shorter (λ k lt. next k lt) in
-    ap (λ (x : List ℕ). number_bytes 4 w ++ x) rest ∙ ap (λ (y : ℕ). number_bytes 4 y ++ drop 4 bytes) first ∙ front 4 bytes fits (omega arith)
+    ap (λ (x : List ℕ). number_bytes 4 w ++ x) rest ∙ ap (λ (y : ℕ). number_bytes 4 y ++ drop 4 bytes) first ∙ prefix 4 bytes fits (omega arith)
   where
     next : (k : ℕ) → k < length ws → slice_index ws k ≡ little_number 4 (drop (4 * k) (drop 4 bytes))
     next k lt =
         let place : 4 * suc k ≡ 4 + 4 * k = omega arith in
         read (suc k) (omega arith) ∙ ap (λ (n : ℕ). little_number 4 (drop n bytes)) place ∙ ap (little_number 4) (sym (drop-drop (4 * k) 4 bytes))
 
--- so many words from the front
+-- so many words from the beginning
 pub words_in : ℕ → List ℕ → List ℕ
 words_in zero bytes = []
 words_in (suc n) bytes = number_in 4 bytes ∷ words_in n (drop 4 bytes)
 
--- the words of as many bytes spell them
-pub words_spell : (n : ℕ) (bytes : List ℕ) → IsBytes bytes → length bytes ≡ 4 * n → word_bytes (words_in n bytes) ≡ bytes
+-- the words of as many bytes encode them
+pub words_encode : (n : ℕ) (bytes : List ℕ) → IsBytes bytes → length bytes ≡ 4 * n → word_bytes (words_in n bytes) ≡ bytes
 unfolding word_bytes words_in
-words_spell zero bytes fits len = sym (nil_from_length bytes len)
-words_spell (suc n) bytes fits len =
-    ap (λ (x : List ℕ). number_bytes 4 (number_in 4 bytes) ++ x) (words_spell n (drop 4 bytes) (IsBytes-drop 4 bytes fits) (omega (arith, length-drop 4 bytes)))
-    ∙ front 4 bytes fits (omega arith)
+words_encode zero bytes fits len = sym (nil_from_length bytes len)
+words_encode (suc n) bytes fits len =
+    ap (λ (x : List ℕ). number_bytes 4 (number_in 4 bytes) ++ x) (words_encode n (drop 4 bytes) (IsBytes-drop 4 bytes fits) (omega (arith, length-drop 4 bytes)))
+    ∙ prefix 4 bytes fits (omega arith)
 
 pub words_small : (n : ℕ) (bytes : List ℕ) → IsBytes bytes → length bytes ≡ 4 * n → All (λ w. w < 2 ^ 32) (words_in n bytes)
 unfolding words_in

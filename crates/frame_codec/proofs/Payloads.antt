@@ -7,7 +7,7 @@ use Rattle.frame_codec.specs.declared.frame.Frame.{Frame}
 use Rattle.frame_codec.specs.declared.frame.Frame.TheVariants.{Load, Hello, HintAsk, Query, Edit, Publish, Bye, Welcome, HintPart, Answer, Stale, Done, Refused}
 use Rattle.frame_codec.specs.Numbers.{number_bytes, number_in, word_bytes}
 use Rattle.frame_codec.specs.Frames.{kind_of, payload_of, HasFields, Stands, IsPayload, payload_size}
-use Rattle.frame_codec.proofs.NumberBytes.{IsBytes, IsBytes-drop, front, length-number, length-words, number_in-lt, words_in, words_spell, words_small}
+use Rattle.frame_codec.proofs.NumberBytes.{IsBytes, IsBytes-drop, prefix, length-number, length-words, number_in-lt, words_in, words_encode, words_small}
 
 -- the lengths that a kind's payload may have
 abbrev pub HasLength : ℕ → List ℕ → Type 0
@@ -67,16 +67,16 @@ no_stands k bytes bad f s = bad (rw (← s.kind, ← s.payload) (length-payload 
 
 -- ---- numbers in their places
 
--- a number at the front, where the others are known
+-- a number at the beginning, where the others are known
 pub number_first : (n : ℕ) (bytes : List ℕ) → IsBytes bytes → n ≤ length bytes → (x : ℕ) (more : List ℕ) → x ≡ number_in n bytes → more ≡ drop n bytes → number_bytes n x ++ more ≡ bytes
-number_first n bytes fits le x more e rest = rw (e, rest) (front n bytes fits le)
+number_first n bytes fits le x more e rest = rw (e, rest) (prefix n bytes fits le)
 
 -- a number that is all
 pub number_alone : (n : ℕ) (bytes : List ℕ) → IsBytes bytes → length bytes ≡ n → (x : ℕ) → x ≡ number_in n bytes → number_bytes n x ≡ bytes
 number_alone n bytes fits len x e =
     sym (append-nil (number_bytes n x)) ∙ number_first n bytes fits (omega arith) x [] e (sym (nil_from_length (drop n bytes) (omega (arith, length-drop n bytes))))
 
--- one byte at the front
+-- one byte at the beginning
 pub byte_first : (bytes : List ℕ) → 1 ≤ length bytes → get_or bytes 0 0 ∷ drop 1 bytes ≡ bytes
 byte_first [] le = absurd (omega arith)
 byte_first (b ∷ bytes) le = refl
@@ -134,7 +134,7 @@ pub record WelcomeFields (bytes : List ℕ) (profile record_len groups count ver
   pub dimension_is : dimension ≡ number_in 2 (drop 19 bytes)
   pub seed_is : seed ≡ drop 21 bytes
 
--- a number behind the first i bytes
+-- a number after the first i bytes
 number_at : (i n j : ℕ) (bytes : List ℕ) → IsBytes bytes → i + n ≡ j → j ≤ length bytes → (x : ℕ) (more : List ℕ) → x ≡ number_in n (drop i bytes) → more ≡ drop j bytes → number_bytes n x ++ more ≡ drop i bytes
 number_at i n j bytes fits place le x more e rest =
     number_first n (drop i bytes) (IsBytes-drop i bytes fits) (omega (arith, length-drop i bytes)) x more e (rest ∙ ap (λ (k : ℕ). drop k bytes) (sym place) ∙ sym (drop-drop n i bytes))
@@ -204,30 +204,30 @@ is_refused bytes fits e = record {
 
 -- ---- the payloads of kinds that want memory
 
-bytes_behind : (n : ℕ) (bytes : List ℕ) → IsBytes bytes → All (λ b. b < 2 ^ 8) (drop n bytes)
-bytes_behind n bytes fits = All-from_get_or (λ b. b < 2 ^ 8) (drop n bytes) 0 (λ k _. IsBytes-drop n bytes fits k)
+bytes_after : (n : ℕ) (bytes : List ℕ) → IsBytes bytes → All (λ b. b < 2 ^ 8) (drop n bytes)
+bytes_after n bytes fits = All-from_get_or (λ b. b < 2 ^ 8) (drop n bytes) 0 (λ k _. IsBytes-drop n bytes fits k)
 
 pub has_load : (bytes : List ℕ) → IsBytes bytes → 5 ≤ length bytes → IsPayload 1 bytes
 has_load bytes fits le = (
   Load (number_in 2 bytes) (number_in 2 (drop 2 bytes)) (get_or bytes 4 0) (drop 5 bytes),
   is_load bytes fits le _ _ _ (number_in-lt 2 bytes fits (omega arith)) (number_in-lt 2 (drop 2 bytes) (IsBytes-drop 2 bytes fits) (omega (arith, length-drop 2 bytes)))
-      refl refl refl (bytes_behind 5 bytes fits),
+      refl refl refl (bytes_after 5 bytes fits),
 )
 
 pub has_edit : (bytes : List ℕ) → IsBytes bytes → 4 ≤ length bytes → IsPayload 6 bytes
 has_edit bytes fits le = (
   Edit (number_in 4 bytes) (drop 4 bytes),
-  is_edit bytes fits le _ _ (number_in-lt 4 bytes fits (omega arith)) refl refl (bytes_behind 4 bytes fits),
+  is_edit bytes fits le _ _ (number_in-lt 4 bytes fits (omega arith)) refl refl (bytes_after 4 bytes fits),
 )
 
 pub has_hint_part : (bytes : List ℕ) → IsBytes bytes → (n : ℕ) → length bytes ≡ 13 + 4 * n → IsPayload 131 bytes
 has_hint_part bytes fits n len =
     let rest : length (drop 13 bytes) ≡ 4 * n = omega (arith, length-drop 13 bytes) in
-    let behind : IsBytes (drop 13 bytes) = IsBytes-drop 13 bytes fits in (
+    let beyond : IsBytes (drop 13 bytes) = IsBytes-drop 13 bytes fits in (
       HintPart (get_or bytes 0 0) (number_in 8 (drop 1 bytes)) (number_in 4 (drop 9 bytes)) (words_in n (drop 13 bytes)),
       is_hint_part bytes fits (omega arith) _ _ _ (number_in-lt 8 (drop 1 bytes) (IsBytes-drop 1 bytes fits) (omega (arith, length-drop 1 bytes)))
           (number_in-lt 4 (drop 9 bytes) (IsBytes-drop 9 bytes fits) (omega (arith, length-drop 9 bytes))) refl refl
-          (words_spell n (drop 13 bytes) behind rest) (words_small n (drop 13 bytes) behind rest),
+          (words_encode n (drop 13 bytes) beyond rest) (words_small n (drop 13 bytes) beyond rest),
     )
 
 -- the fields of a scheme, a version and words
@@ -236,9 +236,9 @@ scheme_fields : (bytes : List ℕ) → IsBytes bytes → (n : ℕ) → length by
     × ((get_or bytes 0 0 < 2 ^ 8) × (number_in 8 (drop 1 bytes) < 2 ^ 64) × All (λ w. w < 2 ^ 32) (words_in n (drop 9 bytes)))
 scheme_fields bytes fits n len =
     let rest : length (drop 9 bytes) ≡ 4 * n = omega (arith, length-drop 9 bytes) in
-    let behind : IsBytes (drop 9 bytes) = IsBytes-drop 9 bytes fits in (
-      is_scheme_words bytes fits (omega arith) _ _ refl (words_spell n (drop 9 bytes) behind rest),
-      (fits 0, number_in-lt 8 (drop 1 bytes) (IsBytes-drop 1 bytes fits) (omega (arith, length-drop 1 bytes)), words_small n (drop 9 bytes) behind rest),
+    let beyond : IsBytes (drop 9 bytes) = IsBytes-drop 9 bytes fits in (
+      is_scheme_words bytes fits (omega arith) _ _ refl (words_encode n (drop 9 bytes) beyond rest),
+      (fits 0, number_in-lt 8 (drop 1 bytes) (IsBytes-drop 1 bytes fits) (omega (arith, length-drop 1 bytes)), words_small n (drop 9 bytes) beyond rest),
     )
 
 pub has_query : (bytes : List ℕ) → IsBytes bytes → (n : ℕ) → length bytes ≡ 9 + 4 * n → IsPayload 5 bytes

@@ -1,32 +1,32 @@
--- A piece behind an unfinished frame.
+-- A piece after an unfinished frame.
 use Rattle.std.proofs.Common.{◌≡◌, ℕ, ◌+◌, ◌<◌, ◌≤◌, max, List, [], ◌++◌, length, drop, sym, ap, subst, ◌∙◌, append_assoc, arith, inl, inr}
 use Rattle.std.proofs.lemmas.Bool.{cases_lt}
 use Rattle.std.proofs.lemmas.List.{length-append, length-drop, append-nil, nil_from_length}
 use Rattle.frame_codec.specs.declared.frame.Frame.{Frame}
-use Rattle.frame_codec.specs.Frames.{spelling, IsFrame}
+use Rattle.frame_codec.specs.Frames.{encoding, IsFrame}
 use Rattle.frame_codec.specs.declared.reader.ReadFault.{ReadFault}
 use Rattle.frame_codec.specs.Streams.{Fills, HasFault, StopsAt, IsPartial, IsSound, TopsUp, length_at}
 use Rattle.frame_codec.proofs.NumberBytes.{number_ahead}
-use Rattle.frame_codec.proofs.Fronts.{announced, partial_lacks, sound_ahead, fault_ahead, fault_stops, stops_ahead}
+use Rattle.frame_codec.proofs.Prefixes.{announced, partial_lacks, sound_ahead, fault_ahead, fault_stops, stops_ahead}
 
 pub tops_whole : (enough : ℕ) (old piece new rest : List ℕ) → TopsUp enough old piece new rest → new ++ rest ≡ old ++ piece
 tops_whole enough old piece new rest t = rw (t.grown, t.split) (append_assoc old t.moved rest)
 
-same_length : (size : ℕ) (first behind new rest : List ℕ) → TopsUp size first behind new rest → 4 ≤ length first → length_at new ≡ length_at first
-same_length size first behind new rest t le = ap length_at t.grown ∙ number_ahead 4 first t.moved le
+same_length : (size : ℕ) (first beyond new rest : List ℕ) → TopsUp size first beyond new rest → 4 ≤ length first → length_at new ≡ length_at first
+same_length size first beyond new rest t le = ap length_at t.grown ∙ number_ahead 4 first t.moved le
 
 -- all of the piece is used where the header isn't whole
-used_up : (old piece first behind : List ℕ) (size : ℕ) (new rest : List ℕ) → TopsUp 5 old piece first behind → TopsUp size first behind new rest → length first < 5 → (rest ≡ []) × (new ≡ first)
-used_up old piece first behind size new rest a b lt =
-    let empty : behind ≡ [] = a.until lt in
+used_up : (old piece first beyond : List ℕ) (size : ℕ) (new rest : List ℕ) → TopsUp 5 old piece first beyond → TopsUp size first beyond new rest → length first < 5 → (rest ≡ []) × (new ≡ first)
+used_up old piece first beyond size new rest a b lt =
+    let empty : beyond ≡ [] = a.until lt in
     let n : length b.moved + length rest ≡ 0 = sym (length-append b.moved rest) ∙ ap length (sym b.split ∙ empty) in
     let moved : b.moved ≡ [] = nil_from_length b.moved (omega arith) in
     (nil_from_length rest (omega arith), b.grown ∙ ap (λ (x : List ℕ). first ++ x) moved ∙ append-nil first)
 
 -- the header and then the payload
-pub fills : (old piece first behind : List ℕ) (size : ℕ) (new rest : List ℕ) → IsPartial old → TopsUp 5 old piece first behind → IsSound first size → TopsUp size first behind new rest → Fills old piece new rest
-fills old piece first behind size new rest p a s b = record {
-  whole = tops_whole size first behind new rest b ∙ tops_whole 5 old piece first behind a;
+pub fills : (old piece first beyond : List ℕ) (size : ℕ) (new rest : List ℕ) → IsPartial old → TopsUp 5 old piece first beyond → IsSound first size → TopsUp size first beyond new rest → Fills old piece new rest
+fills old piece first beyond size new rest p a s b = record {
+  whole = tops_whole size first beyond new rest b ∙ tops_whole 5 old piece first beyond a;
   alone = alone;
   until = until;
 } where
@@ -43,27 +43,27 @@ fills old piece first behind size new rest p a s b = record {
         omega (arith, b.within, lack)
   ]
 
-  alone : (f : Frame) (more : List ℕ) → IsFrame f → new ≡ spelling f ++ more → more ≡ []
+  alone : (f : Frame) (more : List ℕ) → IsFrame f → new ≡ encoding f ++ more → more ≡ []
   alone f more fits e =
       let an = announced new f more fits e in
       elim (cases_lt (length first) 5) [
-        | inl lt ↦ absurd (let u = used_up old piece first behind size new rest a b lt in omega (arith, an.size, ap length u.1))
+        | inl lt ↦ absurd (let u = used_up old piece first beyond size new rest a b lt in omega (arith, an.size, ap length u.1))
         | inr ge ↦
-            let len : length_at new ≡ length_at first = same_length size first behind new rest b (omega arith) in
+            let len : length_at new ≡ length_at first = same_length size first beyond new rest b (omega arith) in
             nil_from_length more (omega (arith, ap length an.after, length-drop (length_at new) (drop 5 new), length-drop 5 new, within ge, (s.known ge).1, len, an.size))
       ]
 
   until : IsPartial new → rest ≡ []
   until q = elim (cases_lt (length first) 5) [
-    | inl lt ↦ (used_up old piece first behind size new rest a b lt).0
+    | inl lt ↦ (used_up old piece first beyond size new rest a b lt).0
     | inr ge ↦ b.until (partial_lacks new size q (subst (λ (x : List ℕ). IsSound x size) (sym b.grown) (sound_ahead first b.moved size ge s)))
   ]
 
 -- a fault of the header stands in the whole
-pub header_stops : (fault : ReadFault) (old piece first behind : List ℕ) → TopsUp 5 old piece first behind → HasFault fault first → StopsAt fault (old ++ piece)
-header_stops fault old piece first behind a h =
-    fault_stops fault (old ++ piece) (subst (HasFault fault) (tops_whole 5 old piece first behind a) (fault_ahead fault first behind h))
+pub header_stops : (fault : ReadFault) (old piece first beyond : List ℕ) → TopsUp 5 old piece first beyond → HasFault fault first → StopsAt fault (old ++ piece)
+header_stops fault old piece first beyond a h =
+    fault_stops fault (old ++ piece) (subst (HasFault fault) (tops_whole 5 old piece first beyond a) (fault_ahead fault first beyond h))
 
--- what stops a reader at the front of the filled frame stops it at the whole
+-- what stops a reader at the prefix of the filled frame stops it at the whole
 pub filled_stops : (fault : ReadFault) (old piece new rest : List ℕ) → Fills old piece new rest → StopsAt fault new → StopsAt fault (old ++ piece)
 filled_stops fault old piece new rest f h = subst (StopsAt fault) f.whole (stops_ahead fault new rest h)

@@ -5,9 +5,9 @@ use Rattle.std.proofs.lemmas.List.{append-nil}
 use Rattle.std.proofs.lemmas.List.Concat.{flat_map-cons, flat_map-append}
 use Rattle.frame_codec.specs.declared.frame.Frame.{Frame}
 use Rattle.frame_codec.specs.declared.reader.ReadFault.{ReadFault}
-use Rattle.frame_codec.specs.Frames.{spelling, IsFrame}
+use Rattle.frame_codec.specs.Frames.{encoding, IsFrame}
 use Rattle.frame_codec.specs.Streams.{Advances, Begins, Reads, Stops, Feeds, FeedsAll, IsPartial, joined}
-use Rattle.frame_codec.proofs.Fronts.{nothing_partial}
+use Rattle.frame_codec.proofs.Prefixes.{nothing_partial}
 use Rattle.frame_codec.proofs.Unique.{one_reading}
 
 each_both : (fs gs : List Frame) → AllByRecursion IsFrame fs → AllByRecursion IsFrame gs → AllByRecursion IsFrame (fs ++ gs)
@@ -17,22 +17,22 @@ each_both (f ∷ fs) gs all others = (all.0, each_both fs gs all.1 others)
 pub begins_none : (bytes : List ℕ) → Begins bytes [] bytes
 begins_none bytes = record { whole = refl; each = tt }
 
-pub begins_one : (bytes : List ℕ) (f : Frame) (more : List ℕ) → IsFrame f → bytes ≡ spelling f ++ more → Begins bytes (f ∷ []) more
-begins_one bytes f more fits e = record { whole = e ∙ ap (λ (x : List ℕ). x ++ more) (sym (append-nil (spelling f)) ∙ sym (flat_map-cons spelling f [])); each = (fits, tt) }
+pub begins_one : (bytes : List ℕ) (f : Frame) (more : List ℕ) → IsFrame f → bytes ≡ encoding f ++ more → Begins bytes (f ∷ []) more
+begins_one bytes f more fits e = record { whole = e ∙ ap (λ (x : List ℕ). x ++ more) (sym (append-nil (encoding f)) ∙ sym (flat_map-cons encoding f [])); each = (fits, tt) }
 
 -- frames, and then those of the rest
 pub begins_both : (bytes : List ℕ) (fs gs : List Frame) (rest more : List ℕ) → Begins bytes fs rest → Begins rest gs more → Begins bytes (fs ++ gs) more
 begins_both bytes fs gs rest more a b = record {
-  whole = a.whole ∙ ap (λ (x : List ℕ). flat_map spelling fs ++ x) b.whole ∙ sym (append_assoc (flat_map spelling fs) (flat_map spelling gs) more) ∙ ap (λ (x : List ℕ). x ++ more) (sym (flat_map-append spelling fs gs));
+  whole = a.whole ∙ ap (λ (x : List ℕ). flat_map encoding fs ++ x) b.whole ∙ sym (append_assoc (flat_map encoding fs) (flat_map encoding gs) more) ∙ ap (λ (x : List ℕ). x ++ more) (sym (flat_map-append encoding fs gs));
   each = each_both fs gs a.each b.each;
 }
 
-pub begins_more : (bytes : List ℕ) (fs : List Frame) (rest : List ℕ) (f : Frame) (more : List ℕ) → Begins bytes fs rest → IsFrame f → rest ≡ spelling f ++ more → Begins bytes (fs ++ f ∷ []) more
+pub begins_more : (bytes : List ℕ) (fs : List Frame) (rest : List ℕ) (f : Frame) (more : List ℕ) → Begins bytes fs rest → IsFrame f → rest ≡ encoding f ++ more → Begins bytes (fs ++ f ∷ []) more
 begins_more bytes fs rest f more b fits e = begins_both bytes fs (f ∷ []) rest more b (begins_one rest f more fits e)
 
--- bytes that come behind stand behind the rest
+-- bytes that come after stand after the rest
 pub begins_ahead : (bytes : List ℕ) (fs : List Frame) (rest later : List ℕ) → Begins bytes fs rest → Begins (bytes ++ later) fs (rest ++ later)
-begins_ahead bytes fs rest later b = record { whole = ap (λ (x : List ℕ). x ++ later) b.whole ∙ append_assoc (flat_map spelling fs) rest later; each = b.each }
+begins_ahead bytes fs rest later b = record { whole = ap (λ (x : List ℕ). x ++ later) b.whole ∙ append_assoc (flat_map encoding fs) rest later; each = b.each }
 
 -- a rest that reads on
 pub reads_on : (bytes : List ℕ) (fs gs : List Frame) (rest more : List ℕ) → Begins bytes fs rest → Reads rest gs more → Reads bytes (fs ++ gs) more
@@ -45,7 +45,7 @@ stops_on bytes fs gs rest fault b s = (s.0, begins_both bytes fs gs rest s.0 b s
 pub added_on : (old mid new : List Frame) (f : Frame) (gs : List Frame) → mid ≡ old ++ f ∷ [] → new ≡ mid ++ gs → new ≡ old ++ (f ∷ [] ++ gs)
 added_on old mid new f gs one others = others ∙ ap (λ (x : List Frame). x ++ gs) one ∙ append_assoc old (f ∷ []) gs
 
--- what a piece does behind frames that it has finished
+-- what a piece does after frames that it has finished
 pub advances_on : (old piece : List ℕ) (fs : List Frame) (rest : List ℕ) (answer : Result (Unit {0}) ReadFault) (gs : List Frame) (new : List ℕ) → Begins (old ++ piece) fs rest → Advances [] rest answer gs new → Advances old piece answer (fs ++ gs) new
 advances_on old piece fs rest (Ok done) gs new b a = reads_on (old ++ piece) fs gs rest new b a
 advances_on old piece fs rest (Err fault) gs new b a = stops_on (old ++ piece) fs gs rest fault b a

@@ -10,10 +10,10 @@ use Rattle.frame_codec.specs.declared.frame.Frame.TheVariants.{Load, Hello, Hint
 use Rattle.frame_codec.specs.declared.reader.ReadFault.{ReadFault}
 use Rattle.frame_codec.specs.declared.reader.ReadFault.TheVariants.{TooLong, UnknownKind, BadPayload, Memory, Failed}
 use Rattle.frame_codec.specs.Numbers.{number_bytes, number_in, word_bytes}
-use Rattle.frame_codec.specs.Frames.{spelling, IsFrame, HasFields, Stands, kind_of, payload_of}
+use Rattle.frame_codec.specs.Frames.{encoding, IsFrame, HasFields, Stands, kind_of, payload_of}
 use Rattle.frame_codec.specs.Streams.{HasFrame, HasFault, StopsAt, Begins, Feeds, Arrives, length_at, kind_at}
 use Rattle.frame_codec.proofs.NumberBytes.{length-words, number_back, drop_number, words_in, words_back}
-use Rattle.frame_codec.proofs.Fronts.{announced, fault_ahead}
+use Rattle.frame_codec.proofs.Prefixes.{announced, fault_ahead}
 
 -- the words that are all
 words_all : List ℕ → List ℕ
@@ -25,7 +25,7 @@ words_all_back words all =
     let n : length (word_bytes words) / 4 ≡ length words = omega (arith, length-words words) in
     rw n (words_back words (recursion_from_All (λ w. w < 2 ^ 32) words all))
 
--- a welcome's fields, each behind the one before
+-- a welcome's fields, each after the one before
 welcome_in : List ℕ → Frame
 welcome_in p =
     let p2 : List ℕ = drop 2 p in
@@ -103,32 +103,32 @@ one_frame k p f g a b =
     let y : frame_of k p ≡ g = rw (← b.kind, ← b.payload) (frame_back g b.fields) in
     sym x ∙ y
 
--- no spelling begins another
-pub one_spelling : (f g : Frame) (x y : List ℕ) → IsFrame f → IsFrame g → spelling f ++ x ≡ spelling g ++ y → (f ≡ g) × (x ≡ y)
-one_spelling f g x y ff gg e =
-    let a = announced (spelling f ++ x) f x ff refl in
-    let b = announced (spelling f ++ x) g y gg e in
-    (one_frame (kind_at (spelling f ++ x)) (take (length_at (spelling f ++ x)) (drop 5 (spelling f ++ x))) f g a.stands b.stands, a.after ∙ sym b.after)
+-- no encoding begins another
+pub one_encoding : (f g : Frame) (x y : List ℕ) → IsFrame f → IsFrame g → encoding f ++ x ≡ encoding g ++ y → (f ≡ g) × (x ≡ y)
+one_encoding f g x y ff gg e =
+    let a = announced (encoding f ++ x) f x ff refl in
+    let b = announced (encoding f ++ x) g y gg e in
+    (one_frame (kind_at (encoding f ++ x)) (take (length_at (encoding f ++ x)) (drop 5 (encoding f ++ x))) f g a.stands b.stands, a.after ∙ sym b.after)
 
-pub regroup : (f : Frame) (fs : List Frame) (r : List ℕ) → flat_map spelling (f ∷ fs) ++ r ≡ spelling f ++ (flat_map spelling fs ++ r)
-regroup f fs r = ap (λ (x : List ℕ). x ++ r) (flat_map-cons spelling f fs) ∙ append_assoc (spelling f) (flat_map spelling fs) r
+pub regroup : (f : Frame) (fs : List Frame) (r : List ℕ) → flat_map encoding (f ∷ fs) ++ r ≡ encoding f ++ (flat_map encoding fs ++ r)
+regroup f fs r = ap (λ (x : List ℕ). x ++ r) (flat_map-cons encoding f fs) ∙ append_assoc (encoding f) (flat_map encoding fs) r
 
 -- the frames of one reading begin those of another that ends where no frame is whole
-pub one_front : (fs gs : List Frame) (r s : List ℕ) → AllByRecursion IsFrame fs → AllByRecursion IsFrame gs → flat_map spelling fs ++ r ≡ flat_map spelling gs ++ s → (HasFrame s → ⊥)
-    → (more : List Frame) × (gs ≡ fs ++ more) × (r ≡ flat_map spelling more ++ s) × AllByRecursion IsFrame more
-one_front [] gs r s ff gg e last = (gs, refl, e, gg)
-one_front (f ∷ fs) [] r s ff gg e last = absurd (last (f, flat_map spelling fs ++ r, ff.0, sym e ∙ regroup f fs r))
-one_front (f ∷ fs) (g ∷ gs) r s ff gg e last =
-    let one = one_spelling f g (flat_map spelling fs ++ r) (flat_map spelling gs ++ s) ff.0 gg.0 (sym (regroup f fs r) ∙ e ∙ regroup g gs s) in
-    let m = one_front fs gs r s ff.1 gg.1 one.1 last in
+pub one_prefix : (fs gs : List Frame) (r s : List ℕ) → AllByRecursion IsFrame fs → AllByRecursion IsFrame gs → flat_map encoding fs ++ r ≡ flat_map encoding gs ++ s → (HasFrame s → ⊥)
+    → (more : List Frame) × (gs ≡ fs ++ more) × (r ≡ flat_map encoding more ++ s) × AllByRecursion IsFrame more
+one_prefix [] gs r s ff gg e last = (gs, refl, e, gg)
+one_prefix (f ∷ fs) [] r s ff gg e last = absurd (last (f, flat_map encoding fs ++ r, ff.0, sym e ∙ regroup f fs r))
+one_prefix (f ∷ fs) (g ∷ gs) r s ff gg e last =
+    let one = one_encoding f g (flat_map encoding fs ++ r) (flat_map encoding gs ++ s) ff.0 gg.0 (sym (regroup f fs r) ∙ e ∙ regroup g gs s) in
+    let m = one_prefix fs gs r s ff.1 gg.1 one.1 last in
     (m.0, ap (λ (x : Frame). x ∷ gs) (sym one.0) ∙ ap (λ (x : List Frame). f ∷ x) m.1, m.2, m.3)
 
-same_reading : (fs gs : List Frame) (r s : List ℕ) → AllByRecursion IsFrame fs → AllByRecursion IsFrame gs → flat_map spelling fs ++ r ≡ flat_map spelling gs ++ s → (HasFrame r → ⊥) → (HasFrame s → ⊥) → (fs ≡ gs) × (r ≡ s)
+same_reading : (fs gs : List Frame) (r s : List ℕ) → AllByRecursion IsFrame fs → AllByRecursion IsFrame gs → flat_map encoding fs ++ r ≡ flat_map encoding gs ++ s → (HasFrame r → ⊥) → (HasFrame s → ⊥) → (fs ≡ gs) × (r ≡ s)
 same_reading [] [] r s ff gg e lr ls = (refl, e)
-same_reading [] (g ∷ gs) r s ff gg e lr ls = absurd (lr (g, flat_map spelling gs ++ s, gg.0, e ∙ regroup g gs s))
-same_reading (f ∷ fs) [] r s ff gg e lr ls = absurd (ls (f, flat_map spelling fs ++ r, ff.0, sym e ∙ regroup f fs r))
+same_reading [] (g ∷ gs) r s ff gg e lr ls = absurd (lr (g, flat_map encoding gs ++ s, gg.0, e ∙ regroup g gs s))
+same_reading (f ∷ fs) [] r s ff gg e lr ls = absurd (ls (f, flat_map encoding fs ++ r, ff.0, sym e ∙ regroup f fs r))
 same_reading (f ∷ fs) (g ∷ gs) r s ff gg e lr ls =
-    let one = one_spelling f g (flat_map spelling fs ++ r) (flat_map spelling gs ++ s) ff.0 gg.0 (sym (regroup f fs r) ∙ e ∙ regroup g gs s) in
+    let one = one_encoding f g (flat_map encoding fs ++ r) (flat_map encoding gs ++ s) ff.0 gg.0 (sym (regroup f fs r) ∙ e ∙ regroup g gs s) in
     let m = same_reading fs gs r s ff.1 gg.1 one.1 lr ls in
     (ap (λ (x : Frame). x ∷ fs) one.0 ∙ ap (λ (x : List Frame). g ∷ x) m.0, m.1)
 
@@ -137,7 +137,7 @@ one_reading bytes frames others rest end a b last final = same_reading frames ot
 
 -- ---- frames that are on their way
 
--- no fault stands at the front of a frame
+-- no fault stands at the beginning of a frame
 pub fault_of_frame : (fault : ReadFault) (bytes : List ℕ) → HasFault fault bytes → HasFrame bytes → ⊥
 fault_of_frame TooLong bytes h w = let a = announced bytes w.0 w.1 w.2 w.3 in omega (arith, a.len, h.1)
 fault_of_frame UnknownKind bytes h w =
@@ -156,14 +156,14 @@ nothing_bad Memory h = h
 nothing_bad Failed h = h
 
 -- no fault stands where frames are on their way
-no_fault_ahead : (fault : ReadFault) (rest later : List ℕ) (more : List Frame) → AllByRecursion IsFrame more → rest ++ later ≡ flat_map spelling more → HasFault fault rest → ⊥
+no_fault_ahead : (fault : ReadFault) (rest later : List ℕ) (more : List Frame) → AllByRecursion IsFrame more → rest ++ later ≡ flat_map encoding more → HasFault fault rest → ⊥
 no_fault_ahead fault rest later [] all e h = nothing_bad fault (subst (HasFault fault) e (fault_ahead fault rest later h))
-no_fault_ahead fault rest later (m ∷ ms) all e h = fault_of_frame fault (rest ++ later) (fault_ahead fault rest later h) (m, flat_map spelling ms, all.0, e ∙ flat_map-cons spelling m ms)
+no_fault_ahead fault rest later (m ∷ ms) all e h = fault_of_frame fault (rest ++ later) (fault_ahead fault rest later h) (m, flat_map encoding ms, all.0, e ∙ flat_map-cons encoding m ms)
 
 nothing_whole : HasFrame [] → ⊥
 nothing_whole h = let a = announced [] h.0 h.1 h.2 h.3 in omega (arith, a.size)
 
-stops_on_way : (fault : ReadFault) (new : Option (List ℕ)) (rest later : List ℕ) (more : List Frame) → AllByRecursion IsFrame more → rest ++ later ≡ flat_map spelling more → StopsAt fault rest → Arrives (Err fault) new later more
+stops_on_way : (fault : ReadFault) (new : Option (List ℕ)) (rest later : List ℕ) (more : List Frame) → AllByRecursion IsFrame more → rest ++ later ≡ flat_map encoding more → StopsAt fault rest → Arrives (Err fault) new later more
 stops_on_way TooLong new rest later more all e h = absurd (no_fault_ahead TooLong rest later more all e h)
 stops_on_way UnknownKind new rest later more all e h = absurd (no_fault_ahead UnknownKind rest later more all e h)
 stops_on_way BadPayload new rest later more all e h = absurd (no_fault_ahead BadPayload rest later more all e h)
@@ -171,15 +171,15 @@ stops_on_way Memory new rest later more all e h = tt
 stops_on_way Failed new rest later more all e h = absurd h
 
 -- what comes of frames that were sent: those that are whole are read, and the others are still on their way
-pub reads_sent : (old piece later : List ℕ) (sent : List Frame) (answer : Result (Unit {0}) ReadFault) (frames : List Frame) (new : Option (List ℕ)) → AllByRecursion IsFrame sent → (old ++ piece) ++ later ≡ flat_map spelling sent
+pub reads_sent : (old piece later : List ℕ) (sent : List Frame) (answer : Result (Unit {0}) ReadFault) (frames : List Frame) (new : Option (List ℕ)) → AllByRecursion IsFrame sent → (old ++ piece) ++ later ≡ flat_map encoding sent
     → Feeds (Some old) piece answer frames new → (more : List Frame) × (sent ≡ frames ++ more) × AllByRecursion IsFrame more × Arrives answer new later more
 reads_sent old piece later sent (Ok d) frames new all e f =
     let b = f.1.begins in
-    let whole : flat_map spelling frames ++ (f.0 ++ later) ≡ flat_map spelling sent ++ [] = sym (append_assoc (flat_map spelling frames) f.0 later) ∙ ap (λ (x : List ℕ). x ++ later) (sym b.whole) ∙ e ∙ sym (append-nil (flat_map spelling sent)) in
-    let m = one_front frames sent (f.0 ++ later) [] b.each all whole nothing_whole in
-    (m.0, m.1, m.3, rw f.2 (m.2 ∙ append-nil (flat_map spelling m.0)))
+    let whole : flat_map encoding frames ++ (f.0 ++ later) ≡ flat_map encoding sent ++ [] = sym (append_assoc (flat_map encoding frames) f.0 later) ∙ ap (λ (x : List ℕ). x ++ later) (sym b.whole) ∙ e ∙ sym (append-nil (flat_map encoding sent)) in
+    let m = one_prefix frames sent (f.0 ++ later) [] b.each all whole nothing_whole in
+    (m.0, m.1, m.3, rw f.2 (m.2 ∙ append-nil (flat_map encoding m.0)))
 reads_sent old piece later sent (Err fault) frames new all e f =
     let b = f.0.1 in
-    let whole : flat_map spelling frames ++ (f.0.0 ++ later) ≡ flat_map spelling sent ++ [] = sym (append_assoc (flat_map spelling frames) f.0.0 later) ∙ ap (λ (x : List ℕ). x ++ later) (sym b.whole) ∙ e ∙ sym (append-nil (flat_map spelling sent)) in
-    let m = one_front frames sent (f.0.0 ++ later) [] b.each all whole nothing_whole in
-    (m.0, m.1, m.3, stops_on_way fault new f.0.0 later m.0 m.3 (m.2 ∙ append-nil (flat_map spelling m.0)) f.0.2)
+    let whole : flat_map encoding frames ++ (f.0.0 ++ later) ≡ flat_map encoding sent ++ [] = sym (append_assoc (flat_map encoding frames) f.0.0 later) ∙ ap (λ (x : List ℕ). x ++ later) (sym b.whole) ∙ e ∙ sym (append-nil (flat_map encoding sent)) in
+    let m = one_prefix frames sent (f.0.0 ++ later) [] b.each all whole nothing_whole in
+    (m.0, m.1, m.3, stops_on_way fault new f.0.0 later m.0 m.3 (m.2 ∙ append-nil (flat_map encoding m.0)) f.0.2)

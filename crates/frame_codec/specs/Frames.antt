@@ -70,9 +70,9 @@ HasFields (Stale version count) = (version < 2 ^ 64) × (count < 2 ^ 32)
 HasFields (Done version) = version < 2 ^ 64
 HasFields (Refused code) = code < 2 ^ 8
 
--- the one spelling of a frame
-unfoldable pub spelling : Frame → List ℕ
-spelling f = number_bytes 4 (length (payload_of f)) ++ (kind_of f ∷ payload_of f)
+-- the one encoding of a frame
+unfoldable pub encoding : Frame → List ℕ
+encoding f = number_bytes 4 (length (payload_of f)) ++ (kind_of f ∷ payload_of f)
 
 -- the most bytes that a payload may have
 abbrev pub payload_limit : ℕ

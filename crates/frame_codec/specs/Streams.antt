@@ -1,11 +1,11 @@
--- What a stream of bytes says: its frames, and what stands behind them.
+-- What a stream of bytes says: its frames, and what stands after them.
 use Rattle.std.specs.Prelude.{◌≡◌, ◌<◌, ◌≤◌, ◌+◌, ◌==◌, ℕ, List, [], ◌∷◌, ◌++◌, length, max, slice_index, Option, Some, None, Result, Ok, Err, ◌||◌, Bool, true, false}
 use Rattle.std.specs.List.{flat_map, AllByRecursion}
 use Rattle.frame_codec.specs.declared.frame.Frame.{Frame}
 use Rattle.frame_codec.specs.declared.reader.ReadFault.{ReadFault}
 use Rattle.frame_codec.specs.declared.reader.ReadFault.TheVariants.{TooLong, UnknownKind, BadPayload, Memory, Failed}
 use Rattle.frame_codec.specs.Numbers.{number_in}
-use Rattle.frame_codec.specs.Frames.{IsFrame, spelling, payload_limit}
+use Rattle.frame_codec.specs.Frames.{IsFrame, encoding, payload_limit}
 
 -- whether a byte names a kind
 abbrev pub is_kind : ℕ → Bool
@@ -21,9 +21,9 @@ length_at bytes = number_in 4 bytes
 abbrev pub kind_at : List ℕ → ℕ
 kind_at bytes = slice_index bytes 4
 
--- a frame is whole at the front
+-- a frame is whole at the beginning
 abbrev pub HasFrame : List ℕ → Type 0
-HasFrame bytes = (f : Frame) × (more : List ℕ) × IsFrame f × (bytes ≡ spelling f ++ more)
+HasFrame bytes = (f : Frame) × (more : List ℕ) × IsFrame f × (bytes ≡ encoding f ++ more)
 
 -- A fault stands in the place of a frame: the bytes by which it is judged have come, no earlier fault stands there, and what makes it is so.
 abbrev pub HasFault : ReadFault → List ℕ → Type 0
@@ -49,7 +49,7 @@ pub record IsPartial (bytes : List ℕ) : Type 0 where
 
 -- the stream is these frames, and then a rest
 pub record Begins (stream : List ℕ) (frames : List Frame) (rest : List ℕ) : Type 0 where
-  pub whole : stream ≡ flat_map spelling frames ++ rest
+  pub whole : stream ≡ flat_map encoding frames ++ rest
   pub each : AllByRecursion IsFrame frames
 
 -- the stream is these frames, and then less than a frame
@@ -57,7 +57,7 @@ pub record Reads (stream : List ℕ) (frames : List Frame) (rest : List ℕ) : T
   pub begins : Begins stream frames rest
   pub partial : IsPartial rest
 
--- a reader stops with this fault behind these frames
+-- a reader stops with this fault after these frames
 abbrev pub Stops : List ℕ → List Frame → ReadFault → Type 0
 Stops stream frames fault = (rest : List ℕ) × Begins stream frames rest × StopsAt fault rest
 
@@ -86,7 +86,7 @@ joined pieces = flat_map (λ piece. piece) pieces
 -- What stands after a piece of frames that were sent, where later bytes are still on their way: the rest and these are the other frames. Else memory was refused.
 abbrev pub Arrives : Result (Unit {0}) ReadFault → Option (List ℕ) → List ℕ → List Frame → Type 0
 Arrives (Ok done) None later more = ⊥
-Arrives (Ok done) (Some rest) later more = rest ++ later ≡ flat_map spelling more
+Arrives (Ok done) (Some rest) later more = rest ++ later ≡ flat_map encoding more
 Arrives (Err TooLong) new later more = ⊥
 Arrives (Err UnknownKind) new later more = ⊥
 Arrives (Err BadPayload) new later more = ⊥
@@ -99,7 +99,7 @@ pub record IsSound (bytes : List ℕ) (size : ℕ) : Type 0 where
   pub short : 4 ≤ length bytes → length_at bytes ≤ payload_limit
   pub known : 5 ≤ length bytes → (is_kind (kind_at bytes) ≡ true) × (size ≡ 5 + length_at bytes)
 
--- Bytes were moved from the front of a piece behind older ones, until these were enough or the piece was used up.
+-- Bytes were moved from the beginning of a piece after older ones, until these were enough or the piece was used up.
 pub record TopsUp (enough : ℕ) (old piece new rest : List ℕ) : Type 0 where
   pub moved : List ℕ
   pub grown : new ≡ old ++ moved
@@ -107,8 +107,8 @@ pub record TopsUp (enough : ℕ) (old piece new rest : List ℕ) : Type 0 where
   pub within : length new ≤ max enough (length old)
   pub until : length new < enough → rest ≡ []
 
--- An unfinished frame was given what it lacks from the front of a piece: no byte stands behind it, and none is left over while it isn't whole.
+-- An unfinished frame was given what it lacks from the beginning of a piece: no byte stands after it, and none is left over while it isn't whole.
 pub record Fills (old piece new rest : List ℕ) : Type 0 where
   pub whole : new ++ rest ≡ old ++ piece
-  pub alone : (f : Frame) (more : List ℕ) → IsFrame f → new ≡ spelling f ++ more → more ≡ []
+  pub alone : (f : Frame) (more : List ℕ) → IsFrame f → new ≡ encoding f ++ more → more ≡ []
   pub until : IsPartial new → rest ≡ []

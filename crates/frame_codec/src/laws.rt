@@ -1,53 +1,66 @@
 //! Laws of numbers, frames and streams. Each function does nothing: its clause is the law.
 
-ghost use Rattle.std.specs.Prelude.{◌≡◌, ◌≤◌, ◌<◌, ◌+◌, ◌^◌, ◌++◌, [], ℕ, List, Option, None, Some, Result, Ok, Err, length, take, slice_index};
+ghost use Rattle.std.specs.Prelude.{◌≡◌, ◌≤◌, ◌<◌, ◌+◌, ◌^◌, ◌++◌, [], ℕ, List, Option, None, Some,
+    Result, Ok, Err, length, take, slice_index};
 ghost use Rattle.std.specs.List.{flat_map, AllByRecursion};
 ghost use Rattle.byteorder.specs.Endian.{little_bytes, little_number};
 ghost use Rattle.frame_codec.specs.declared.frame.Frame.{Frame};
 ghost use Rattle.frame_codec.specs.declared.reader.ReadFault.{ReadFault};
-ghost use Rattle.frame_codec.specs.Laws.{FaultsExcludeFrames, OneFault, FeedsDecide, FeedsBegin, FeedsAgree};
-ghost use Rattle.frame_codec.specs.Frames.{IsFrame, spelling, payload_of, payload_size};
-ghost use Rattle.frame_codec.specs.Streams.{Begins, HasFrame, Feeds, FeedsAll, Reads, Stops, Arrives, joined};
+ghost use Rattle.frame_codec.specs.Laws.{FaultsExcludeFrames, OneFault, FeedsDecide, FeedsBegin,
+    FeedsAgree};
+ghost use Rattle.frame_codec.specs.Frames.{IsFrame, encoding, payload_of, payload_size};
+ghost use Rattle.frame_codec.specs.Streams.{Begins, HasFrame, Feeds, FeedsAll, Reads, Stops,
+    Arrives, joined};
 
-/// The bytes that are read as a number are its only spelling in so many bytes.
+/// The bytes that are read as a number are its only encoding in so many bytes.
 pub fn one_number()
-    ensures read { (n : ℕ) (bytes : List ℕ) → ((i : ℕ) → slice_index bytes i < 256) → n ≤ length bytes → little_bytes n (little_number n bytes) ≡ take n bytes }
-    ensures written { (n x : ℕ) (more : List ℕ) → x < 256 ^ n → little_number n (little_bytes n x ++ more) ≡ x }
+    ensures read { (n : ℕ) (bytes : List ℕ) → ((i : ℕ) → slice_index bytes i < 256) →
+        n ≤ length bytes → little_bytes n (little_number n bytes) ≡ take n bytes }
+    ensures written { (n x : ℕ) (more : List ℕ) → x < 256 ^ n →
+        little_number n (little_bytes n x ++ more) ≡ x }
 {}
 
 /// How long a frame's payload is, and that five bytes stand before it.
-pub fn length_of_spelling()
+pub fn length_of_encoding()
     ensures payload { (f : Frame) → length (payload_of f) ≡ payload_size f }
-    ensures spelling { (f : Frame) → length (spelling f) ≡ 5 + payload_size f }
+    ensures encoding { (f : Frame) → length (encoding f) ≡ 5 + payload_size f }
 {}
 
-/// No spelling begins another, and no two frames have one spelling.
-pub fn one_spelling()
-    ensures { (f g : Frame) (x y : List ℕ) → IsFrame f → IsFrame g → spelling f ++ x ≡ spelling g ++ y → (f ≡ g) × (x ≡ y) }
+/// No encoding begins another, and no two frames have one encoding.
+pub fn one_encoding()
+    ensures { (f g : Frame) (x y : List ℕ) → IsFrame f → IsFrame g →
+        encoding f ++ x ≡ encoding g ++ y → (f ≡ g) × (x ≡ y) }
 {}
 
 /// Bytes are read in one way as frames and a rest that begins with none.
 pub fn one_reading()
     ensures { (bytes : List ℕ) (frames others : List Frame) (rest end : List ℕ) →
-        Begins bytes frames rest → Begins bytes others end → (HasFrame rest → ⊥) → (HasFrame end → ⊥) → (frames ≡ others) × (rest ≡ end) }
+        Begins bytes frames rest → Begins bytes others end → (HasFrame rest → ⊥) →
+            (HasFrame end → ⊥) → (frames ≡ others) × (rest ≡ end) }
 {}
 
-/// However a stream is cut, the frames given are those of the stream so far, a fault comes behind
-/// the frames before it, and two cuttings give the same frames and keep the same rest.
-pub fn any_cutting()
+/// However a stream is cut, the frames given are those of the stream so far, a fault comes after
+/// the frames before it, and two chunkings give the same frames and keep the same rest.
+pub fn any_chunking()
     ensures frames { (pieces : List (List ℕ)) (frames : List Frame) (rest : List ℕ) →
         FeedsAll [] pieces frames rest → Reads (joined pieces) frames rest }
-    ensures fault { (pieces : List (List ℕ)) (frames : List Frame) (rest piece : List ℕ) (fault : ReadFault) (last : List Frame) (new : Option (List ℕ)) →
-        FeedsAll [] pieces frames rest → Feeds (Some rest) piece (Err fault) last new → Stops (joined pieces ++ piece) (frames ++ last) fault }
+    ensures fault { (pieces : List (List ℕ)) (frames : List Frame) (rest piece : List ℕ)
+        (fault : ReadFault) (last : List Frame) (new : Option (List ℕ)) →
+        FeedsAll [] pieces frames rest → Feeds (Some rest) piece (Err fault) last new →
+            Stops (joined pieces ++ piece) (frames ++ last) fault }
     ensures same { (pieces others : List (List ℕ)) (frames more : List Frame) (rest end : List ℕ) →
-        FeedsAll [] pieces frames rest → FeedsAll [] others more end → joined pieces ≡ joined others → (frames ≡ more) × (rest ≡ end) }
+        FeedsAll [] pieces frames rest → FeedsAll [] others more end →
+            joined pieces ≡ joined others → (frames ≡ more) × (rest ≡ end) }
 {}
 
 /// Of frames that were sent, those that are whole are read, and the others are still on their way.
 pub fn reads_what_was_sent()
-    ensures { (old piece later : List ℕ) (sent : List Frame) (answer : Result (Unit {0}) ReadFault) (frames : List Frame) (new : Option (List ℕ)) →
-        AllByRecursion IsFrame sent → (old ++ piece) ++ later ≡ flat_map spelling sent → Feeds (Some old) piece answer frames new →
-        (more : List Frame) × (sent ≡ frames ++ more) × AllByRecursion IsFrame more × Arrives answer new later more }
+    ensures { (old piece later : List ℕ) (sent : List Frame)
+        (answer : Result (Unit {0}) ReadFault) (frames : List Frame) (new : Option (List ℕ)) →
+        AllByRecursion IsFrame sent → (old ++ piece) ++ later ≡ flat_map encoding sent →
+            Feeds (Some old) piece answer frames new →
+        (more : List Frame) × (sent ≡ frames ++ more) × AllByRecursion IsFrame more ×
+            Arrives answer new later more }
 {}
 
 /// In one place stands a frame, or one fault, or neither.
@@ -60,6 +73,6 @@ pub fn one_fault()
 /// the piece, unless memory is refused; then the frames are the first of those that it would have given.
 pub fn feeds_decide()
     ensures same { FeedsDecide }
-    ensures front { FeedsBegin }
+    ensures prefix { FeedsBegin }
     ensures either { FeedsAgree }
 {}

@@ -5,7 +5,7 @@
 #![tactic(auto)]
 
 mod frame;
-mod front;
+mod prefix;
 pub mod laws;
 mod numbers;
 mod payload;

@@ -1,6 +1,7 @@
 //! The frame that a kind and a payload make: one function a kind.
 
-ghost use Rattle.std.specs.Prelude.{◌≡◌, ◌≤◌, ◌<◌, ◌+◌, ◌*◌, ◌^◌, ◌∷◌, ◌++◌, ℕ, All, length, IfOk, OnErr, IfSome, IfNone};
+ghost use Rattle.std.specs.Prelude.{◌≡◌, ◌≤◌, ◌<◌, ◌+◌, ◌*◌, ◌^◌, ◌∷◌, ◌++◌, ℕ, All, length, IfOk,
+    OnErr, IfSome, IfNone};
 ghost use Rattle.frame_codec.specs.declared.frame.Frame.{Frame};
 ghost use Rattle.frame_codec.specs.Numbers.{number_bytes, word_bytes};
 ghost use Rattle.frame_codec.specs.Frames.{IsPayload, Stands};
@@ -10,7 +11,7 @@ use crate::numbers::{u16_at, u32_at, u64_at};
 use byteorder::{ByteOrder, LittleEndian};
 use std::alloc::{AllocError, Global};
 
-/// The words that the bytes spell.
+/// The words that the bytes encode.
 fn words_of(alloc: Global, bytes: &[u8]) -> Result<Words, AllocError>
     requires { (n : ℕ) × (length bytes.now ≡ 4 * n) }
     ensures bytes { IfOk result (λ words. word_bytes words ≡ bytes.now) }

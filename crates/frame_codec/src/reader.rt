@@ -1,12 +1,13 @@
 //! Frames out of a stream that comes in pieces.
 
-ghost use Rattle.std.specs.Prelude.{◌≡◌, ◌↔◌, IsTrue, List, [], ◌∷◌, ◌++◌, None, Some, IfOk, IfErr, IfSome, IfNone, vec_capacity};
+ghost use Rattle.std.specs.Prelude.{◌≡◌, ◌↔◌, IsTrue, List, [], ◌∷◌, ◌++◌, None, Some, IfOk, IfErr,
+    IfSome, IfNone, vec_capacity};
 ghost use Rattle.frame_codec.specs.declared.frame.Frame.{Frame};
-ghost use Rattle.frame_codec.specs.Frames.{IsFrame, spelling};
+ghost use Rattle.frame_codec.specs.Frames.{IsFrame, encoding};
 ghost use Rattle.frame_codec.specs.Streams.{Feeds, Advances, Fills, IsPartial, StopsAt, TopsUp};
 
 use crate::frame::Frame;
-use crate::front::{HEADER_LEN, frame_at, frame_len, scan};
+use crate::prefix::{HEADER_LEN, frame_at, frame_len, scan};
 use std::alloc::Global;
 use std::marker::Model;
 use thiserror::Error;
@@ -62,7 +63,7 @@ impl Reader {
         }
     }
 
-    /// Whether the stream so far is whole frames and nothing behind them.
+    /// Whether the stream so far is whole frames and nothing after them.
     pub fn is_between_frames(&self) -> bool
         ensures { IsTrue result ↔ (self.now ≡ Some []) }
     {
@@ -74,7 +75,8 @@ impl Reader {
     /// A fault comes with the piece that has the byte by which it is judged. The whole frames before
     /// it are added, and every later feed answers `Failed`.
     pub fn feed(&mut self, piece: &[u8], out: &mut Vec<Frame>) -> Result<(), ReadFault>
-        ensures { (frames : List Frame) × (out.new.items ≡ out.old.items ++ frames) × Feeds self.old piece.now result frames self.new }
+        ensures { (frames : List Frame) × (out.new.items ≡ out.old.items ++ frames) ×
+            Feeds self.old piece.now result frames self.new }
     {
         if self.failed {
             return Err(ReadFault::Failed);
@@ -87,7 +89,7 @@ impl Reader {
     }
 }
 
-/// Reads a piece behind an unfinished frame, and keeps what has come of the next one.
+/// Reads a piece after an unfinished frame, and keeps what has come of the next one.
 fn advance(
     alloc: Global,
     pending: &mut Vec<u8>,
@@ -95,7 +97,8 @@ fn advance(
     out: &mut Vec<Frame>,
 ) -> Result<(), ReadFault>
     requires { IsPartial pending.old.items }
-    ensures { (frames : List Frame) × (out.new.items ≡ out.old.items ++ frames) × Advances pending.old.items piece.now result frames pending.new.items }
+    ensures { (frames : List Frame) × (out.new.items ≡ out.old.items ++ frames) ×
+        Advances pending.old.items piece.now result frames pending.new.items }
 {
     if pending.is_empty() {
         return start(alloc, pending, piece, out);
@@ -114,7 +117,8 @@ fn start(
     out: &mut Vec<Frame>,
 ) -> Result<(), ReadFault>
     requires { pending.old.items ≡ [] }
-    ensures { (frames : List Frame) × (out.new.items ≡ out.old.items ++ frames) × Advances [] piece.now result frames pending.new.items }
+    ensures { (frames : List Frame) × (out.new.items ≡ out.old.items ++ frames) ×
+        Advances [] piece.now result frames pending.new.items }
 {
     let rest = scan(alloc, piece, out)?;
     if pending.extend_from_slice(rest).is_err() {
@@ -132,11 +136,15 @@ fn finish<'a>(
     out: &mut Vec<Frame>,
 ) -> Result<Option<&'a [u8]>, ReadFault>
     requires { IsPartial pending.old.items }
-    ensures whole { IfOk result (λ o. IfSome o (λ rest. (frame : Frame) × (out.new.items ≡ out.old.items ++ frame ∷ [])
-        × IsFrame frame × (pending.old.items ++ piece.now ≡ spelling frame ++ rest.now) × (pending.new.items ≡ []))) }
+    ensures whole { IfOk result (λ o. IfSome o (λ rest. (frame : Frame) ×
+        (out.new.items ≡ out.old.items ++ frame ∷ [])
+        × IsFrame frame × (pending.old.items ++ piece.now ≡ encoding frame ++ rest.now) ×
+            (pending.new.items ≡ []))) }
     ensures room { IfOk result (λ o. IfSome o (λ _. vec_capacity pending.new ≡ 0)) }
-    ensures partial { IfOk result (λ o. IfNone o ((out.new.items ≡ out.old.items) × (pending.new.items ≡ pending.old.items ++ piece.now) × IsPartial pending.new.items)) }
-    ensures err { IfErr result (λ fault. (out.new.items ≡ out.old.items) × StopsAt fault (pending.old.items ++ piece.now)) }
+    ensures partial { IfOk result (λ o. IfNone o ((out.new.items ≡ out.old.items) ×
+        (pending.new.items ≡ pending.old.items ++ piece.now) × IsPartial pending.new.items)) }
+    ensures err { IfErr result (λ fault. (out.new.items ≡ out.old.items) ×
+        StopsAt fault (pending.old.items ++ piece.now)) }
 {
     let rest = fill(pending, piece)?;
     let Some((frame, _)) = frame_at(alloc, pending)? else {
@@ -154,18 +162,20 @@ fn finish<'a>(
 /// piece.
 fn fill<'a>(pending: &mut Vec<u8>, piece: &'a [u8]) -> Result<&'a [u8], ReadFault>
     requires { IsPartial pending.old.items }
-    ensures ok { IfOk result (λ rest. Fills pending.old.items piece.now pending.new.items rest.now) }
+    ensures ok { IfOk result
+        (λ rest. Fills pending.old.items piece.now pending.new.items rest.now) }
     ensures err { IfErr result (λ fault. StopsAt fault (pending.old.items ++ piece.now)) }
 {
-    let behind = top_up(pending, piece, HEADER_LEN)?;
+    let beyond = top_up(pending, piece, HEADER_LEN)?;
     let size = frame_len(pending)?;
-    top_up(pending, behind, size)
+    top_up(pending, beyond, size)
 }
 
-/// Moves bytes from the front of a piece behind the pending ones, until these are enough or the piece
+/// Moves bytes from the beginning of a piece after the pending ones, until these are enough or the piece
 /// is used up.
 fn top_up<'a>(pending: &mut Vec<u8>, piece: &'a [u8], enough: usize) -> Result<&'a [u8], ReadFault>
-    ensures ok { IfOk result (λ rest. TopsUp enough pending.old.items piece.now pending.new.items rest.now) }
+    ensures ok { IfOk result
+        (λ rest. TopsUp enough pending.old.items piece.now pending.new.items rest.now) }
     ensures err { IfErr result (λ fault. fault ≡ ReadFault.Memory) }
 {
     let lacking = enough.saturating_sub(pending.len());

@@ -56,7 +56,7 @@ const REFUSED: [u8; 6] = [0x01, 0, 0, 0, 0x8f, 0x01];
 const BYE: [u8; 5] = [0, 0, 0, 0, 0x08];
 
 /// The frames of `each_kind` in bytes, in the order of the kinds.
-fn each_kind_spelled(alloc: Global) -> Result<Vec<u8>, Fail> {
+fn each_kind_encoded(alloc: Global) -> Result<Vec<u8>, Fail> {
     let mut stream = Vec::new(alloc);
     stream.extend_from_slice(&LOAD)?;
     stream.extend_from_slice(&HELLO)?;
@@ -147,8 +147,8 @@ fn push_replied(alloc: Global, frames: &mut Vec<Frame>) -> Result<(), Fail> {
     Ok(())
 }
 
-/// The frames as `write_frame` spells them.
-fn spelled(rt: &impl Abort, alloc: Global, frames: &[Frame]) -> Result<Vec<u8>, Fail> {
+/// The frames as `write_frame` encodes them.
+fn encoded(rt: &impl Abort, alloc: Global, frames: &[Frame]) -> Result<Vec<u8>, Fail> {
     let mut out = Vec::new(alloc);
     for frame in frames {
         assert!(rt; frame.payload_len() <= 16_777_216);
@@ -159,8 +159,8 @@ fn spelled(rt: &impl Abort, alloc: Global, frames: &[Frame]) -> Result<Vec<u8>, 
 
 #[test]
 fn writes_each_kind(rt: HostRuntime) -> Result<(), Fail> {
-    let out = spelled(&rt, rt.alloc(), &each_kind(rt.alloc())?)?;
-    assert_eq!(rt; out.as_slice(), each_kind_spelled(rt.alloc())?.as_slice());
+    let out = encoded(&rt, rt.alloc(), &each_kind(rt.alloc())?)?;
+    assert_eq!(rt; out.as_slice(), each_kind_encoded(rt.alloc())?.as_slice());
     Ok(())
 }
 
@@ -240,7 +240,7 @@ fn has_its_reply_fields(frame: Frame) -> bool {
 fn reads_the_fields_of_each_kind(rt: HostRuntime) -> Result<(), Fail> {
     let mut reader = Reader::new(rt.alloc());
     let mut frames = Vec::new(rt.alloc());
-    reader.feed(&each_kind_spelled(rt.alloc())?, &mut frames)?;
+    reader.feed(&each_kind_encoded(rt.alloc())?, &mut frames)?;
     let mut seen = 0;
     for frame in frames {
         assert!(rt; has_its_fields(frame), "frame {seen}");
@@ -252,7 +252,7 @@ fn reads_the_fields_of_each_kind(rt: HostRuntime) -> Result<(), Fail> {
 
 #[test]
 fn reads_the_same_frames_however_cut(rt: HostRuntime) -> Result<(), Fail> {
-    let stream = each_kind_spelled(rt.alloc())?;
+    let stream = each_kind_encoded(rt.alloc())?;
     let ends = [12, 51, 69, 91, 101, 106, 111, 169, 191, 209, 226, 239, 245];
     for cut in 0..=stream.len() {
         let (piece, later) = stream.split_at(cut);
@@ -271,7 +271,7 @@ fn reads_the_same_frames_however_cut(rt: HostRuntime) -> Result<(), Fail> {
         );
         reader.feed(later, &mut frames)?;
         assert_eq!(rt;
-            spelled(&rt, rt.alloc(), &frames)?.as_slice(),
+            encoded(&rt, rt.alloc(), &frames)?.as_slice(),
             stream.as_slice(),
             "cut at {cut}"
         );
@@ -281,20 +281,20 @@ fn reads_the_same_frames_however_cut(rt: HostRuntime) -> Result<(), Fail> {
 
 #[test]
 fn reads_byte_by_byte(rt: HostRuntime) -> Result<(), Fail> {
-    let stream = each_kind_spelled(rt.alloc())?;
+    let stream = each_kind_encoded(rt.alloc())?;
     let mut reader = Reader::new(rt.alloc());
     let mut frames = Vec::new(rt.alloc());
     for byte in &stream {
         reader.feed(&[*byte], &mut frames)?;
     }
     assert_eq!(rt;
-        spelled(&rt, rt.alloc(), &frames)?.as_slice(),
+        encoded(&rt, rt.alloc(), &frames)?.as_slice(),
         stream.as_slice()
     );
     Ok(())
 }
 
-/// Behind one good frame, each byte but the last must be taken, and the last must give the fault, in
+/// After one good frame, each byte but the last must be taken, and the last must give the fault, in
 /// single bytes and in one piece. Every later feed must answer `Failed`.
 fn must_fail_at_last(
     rt: &impl Abort,
@@ -312,7 +312,7 @@ fn must_fail_at_last(
     }
     assert_eq!(rt; single.feed(last, &mut frames), Err(fault));
     assert_eq!(rt; single.feed(&STALE, &mut frames), Err(ReadFault::Failed));
-    assert_eq!(rt; spelled(rt, alloc, &frames)?.as_slice(), STALE.as_slice());
+    assert_eq!(rt; encoded(rt, alloc, &frames)?.as_slice(), STALE.as_slice());
 
     let mut piece = Vec::from_slice(alloc, &STALE)?;
     piece.extend_from_slice(bad)?;
@@ -321,7 +321,7 @@ fn must_fail_at_last(
     let mut frames = Vec::new(alloc);
     assert_eq!(rt; whole.feed(&piece, &mut frames), Err(fault));
     assert_eq!(rt; whole.feed(&[], &mut frames), Err(ReadFault::Failed));
-    assert_eq!(rt; spelled(rt, alloc, &frames)?.as_slice(), STALE.as_slice());
+    assert_eq!(rt; encoded(rt, alloc, &frames)?.as_slice(), STALE.as_slice());
     Ok(())
 }
 

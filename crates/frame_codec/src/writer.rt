@@ -1,7 +1,9 @@
-//! The spelling of a frame.
+//! The encoding of a frame.
 
-ghost use Rattle.std.specs.Prelude.{◌≡◌, ◌≤◌, ◌<◌, ◌+◌, ◌*◌, ◌^◌, ◌∷◌, ◌++◌, All, length, vec_len, vec_capacity, IsOk, OnOk, OnErr};
-ghost use Rattle.frame_codec.specs.Frames.{HasFields, IsFrame, spelling, payload_of, payload_size, kind_of, payload_limit};
+ghost use Rattle.std.specs.Prelude.{◌≡◌, ◌≤◌, ◌<◌, ◌+◌, ◌*◌, ◌^◌, ◌∷◌, ◌++◌, All, length, vec_len,
+    vec_capacity, IsOk, OnOk, OnErr};
+ghost use Rattle.frame_codec.specs.Frames.{HasFields, IsFrame, encoding, payload_of, payload_size,
+    kind_of, payload_limit};
 ghost use Rattle.frame_codec.specs.Numbers.{number_bytes, word_bytes};
 ghost use Rattle.frame_codec.specs.declared.frame.Frame.TheVariants.{Load};
 
@@ -163,7 +165,8 @@ fn put_welcome(out: &mut Vec<u8>, frame: &Frame)
 #[tactic(auto, using(crate::proofs::NumberBytes::lengths), unfolding(crate::specs::Frames::payload_of))]
 fn put_load(out: &mut Vec<u8>, record_len: u16, groups: u16, width: u8, records: &Bytes)
     requires { vec_len out.old + (5 + length records.now) ≤ vec_capacity out.old }
-    ensures items { out.new.items ≡ out.old.items ++ payload_of (Load record_len groups width records.now) }
+    ensures items { out.new.items ≡ out.old.items ++ payload_of
+        (Load record_len groups width records.now) }
     ensures fields { HasFields (Load record_len groups width records.now) }
     ensures capacity { vec_capacity out.old ≤ vec_capacity out.new }
 {
@@ -186,7 +189,8 @@ fn put_scheme(out: &mut Vec<u8>, scheme: u8, version: u64)
 /// The payload of a query or an answer.
 fn put_scheme_words(out: &mut Vec<u8>, scheme: u8, version: u64, words: &Words)
     requires { vec_len out.old + (9 + 4 * length words.now) ≤ vec_capacity out.old }
-    ensures items { out.new.items ≡ out.old.items ++ (scheme ∷ (number_bytes 8 version ++ word_bytes words.now)) }
+    ensures items { out.new.items ≡
+        out.old.items ++ (scheme ∷ (number_bytes 8 version ++ word_bytes words.now)) }
     ensures fields { All (λ w. w < 2 ^ 32) words.now }
     ensures capacity { vec_capacity out.old ≤ vec_capacity out.new }
 {
@@ -194,19 +198,21 @@ fn put_scheme_words(out: &mut Vec<u8>, scheme: u8, version: u64, words: &Words)
     put_words(out, words.as_slice());
 }
 
-/// Adds the spelling of a frame to `out`.
+/// Adds the encoding of a frame to `out`.
 ///
-/// It fails only where `out` has less room than the spelling needs and more is refused; `out` is
+/// It fails only where `out` has less room than the encoding needs and more is refused; `out` is
 /// then as it was.
-#[tactic(auto, using(crate::proofs::Fronts::spelled_length, crate::proofs::Payloads::payload_sized), unfolding(crate::specs::Frames::spelling))]
+#[tactic(auto, using(crate::proofs::Prefixes::encoded_length, crate::proofs::Payloads::payload_sized), unfolding(crate::specs::Frames::encoding))]
 pub fn write_frame(frame: &Frame, out: &mut Vec<u8>) -> Result<(), AllocError>
     requires { payload_size frame.now ≤ payload_limit }
-    ensures ok { OnOk result (out.new.items ≡ out.old.items ++ spelling frame.now) }
+    ensures ok { OnOk result (out.new.items ≡ out.old.items ++ encoding frame.now) }
     ensures frame { OnOk result (IsFrame frame.now) }
     ensures err { OnErr result (out.new.items ≡ out.old.items) }
     ensures capacity { vec_capacity out.old ≤ vec_capacity out.new }
-    ensures full { OnErr result (vec_capacity out.old < vec_len out.old + length (spelling frame.now)) }
-    ensures room { vec_len out.old + (5 + payload_size frame.now) ≤ vec_capacity out.old → IsOk result }
+    ensures full { OnErr result (vec_capacity out.old < vec_len out.old + length
+        (encoding frame.now)) }
+    ensures room { vec_len out.old + (5 + payload_size frame.now) ≤ vec_capacity out.old →
+        IsOk result }
 {
     let len = frame.payload_len();
     out.reserve(5 + len)?;

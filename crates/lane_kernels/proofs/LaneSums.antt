@@ -10,7 +10,7 @@ use Rattle.std.proofs.lemmas.Simd.{get_or-chunk, length-chunk, get_or-put_chunk_
 use Rattle.std.proofs.lemmas.Bool.{cases_lt}
 use Rattle.std.proofs.Math.Seq.{drop-drop}
 use Rattle.matrix_u32.specs.Sum.{sum_below, dot}
-use Rattle.matrix_u32.proofs.Sums.{sum_below_none, sum_below-front, sum_same, sum_below-add}
+use Rattle.matrix_u32.proofs.Sums.{sum_below_none, sum_below-prefix, sum_same, sum_below-add}
 
 -- chunk i of the chunks of a list
 pub chunk_at : {X : Type 0} (n k i : ℕ) (xs : List X) (d : List X) → i < k → get_or (first_chunks n k xs) i d ≡ chunk (i * n) n xs
@@ -43,7 +43,7 @@ pub sum_products : (xs ys : List ℕ) → length xs ≡ length ys
 sum_products [] ys p = rw sum_below_none refl
 sum_products (x ∷ xs) [] p = absurd (omega arith)
 sum_products (x ∷ xs) (y ∷ ys) p =
-    rw sum_below-front (ap (λ n. x * y + n) (sum_products xs ys (omega arith)))
+    rw sum_below-prefix (ap (λ n. x * y + n) (sum_products xs ys (omega arith)))
 
 -- the products of one chunk
 pub sum_chunk : (at n : ℕ) (xs ys : List ℕ) → at + n ≤ length xs → at + n ≤ length ys

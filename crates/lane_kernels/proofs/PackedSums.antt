@@ -12,7 +12,7 @@ use Rattle.std.proofs.lemmas.Simd.{zip2_of_maps, splat_is_map}
 use Rattle.std.proofs.Math.Nat.{mul-add, add-mul, mul_assoc, mul_left_comm}
 use Rattle.matrix_u32.specs.Sum.{sum_below, dot}
 use Rattle.matrix_u32.specs.Matrix.{row}
-use Rattle.matrix_u32.proofs.Sums.{sum_below_none, sum_below-front, sum_same, sum_zero, sum_below-add, sum_congruent}
+use Rattle.matrix_u32.proofs.Sums.{sum_below_none, sum_below-prefix, sum_same, sum_zero, sum_below-add, sum_congruent}
 use Rattle.matrix_u32.proofs.Products.{dot-list_of, row-matrix_of}
 use Rattle.lane_kernels.specs.Digit.{digit}
 use Rattle.lane_kernels.specs.Packed.{packed_cols, unpacked}
@@ -22,7 +22,7 @@ use Rattle.lane_kernels.proofs.LaneSums.{chunk_at, chunk_is_map, lanes_total}
 -- the sum of the lanes, by index
 pub sum_by_index : (xs : List ℕ) → sum_l xs ≡ sum_below (length xs) (λ k. slice_index xs k)
 sum_by_index [] = rw sum_below_none refl
-sum_by_index (x ∷ xs) = rw sum_below-front (ap (λ n. x + n) (sum_by_index xs))
+sum_by_index (x ∷ xs) = rw sum_below-prefix (ap (λ n. x + n) (sum_by_index xs))
 
 -- terms that are added lane by lane, each modulo 2 ^ 32
 pub sum_below-wrapped : (n : ℕ) (f g h : ℕ → ℕ) → ((k : ℕ) → k < n → h k ≡ (f k + g k) % 2 ^ 32)

@@ -2,7 +2,7 @@
 //! packed three in a word, and the digits of words.
 //!
 //! Everything here gives the very words of the definitions, at every length and shape, and nothing takes
-//! memory. The loops go over vectors of 8 or 16 words by `std::simd`; what is left behind the last whole
+//! memory. The loops go over vectors of 8 or 16 words by `std::simd`; what is left after the last whole
 //! vector is done word by word.
 #![tactic(auto)]
 

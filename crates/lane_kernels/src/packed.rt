@@ -5,7 +5,8 @@
 //! modulo 2^32: what stands above a digit in one term is taken off by the next. So the vector alone is
 //! prepared, once for all rows.
 
-ghost use Rattle.std.specs.Prelude.{◌≡◌, ℕ, ◌∷◌, [], ◌<◌, ◌≤◌, ◌+◌, ◌*◌, ◌%◌, ◌^◌, length, slice_index, slice_range, All};
+ghost use Rattle.std.specs.Prelude.{◌≡◌, ℕ, ◌∷◌, [], ◌<◌, ◌≤◌, ◌+◌, ◌*◌, ◌%◌, ◌^◌, length,
+    slice_index, slice_range, All};
 ghost use Rattle.matrix_u32.specs.Matrix.{times_vector};
 ghost use Rattle.lane_kernels.specs.Packed.{packed_cols, unpacked};
 ghost use Rattle.lane_kernels.specs.Carried.{shifted_sum, thirds, IsCarried, RowsSoFar};
@@ -227,7 +228,7 @@ fn row_sum(words: &[u32], a: &[u32], b: &[u32], c: &[u32]) -> u32
         .wrapping_add(rest_sum(w_rest, a_rest, b_rest, c_rest))
 }
 
-// Word by word, for what is left behind the last whole vector.
+// Word by word, for what is left after the last whole vector.
 fn rest_sum(words: &[u32], a: &[u32], b: &[u32], c: &[u32]) -> u32
     requires first { length a.now ≡ length words.now }
     requires second { length b.now ≡ length words.now }

@@ -146,7 +146,7 @@ matrix_is m rows cols f r c e h =
     words_are m.words (rows * cols) (λ k. f (k / cols) (k % cols)) e (λ k l. h k l ∙ at-list_of (rows * cols) (λ k. f (k / cols) (k % cols)) k l) in
     λ t. record { rows = r t; cols = c t; words = words t }
 
--- a list that is filled from its front, after one more word
+-- a list that is filled from its prefix, after one more word
 pub filled_more : (out : List ℕ) (t v : ℕ) (f : ℕ → ℕ) → t < length out → v ≡ f t → ((k : ℕ) → k < t → slice_index out k ≡ f k) →
     (k : ℕ) → k < t + 1 → slice_index (slice_set out t v) k ≡ f k
 filled_more out t v f l e h = below_more _ t (λ k m. get_or-set_other out t k v 0 (omega arith) ∙ h k m) (get_or-set_same out t v 0 l ∙ e)

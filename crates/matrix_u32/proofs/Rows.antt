@@ -21,8 +21,8 @@ pub overwritten_cut : (n place : ℕ) (new old : List ℕ) → length old ≡ n 
     → let x = take place old ++ (new ++ drop (length new) (drop place old)) in take n (x ++ drop (length x) old) ≡ overwritten place new old
 overwritten_cut n place new old long le =
     let x = take place old ++ (new ++ drop (length new) (drop place old)) in
-    let front : length (take place old) ≡ place = length-take-le place old (omega arith) in
-    let size : length x ≡ place + (length new + (length old - place - length new)) = simp (length-append, length-drop) (omega (arith, front)) in
+    let prefix : length (take place old) ≡ place = length-take-le place old (omega arith) in
+    let size : length x ≡ place + (length new + (length old - place - length new)) = simp (length-append, length-drop) (omega (arith, prefix)) in
     rw (← long) (take-append-le (length old) x _ (omega (arith, size)))
 
 pub overwritten_is : (place : ℕ) (new old : List ℕ) → place + length new ≤ length old → overwritten place new old ≡ put_chunk place old new

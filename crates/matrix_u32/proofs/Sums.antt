@@ -83,7 +83,7 @@ sum_below-add a (suc b) f =
     rw add-suc (let e = sum_below-add a b f in omega (arith, e))
 
 -- the first term apart
-pub sum_below-front : (n : ℕ) (f : ℕ → ℕ) → sum_below (suc n) f ≡ f 0 + sum_below n (λ k. f (suc k))
+pub sum_below-prefix : (n : ℕ) (f : ℕ → ℕ) → sum_below (suc n) f ≡ f 0 + sum_below n (λ k. f (suc k))
 unfolding sum_below
-sum_below-front zero f = omega arith
-sum_below-front (suc n) f = let e = sum_below-front n f in omega (arith, e)
+sum_below-prefix zero f = omega arith
+sum_below-prefix (suc n) f = let e = sum_below-prefix n f in omega (arith, e)

@@ -61,16 +61,18 @@ impl Model for Matrix {
 
     ghost view = { λ m. record { rows = m.rows; cols = m.cols; words = m.words.items } };
 
-    ghost invariant = { λ m. (length m.words.items ≡ m.rows * m.cols) × (m.rows * m.cols ≤ most_words) };
+    ghost invariant = { λ m. (length m.words.items ≡ m.rows * m.cols) ×
+        (m.rows * m.cols ≤ most_words) };
 }
 
 impl Matrix {
     /// A matrix of zeros.
     ///
-    /// `TooLarge` exactly where rows times columns is above [`MAX_WORDS`], judged before any memory is
+    /// `TooLarge` exactly when rows times columns is above [`MAX_WORDS`], judged before any memory is
     /// asked for; else the matrix, or `Memory`.
     pub fn zeros(alloc: Global, rows: usize, cols: usize) -> Result<Matrix, MatrixError>
-        ensures zeros { IfOk result (λ m. (m ≡ zero_matrix rows cols) × (rows * cols ≤ most_words)) }
+        ensures zeros { IfOk result (λ m. (m ≡ zero_matrix rows cols) ×
+            (rows * cols ≤ most_words)) }
         ensures refused { IfErr result (λ e.
             ((e ≡ MatrixError.TooLarge) × (most_words < rows * cols))
             ⊎ ((e ≡ MatrixError.Memory) × (rows * cols ≤ most_words))) }
@@ -84,14 +86,16 @@ impl Matrix {
 
     /// A matrix of these words, given row by row. It takes no memory.
     ///
-    /// `TooLarge` exactly where rows times columns is above [`MAX_WORDS`], whatever the count of words;
-    /// `WrongCount` exactly where it isn't and the words are not rows times columns; never `Memory`.
+    /// `TooLarge` exactly when rows times columns is above [`MAX_WORDS`], whatever the count of words;
+    /// `WrongCount` exactly when it isn't and the words are not rows times columns; never `Memory`.
     pub fn from_words(rows: usize, cols: usize, words: Vec<u32>) -> Result<Matrix, MatrixError>
         ensures words { IfOk result (λ m.
-            (m ≡ record { rows = rows; cols = cols; words = words.items }) × IsWhole m × (rows * cols ≤ most_words)) }
+            (m ≡ record { rows = rows; cols = cols; words = words.items }) × IsWhole m ×
+                (rows * cols ≤ most_words)) }
         ensures refused { IfErr result (λ e.
             ((e ≡ MatrixError.TooLarge) × (most_words < rows * cols))
-            ⊎ ((e ≡ MatrixError.WrongCount) × (rows * cols ≤ most_words) × (length words.items ≢ rows * cols))) }
+            ⊎ ((e ≡ MatrixError.WrongCount) × (rows * cols ≤ most_words) ×
+                (length words.items ≢ rows * cols))) }
     {
         let wanted = word_count(rows, cols)?;
         if words.len() != wanted {

@@ -9,10 +9,10 @@ use Rattle.once_session.specs.declared.engine.OnceFault.TheVariants as fault
 use Rattle.once_session.specs.Outputs.{goes_on, is_done, IsServeFault, Finishes}
 use Rattle.once_session.specs.OnceTurns.{WritesReplies, Work, fresh, TakesPiece, LeavesOpen, GoesOn, EndsTurns}
 
-pub one_more : {C : Type 0} (does : C → Call → C → Type 0) (a : C) (turns : List Turn) (mid : Work) (b : C) (turn : Turn) (new : Work) (c : C)
-    → GoesOn does fresh a turns mid b → LeavesOpen does mid b turn new c → GoesOn does fresh a (turns ++ turn ∷ []) new c
-one_more {C = C} does a turns mid b turn new c go t =
-    FoldsTo-push {P = Work × C} (λ p turn q. LeavesOpen does p.0 p.1 turn q.0 q.1) (fresh, a) turns (mid, b) turn (new, c) go t
+pub one_more : {C : Type 0} (does : C → Call → C → Type 0) (a : C) (turns : List Turn) (mid : Work) (b : C) (serve_chunk : Turn) (new : Work) (c : C)
+    → GoesOn does fresh a turns mid b → LeavesOpen does mid b serve_chunk new c → GoesOn does fresh a (turns ++ serve_chunk ∷ []) new c
+one_more {C = C} does a turns mid b serve_chunk new c go t =
+    FoldsTo-push {P = Work × C} (λ p serve_chunk q. LeavesOpen does p.0 p.1 serve_chunk q.0 q.1) (fresh, a) turns (mid, b) serve_chunk (new, c) go t
 
 -- the stream has ended
 pub end_found : {C : Type 0} (does : C → Call → C → Type 0) (turns count : ℕ) (old : Work) (a : C) (answer : Result (Unit {0}) OnceFault) (b : C) → count < turns
@@ -26,16 +26,16 @@ end_found does turns count old a (Err fault.TurnsUsedUp) b lt m r out w f = absu
 
 -- a piece at which a reply failed
 pub piece_failed : {C : Type 0} (does : C → Call → C → Type 0) (turns count : ℕ) (old : Work) (a : C) (e : OnceFault) (b : C) → count < turns
-    → (turn : Turn) (stage : Stage) (codec : Option (List ℕ)) → IsServeFault e → TakesPiece does old a (Err e) turn stage codec b → EndsTurns does turns count old a (Err e) b
-piece_failed does turns count old a e b lt turn stage codec (inl is) t =
-    subst (λ k. EndsTurns does turns count old a (Err k) b) (sym is) (lt, inl (turn, stage, codec, subst (λ k. TakesPiece does old a (Err k) turn stage codec b) is t))
-piece_failed does turns count old a e b lt turn stage codec (inr is) t =
-    subst (λ k. EndsTurns does turns count old a (Err k) b) (sym is) (lt, inl (turn, stage, codec, subst (λ k. TakesPiece does old a (Err k) turn stage codec b) is t))
+    → (serve_chunk : Turn) (stage : Stage) (codec : Option (List ℕ)) → IsServeFault e → TakesPiece does old a (Err e) serve_chunk stage codec b → EndsTurns does turns count old a (Err e) b
+piece_failed does turns count old a e b lt serve_chunk stage codec (inl is) t =
+    subst (λ k. EndsTurns does turns count old a (Err k) b) (sym is) (lt, inl (serve_chunk, stage, codec, subst (λ k. TakesPiece does old a (Err k) serve_chunk stage codec b) is t))
+piece_failed does turns count old a e b lt serve_chunk stage codec (inr is) t =
+    subst (λ k. EndsTurns does turns count old a (Err k) b) (sym is) (lt, inl (serve_chunk, stage, codec, subst (λ k. TakesPiece does old a (Err k) serve_chunk stage codec b) is t))
 
 -- one that ended the work
 pub piece_ended : {C : Type 0} (does : C → Call → C → Type 0) (turns count : ℕ) (old : Work) (a : C) (answer : Result (Unit {0}) OnceFault) (b : C) → count < turns
-    → (turn : Turn) (stage : Stage) (codec : Option (List ℕ)) → OnOk answer (is_done stage ≡ true) → IfErr answer (λ e. (e ≡ fault.BadInput) × (is_done stage ≡ false)) → goes_on stage ≡ false
-    → TakesPiece does old a (Ok tt) turn stage codec b → EndsTurns does turns count old a answer b
-piece_ended does turns count old a (Ok d) b lt turn stage codec well ill over t = (lt, inl (record { turn = turn; stage = stage; codec = codec; takes = t; over = over; well_is = well }))
-piece_ended does turns count old a (Err e) b lt turn stage codec well ill over t =
-    subst (λ k. EndsTurns does turns count old a (Err k) b) (sym ill.0) (lt, inl (record { turn = turn; stage = stage; codec = codec; takes = t; over = over; well_is = ill.1 }))
+    → (serve_chunk : Turn) (stage : Stage) (codec : Option (List ℕ)) → OnOk answer (is_done stage ≡ true) → IfErr answer (λ e. (e ≡ fault.BadInput) × (is_done stage ≡ false)) → goes_on stage ≡ false
+    → TakesPiece does old a (Ok tt) serve_chunk stage codec b → EndsTurns does turns count old a answer b
+piece_ended does turns count old a (Ok d) b lt serve_chunk stage codec well ill over t = (lt, inl (record { serve_chunk = serve_chunk; stage = stage; codec = codec; takes = t; over = over; well_is = well }))
+piece_ended does turns count old a (Err e) b lt serve_chunk stage codec well ill over t =
+    subst (λ k. EndsTurns does turns count old a (Err k) b) (sym ill.0) (lt, inl (record { serve_chunk = serve_chunk; stage = stage; codec = codec; takes = t; over = over; well_is = ill.1 }))

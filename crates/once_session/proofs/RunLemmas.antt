@@ -5,17 +5,17 @@ use Rattle.std.specs.Io.KnownBytes.{IsAtEnd}
 use Rattle.std.proofs.lemmas.List.{append-nil}
 use Rattle.frame_codec.specs.declared.frame.Frame.{Frame}
 use Rattle.frame_codec.specs.declared.frame.Frame.TheVariants.{Refused}
-use Rattle.frame_codec.specs.Frames.{spelling}
+use Rattle.frame_codec.specs.Frames.{encoding}
 use Rattle.frame_codec.specs.Streams.{Begins}
 use Rattle.frame_codec.proofs.Runs.{begins_both, begins_none, begins_ahead}
-use Rattle.frame_codec.proofs.Fronts.{nothing_partial}
+use Rattle.frame_codec.proofs.Prefixes.{nothing_partial}
 use Rattle.once_session.specs.declared.engine.OnceFault.{OnceFault}
 use Rattle.once_session.specs.declared.engine.OnceFault.TheVariants as fault
 use Rattle.once_session.specs.declared.stage.Stage.{Stage}
 use Rattle.once_session.specs.declared.stage.Stage.TheVariants as stage
-use Rattle.once_session.specs.Courses.{replies_to, stage_after, spellings}
-use Rattle.once_session.specs.Outputs.{IsFrontOf, goes_on, rest_reply, is_well, is_done, output_of, Ends, Waits, Breaks, Turns, IsOutput, IsAnswered, IsCutOff, IsServeFault, Serves, Finishes}
-use Rattle.once_session.proofs.CourseLemmas.{stage_after-append, output-append, front_behind, front_taken}
+use Rattle.once_session.specs.Courses.{replies_to, stage_after, encodings}
+use Rattle.once_session.specs.Outputs.{IsPrefixOf, goes_on, rest_reply, is_well, is_done, output_of, Ends, Waits, Breaks, Turns, IsOutput, IsAnswered, IsCutOff, IsServeFault, Serves, Finishes}
+use Rattle.once_session.proofs.CourseLemmas.{stage_after-append, output-append, prefix_after, prefix_taken}
 
 -- nothing was read yet
 pub waits_none : Waits stage.Fresh [] stage.Fresh (Some []) []
@@ -29,15 +29,15 @@ waits_none = record {
 }
 
 -- two parts of an output
-both_outs : (fs gs : List Frame) (st : Stage) (out more : List ℕ) → out ≡ spellings (replies_to stage.Fresh fs) → st ≡ stage_after stage.Fresh fs → (tail : List ℕ) →
-    more ≡ spellings (replies_to st gs) ++ tail → out ++ more ≡ spellings (replies_to stage.Fresh (fs ++ gs)) ++ tail
+both_outs : (fs gs : List Frame) (st : Stage) (out more : List ℕ) → out ≡ encodings (replies_to stage.Fresh fs) → st ≡ stage_after stage.Fresh fs → (tail : List ℕ) →
+    more ≡ encodings (replies_to st gs) ++ tail → out ++ more ≡ encodings (replies_to stage.Fresh (fs ++ gs)) ++ tail
 both_outs fs gs st out more o s tail m =
     ap (λ (b : List ℕ). b ++ more) o
-    ∙ ap (λ (b : List ℕ). spellings (replies_to stage.Fresh fs) ++ b) (m ∙ ap (λ x. spellings (replies_to x gs) ++ tail) s)
-    ∙ sym (append_assoc (spellings (replies_to stage.Fresh fs)) (spellings (replies_to (stage_after stage.Fresh fs) gs)) tail)
+    ∙ ap (λ (b : List ℕ). encodings (replies_to stage.Fresh fs) ++ b) (m ∙ ap (λ x. encodings (replies_to x gs) ++ tail) s)
+    ∙ sym (append_assoc (encodings (replies_to stage.Fresh fs)) (encodings (replies_to (stage_after stage.Fresh fs) gs)) tail)
     ∙ ap (λ (b : List ℕ). b ++ tail) (sym (output-append stage.Fresh fs gs))
 
--- the stage behind both
+-- the stage after both
 both_stages : (fs gs : List Frame) (st : Stage) → st ≡ stage_after stage.Fresh fs → stage_after st gs ≡ stage_after stage.Fresh (fs ++ gs)
 both_stages fs gs st s = ap (λ x. stage_after x gs) s ∙ sym (stage_after-append stage.Fresh fs gs)
 
@@ -53,7 +53,7 @@ waits_on read out piece more st new codec left w t = record {
   reads = record { begins = both_begin read piece w.frames t.frames w.rest t.rest w.reads.begins t.reads.begins; partial = t.reads.partial };
   codec_is = t.codec_is;
   stage_is = t.stage_is ∙ both_stages w.frames t.frames st w.stage_is;
-  out_is = both_outs w.frames t.frames st out more w.out_is w.stage_is [] (t.out_is ∙ sym (append-nil (spellings (replies_to st t.frames)))) ∙ append-nil (spellings (replies_to stage.Fresh (w.frames ++ t.frames)));
+  out_is = both_outs w.frames t.frames st out more w.out_is w.stage_is [] (t.out_is ∙ sym (append-nil (encodings (replies_to st t.frames)))) ∙ append-nil (encodings (replies_to stage.Fresh (w.frames ++ t.frames)));
 }
 
 -- a frame, or what can't be read, ended it
@@ -67,41 +67,41 @@ ends_on read out piece more st new codec left well w t done =
       begins = both_begin read piece w.frames t.frames w.rest t.rest w.reads.begins t.begins;
       last = record { no_frame = λ going. t.no_frame (ap goes_on s ∙ going); no_more = λ going p. absurd (t.no_part (ap goes_on s ∙ going) p) };
       out_is = both_outs w.frames t.frames st out more w.out_is w.stage_is (cond (goes_on (stage_after st t.frames)) (rest_reply t.rest) []) t.out_is
-          ∙ ap (λ x. spellings (replies_to stage.Fresh (w.frames ++ t.frames)) ++ cond (goes_on x) (rest_reply t.rest) []) s;
+          ∙ ap (λ x. encodings (replies_to stage.Fresh (w.frames ++ t.frames)) ++ cond (goes_on x) (rest_reply t.rest) []) s;
       well_is = sym done ∙ t.well_is ∙ ap (λ x. is_well x t.rest) s;
     }
 
--- two parts of an output, of which the second is a front
-both_front : (fs gs : List Frame) (st : Stage) (out more : List ℕ) → out ≡ spellings (replies_to stage.Fresh fs) → st ≡ stage_after stage.Fresh fs → (tail : List ℕ) →
-    IsFrontOf more (spellings (replies_to st gs) ++ tail) → IsFrontOf (out ++ more) (spellings (replies_to stage.Fresh (fs ++ gs)) ++ tail)
-both_front fs gs st out more o s tail f =
-    let all : List ℕ = spellings (replies_to st gs) ++ tail in
-    subst (IsFrontOf (out ++ more)) (both_outs fs gs st out all o s tail refl) (front_behind out more all f)
+-- two parts of an output, of which the second is a prefix
+both_prefix : (fs gs : List Frame) (st : Stage) (out more : List ℕ) → out ≡ encodings (replies_to stage.Fresh fs) → st ≡ stage_after stage.Fresh fs → (tail : List ℕ) →
+    IsPrefixOf more (encodings (replies_to st gs) ++ tail) → IsPrefixOf (out ++ more) (encodings (replies_to stage.Fresh (fs ++ gs)) ++ tail)
+both_prefix fs gs st out more o s tail f =
+    let all : List ℕ = encodings (replies_to st gs) ++ tail in
+    subst (IsPrefixOf (out ++ more)) (both_outs fs gs st out all o s tail refl) (prefix_after out more all f)
 
-front_alone : (front all : List ℕ) → IsFrontOf front (all ++ []) → IsFrontOf front all
-front_alone front all f = subst (IsFrontOf front) (append-nil all) f
+prefix_alone : (prefix all : List ℕ) → IsPrefixOf prefix (all ++ []) → IsPrefixOf prefix all
+prefix_alone prefix all f = subst (IsPrefixOf prefix) (append-nil all) f
 
-front_long : (front all : List ℕ) → IsFrontOf front all → IsFrontOf front (all ++ [])
-front_long front all f = subst (IsFrontOf front) (sym (append-nil all)) f
+prefix_long : (prefix all : List ℕ) → IsPrefixOf prefix all → IsPrefixOf prefix (all ++ [])
+prefix_long prefix all f = subst (IsPrefixOf prefix) (sym (append-nil all)) f
 
 -- it broke off
 pub breaks_on : (read out piece more : List ℕ) (st : Stage) (codec left : Option (List ℕ)) (w : Waits stage.Fresh read st codec out) → Breaks st (w.rest ++ piece) more →
     IsCutOff (read ++ piece) (out ++ more) left
 breaks_on read out piece more st codec left w t =
     let s : stage_after st t.frames ≡ stage_after stage.Fresh (w.frames ++ t.frames) = both_stages w.frames t.frames st w.stage_is in
-    let all : List ℕ = spellings (replies_to st t.frames) in
+    let all : List ℕ = encodings (replies_to st t.frames) in
     let tail : List ℕ = cond (goes_on (stage_after st t.frames)) (rest_reply t.rest) [] in
     record {
       frames = w.frames ++ t.frames;
       rest = t.rest;
       begins = both_begin read piece w.frames t.frames w.rest t.rest w.reads.begins t.begins;
-      front = elim t.front [
-        | inl f ↦ inl (front_alone (out ++ more) (spellings (replies_to stage.Fresh (w.frames ++ t.frames)))
-            (both_front w.frames t.frames st out more w.out_is w.stage_is [] (front_long more all f)))
+      prefix = elim t.prefix [
+        | inl f ↦ inl (prefix_alone (out ++ more) (encodings (replies_to stage.Fresh (w.frames ++ t.frames)))
+            (both_prefix w.frames t.frames st out more w.out_is w.stage_is [] (prefix_long more all f)))
         | inr f ↦ inr (
           record { no_frame = λ going. f.0 (ap goes_on s ∙ going); no_more = λ going p. absurd (f.1 (ap goes_on s ∙ going) p) },
-          subst (λ x. IsFrontOf (out ++ more) (spellings (replies_to stage.Fresh (w.frames ++ t.frames)) ++ cond (goes_on x) (rest_reply t.rest) [])) s
-              (both_front w.frames t.frames st out more w.out_is w.stage_is tail f.2),
+          subst (λ x. IsPrefixOf (out ++ more) (encodings (replies_to stage.Fresh (w.frames ++ t.frames)) ++ cond (goes_on x) (rest_reply t.rest) [])) s
+              (both_prefix w.frames t.frames st out more w.out_is w.stage_is tail f.2),
         )
       ];
     }
@@ -110,7 +110,7 @@ breaks_on read out piece more st codec left w t =
 pub waits_served : (read out : List ℕ) (st : Stage) (codec : Option (List ℕ)) → Waits stage.Fresh read st codec out → goes_on st ≡ true → IsAnswered read out
 waits_served read out st codec w going = record { frames = w.frames; rest = w.rest; reads = w.reads; open_still = ap goes_on (sym w.stage_is) ∙ going; out_is = w.out_is }
 
--- the stream's end is behind a frame, or within one
+-- the stream's end is after a frame, or within one
 shut_output : (read out more : List ℕ) (st : Stage) (codec left : Option (List ℕ)) (well : Bool) (w : Waits stage.Fresh read st codec out) → goes_on st ≡ true → IsAtEnd left → more ≡ rest_reply w.rest →
     well ≡ is_well (stage_after stage.Fresh w.frames) w.rest → IsOutput read (out ++ more) left well
 shut_output read out more st codec left well w going end m is = record {
@@ -118,7 +118,7 @@ shut_output read out more st codec left well w going end m is = record {
   rest = w.rest;
   begins = w.reads.begins;
   last = record { no_frame = λ _ f. w.reads.partial.no_frame f; no_more = λ _ _. end };
-  out_is = ap (λ (b : List ℕ). b ++ more) w.out_is ∙ ap (λ (b : List ℕ). spellings (replies_to stage.Fresh w.frames) ++ b)
+  out_is = ap (λ (b : List ℕ). b ++ more) w.out_is ∙ ap (λ (b : List ℕ). encodings (replies_to stage.Fresh w.frames) ++ b)
       (m ∙ ap (λ b. cond b (rest_reply w.rest) []) (sym going ∙ ap goes_on w.stage_is));
   well_is = is;
 }
@@ -137,21 +137,21 @@ ill_at_end (stage.Loaded t) (b ∷ bs) g some = refl
 ill_at_end stage.Done rest g some = let no : false ≡ true = g in cc
 ill_at_end stage.Bad rest g some = refl
 
-some_reply : (rest : List ℕ) → (rest ≡ [] → ⊥) → spelling (Refused 1) ≡ rest_reply rest
+some_reply : (rest : List ℕ) → (rest ≡ [] → ⊥) → encoding (Refused 1) ≡ rest_reply rest
 some_reply [] some = absurd (some refl)
 some_reply (b ∷ bs) some = refl
 
-shut_cut : (read out more : List ℕ) (st : Stage) (codec left : Option (List ℕ)) (w : Waits stage.Fresh read st codec out) → goes_on st ≡ true → IsAtEnd left → IsFrontOf more (rest_reply w.rest) →
+shut_cut : (read out more : List ℕ) (st : Stage) (codec left : Option (List ℕ)) (w : Waits stage.Fresh read st codec out) → goes_on st ≡ true → IsAtEnd left → IsPrefixOf more (rest_reply w.rest) →
     IsCutOff read (out ++ more) left
 shut_cut read out more st codec left w going end f = record {
   frames = w.frames;
   rest = w.rest;
   begins = w.reads.begins;
-  front = inr (
+  prefix = inr (
     record { no_frame = λ _ h. w.reads.partial.no_frame h; no_more = λ _ _. end },
-    subst (λ (b : List ℕ). IsFrontOf (b ++ more) (output_of w.frames w.rest)) (sym w.out_is)
-        (front_behind (spellings (replies_to stage.Fresh w.frames)) more (cond (goes_on (stage_after stage.Fresh w.frames)) (rest_reply w.rest) [])
-        (subst (λ b. IsFrontOf more (cond b (rest_reply w.rest) [])) (sym going ∙ ap goes_on w.stage_is) f)),
+    subst (λ (b : List ℕ). IsPrefixOf (b ++ more) (output_of w.frames w.rest)) (sym w.out_is)
+        (prefix_after (encodings (replies_to stage.Fresh w.frames)) more (cond (goes_on (stage_after stage.Fresh w.frames)) (rest_reply w.rest) [])
+        (subst (λ b. IsPrefixOf more (cond b (rest_reply w.rest) [])) (sym going ∙ ap goes_on w.stage_is) f)),
   );
 }
 
@@ -185,11 +185,11 @@ turned_off st new stream more left over t = subst (λ b. MatchBool b (Waits st s
 
 -- no room for a piece: nothing was read
 pub nothing_served : (turns : ℕ) (left : Option (List ℕ)) → Serves turns (Err fault.Memory) [] [] left
-nothing_served turns left = record { frames = []; rest = []; begins = begins_none []; front = inl ([], refl) }
+nothing_served turns left = record { frames = []; rest = []; begins = begins_none []; prefix = inl ([], refl) }
 
 -- the refusal of a frame that is cut was written in part
-pub finish_cut : (e : OnceFault) (rest : List ℕ) (n : ℕ) → (rest ≡ [] → ⊥) → IsServeFault e → Finishes (Err e) rest (take n (spelling (Refused 1)))
+pub finish_cut : (e : OnceFault) (rest : List ℕ) (n : ℕ) → (rest ≡ [] → ⊥) → IsServeFault e → Finishes (Err e) rest (take n (encoding (Refused 1)))
 finish_cut e rest n some (inl is) =
-    subst (λ x. Finishes (Err x) rest (take n (spelling (Refused 1)))) (sym is) (subst (IsFrontOf (take n (spelling (Refused 1)))) (some_reply rest some) (front_taken n (spelling (Refused 1))))
+    subst (λ x. Finishes (Err x) rest (take n (encoding (Refused 1)))) (sym is) (subst (IsPrefixOf (take n (encoding (Refused 1)))) (some_reply rest some) (prefix_taken n (encoding (Refused 1))))
 finish_cut e rest n some (inr is) =
-    subst (λ x. Finishes (Err x) rest (take n (spelling (Refused 1)))) (sym is) (subst (IsFrontOf (take n (spelling (Refused 1)))) (some_reply rest some) (front_taken n (spelling (Refused 1))))
+    subst (λ x. Finishes (Err x) rest (take n (encoding (Refused 1)))) (sym is) (subst (IsPrefixOf (take n (encoding (Refused 1)))) (some_reply rest some) (prefix_taken n (encoding (Refused 1))))

@@ -6,19 +6,19 @@ use Rattle.frame_codec.specs.declared.frame.Frame.{Frame}
 use Rattle.frame_codec.specs.declared.frame.Frame.TheVariants.{Refused}
 use Rattle.frame_codec.specs.declared.reader.ReadFault.{ReadFault}
 use Rattle.frame_codec.specs.declared.reader.ReadFault.TheVariants.{TooLong, UnknownKind, BadPayload, Memory, Failed}
-use Rattle.frame_codec.specs.Frames.{spelling}
+use Rattle.frame_codec.specs.Frames.{encoding}
 use Rattle.frame_codec.specs.Streams.{Begins, Feeds, HasFault, StopsAt}
 use Rattle.once_session.specs.declared.stage.Stage.{Stage}
 use Rattle.once_session.specs.declared.stage.Stage.TheVariants as stage
-use Rattle.once_session.specs.Courses.{replies_to, stage_after, spellings}
-use Rattle.once_session.specs.Outputs.{IsFrontOf, IsJudged, goes_on, rest_reply, is_well, is_done, Ends, Waits, Breaks, Turns}
+use Rattle.once_session.specs.Courses.{replies_to, stage_after, encodings}
+use Rattle.once_session.specs.Outputs.{IsPrefixOf, IsJudged, goes_on, rest_reply, is_well, is_done, Ends, Waits, Breaks, Turns}
 use Rattle.connection_io.specs.Calls.{Call, Sends}
 use Rattle.connection_io.proofs.Parts.{sends_both, sends_faulty}
 use Rattle.once_session.specs.declared.engine.OnceFault.{OnceFault}
 use Rattle.once_session.specs.declared.engine.OnceFault.TheVariants as fault
 use Rattle.once_session.specs.OnceTurns.{SendsBefore}
 use Rattle.frame_codec.proofs.Unique.{fault_of_frame}
-use Rattle.once_session.proofs.CourseLemmas.{front_behind, front_taken, all_front}
+use Rattle.once_session.proofs.CourseLemmas.{prefix_after, prefix_taken, all_prefix}
 
 pub feeds_begins : (old piece : List ℕ) (answer : Result (Unit {0}) ReadFault) (frames : List Frame) (new : Option (List ℕ)) → Feeds (Some old) piece answer frames new → (rest : List ℕ) × Begins (old ++ piece) frames rest
 feeds_begins old piece (Ok d) frames new f = (f.0, f.1.begins)
@@ -39,7 +39,7 @@ not_both b e f = let no : false ≡ true = sym e ∙ f in cc
 
 -- a frame ended the work
 pub turn_over : (old new : Stage) (stream : List ℕ) (frames : List Frame) (rest : List ℕ) (codec : Option (List ℕ)) (out : List ℕ) → Begins stream frames rest →
-    new ≡ stage_after old frames → goes_on new ≡ false → out ≡ spellings (replies_to old frames) → Turns (Ok tt) old stream new codec out
+    new ≡ stage_after old frames → goes_on new ≡ false → out ≡ encodings (replies_to old frames) → Turns (Ok tt) old stream new codec out
 turn_over old new stream frames rest codec out begins is over o =
     let shut : goes_on (stage_after old frames) ≡ false = ap goes_on (sym is) ∙ over in
     at_false (goes_on new) (Waits old stream new codec out) (Ends old stream new out) over (record {
@@ -48,8 +48,8 @@ turn_over old new stream frames rest codec out begins is over o =
       begins = begins;
       no_frame = λ e f. not_both (goes_on (stage_after old frames)) shut e;
       no_part = λ e f. not_both (goes_on (stage_after old frames)) shut e;
-      out_is = o ∙ sym (append-nil (spellings (replies_to old frames)))
-          ∙ ap (λ b. spellings (replies_to old frames) ++ cond b (rest_reply rest) []) (sym shut);
+      out_is = o ∙ sym (append-nil (encodings (replies_to old frames)))
+          ∙ ap (λ b. encodings (replies_to old frames) ++ cond b (rest_reply rest) []) (sym shut);
       well_is = ends_as new rest over ∙ ap (λ s. is_well s rest) is;
     })
 
@@ -67,7 +67,7 @@ some_bytes BadPayload rest h e = let none : length rest ≡ 0 = ap length e in o
 some_bytes Memory rest h e = h
 some_bytes Failed rest h e = h
 
-refused_rest : (rest : List ℕ) → (rest ≡ [] → ⊥) → rest_reply rest ≡ spelling (Refused 1)
+refused_rest : (rest : List ℕ) → (rest ≡ [] → ⊥) → rest_reply rest ≡ encoding (Refused 1)
 refused_rest [] some = absurd (some refl)
 refused_rest (b ∷ bs) some = refl
 
@@ -81,14 +81,14 @@ ill_rest stage.Bad rest g some = refl
 
 -- what is owed where the stream can't be read on
 owed_at : (old : Stage) (frames : List Frame) (rest : List ℕ) → goes_on (stage_after old frames) ≡ true → (rest ≡ [] → ⊥) →
-    spellings (replies_to old frames) ++ spelling (Refused 1) ≡ spellings (replies_to old frames) ++ cond (goes_on (stage_after old frames)) (rest_reply rest) []
+    encodings (replies_to old frames) ++ encoding (Refused 1) ≡ encodings (replies_to old frames) ++ cond (goes_on (stage_after old frames)) (rest_reply rest) []
 owed_at old frames rest going some =
-    ap (λ (b : List ℕ). spellings (replies_to old frames) ++ b) (sym (refused_rest rest some) ∙ ap (λ b. cond b (rest_reply rest) []) (sym going))
+    ap (λ (b : List ℕ). encodings (replies_to old frames) ++ b) (sym (refused_rest rest some) ∙ ap (λ b. cond b (rest_reply rest) []) (sym going))
 
 -- what can't be read was refused
 pub turn_refused : (old new : Stage) (stream : List ℕ) (frames : List Frame) (rest : List ℕ) (fault : ReadFault) (codec : Option (List ℕ)) (out : List ℕ) → Begins stream frames rest →
     StopsAt fault rest → IsJudged fault → goes_on (stage_after old frames) ≡ true → new ≡ stage.Bad →
-    out ≡ spellings (replies_to old frames) ++ spelling (Refused 1) → Turns (Ok tt) old stream new codec out
+    out ≡ encodings (replies_to old frames) ++ encoding (Refused 1) → Turns (Ok tt) old stream new codec out
 turn_refused old new stream frames rest fault codec out begins stops judged going bad o =
     let has : HasFault fault rest = judged_fault fault rest judged stops in
     let some : rest ≡ [] → ⊥ = some_bytes fault rest has in
@@ -104,14 +104,14 @@ turn_refused old new stream frames rest fault codec out begins stops judged goin
 
 -- and here the refusal, or nothing of it, was written in part
 pub turn_cut : (old : Stage) (stream : List ℕ) (frames : List Frame) (rest : List ℕ) (fault : ReadFault) (n : ℕ) → Begins stream frames rest →
-    StopsAt fault rest → goes_on (stage_after old frames) ≡ true → ((n ≡ 0) ⊎ IsJudged fault) → Breaks old stream (spellings (replies_to old frames) ++ take n (spelling (Refused 1)))
+    StopsAt fault rest → goes_on (stage_after old frames) ≡ true → ((n ≡ 0) ⊎ IsJudged fault) → Breaks old stream (encodings (replies_to old frames) ++ take n (encoding (Refused 1)))
 turn_cut old stream frames rest fault n begins stops going (inl none) = record {
   frames = frames;
   rest = rest;
   begins = begins;
-  front = let nothing : spellings (replies_to old frames) ≡ spellings (replies_to old frames) ++ take n (spelling (Refused 1)) =
-      sym (ap (λ n. spellings (replies_to old frames) ++ take n (spelling (Refused 1))) none ∙ append-nil (spellings (replies_to old frames))) in
-      inl (subst (λ (b : List ℕ). IsFrontOf b (spellings (replies_to old frames))) nothing (all_front (spellings (replies_to old frames))));
+  prefix = let nothing : encodings (replies_to old frames) ≡ encodings (replies_to old frames) ++ take n (encoding (Refused 1)) =
+      sym (ap (λ n. encodings (replies_to old frames) ++ take n (encoding (Refused 1))) none ∙ append-nil (encodings (replies_to old frames))) in
+      inl (subst (λ (b : List ℕ). IsPrefixOf b (encodings (replies_to old frames))) nothing (all_prefix (encodings (replies_to old frames))));
 }
 turn_cut old stream frames rest fault n begins stops going (inr judged) =
     let has : HasFault fault rest = judged_fault fault rest judged stops in
@@ -120,11 +120,11 @@ turn_cut old stream frames rest fault n begins stops going (inr judged) =
       frames = frames;
       rest = rest;
       begins = begins;
-      front = inr (
+      prefix = inr (
         (λ _. fault_of_frame fault rest has),
         (λ _ p. p.no_fault fault has),
-        subst (IsFrontOf (spellings (replies_to old frames) ++ take n (spelling (Refused 1)))) (owed_at old frames rest going some)
-            (front_behind (spellings (replies_to old frames)) (take n (spelling (Refused 1))) (spelling (Refused 1)) (front_taken n (spelling (Refused 1)))),
+        subst (IsPrefixOf (encodings (replies_to old frames) ++ take n (encoding (Refused 1)))) (owed_at old frames rest going some)
+            (prefix_after (encodings (replies_to old frames)) (take n (encoding (Refused 1))) (encoding (Refused 1)) (prefix_taken n (encoding (Refused 1)))),
       );
     }
 
@@ -138,7 +138,7 @@ sends_before does fault.TurnsUsedUp a m b bytes more s t = sends_both does a m b
 
 -- the work goes on
 pub turn_on : (old new : Stage) (rest piece : List ℕ) (frames : List Frame) (codec : Option (List ℕ)) (out : List ℕ) → Feeds (Some rest) piece (Ok tt) frames codec →
-    new ≡ stage_after old frames → goes_on new ≡ true → out ≡ spellings (replies_to old frames) → Turns (Ok tt) old (rest ++ piece) new codec out
+    new ≡ stage_after old frames → goes_on new ≡ true → out ≡ encodings (replies_to old frames) → Turns (Ok tt) old (rest ++ piece) new codec out
 turn_on old new rest piece frames codec out feeds is going o =
     subst (λ b. MatchBool b (Waits old (rest ++ piece) new codec out) (Ends old (rest ++ piece) new out)) (sym going)
     (record { frames = frames; rest = feeds.0; reads = feeds.1; codec_is = feeds.2; stage_is = is; out_is = o })

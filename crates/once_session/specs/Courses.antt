@@ -3,7 +3,7 @@ use Rattle.std.specs.Prelude.{ℕ, ◌*◌, ◌/◌, ◌≤◌, ◌==◌, ◌&&�
 use Rattle.std.specs.List.{flat_map}
 use Rattle.frame_codec.specs.declared.frame.Frame.{Frame}
 use Rattle.frame_codec.specs.declared.frame.Frame.TheVariants.{Load, Query, Bye, Answer, Stale, Refused}
-use Rattle.frame_codec.specs.Frames.{payload_size, payload_limit, spelling}
+use Rattle.frame_codec.specs.Frames.{payload_size, payload_limit, encoding}
 use Rattle.digit_pack.specs.Layout.{Shape, shape, IsLayout, digit_rows, digit_cols, digit_matrix, records_in}
 use Rattle.simple_scheme.specs.Simple.{answer_of}
 use Rattle.once_session.specs.declared.stage.Table.{Table}
@@ -51,7 +51,7 @@ reply (Loaded t) other = Some (Refused 1)
 reply Done f = None
 reply Bad f = None
 
--- and the stage after it; what comes behind the end is not judged
+-- and the stage after it; what comes after the end is not judged
 abbrev pub next : Stage → Frame → Stage
 next Fresh (Load record_len groups width records) = if is_load record_len groups width records then Loaded (table_of record_len groups width records) else Bad
 next Fresh other = Bad
@@ -66,7 +66,7 @@ abbrev pub replies_to : Stage → List Frame → List Frame
 replies_to st [] = []
 replies_to st (f ∷ fs) = option_to_list (reply st f) ++ replies_to (next st f) fs
 
--- the stage behind them
+-- the stage after them
 abbrev pub stage_after : Stage → List Frame → Stage
 stage_after st [] = st
 stage_after st (f ∷ fs) = stage_after (next st f) fs
@@ -99,8 +99,8 @@ pub record Steps (st : Stage) (f : Frame) (answer : Option Frame) (moves : Optio
 -- the bytes of a reply
 abbrev pub reply_bytes : Option Frame → List ℕ
 reply_bytes None = []
-reply_bytes (Some f) = spelling f
+reply_bytes (Some f) = encoding f
 
 -- the bytes of frames
-abbrev pub spellings : List Frame → List ℕ
-spellings frames = flat_map spelling frames
+abbrev pub encodings : List Frame → List ℕ
+encodings frames = flat_map encoding frames

@@ -9,7 +9,7 @@ use Rattle.once_session.specs.declared.engine.OnceFault.{OnceFault}
 use Rattle.once_session.specs.declared.engine.OnceFault.TheVariants as fault
 use Rattle.once_session.specs.Outputs.{goes_on, is_done, Turns, Finishes}
 
--- bytes that went out before a fault: a write failed behind them, or another fault came
+-- bytes that went out before a fault: a write failed after them, or another fault came
 abbrev pub SendsBefore : {C : Type 0} → (C → Call → C → Type 0) → OnceFault → C → List ℕ → C → Type 0
 SendsBefore does fault.Write a bytes b = SendsUntilFault does a bytes b
 SendsBefore does _ a bytes b = Sends does a bytes b
@@ -29,27 +29,27 @@ abbrev pub fresh : Work
 fresh = record { stage = Fresh; unfinished = [] }
 
 -- A piece came, in one read: it was served, and the replies went out before any other call.
-pub record TakesPiece {C : Type 0} (does : C → Call → C → Type 0) (old : Work) (a : C) (answer : Result (Unit {0}) OnceFault) (turn : Turn) (new : Stage) (codec : Option (List ℕ)) (b : C) : Type 0 where
+pub record TakesPiece {C : Type 0} (does : C → Call → C → Type 0) (old : Work) (a : C) (answer : Result (Unit {0}) OnceFault) (serve_chunk : Turn) (new : Stage) (codec : Option (List ℕ)) (b : C) : Type 0 where
   pub middle : C
-  pub reads : ReadsPiece does a turn.piece middle
-  pub writes : WritesReplies does answer middle turn.output b
-  pub turned : Turns answer old.stage (old.unfinished ++ turn.piece) new codec turn.output
+  pub reads : ReadsPiece does a serve_chunk.piece middle
+  pub writes : WritesReplies does answer middle serve_chunk.output b
+  pub turned : Turns answer old.stage (old.unfinished ++ serve_chunk.piece) new codec serve_chunk.output
 
 -- a turn after which the work goes on
-pub record LeavesOpen {C : Type 0} (does : C → Call → C → Type 0) (old : Work) (a : C) (turn : Turn) (new : Work) (b : C) : Type 0 where
-  pub takes : TakesPiece does old a (Ok tt) turn new.stage (Some new.unfinished) b
+pub record LeavesOpen {C : Type 0} (does : C → Call → C → Type 0) (old : Work) (a : C) (serve_chunk : Turn) (new : Work) (b : C) : Type 0 where
+  pub takes : TakesPiece does old a (Ok tt) serve_chunk new.stage (Some new.unfinished) b
   pub going : goes_on new.stage ≡ true
 
 -- such turns, one after another
 abbrev pub GoesOn : {C : Type 0} → (C → Call → C → Type 0) → Work → C → List Turn → Work → C → Type 0
-GoesOn {C = C} does old a turns new b = FoldsTo {P = Work × C} (λ p turn q. LeavesOpen does p.0 p.1 turn q.0 q.1) (old, a) turns (new, b)
+GoesOn {C = C} does old a turns new b = FoldsTo {P = Work × C} (λ p serve_chunk q. LeavesOpen does p.0 p.1 serve_chunk q.0 q.1) (old, a) turns (new, b)
 
 -- the work ended with a piece: well, by a Bye, or not
 pub record EndsByPiece {C : Type 0} (does : C → Call → C → Type 0) (old : Work) (a : C) (well : Bool) (b : C) : Type 0 where
-  pub turn : Turn
+  pub serve_chunk : Turn
   pub stage : Stage
   pub codec : Option (List ℕ)
-  pub takes : TakesPiece does old a (Ok tt) turn stage codec b
+  pub takes : TakesPiece does old a (Ok tt) serve_chunk stage codec b
   pub over : goes_on stage ≡ false
   pub well_is : is_done stage ≡ well
 
@@ -64,9 +64,9 @@ pub record EndsByEnd {C : Type 0} (does : C → Call → C → Type 0) (old : Wo
 -- a fault at a piece or at the end
 abbrev pub BreaksOff : {C : Type 0} → (C → Call → C → Type 0) → Work → C → OnceFault → C → Type 0
 BreaksOff does old a e b =
-    ((turn : Turn) × (stage : Stage) × (codec : Option (List ℕ)) × TakesPiece does old a (Err e) turn stage codec b) ⊎ EndsByEnd does old a (Err e) b
+    ((serve_chunk : Turn) × (stage : Stage) × (codec : Option (List ℕ)) × TakesPiece does old a (Err e) serve_chunk stage codec b) ⊎ EndsByEnd does old a (Err e) b
 
--- the last turn behind so many, of which there may be `turns`
+-- the last turn after so many, of which there may be `turns`
 abbrev pub EndsTurns : {C : Type 0} → (C → Call → C → Type 0) → ℕ → ℕ → Work → C → Result (Unit {0}) OnceFault → C → Type 0
 EndsTurns does turns count old a (Ok done) b = (count < turns) × (EndsByPiece does old a true b ⊎ EndsByEnd does old a (Ok tt) b)
 EndsTurns does turns count old a (Err fault.BadInput) b = (count < turns) × (EndsByPiece does old a false b ⊎ EndsByEnd does old a (Err fault.BadInput) b)
@@ -75,7 +75,7 @@ EndsTurns does turns count old a (Err fault.Write) b = (count < turns) × Breaks
 EndsTurns does turns count old a (Err fault.Memory) b = (count < turns) × BreaksOff does old a fault.Memory b
 EndsTurns does turns count old a (Err fault.TurnsUsedUp) b = (count ≡ turns) × (b ≡ a)
 
--- Turn after turn, each with a read of its own: those that left the work open, and the last. There is no call behind it.
+-- Turn after turn, each with a read of its own: those that left the work open, and the last. There is no call after it.
 pub record ServesTurns {C : Type 0} (does : C → Call → C → Type 0) (turns : ℕ) (a : C) (result : Result (Unit {0}) OnceFault) (b : C) : Type 0 where
   pub before : List Turn
   pub work : Work

@@ -5,13 +5,13 @@ use Rattle.frame_codec.specs.declared.frame.Frame.{Frame}
 use Rattle.frame_codec.specs.declared.frame.Frame.TheVariants.{Refused}
 use Rattle.frame_codec.specs.declared.reader.ReadFault.{ReadFault}
 use Rattle.frame_codec.specs.declared.reader.ReadFault.TheVariants.{TooLong, UnknownKind, BadPayload, Memory as no_memory, Failed}
-use Rattle.frame_codec.specs.Frames.{spelling}
+use Rattle.frame_codec.specs.Frames.{encoding}
 use Rattle.frame_codec.specs.Streams.{Begins, Reads, HasFrame, IsPartial}
 use Rattle.once_session.specs.declared.stage.Stage.{Stage}
 use Rattle.once_session.specs.declared.stage.Stage.TheVariants.{Fresh, Loaded, Done, Bad}
 use Rattle.once_session.specs.declared.engine.OnceFault.{OnceFault}
 use Rattle.once_session.specs.declared.engine.OnceFault.TheVariants.{BadInput, Read, Write, Memory, TurnsUsedUp}
-use Rattle.once_session.specs.Courses.{replies_to, stage_after, spellings}
+use Rattle.once_session.specs.Courses.{replies_to, stage_after, encodings}
 
 -- whether frames can follow
 abbrev pub goes_on : Stage → Bool
@@ -20,14 +20,14 @@ goes_on (Loaded t) = true
 goes_on Done = false
 goes_on Bad = false
 
--- what bytes behind the last frame are answered: a frame that is cut or can't be read is refused
+-- what bytes after the last frame are answered: a frame that is cut or can't be read is refused
 abbrev pub rest_reply : List ℕ → List ℕ
 rest_reply [] = []
-rest_reply (b ∷ bs) = spelling (Refused 1)
+rest_reply (b ∷ bs) = encoding (Refused 1)
 
 -- the bytes that a stream is answered: the replies to its frames in order, and to the rest where no frame ended it before
 abbrev pub output_of : List Frame → List ℕ → List ℕ
-output_of frames rest = spellings (replies_to Fresh frames) ++ cond (goes_on (stage_after Fresh frames)) (rest_reply rest) []
+output_of frames rest = encodings (replies_to Fresh frames) ++ cond (goes_on (stage_after Fresh frames)) (rest_reply rest) []
 
 -- whether a stream ends well: by a Bye, or between two frames
 abbrev pub is_well : Stage → List ℕ → Bool
@@ -58,18 +58,18 @@ pub record IsAnswered (read out : List ℕ) : Type 0 where
   pub rest : List ℕ
   pub reads : Reads read frames rest
   pub open_still : goes_on (stage_after Fresh frames) ≡ true
-  pub out_is : out ≡ spellings (replies_to Fresh frames)
+  pub out_is : out ≡ encodings (replies_to Fresh frames)
 
--- a front of some bytes
-abbrev pub IsFrontOf : List ℕ → List ℕ → Type 0
-IsFrontOf front all = (rest : List ℕ) × (all ≡ front ++ rest)
+-- a prefix of some bytes
+abbrev pub IsPrefixOf : List ℕ → List ℕ → Type 0
+IsPrefixOf prefix all = (rest : List ℕ) × (all ≡ prefix ++ rest)
 
--- a front of what is owed for what was read: of the replies to its frames, or of all where nothing more comes
+-- a prefix of what is owed for what was read: of the replies to its frames, or of all where nothing more comes
 pub record IsCutOff (read out : List ℕ) (left : Option (List ℕ)) : Type 0 where
   pub frames : List Frame
   pub rest : List ℕ
   pub begins : Begins read frames rest
-  pub front : IsFrontOf out (spellings (replies_to Fresh frames)) ⊎ (IsLast (stage_after Fresh frames) rest left × IsFrontOf out (output_of frames rest))
+  pub prefix : IsPrefixOf out (encodings (replies_to Fresh frames)) ⊎ (IsLast (stage_after Fresh frames) rest left × IsPrefixOf out (output_of frames rest))
 
 -- what was written for what was read in at most so many turns, by the answer
 abbrev pub Serves : ℕ → Result (Unit {0}) OnceFault → List ℕ → List ℕ → Option (List ℕ) → Type 0
@@ -106,7 +106,7 @@ pub record Ends (old : Stage) (stream : List ℕ) (new : Stage) (out : List ℕ)
   pub begins : Begins stream frames rest
   pub no_frame : goes_on (stage_after old frames) ≡ true → HasFrame rest → ⊥
   pub no_part : goes_on (stage_after old frames) ≡ true → IsPartial rest → ⊥
-  pub out_is : out ≡ spellings (replies_to old frames) ++ cond (goes_on (stage_after old frames)) (rest_reply rest) []
+  pub out_is : out ≡ encodings (replies_to old frames) ++ cond (goes_on (stage_after old frames)) (rest_reply rest) []
   pub well_is : is_done new ≡ is_well (stage_after old frames) rest
 
 -- a stream after which the work goes on
@@ -116,27 +116,27 @@ pub record Waits (old : Stage) (stream : List ℕ) (new : Stage) (codec : Option
   pub reads : Reads stream frames rest
   pub codec_is : codec ≡ Some rest
   pub stage_is : new ≡ stage_after old frames
-  pub out_is : out ≡ spellings (replies_to old frames)
+  pub out_is : out ≡ encodings (replies_to old frames)
 
--- a front of what is owed for a stream
+-- a prefix of what is owed for a stream
 pub record Breaks (old : Stage) (stream : List ℕ) (out : List ℕ) : Type 0 where
   pub frames : List Frame
   pub rest : List ℕ
   pub begins : Begins stream frames rest
-  pub front : IsFrontOf out (spellings (replies_to old frames))
+  pub prefix : IsPrefixOf out (encodings (replies_to old frames))
       ⊎ ((goes_on (stage_after old frames) ≡ true → HasFrame rest → ⊥) × (goes_on (stage_after old frames) ≡ true → IsPartial rest → ⊥)
-      × IsFrontOf out (spellings (replies_to old frames) ++ cond (goes_on (stage_after old frames)) (rest_reply rest) []))
+      × IsPrefixOf out (encodings (replies_to old frames) ++ cond (goes_on (stage_after old frames)) (rest_reply rest) []))
 
 -- what a piece does at an open stage, where `stream` is the unfinished frame before it and the piece
 abbrev pub Turns : Result (Unit {0}) OnceFault → Stage → List ℕ → Stage → Option (List ℕ) → List ℕ → Type 0
 Turns (Ok done) old stream new codec out = MatchBool (goes_on new) (Waits old stream new codec out) (Ends old stream new out)
 Turns (Err e) old stream new codec out = Breaks old stream out
 
--- what the stream's end is answered behind its whole frames, by the answer
+-- what the stream's end is answered after its whole frames, by the answer
 abbrev pub Finishes : Result (Unit {0}) OnceFault → List ℕ → List ℕ → Type 0
 Finishes (Ok done) rest out = (rest ≡ []) × (out ≡ [])
-Finishes (Err BadInput) rest out = (rest ≡ [] → ⊥) × (out ≡ spelling (Refused 1))
+Finishes (Err BadInput) rest out = (rest ≡ [] → ⊥) × (out ≡ encoding (Refused 1))
 Finishes (Err Read) rest out = ⊥
 Finishes (Err TurnsUsedUp) rest out = ⊥
-Finishes (Err Write) rest out = IsFrontOf out (rest_reply rest)
-Finishes (Err Memory) rest out = IsFrontOf out (rest_reply rest)
+Finishes (Err Write) rest out = IsPrefixOf out (rest_reply rest)
+Finishes (Err Memory) rest out = IsPrefixOf out (rest_reply rest)

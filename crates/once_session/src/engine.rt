@@ -1,10 +1,12 @@
 //! The stream: pieces in, replies out.
 
-ghost use Rattle.std.specs.Prelude.{◌≡◌, ◌≤◌, ◌<◌, ◌++◌, ◌⊎◌, ℕ, List, [], ◌∷◌, length, take, true, false, IsTrue, ◌↔◌, Some, None, Ok, Err, OnOk, OnErr, IfOk, IfErr, unwrap_or};
+ghost use Rattle.std.specs.Prelude.{◌≡◌, ◌≤◌, ◌<◌, ◌++◌, ◌⊎◌, ℕ, List, [], ◌∷◌, length, take, true,
+    false, IsTrue, ◌↔◌, Some, None, Ok, Err, OnOk, OnErr, IfOk, IfErr, unwrap_or};
 ghost use Rattle.connection_io.specs.Calls.{Sends};
-ghost use Rattle.frame_codec.specs.Frames.{spelling, payload_size, payload_limit};
-ghost use Rattle.once_session.specs.Courses.{next, HasTable, FitsReply, replies_to, stage_after, reply_bytes, reply, spellings};
-ghost use Rattle.once_session.specs.Outputs.{IsServeFault, IsFrontOf, IsJudged, goes_on, Turns};
+ghost use Rattle.frame_codec.specs.Frames.{encoding, payload_size, payload_limit};
+ghost use Rattle.once_session.specs.Courses.{next, HasTable, FitsReply, replies_to, stage_after,
+    reply_bytes, reply, encodings};
+ghost use Rattle.once_session.specs.Outputs.{IsServeFault, IsPrefixOf, IsJudged, goes_on, Turns};
 ghost use Rattle.once_session.specs.OnceTurns.{SendsBefore, WritesReplies};
 ghost use Rattle.frame_codec.specs.declared.frame.Frame.TheVariants.{Refused};
 
@@ -42,9 +44,9 @@ pub(crate) fn send<C: Connection>(
     connection: &mut C,
 ) -> Result<(), OnceFault>
     requires { payload_size reply.now ≤ payload_limit }
-    ensures all { OnOk result (Sends C.does connection.old (spelling reply.now) connection.new) }
-    ensures front { IfErr result (λ e. (n : ℕ)
-        × SendsBefore C.does e connection.old (take n (spelling reply.now)) connection.new) }
+    ensures all { OnOk result (Sends C.does connection.old (encoding reply.now) connection.new) }
+    ensures prefix { IfErr result (λ e. (n : ℕ)
+        × SendsBefore C.does e connection.old (take n (encoding reply.now)) connection.new) }
     ensures fault { IfErr result (λ e. IsServeFault e) }
 {
     let mut bytes = Vec::new(alloc);
@@ -67,9 +69,11 @@ fn serve_frame<K: Kernel, C: Connection>(
 ) -> Result<(), OnceFault>
     requires { HasTable stage.old }
     ensures stage { OnOk result ((stage.new ≡ next stage.old frame.now) × HasTable stage.new) }
-    ensures all { OnOk result (Sends C.does connection.old (reply_bytes (reply stage.old frame.now)) connection.new) }
-    ensures front { IfErr result (λ e. (n : ℕ)
-        × SendsBefore C.does e connection.old (take n (reply_bytes (reply stage.old frame.now))) connection.new) }
+    ensures all { OnOk result
+        (Sends C.does connection.old (reply_bytes (reply stage.old frame.now)) connection.new) }
+    ensures prefix { IfErr result (λ e. (n : ℕ)
+        × SendsBefore C.does e connection.old
+            (take n (reply_bytes (reply stage.old frame.now))) connection.new) }
     ensures fault { IfErr result IsServeFault }
 {
     let Ok(Step { reply, moves }) = step_of(alloc, kernel, stage, frame) else {
@@ -88,7 +92,7 @@ fn send_reply<C: Connection>(
 ) -> Result<(), OnceFault>
     requires { FitsReply reply.now }
     ensures all { OnOk result (Sends C.does connection.old (reply_bytes reply.now) connection.new) }
-    ensures front { IfErr result (λ e. (n : ℕ)
+    ensures prefix { IfErr result (λ e. (n : ℕ)
         × SendsBefore C.does e connection.old (take n (reply_bytes reply.now)) connection.new) }
     ensures fault { IfErr result IsServeFault }
 {
@@ -118,10 +122,11 @@ fn serve_frames<K: Kernel, C: Connection>(
     requires { HasTable stage.old }
     ensures stage { OnOk result ((stage.new ≡ stage_after stage.old frames.now)
         × HasTable stage.new) }
-    ensures all { OnOk result (Sends C.does connection.old (spellings (replies_to stage.old frames.now)) connection.new) }
-    ensures front { IfErr result (λ e. (out : List ℕ)
+    ensures all { OnOk result
+        (Sends C.does connection.old (encodings (replies_to stage.old frames.now)) connection.new) }
+    ensures prefix { IfErr result (λ e. (out : List ℕ)
         × SendsBefore C.does e connection.old out connection.new
-        × IsFrontOf out (spellings (replies_to stage.old frames.now))) }
+        × IsPrefixOf out (encodings (replies_to stage.old frames.now))) }
     ensures fault { IfErr result IsServeFault }
 {
     for frame in frames {
@@ -147,9 +152,9 @@ fn stop<C: Connection>(
     connection: &mut C,
 ) -> Result<(), OnceFault>
     ensures refused { OnOk result (IsJudged fault × (stage.new ≡ Stage.Bad)) }
-    ensures all { OnOk result (Sends C.does connection.old (spelling (Refused 1)) connection.new) }
-    ensures front { IfErr result (λ e. (n : ℕ)
-        × SendsBefore C.does e connection.old (take n (spelling (Refused 1))) connection.new
+    ensures all { OnOk result (Sends C.does connection.old (encoding (Refused 1)) connection.new) }
+    ensures prefix { IfErr result (λ e. (n : ℕ)
+        × SendsBefore C.does e connection.old (take n (encoding (Refused 1))) connection.new
         × ((n ≡ 0) ⊎ IsJudged fault)) }
     ensures fault { IfErr result IsServeFault }
 {
@@ -166,7 +171,7 @@ fn stop<C: Connection>(
 }
 
 // Serves what a piece brings.
-pub(crate) fn turn<K: Kernel, C: Connection>(
+pub(crate) fn serve_chunk<K: Kernel, C: Connection>(
     alloc: Global,
     kernel: K,
     codec: &mut Reader,

@@ -1,12 +1,13 @@
 //! The whole stream, read in pieces.
 
-ghost use Rattle.std.specs.Prelude.{◌≡◌, ◌≤◌, ◌*◌, ℕ, List, [], length, Some, OnOk, OnErr, IfErr, true, false};
+ghost use Rattle.std.specs.Prelude.{◌≡◌, ◌≤◌, ◌*◌, ℕ, List, [], length, Some, OnOk, OnErr, IfErr,
+    true, false};
 ghost use Rattle.std.specs.Io.KnownBytes.{Appends, Consumes};
 ghost use Rattle.frame_codec.specs.Streams.{IsPartial};
 ghost use Rattle.once_session.specs.Outputs.{Finishes, Serves, is_done};
 ghost use Rattle.once_session.specs.OnceTurns.{WritesReplies, ServesOver};
 
-use crate::engine::{OnceFault, goes_on, send, turn};
+use crate::engine::{OnceFault, goes_on, send, serve_chunk};
 use crate::stage::Stage;
 use connection_io::{Connection, Pair, receive};
 use engine_io::piece_buffer;
@@ -69,7 +70,7 @@ pub fn once_over<K: Kernel, C: Connection>(
         if n == 0 {
             return finish(alloc, &codec, connection);
         }
-        if let Err(fault) = turn(
+        if let Err(fault) = serve_chunk(
             alloc,
             kernel,
             &mut codec,
@@ -120,7 +121,7 @@ pub fn once_with<K: Kernel, R: Read, W: Write>(
 ///
 /// `BadInput` where the stream was refused with code 1, `Read` and `Write` where a reader or a writer
 /// fails, `Memory` where there is none, `TurnsUsedUp` where the stream hadn't ended after all turns. At
-/// each what was written is the replies to what was read, or (at `Write` and `Memory`) a front of them.
+/// each what was written is the replies to what was read, or (at `Write` and `Memory`) a prefix of them.
 pub fn once<R: Read, W: Write>(
     alloc: Global,
     reader: &mut R,

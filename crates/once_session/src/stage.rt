@@ -1,13 +1,15 @@
 //! What a frame does.
 
-ghost use Rattle.std.specs.Prelude.{◌≡◌, ◌≤◌, ◌<◌, ◌+◌, ◌*◌, ◌/◌, ◌⊎◌, ℕ, length, take, true, false, IfOk, IfErr, IfSome, IfNone, OnOk, OnErr, Some, IsErrOf, option_to_list, [], ◌++◌};
+ghost use Rattle.std.specs.Prelude.{◌≡◌, ◌≤◌, ◌<◌, ◌+◌, ◌*◌, ◌/◌, ◌⊎◌, ℕ, length, take, true,
+    false, IfOk, IfErr, IfSome, IfNone, OnOk, OnErr, Some, IsErrOf, option_to_list, [], ◌++◌};
 ghost use Rattle.std.specs.Io.KnownBytes.{Appends};
 ghost use Rattle.std.specs.List.{flat_map};
-ghost use Rattle.frame_codec.specs.Frames.{IsFrame, spelling, payload_size, payload_limit};
+ghost use Rattle.frame_codec.specs.Frames.{IsFrame, encoding, payload_size, payload_limit};
 ghost use Rattle.frame_codec.specs.declared.frame.Frame.TheVariants.{Load, Refused};
 ghost use Rattle.once_session.specs.declared.stage.Stage.TheVariants.{Fresh, Bad};
 ghost use Rattle.digit_pack.specs.Layout.{IsLayout};
-ghost use Rattle.once_session.specs.Courses.{next, reply, query_reply, is_load, table_of, loaded_shape, is_layout, Steps, IsTable, HasTable};
+ghost use Rattle.once_session.specs.Courses.{next, reply, query_reply, is_load, table_of,
+    loaded_shape, is_layout, Steps, IsTable, HasTable};
 
 use digit_pack::{DigitStore, Flat, Layout, digits_of_records};
 use engine_io::write_out;
@@ -86,7 +88,8 @@ fn load(
     width: u8,
     records: &Bytes,
 ) -> Result<Step, AllocError>
-    ensures { IfOk result (λ s. Steps Fresh (Load record_len groups width records.now) s.reply s.moves) }
+    ensures { IfOk result
+        (λ s. Steps Fresh (Load record_len groups width records.now) s.reply s.moves) }
 {
     let Some(layout) = load_layout(record_len, groups, width, records.as_slice()) else {
         return Ok(refuse());

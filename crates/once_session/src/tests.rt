@@ -72,7 +72,7 @@ impl Write for Output {
     }
 }
 
-// An output that asks for no memory when it is written to, so that want of memory isn't told as a failed write.
+// An output that asks for no memory when it is written to, so that refused memory isn't reported as a failed write.
 fn make_output(alloc: Global, room: usize, fails: bool) -> Result<Output, AllocError> {
     Ok(Output {
         bytes: Vec::with_capacity(alloc, room)?,

@@ -7,7 +7,7 @@ ghost use Rattle.pir_client.specs.Tasks.{TaskFits, ReadsGet, ReadsPut, ReadsPubl
 use clap::{ArgMatches, Command};
 use client_core::Scheme;
 use command_words::{
-    BadLine, key_at, number_at, option, record_bytes, text_at, thirty_two_at, word,
+    BadLine, key_at, number_at, option, record_bytes, text_at, bytes32_at, word,
 };
 use std::alloc::{AllocError, Global};
 
@@ -148,7 +148,7 @@ fn get_task(found: &ArgMatches<'_>) -> Result<Task, BadLine>
     ensures read { IfOk result (ReadsGet (found_of found.now)) }
 {
     let port = number_at(found, "port", u64::from(u16::MAX), PORT_TAKES)? as u16;
-    let seed = thirty_two_at(found, "seed", SEED_TAKES)?;
+    let seed = bytes32_at(found, "seed", SEED_TAKES)?;
     let number = number_at(found, "number", NUMBERS - 1, NUMBER_TAKES)?;
     let scheme = match text_at(found, "scheme", SCHEME_TAKES)? {
         "simple" => Scheme::Simple,

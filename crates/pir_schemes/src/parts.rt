@@ -15,7 +15,7 @@ pub fn part_len(total: usize, part: u32) -> usize
         .min(PART_WORDS)
 }
 
-/// Part `part` of a hint's words: those from 65,536 `part` on, at most 65,536. `None` exactly where there are no
+/// Part `part` of a hint's words: those from 65,536 `part` on, at most 65,536. `None` exactly when there are no
 /// words so far on.
 pub fn part_words(words: &[u32], part: usize) -> Option<&[u32]>
     ensures none { IsNone result ↔ (length words.now ≤ 65536 * part) }
@@ -25,11 +25,11 @@ pub fn part_words(words: &[u32], part: usize) -> Option<&[u32]>
     if start >= words.len() {
         return None;
     }
-    Some(front(&words[start..]))
+    Some(prefix(&words[start..]))
 }
 
 // The first words, as many as a part has.
-fn front(words: &[u32]) -> &[u32]
+fn prefix(words: &[u32]) -> &[u32]
     ensures { result.now ≡ take 65536 words.now }
 {
     if words.len() < PART_WORDS {

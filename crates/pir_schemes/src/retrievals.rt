@@ -44,7 +44,7 @@ pub fn query<K: Kernel>(
 
 /// The record that an answer gives for record i under the hint of its version.
 ///
-/// `BadLength` exactly where the answer hasn't the scheme's count of words, `BadDigits` exactly where it has and
+/// `BadLength` exactly when the answer hasn't the scheme's count of words, `BadDigits` exactly when it has and
 /// its digits set a bit past the record's last byte; `Memory` only where it has its words.
 #[tactic(auto, unfolding(crate::specs::Retrievals::reading, crate::specs::Plans::record_of))]
 pub fn recover<K: Kernel>(

@@ -1,7 +1,7 @@
 //! The command line.
 
 use clap::{ArgMatches, Command};
-use command_words::{BadLine, key_at, number_at, option, text_at, thirty_two_at};
+use command_words::{BadLine, key_at, number_at, option, text_at, bytes32_at};
 use std::alloc::{AllocError, Global};
 
 const OUT_TAKES: &str = "--out takes a file's name";
@@ -128,7 +128,7 @@ fn serve_command<'a>(alloc: Global) -> Result<Command<'a>, AllocError> {
 }
 
 const SERVE_EXAMPLE: &str =
-    "Prints 'listening PORT' once it listens. A connection that ends with a fault is told on standard error,\nas 'connection: NAME', and the next one is served. Edits that were not published are lost at the end.\n\nExample: pir_server serve --file two.pir --port 7000 --connections 3";
+    "Prints 'listening PORT' once it listens. A connection that ends with a fault is reported on standard error,\nas 'connection: NAME', and the next one is served. Edits that were not published are lost at the end.\n\nExample: pir_server serve --file two.pir --port 7000 --connections 3";
 
 // The command `once`.
 fn once_command<'a>(alloc: Global) -> Command<'a> {
@@ -161,7 +161,7 @@ fn making_of<'a>(found: &ArgMatches<'a>) -> Result<Making<'a>, BadLine> {
         width: number_at(found, "width", u64::from(u8::MAX), WIDTH_TAKES)? as u8,
         record_len: number_at(found, "record", u64::from(u16::MAX), RECORD_TAKES)? as u16,
         groups: number_at(found, "groups", u64::from(u16::MAX), GROUPS_TAKES)? as u16,
-        seed: thirty_two_at(found, "seed", SEED_TAKES)?,
+        seed: bytes32_at(found, "seed", SEED_TAKES)?,
         key: key_at(found, "key", KEY_TAKES)?,
     })
 }

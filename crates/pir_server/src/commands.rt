@@ -22,12 +22,12 @@ pub fn run(rt: &HostRuntime) -> u8 {
     };
     for word in arguments {
         if words.push(word).is_err() {
-            return BadLine::Memory.tell(rt);
+            return BadLine::Memory.report(rt);
         }
     }
     let task = match task_of(rt.alloc(), &words) {
         Ok(task) => task,
-        Err(bad) => return bad.tell(rt),
+        Err(bad) => return bad.report(rt),
     };
     match done(rt, task) {
         Ok(()) => 0,

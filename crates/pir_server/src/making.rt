@@ -43,7 +43,8 @@ pub fn make(rt: &HostRuntime, making: &Making<'_>) -> Result<u32, Failure> {
 
 // All bytes of a reader, where they are not too many.
 fn read_records<R: Read>(alloc: Global, reader: &mut R) -> Result<Vec<u8>, Failure>
-    ensures all { IfOk result (λ bytes. Consumes (R.remaining reader.old) (R.remaining reader.new) bytes.items × IsAtEnd (R.remaining reader.new)) }
+    ensures all { IfOk result (λ bytes. Consumes (R.remaining reader.old)
+        (R.remaining reader.new) bytes.items × IsAtEnd (R.remaining reader.new)) }
     ensures few { IfOk result (λ bytes. length bytes.items ≤ 33554432) }
 {
     let Ok(mut buffer) = piece_buffer(alloc) else {

@@ -14,7 +14,7 @@ use std::time::Duration;
 /// The most reads that one connection's session makes.
 const TURNS: u64 = 1_000_000;
 
-/// The most reads of what a peer sent behind the end of its session: those of one frame of the largest size.
+/// The most reads of what a peer sent after the end of its session: those of one frame of the largest size.
 const DRAIN_READS: u32 = 257;
 
 /// How many milliseconds one of these reads waits at most.

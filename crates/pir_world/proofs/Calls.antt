@@ -12,16 +12,16 @@ use Rattle.server_core.specs.declared.standing.Standing.{Standing}
 use Rattle.server_core.specs.declared.standing.Standing.TheVariants.{Reader}
 use Rattle.server_core.specs.Serving.{Setting}
 use Rattle.client_core.specs.declared.state.ClientState.{ClientState}
-use Rattle.client_core.specs.declared.state.Known.{Known}
+use Rattle.client_core.specs.declared.state.ServerInfo.{ServerInfo}
 use Rattle.client_core.specs.declared.state.Hint.{Hint}
 use Rattle.client_core.specs.declared.state.Call.{Call}
 use Rattle.client_core.specs.declared.state.Call.TheVariants.{Idle, Hello, Sync, Ask, Edit, Publish}
 use Rattle.client_core.specs.States.{is_idle, is_ready, known_version, known_count, scheme_held}
-use Rattle.client_core.specs.Calls.{refusal, called, call_frame}
+use Rattle.client_core.specs.Calls.{refusal, state_after_call, call_frame}
 use Rattle.client_core.specs.Calls.{Hello as want_hello, Sync as want_sync, Ask as want_ask}
-use Rattle.client_core.specs.Replies.{takes}
+use Rattle.client_core.specs.Replies.{reaction_to_reply}
 use Rattle.client_core.specs.Feeding.{takes_all, fault_of}
-use Rattle.pir_world.specs.Runs.{Wire, Link, Entry, arrived, behind, link_called, link_told, link_served, turn_of, told_by, reacts, reader_key}
+use Rattle.pir_world.specs.Runs.{Wire, Link, Entry, arrived, beyond, link_called, link_reported, link_served, turn_of, reported_by, reacts, reader_key}
 use Rattle.pir_world.specs.Headlines.{HasVersion, IsRight, seed_of}
 use Rattle.pir_world.specs.Invariants.{GoodHistory, KnownIs, SyncIs, IsReply, InFlight, Phase, LinkInv}
 use Rattle.pir_world.proofs.Wires.{none_arrives, one_arrives, Split, IsFew, split_few}
@@ -39,14 +39,14 @@ idle_is (Edit i bytes) e = absurd cc
 idle_is Publish e = absurd cc
 
 -- a hint of the version known is held
-record Ready (k : Option Known) (o : Option Hint) : Type 0 where
-  known : Known
+record Ready (k : Option ServerInfo) (o : Option Hint) : Type 0 where
+  known : ServerInfo
   known_is : k ≡ Some known
   hint : Hint
   hint_is : o ≡ Some hint
   version_is : hint.version ≡ known.version
 
-ready : (k : Option Known) (o : Option Hint) → is_ready k o ≡ true → Ready k o
+ready : (k : Option ServerInfo) (o : Option Hint) → is_ready k o ≡ true → Ready k o
 ready None o e = absurd cc
 ready (Some k) None e = absurd cc
 ready (Some k) (Some y) e = record { known = k; known_is = refl; hint = y; hint_is = refl; version_is = eqb-true y.version k.version e }
@@ -66,7 +66,7 @@ idle_phase x h st seed c call up down e p = let P : Call → Type 0 = λ y. Phas
 flight : (x : Setting) (h : History) (st : Standing) (seed : List ℕ) (c : ClientState) (call : Call) (up down : List Frame) → (up ≡ []) × (down ≡ []) → InFlight x h st seed c call (up ++ call_frame c call ∷ []) down
 flight x h st seed c call up down p = inl (rw p.0 refl, p.1)
 
-first_parts : (x : Setting) (h : History) (st : Standing) (s : Scheme) (k : Option Known) → GoodHistory x h → KnownIs x h st k → is_some k ≡ true → SyncIs x h s (known_version k) 0 k []
+first_parts : (x : Setting) (h : History) (st : Standing) (s : Scheme) (k : Option ServerInfo) → GoodHistory x h → KnownIs x h st k → is_some k ≡ true → SyncIs x h s (known_version k) 0 k []
 first_parts x h st s None g k e = absurd cc
 first_parts x h st s (Some y) g k e = record {
   k = y;
@@ -94,7 +94,7 @@ module _ (x : Setting) (h : History) (seed : List ℕ) (l : Link) (g : GoodHisto
         known = i.known;
         hint = i.hint;
         call = refl;
-        phase = flight x h l.standing seed (called (want_hello reader_key) l.client) (Hello reader_key) l.up.frames l.down.frames (nothing_waits (idle_is l.client.call d.0));
+        phase = flight x h l.standing seed (state_after_call (want_hello reader_key) l.client) (Hello reader_key) l.up.frames l.down.frames (nothing_waits (idle_is l.client.call d.0));
       }
 
   pub called_sync : (scheme : Scheme) → refusal (want_sync scheme) l.client ≡ None → LinkInv x h seed (link_called (want_sync scheme) l)
@@ -109,7 +109,7 @@ module _ (x : Setting) (h : History) (seed : List ℕ) (l : Link) (g : GoodHisto
         known = i.known;
         hint = tt;
         call = first_parts x h l.standing scheme l.client.known g i.known b.0;
-        phase = flight x h l.standing seed (called (want_sync scheme) l.client) (Sync scheme (known_version l.client.known) 0) l.up.frames l.down.frames (nothing_waits (idle_is l.client.call d.0));
+        phase = flight x h l.standing seed (state_after_call (want_sync scheme) l.client) (Sync scheme (known_version l.client.known) 0) l.up.frames l.down.frames (nothing_waits (idle_is l.client.call d.0));
       }
 
   pub called_ask : (j : ℕ) → refusal (want_ask j) l.client ≡ None → LinkInv x h seed (link_called (want_ask j) l)
@@ -137,12 +137,12 @@ module _ (x : Setting) (h : History) (seed : List ℕ) (l : Link) (g : GoodHisto
           scheme_is = sym (ap scheme_held r.hint_is);
           version_is = r.version_is ∙ sym version;
         };
-        phase = flight x h l.standing seed (called (want_ask j) l.client) (Ask j (scheme_held l.client.hint) (known_version l.client.known) l.client.number) l.up.frames l.down.frames (nothing_waits (idle_is l.client.call d.0));
+        phase = flight x h l.standing seed (state_after_call (want_ask j) l.client) (Ask j (scheme_held l.client.hint) (known_version l.client.known) l.client.number) l.up.frames l.down.frames (nothing_waits (idle_is l.client.call d.0));
       }
 
 -- ---- a delivery to the client
 
-pub record ToldLink (x : Setting) (seeds : List (List ℕ)) (h : History) (k : ℕ) (l : Link) (es : List Entry) : Type 0 where
+pub record ReportedLink (x : Setting) (seeds : List (List ℕ)) (h : History) (k : ℕ) (l : Link) (es : List Entry) : Type 0 where
   pub link : LinkInv x h (seed_of seeds k) l
   pub right : AllByRecursion (IsRight x seeds h) es
 
@@ -154,65 +154,65 @@ module _ (law : RetrievalGivesTheRecord) (x : Setting) (seeds : List (List ℕ))
   abbrev with_replies : List Frame → Wire → Link
   with_replies fs b = record { client = (takes_all l.client fs).state; standing = l.standing; up = record { frames = l.up.frames ++ (takes_all l.client fs).sends; got = l.up.got }; down = b }
 
-  no_reply : (fs : List Frame) (b : Wire) → fs ≡ [] → b.frames ≡ l.down.frames → ToldLink x seeds h k (with_replies fs b) (told_by k l.client fs)
+  no_reply : (fs : List Frame) (b : Wire) → fs ≡ [] → b.frames ≡ l.down.frames → ReportedLink x seeds h k (with_replies fs b) (reported_by k l.client fs)
   no_reply fs b e d = rw e (record {
     link = record { seed_is = i.seed_is; alive = i.alive; unclosed = i.unclosed; known = i.known; hint = i.hint; call = i.call; phase = rw (append-nil, d) i.phase };
     right = tt;
   })
 
   -- after a reply without a fault nothing more is told of none
-  abbrev told_one : Frame → List Entry
-  told_one r = told_by k l.client (r ∷ [])
+  abbrev reported_one : Frame → List Entry
+  reported_one r = reported_by k l.client (r ∷ [])
 
-  told_one_is : (r : Frame) → fault_of (takes l.client r).reaction ≡ None → told_one r ≡ reacts k l.client.call r (takes l.client r).reaction
-  told_one_is r e = ap (λ (b : Bool). reacts k l.client.call r (takes l.client r).reaction ++ cond b [] []) (ap is_some e) ∙ append-nil _
+  reported_one_is : (r : Frame) → fault_of (reaction_to_reply l.client r).reaction ≡ None → reported_one r ≡ reacts k l.client.call r (reaction_to_reply l.client r).reaction
+  reported_one_is r e = ap (λ (b : Bool). reacts k l.client.call r (reaction_to_reply l.client r).reaction ++ cond b [] []) (ap is_some e) ∙ append-nil _
 
   one_reply : (fs : List Frame) (b : Wire) (r : Frame) → fs ≡ r ∷ [] → b.frames ≡ [] → l.up.frames ≡ [] → IsReply x h l.standing (seed_of seeds k) l.client.call r
-      → ToldLink x seeds h k (with_replies fs b) (told_by k l.client fs)
+      → ReportedLink x seeds h k (with_replies fs b) (reported_by k l.client fs)
   one_reply fs b r e d u p =
       let t = taken law x seeds k h l.standing l.client g client_inv r p in
       rw e (record {
         link = record { seed_is = t.client.seed_is; alive = t.client.alive; unclosed = i.unclosed; known = t.client.known; hint = t.client.hint; call = t.client.call; phase = rw (u, d) t.phase };
-        right = subst (λ (es : List Entry). AllByRecursion (IsRight x seeds h) es) (sym (told_one_is r t.no_fault)) t.right;
+        right = subst (λ (es : List Entry). AllByRecursion (IsRight x seeds h) es) (sym (reported_one_is r t.no_fault)) t.right;
       })
 
-  told_flight : (most : ℕ) (call : Call) → call ≡ l.client.call → InFlight x h l.standing (seed_of seeds k) l.client call l.up.frames l.down.frames → ToldLink x seeds h k (link_told most l) (told_by k l.client (arrived l.down most))
-  told_flight most call e (inl p) = let a = none_arrives l.down most p.1 in no_reply (arrived l.down most) (behind l.down most) a.0 (a.1 ∙ sym p.1)
-  told_flight most call e (inr p) = elim (one_arrives l.down most p.1.0 p.1.1) [
-    | inl a ↦ no_reply (arrived l.down most) (behind l.down most) a.0 (a.1 ∙ sym p.1.1)
-    | inr a ↦ one_reply (arrived l.down most) (behind l.down most) p.1.0 a.0 a.1 p.0 (subst (λ (y : Call). IsReply x h l.standing (seed_of seeds k) y p.1.0) e p.1.2)
+  reported_flight : (most : ℕ) (call : Call) → call ≡ l.client.call → InFlight x h l.standing (seed_of seeds k) l.client call l.up.frames l.down.frames → ReportedLink x seeds h k (link_reported most l) (reported_by k l.client (arrived l.down most))
+  reported_flight most call e (inl p) = let a = none_arrives l.down most p.1 in no_reply (arrived l.down most) (beyond l.down most) a.0 (a.1 ∙ sym p.1)
+  reported_flight most call e (inr p) = elim (one_arrives l.down most p.1.0 p.1.1) [
+    | inl a ↦ no_reply (arrived l.down most) (beyond l.down most) a.0 (a.1 ∙ sym p.1.1)
+    | inr a ↦ one_reply (arrived l.down most) (beyond l.down most) p.1.0 a.0 a.1 p.0 (subst (λ (y : Call). IsReply x h l.standing (seed_of seeds k) y p.1.0) e p.1.2)
   ]
 
-  told_phase : (most : ℕ) (call : Call) → call ≡ l.client.call → Phase x h l.standing (seed_of seeds k) l.client call l.up.frames l.down.frames → ToldLink x seeds h k (link_told most l) (told_by k l.client (arrived l.down most))
-  told_phase most Idle e p = let a = none_arrives l.down most p.1 in no_reply (arrived l.down most) (behind l.down most) a.0 (a.1 ∙ sym p.1)
-  told_phase most (Hello key) e p = told_flight most (Hello key) e p
-  told_phase most (Sync scheme v q) e p = told_flight most (Sync scheme v q) e p
-  told_phase most (Ask j z v m) e p = told_flight most (Ask j z v m) e p
-  told_phase most (Edit j bytes) e p = absurd p
-  told_phase most Publish e p = absurd p
+  reported_phase : (most : ℕ) (call : Call) → call ≡ l.client.call → Phase x h l.standing (seed_of seeds k) l.client call l.up.frames l.down.frames → ReportedLink x seeds h k (link_reported most l) (reported_by k l.client (arrived l.down most))
+  reported_phase most Idle e p = let a = none_arrives l.down most p.1 in no_reply (arrived l.down most) (beyond l.down most) a.0 (a.1 ∙ sym p.1)
+  reported_phase most (Hello key) e p = reported_flight most (Hello key) e p
+  reported_phase most (Sync scheme v q) e p = reported_flight most (Sync scheme v q) e p
+  reported_phase most (Ask j z v m) e p = reported_flight most (Ask j z v m) e p
+  reported_phase most (Edit j bytes) e p = absurd p
+  reported_phase most Publish e p = absurd p
 
-  pub told_inv : (most : ℕ) → ToldLink x seeds h k (link_told most l) (told_by k l.client (arrived l.down most))
-  told_inv most = told_phase most l.client.call refl i.phase
+  pub reported_inv : (most : ℕ) → ReportedLink x seeds h k (link_reported most l) (reported_by k l.client (arrived l.down most))
+  reported_inv most = reported_phase most l.client.call refl i.phase
 
-  -- no front of the replies on their way makes a fault
-  front_flight : (call : Call) (fs more : List Frame) → call ≡ l.client.call → Split l.down.frames fs more → InFlight x h l.standing (seed_of seeds k) l.client call l.up.frames l.down.frames → (takes_all l.client fs).fault ≡ None
-  front_flight call fs more e (inl a) p = rw a.0 refl
-  front_flight call fs more e (inr a) (inl p) = rw (a.0 ∙ p.1) refl
-  front_flight call fs more e (inr a) (inr p) =
+  -- no prefix of the replies on their way makes a fault
+  prefix_flight : (call : Call) (fs more : List Frame) → call ≡ l.client.call → Split l.down.frames fs more → InFlight x h l.standing (seed_of seeds k) l.client call l.up.frames l.down.frames → (takes_all l.client fs).fault ≡ None
+  prefix_flight call fs more e (inl a) p = rw a.0 refl
+  prefix_flight call fs more e (inr a) (inl p) = rw (a.0 ∙ p.1) refl
+  prefix_flight call fs more e (inr a) (inr p) =
       let t = taken law x seeds k h l.standing l.client g client_inv p.1.0 (subst (λ (y : Call). IsReply x h l.standing (seed_of seeds k) y p.1.0) e p.1.2) in
       rw (a.0 ∙ p.1.1) t.no_fault
 
-  front_phase : (call : Call) (fs more : List Frame) → call ≡ l.client.call → Split l.down.frames fs more → Phase x h l.standing (seed_of seeds k) l.client call l.up.frames l.down.frames → (takes_all l.client fs).fault ≡ None
-  front_phase Idle fs more e (inl a) p = rw a.0 refl
-  front_phase Idle fs more e (inr a) p = rw (a.0 ∙ p.1) refl
-  front_phase (Hello key) fs more e a p = front_flight (Hello key) fs more e a p
-  front_phase (Sync scheme v q) fs more e a p = front_flight (Sync scheme v q) fs more e a p
-  front_phase (Ask j z v m) fs more e a p = front_flight (Ask j z v m) fs more e a p
-  front_phase (Edit j bytes) fs more e a p = absurd p
-  front_phase Publish fs more e a p = absurd p
+  prefix_phase : (call : Call) (fs more : List Frame) → call ≡ l.client.call → Split l.down.frames fs more → Phase x h l.standing (seed_of seeds k) l.client call l.up.frames l.down.frames → (takes_all l.client fs).fault ≡ None
+  prefix_phase Idle fs more e (inl a) p = rw a.0 refl
+  prefix_phase Idle fs more e (inr a) p = rw (a.0 ∙ p.1) refl
+  prefix_phase (Hello key) fs more e a p = prefix_flight (Hello key) fs more e a p
+  prefix_phase (Sync scheme v q) fs more e a p = prefix_flight (Sync scheme v q) fs more e a p
+  prefix_phase (Ask j z v m) fs more e a p = prefix_flight (Ask j z v m) fs more e a p
+  prefix_phase (Edit j bytes) fs more e a p = absurd p
+  prefix_phase Publish fs more e a p = absurd p
 
-  pub front_good : (fs more : List Frame) → Split l.down.frames fs more → (takes_all l.client fs).fault ≡ None
-  front_good fs more a = front_phase l.client.call fs more refl a i.phase
+  pub prefix_good : (fs more : List Frame) → Split l.down.frames fs more → (takes_all l.client fs).fault ≡ None
+  prefix_good fs more a = prefix_phase l.client.call fs more refl a i.phase
 
 -- ---- a delivery to the server
 
@@ -221,7 +221,7 @@ pub record ServedInv (x : Setting) (seeds : List (List ℕ)) (h : History) (seed
   pub history_is : h2 ≡ h
   pub right : AllByRecursion (IsRight x seeds h) es
 
-known_then : (x : Setting) (h : History) (st st2 : Standing) (k : Option Known) → (st ≡ Reader → st2 ≡ Reader) → KnownIs x h st k → KnownIs x h st2 k
+known_then : (x : Setting) (h : History) (st st2 : Standing) (k : Option ServerInfo) → (st ≡ Reader → st2 ≡ Reader) → KnownIs x h st k → KnownIs x h st2 k
 known_then x h st st2 None f k = tt
 known_then x h st st2 (Some y) f k = (f k.0, k.1)
 
@@ -241,7 +241,7 @@ pub served_inv : (short : Bool) (most : ℕ) (x : Setting) (seeds : List (List �
     → ServedInv x seeds h seed (link_served x short k most h l) (turn_of x short k most h l).history (turn_of x short k most h l).log
 served_inv short most x seeds k h seed l i =
     let few = few_frames x h l.standing seed l.client l.client.call l.up.frames l.down.frames i.phase in
-    let s = served_link x seeds k h seed l.standing l.client short l.client.call l.up.frames (arrived l.up most) (behind l.up most).frames l.down.frames (split_few l.up most few.0) i.unclosed i.seed_is i.known i.hint i.call i.phase in
+    let s = served_link x seeds k h seed l.standing l.client short l.client.call l.up.frames (arrived l.up most) (beyond l.up most).frames l.down.frames (split_few l.up most few.0) i.unclosed i.seed_is i.known i.hint i.call i.phase in
     record {
       link = record { seed_is = i.seed_is; alive = i.alive; unclosed = s.unclosed; known = known_then x h l.standing _ l.client.known s.reader i.known; hint = i.hint; call = i.call; phase = s.phase };
       history_is = s.history_is;

@@ -5,7 +5,7 @@ use Rattle.std.specs.List.{AllByRecursion}
 use Rattle.std.proofs.lemmas.Bool.{cases_eq, cond_both, eqb-true}
 use Rattle.pir_schemes.specs.Plans.{fits}
 use Rattle.pir_schemes.specs.Laws.{RetrievalGivesTheRecord}
-use Rattle.version_store.specs.Histories.{History, number, edited, published}
+use Rattle.version_store.specs.Histories.{History, current_version, after_edit, published}
 use Rattle.server_core.specs.Serving.{Setting}
 use Rattle.client_core.specs.declared.state.CallFault.{CallFault}
 use Rattle.client_core.specs.Calls.{Want, refusal}
@@ -14,11 +14,11 @@ use Rattle.pir_world.specs.declared.steps.Step.{Step}
 use Rattle.pir_world.specs.declared.steps.Step.TheVariants.{Edit, Publish, Hello, Sync, Ask, ToServer, ToClient}
 use Rattle.pir_world.specs.declared.steps.Outcome.{Outcome}
 use Rattle.pir_world.specs.declared.steps.Outcome.TheVariants.{Edited, EditRefused, Published, PublishRefused, CallRefused}
-use Rattle.pir_world.specs.Runs.{State, Link, Entry, Plain, after, called_at, served_at, told_at, call_at, with_link, with_history, edit_after, publish_after, link_called, link_told, link_served, turn_of, told_by, arrived, reader_key, FitsStep, Steps, Run}
+use Rattle.pir_world.specs.Runs.{State, Link, Entry, Plain, after, called_at, served_at, reported_at, call_at, with_link, with_history, edit_after, publish_after, link_called, link_reported, link_served, turn_of, reported_by, arrived, reader_key, FitsStep, Steps, Run}
 use Rattle.pir_world.specs.Headlines.{IsRight, IsRightOutcome, seed_of}
 use Rattle.pir_world.specs.Invariants.{GoodHistory, LinkInv, Inv}
 use Rattle.pir_world.proofs.Later.{IsLater, later_published, same_history, newest, good_published, good_edited, link_later, entries_later, get_same, get_other}
-use Rattle.pir_world.proofs.Calls.{called_hello, called_sync, called_ask, told_inv, served_inv}
+use Rattle.pir_world.proofs.Calls.{called_hello, called_sync, called_ask, reported_inv, served_inv}
 
 all_append : {X : Type 0} (P : X → Type 0) (xs ys : List X) → AllByRecursion P xs → AllByRecursion P ys → AllByRecursion P (xs ++ ys)
 all_append P [] ys a b = b
@@ -62,30 +62,30 @@ module _ (x : Setting) (seeds : List (List ℕ)) (s : State) (inv : Inv x seeds 
       let d = served_inv short most x seeds k s.history (seed_of seeds k) l (inv.links k l at) in
       at_one k l (link_served x short k most s.history l) (turn_of x short k most s.history l).history (turn_of x short k most s.history l).log at d.history_is d.link d.right
 
-  told_at_inv : RetrievalGivesTheRecord → (k most : ℕ) (o : Option Link) → slice_get s.links k ≡ o → Inv x seeds (told_at s k most o)
-  told_at_inv law k most None at = inv
-  told_at_inv law k most (Some l) at =
-      let d = told_inv law x seeds k s.history l inv.history (inv.links k l at) most in
-      at_one k l (link_told most l) s.history (told_by k l.client (arrived l.down most)) at refl d.link d.right
+  reported_at_inv : RetrievalGivesTheRecord → (k most : ℕ) (o : Option Link) → slice_get s.links k ≡ o → Inv x seeds (reported_at s k most o)
+  reported_at_inv law k most None at = inv
+  reported_at_inv law k most (Some l) at =
+      let d = reported_inv law x seeds k s.history l inv.history (inv.links k l at) most in
+      at_one k l (link_reported most l) s.history (reported_by k l.client (arrived l.down most)) at refl d.link d.right
 
   edit_inv : (i : ℕ) (bytes : List ℕ) → All (λ b. b < 2 ^ 8) bytes → Inv x seeds (edit_after x s i bytes)
   edit_inv i bytes small =
       cond_both (nat_lt i (length s.history.draft)) _ _ (λ t. Inv x seeds t)
       (λ t. cond_both (fits x.plan bytes) _ _ (λ t. Inv x seeds t)
-      (λ u. at_history (edited i bytes s.history) (Edited i) (good_edited x s.history i bytes (record { len = eqb-true _ _ u; each = small }) inv.history) (λ v records p. p) tt)
+      (λ u. at_history (after_edit i bytes s.history) (Edited i) (good_edited x s.history i bytes (record { len = eqb-true _ _ u; each = small }) inv.history) (λ v records p. p) tt)
       (λ u. at_history s.history (EditRefused i _) inv.history (same_history s.history) tt))
       (λ t. at_history s.history (EditRefused i _) inv.history (same_history s.history) tt)
 
   publish_inv : Inv x seeds (publish_after s)
   publish_inv =
       cond_both s.history.marked _ _ (λ t. Inv x seeds t)
-      (λ t. cond_both (number s.history + 1 == 2 ^ 64) _ _ (λ t. Inv x seeds t)
+      (λ t. cond_both (current_version s.history + 1 == 2 ^ 64) _ _ (λ t. Inv x seeds t)
       (λ u. at_history s.history (PublishRefused _) inv.history (same_history s.history) tt)
-      (λ u. at_history (published s.history) (Published (number s.history + 1)) (good_published x s.history inv.history) (later_published s.history) (new_version s.history)))
+      (λ u. at_history (published s.history) (Published (current_version s.history + 1)) (good_published x s.history inv.history) (later_published s.history) (new_version s.history)))
       (λ t. at_history s.history (PublishRefused _) inv.history (same_history s.history) tt)
     where
-      new_version : (h : History) → IsRightOutcome (published h) (Published (number h + 1))
-      new_version h = let e : number (published h) ≡ number h + 1 = omega arith in (h.draft, let n = newest (published h) in rw (← e) n)
+      new_version : (h : History) → IsRightOutcome (published h) (Published (current_version h + 1))
+      new_version h = let e : current_version (published h) ≡ current_version h + 1 = omega arith in (h.draft, let n = newest (published h) in rw (← e) n)
 
   pub after_inv : RetrievalGivesTheRecord → (short : Bool) (step : Step) → FitsStep step → Inv x seeds (after x short s step)
   after_inv law short (Edit i bytes) small = edit_inv i bytes small
@@ -94,7 +94,7 @@ module _ (x : Setting) (seeds : List (List ℕ)) (s : State) (inv : Inv x seeds 
   after_inv law short (Sync k scheme) small = called_inv (want_sync scheme) k (slice_get s.links k) refl (λ l i e. called_sync x s.history (seed_of seeds k) l inv.history i scheme e)
   after_inv law short (Ask k j) small = called_inv (want_ask j) k (slice_get s.links k) refl (λ l i e. called_ask x s.history (seed_of seeds k) l inv.history i j e)
   after_inv law short (ToServer k most) small = served_at_inv short k most (slice_get s.links k) refl
-  after_inv law short (ToClient k most) small = told_at_inv law k most (slice_get s.links k) refl
+  after_inv law short (ToClient k most) small = reported_at_inv law k most (slice_get s.links k) refl
 
 pub step_inv : RetrievalGivesTheRecord → (x : Setting) (seeds : List (List ℕ)) (s : State) (step : Step) (t : State) → Steps x s step t → Inv x seeds s → Inv x seeds t
 step_inv law x seeds s step t (f, inl e) inv = rw e (after_inv x seeds s inv law false step f)

@@ -11,18 +11,18 @@ use Rattle.pir_schemes.specs.Schemes.{scheme_of_byte}
 use Rattle.pir_schemes.specs.Plans.{Plan, shape_at, IsPlan}
 use Rattle.frame_codec.specs.declared.frame.Frame.{Frame}
 use Rattle.frame_codec.specs.declared.frame.Frame.TheVariants.{Query}
-use Rattle.version_store.specs.Histories.{History, number, records_of, edited, published}
+use Rattle.version_store.specs.Histories.{History, current_version, records_of, after_edit, published}
 use Rattle.server_core.specs.declared.standing.Standing.{Standing}
 use Rattle.server_core.specs.Serving.{Setting}
 use Rattle.client_core.specs.declared.state.ClientState.{ClientState}
-use Rattle.client_core.specs.declared.state.Known.{Known}
+use Rattle.client_core.specs.declared.state.ServerInfo.{ServerInfo}
 use Rattle.client_core.specs.declared.state.Hint.{Hint}
 use Rattle.client_core.specs.declared.state.Call.{Call}
 use Rattle.client_core.specs.declared.state.Call.TheVariants.{Idle, Hello, Sync, Ask, Edit, Publish}
 use Rattle.client_core.specs.declared.state.Event.{Event}
 use Rattle.client_core.specs.declared.state.Event.TheVariants.{Welcomed, Synced, Retrieved, Unreadable, Stale, Done, Refused}
 use Rattle.pir_world.specs.declared.steps.Outcome.{Outcome}
-use Rattle.pir_world.specs.declared.steps.Outcome.TheVariants.{Edited, EditRefused, Published, PublishRefused, Told, CallRefused, Failed}
+use Rattle.pir_world.specs.declared.steps.Outcome.TheVariants.{Edited, EditRefused, Published, PublishRefused, Reported, CallRefused, Failed}
 use Rattle.pir_world.specs.Runs.{Link, Retrieval, Entry, Served, Ended, Plain}
 use Rattle.pir_world.specs.Headlines.{HasVersion, IsVersion, HintIs, IsRightEnd, IsRightQuery, IsServed, IsRightEvent, IsRightOutcome, IsRight, seed_of}
 use Rattle.pir_world.specs.Invariants.{AreRecords, GoodHistory, IsKnownOf, KnownIs, CallIs, IsReplyOf, IsReply, InFlight, Phase, LinkInv}
@@ -32,38 +32,38 @@ abbrev pub IsLater : History → History → Type 0
 IsLater h h2 = (v : ℕ) (records : List (List ℕ)) → HasVersion h v records → HasVersion h2 v records
 
 -- the records of a version up to the current one
-pub records_at : (h : History) (v : ℕ) → v ≤ number h → records_of h v ≡ slice_get (h.current ∷ h.past) (number h - v)
-records_at h v le = rw (le-ltb (number h) v le) refl
+pub records_at : (h : History) (v : ℕ) → v ≤ current_version h → records_of h v ≡ slice_get (h.current ∷ h.past) (current_version h - v)
+records_at h v le = rw (le-ltb (current_version h) v le) refl
 
 pub later_published : (h : History) → IsLater h (published h)
 later_published h v records p =
-    let e : number (published h) - v ≡ suc (number h - v) = omega (arith, p.0) in
-    let le : v ≤ number (published h) = omega (arith, p.0) in
+    let e : current_version (published h) - v ≡ suc (current_version h - v) = omega (arith, p.0) in
+    let le : v ≤ current_version (published h) = omega (arith, p.0) in
     (le, records_at (published h) v le ∙ ap (slice_get (h.draft ∷ h.current ∷ h.past)) e ∙ sym (records_at h v p.0) ∙ p.1)
 
 pub same_history : (h : History) → IsLater h h
 same_history h v records p = p
 
-pub newest : (h : History) → HasVersion h (number h) h.current
+pub newest : (h : History) → HasVersion h (current_version h) h.current
 newest h =
-    let z : number h - number h ≡ 0 = omega arith in
-    let le : number h ≤ number h = omega arith in
-    (le, records_at h (number h) le ∙ ap (slice_get (h.current ∷ h.past)) z)
+    let z : current_version h - current_version h ≡ 0 = omega arith in
+    let le : current_version h ≤ current_version h = omega arith in
+    (le, records_at h (current_version h) le ∙ ap (slice_get (h.current ∷ h.past)) z)
 
 version_cases : (h : History) (v : ℕ) (records : List (List ℕ)) → HasVersion (published h) v records → HasVersion h v records ⊎ (records ≡ h.draft)
-version_cases h v records p = elim (cases_lt (number h) v) [
+version_cases h v records p = elim (cases_lt (current_version h) v) [
   | inl lt ↦
-      let z : number (published h) - v ≡ 0 = omega (arith, lt) in
+      let z : current_version (published h) - v ≡ 0 = omega (arith, lt) in
       let e : Some h.draft ≡ Some records = sym (records_at (published h) v p.0 ∙ ap (slice_get (h.draft ∷ h.current ∷ h.past)) z) ∙ p.1 in
       inr (cc)
   | inr le ↦
-      let e : number (published h) - v ≡ suc (number h - v) = omega (arith, le) in
+      let e : current_version (published h) - v ≡ suc (current_version h - v) = omega (arith, le) in
       inl (le, records_at h v le ∙ sym (records_at (published h) v p.0 ∙ ap (slice_get (h.draft ∷ h.current ∷ h.past)) e) ∙ p.1)
 ]
 
 pub version_positive : (x : Setting) (h : History) (v : ℕ) (records : List (List ℕ)) → GoodHistory x h → HasVersion h v records → 0 < v
 version_positive x h v records g p =
-    omega (arith, g.first, slice_get_within (h.current ∷ h.past) (number h - v) records (sym (records_at h v p.0) ∙ p.1))
+    omega (arith, g.first, slice_get_within (h.current ∷ h.past) (current_version h - v) records (sym (records_at h v p.0) ∙ p.1))
 
 pub one_version : (h : History) (v : ℕ) (xs ys : List (List ℕ)) → HasVersion h v xs → HasVersion h v ys → xs ≡ ys
 one_version h v xs ys p q = let e : Some xs ≡ Some ys = sym p.1 ∙ q.1 in cc
@@ -94,7 +94,7 @@ edited_records p records i bytes fits r =
       each = λ j lt. recount p (length records) (length (slice_set records i bytes)) _ (record_set p (length records) records i j bytes fits (r.each j (omega (arith, lt, n))));
     }
 
-pub good_edited : (x : Setting) (h : History) (i : ℕ) (bytes : List ℕ) → IsRecord (shape_at x.plan (length h.draft)) bytes → GoodHistory x h → GoodHistory x (edited i bytes h)
+pub good_edited : (x : Setting) (h : History) (i : ℕ) (bytes : List ℕ) → IsRecord (shape_at x.plan (length h.draft)) bytes → GoodHistory x h → GoodHistory x (after_edit i bytes h)
 good_edited x h i bytes fits g = record {
   first = g.first;
   versions = λ v records p. g.versions v records p;
@@ -107,10 +107,10 @@ module _ (x : Setting) (h h2 : History) (later : IsLater h h2) where
   version_later : (v : ℕ) → IsVersion h v → IsVersion h2 v
   version_later v p = (p.0, later _ _ p.1)
 
-  known_of_later : (y : Known) → IsKnownOf x h y → IsKnownOf x h2 y
+  known_of_later : (y : ServerInfo) → IsKnownOf x h y → IsKnownOf x h2 y
   known_of_later y k = record { records = k.records; version_is = later _ _ k.version_is; layout_is = k.layout_is; dimension_is = k.dimension_is; seed_is = k.seed_is }
 
-  known_later : (st : Standing) (k : Option Known) → KnownIs x h st k → KnownIs x h2 st k
+  known_later : (st : Standing) (k : Option ServerInfo) → KnownIs x h st k → KnownIs x h2 st k
   known_later st None k = tt
   known_later st (Some y) k = (k.0, known_of_later y k.1)
 
@@ -185,7 +185,7 @@ module _ (x : Setting) (h h2 : History) (later : IsLater h h2) where
   event_later (Refused code) p = tt
 
   outcome_later : (o : Outcome) → IsRightOutcome h o → IsRightOutcome h2 o
-  outcome_later (Told k e) p = event_later e p
+  outcome_later (Reported k e) p = event_later e p
   outcome_later (Failed k fault) p = p
   outcome_later (Edited i) p = tt
   outcome_later (EditRefused i fault) p = tt

@@ -10,11 +10,11 @@ use Rattle.pir_schemes.specs.Plans.{plan_of, shape_at, IsPlan}
 use Rattle.pir_schemes.specs.Laws.{RetrievalGivesTheRecord}
 use Rattle.snapshot_file.specs.declared.snapshot.Header.{Header}
 use Rattle.snapshot_file.specs.Snapshots.{shape_of}
-use Rattle.version_store.specs.Histories.{number}
+use Rattle.version_store.specs.Histories.{current_version}
 use Rattle.pir_world.specs.Runs.{Link, opening, setting_in, fresh_link}
 use Rattle.pir_world.specs.Headlines.{IsOpening, EveryRunIsRight, seed_of}
 use Rattle.pir_world.specs.Invariants.{AreRecords, LinkInv, Inv}
-use Rattle.version_store.specs.Histories.{Held, StandsFor, opened}
+use Rattle.version_store.specs.Histories.{StoreState, StandsFor, opened}
 use Rattle.version_store.specs.Openings.{held_of}
 use Rattle.server_core.specs.Cores.{Core, session_of}
 use Rattle.server_core.specs.Serving.{setting_of}
@@ -55,7 +55,7 @@ opening_inv h bytes seeds o =
       history = record {
         first = o.sound.version;
         versions = λ v records p. subst (λ (r : List (List ℕ)). AreRecords (setting_in h).plan r)
-            (only_one (records_in (shape_of h) bytes) records (number (opening h bytes seeds).history - v) (sym (records_at (opening h bytes seeds).history v p.0) ∙ p.1)) all;
+            (only_one (records_in (shape_of h) bytes) records (current_version (opening h bytes seeds).history - v) (sym (records_at (opening h bytes seeds).history v p.0) ∙ p.1)) all;
         draft = all;
       };
       links = λ k l e. subst (λ (m : Link). LinkInv (setting_in h) (opening h bytes seeds).history (seed_of seeds k) m) (link_of seeds k l e)
@@ -84,7 +84,7 @@ fresh_matched (s ∷ seeds) (suc k) o e = fresh_matched seeds k o (λ lt. e (ome
 pub opening_parts : (h : Header) (bytes : List ℕ) (seeds : List (List ℕ)) (core : Core) (ends : List Side) (os : List Outcome) → core.store ≡ held_of h bytes → StandsFor core.store (opened h.version (records_in (shape_of h) bytes)) → ends ≡ map fresh_side seeds
     → ((id : ℕ) → id < length seeds → session_of core.sessions id ≡ Some new_session) → os ≡ [] → IsParts (setting_in h) core ends os (opening h bytes seeds)
 opening_parts h bytes seeds core ends os held stands e at none = record {
-  setting_is = ap (λ (s : Held). setting_of s) held;
+  setting_is = ap (λ (s : StoreState). setting_of s) held;
   store_is = stands;
   ends_are = λ k. rw e (fresh_matched seeds k (session_of core.sessions k) (at k));
   outcomes_are = none;

@@ -19,23 +19,23 @@ use Rattle.client_core.specs.declared.state.Call.{Call}
 use Rattle.client_core.specs.declared.state.Call.TheVariants as call
 use Rattle.client_core.specs.declared.state.Event.{Event}
 use Rattle.client_core.specs.declared.state.Reaction.{Reaction}
-use Rattle.client_core.specs.declared.state.Reaction.TheVariants.{Asks, Tells, Fails}
-use Rattle.client_core.specs.Calls.{Want, Accepts, refusal, called, call_frame}
-use Rattle.client_core.specs.Replies.{takes}
+use Rattle.client_core.specs.declared.state.Reaction.TheVariants.{Asks, Reports, Fails}
+use Rattle.client_core.specs.Calls.{Want, Accepts, refusal, state_after_call, call_frame}
+use Rattle.client_core.specs.Replies.{reaction_to_reply}
 use Rattle.client_core.specs.Feeding.{takes_all, events_of, fault_of}
-use Rattle.frame_codec.specs.Frames.{IsFrame, spelling}
+use Rattle.frame_codec.specs.Frames.{IsFrame, encoding}
 use Rattle.pir_world.specs.declared.steps.Outcome.{Outcome}
-use Rattle.pir_world.specs.declared.steps.Outcome.TheVariants.{Told, CallRefused}
-use Rattle.pir_world.specs.Runs.{State, Link, Turn, turns, turn_more, sent, with_history, Entry, Plain, arrived, told_by, reacts, tells, link_told, link_served, link_called, turn_of, outcomes_of, outcome_of, called_at, served_at, told_at}
+use Rattle.pir_world.specs.declared.steps.Outcome.TheVariants.{Reported, CallRefused}
+use Rattle.pir_world.specs.Runs.{State, Link, Turn, turns, turn_more, sent, with_history, Entry, Plain, arrived, reported_by, reacts, reports, link_reported, link_served, link_called, turn_of, outcomes_of, outcome_of, called_at, served_at, reported_at}
 use Rattle.pir_schemes.specs.Laws.{RetrievalGivesTheRecord}
 use Rattle.pir_world.specs.Headlines.{seed_of}
 use Rattle.pir_world.specs.Invariants.{Inv, LinkInv}
-use Rattle.pir_world.specs.Sides.{Side, Carries, EndIs, TakesDelivery, ServesDelivery, MakesCall, Matched, IsParts, front}
+use Rattle.pir_world.specs.Sides.{Side, Carries, EndIs, TakesDelivery, ServesDelivery, MakesCall, Matched, IsParts, prefix}
 use Rattle.pir_world.proofs.Later.{get_same, get_other}
 use Rattle.pir_world.proofs.Wires.{IsFew, split_few}
 use Rattle.pir_world.proofs.Bytes.{carries_more}
 use Rattle.pir_world.proofs.Calls.{few_frames}
-use Rattle.pir_world.proofs.Deliveries.{told_end, EndTold, served_end, few_of_split}
+use Rattle.pir_world.proofs.Deliveries.{reported_end, EndReported, served_end, few_of_split}
 
 -- a client's end has its session and its link
 pub record Met (core : Core) (k : ℕ) (e : Side) (s : State) : Type 0 where
@@ -67,30 +67,30 @@ one_replaced x core core2 ends os s k e e2 l l2 y2 p at lat yat others i j = eli
 
 -- ---- what is written down tells the outcomes
 
-tells_event : (k : ℕ) (c : Call) (reply : Frame) (e : Event) → outcome_of (tells k c reply e) ≡ Told k e ∷ []
-tells_event k call.Idle reply e = refl
-tells_event k (call.Hello key) reply e = refl
-tells_event k (call.Sync scheme version part) reply e = refl
-tells_event k (call.Ask i s v n) reply e = refl
-tells_event k (call.Edit i bytes) reply e = refl
-tells_event k call.Publish reply e = refl
+reports_event : (k : ℕ) (c : Call) (reply : Frame) (e : Event) → outcome_of (reports k c reply e) ≡ Reported k e ∷ []
+reports_event k call.Idle reply e = refl
+reports_event k (call.Hello key) reply e = refl
+reports_event k (call.Sync scheme version part) reply e = refl
+reports_event k (call.Ask i s v n) reply e = refl
+reports_event k (call.Edit i bytes) reply e = refl
+reports_event k call.Publish reply e = refl
 
-reacts_events : (k : ℕ) (c : Call) (reply : Frame) (r : Reaction) → fault_of r ≡ None → outcomes_of (reacts k c reply r) ≡ map (Told k) (events_of r)
+reacts_events : (k : ℕ) (c : Call) (reply : Frame) (r : Reaction) → fault_of r ≡ None → outcomes_of (reacts k c reply r) ≡ map (Reported k) (events_of r)
 reacts_events k c reply (Asks scheme version part) e = refl
-reacts_events k c reply (Tells event) e = append-nil _ ∙ tells_event k c reply event
+reacts_events k c reply (Reports event) e = append-nil _ ∙ reports_event k c reply event
 reacts_events k c reply (Fails fault) e = absurd cc
 
-one_told : (k : ℕ) (c : ClientState) (r : Frame) → fault_of (takes c r).reaction ≡ None → outcomes_of (told_by k c (r ∷ [])) ≡ map (Told k) (takes_all c (r ∷ [])).events
-one_told k c r e =
-    ap (λ (b : Bool). outcomes_of (reacts k c.call r (takes c r).reaction ++ cond b [] [])) (ap is_some e)
-    ∙ ap (λ (es : List Entry). outcomes_of es) (append-nil (reacts k c.call r (takes c r).reaction))
-    ∙ reacts_events k c.call r (takes c r).reaction e
+one_reported : (k : ℕ) (c : ClientState) (r : Frame) → fault_of (reaction_to_reply c r).reaction ≡ None → outcomes_of (reported_by k c (r ∷ [])) ≡ map (Reported k) (takes_all c (r ∷ [])).events
+one_reported k c r e =
+    ap (λ (b : Bool). outcomes_of (reacts k c.call r (reaction_to_reply c r).reaction ++ cond b [] [])) (ap is_some e)
+    ∙ ap (λ (es : List Entry). outcomes_of es) (append-nil (reacts k c.call r (reaction_to_reply c r).reaction))
+    ∙ reacts_events k c.call r (reaction_to_reply c r).reaction e
 
-few_told : (k : ℕ) (c : ClientState) (fs : List Frame) → IsFew fs → (takes_all c fs).fault ≡ None → outcomes_of (told_by k c fs) ≡ map (Told k) (takes_all c fs).events
-few_told k c fs (inl e) good = rw e refl
-few_told k c fs (inr p) good =
+few_reported : (k : ℕ) (c : ClientState) (fs : List Frame) → IsFew fs → (takes_all c fs).fault ≡ None → outcomes_of (reported_by k c fs) ≡ map (Reported k) (takes_all c fs).events
+few_reported k c fs (inl e) good = rw e refl
+few_reported k c fs (inr p) good =
     let g : (takes_all c (p.0 ∷ [])).fault ≡ None = subst (λ (f : List Frame). (takes_all c f).fault ≡ None) p.1 good in
-    subst (λ (f : List Frame). outcomes_of (told_by k c f) ≡ map (Told k) (takes_all c f).events) (sym p.1) (one_told k c p.0 g)
+    subst (λ (f : List Frame). outcomes_of (reported_by k c f) ≡ map (Reported k) (takes_all c f).events) (sym p.1) (one_reported k c p.0 g)
 
 outcomes_more : (log es : List Entry) (os more : List Outcome) → os ≡ outcomes_of log → outcomes_of es ≡ more → os ++ more ≡ outcomes_of (log ++ es)
 outcomes_more log es os more a b = rw (a, ← b) (sym (flat_map-append outcome_of log es))
@@ -107,26 +107,26 @@ serves_silent x short k t (f ∷ fs) e = serves_silent x short k (turn_more x sh
 -- ---- the three kinds of step at a client
 
 module _ (x : Setting) (core : Core) (ends : List Side) (os : List Outcome) (s : State) (k : ℕ) (e e2 : Side) (p : IsParts x core ends os s) (at : slice_get ends k ≡ Some e) where
-  pub parts_told : RetrievalGivesTheRecord → (seeds : List (List ℕ)) (most : ℕ) (out : List ℕ) (events : List Event) (fault : Option ClientFault) → Inv x seeds s → TakesDelivery most e out events fault e2
-      → (fault ≡ Some Memory) ⊎ ((fault ≡ None) × IsParts x core (slice_set ends k e2) (os ++ map (Told k) events) (told_at s k most (slice_get s.links k)))
-  parts_told law seeds most out events fault inv d =
+  pub parts_reported : RetrievalGivesTheRecord → (seeds : List (List ℕ)) (most : ℕ) (out : List ℕ) (events : List Event) (fault : Option ClientFault) → Inv x seeds s → TakesDelivery most e out events fault e2
+      → (fault ≡ Some Memory) ⊎ ((fault ≡ None) × IsParts x core (slice_set ends k e2) (os ++ map (Reported k) events) (reported_at s k most (slice_get s.links k)))
+  parts_reported law seeds most out events fault inv d =
       let m = met x core ends os s k e p at in
       let i = inv.links k m.link m.link_is in
-      elim (told_end law x seeds k s.history m.link inv.history i e e2 m.session most m.end_is out events fault d) [
+      elim (reported_end law x seeds k s.history m.link inv.history i e e2 m.session most m.end_is out events fault d) [
         | inl none ↦ inl none
         | inr t ↦ inr (t.0, go m i t.1)
       ]
     where
-      go : (m : Met core k e s) → LinkInv x s.history (seed_of seeds k) m.link → EndTold e2 m.session m.link most events → IsParts x core (slice_set ends k e2) (os ++ map (Told k) events) (told_at s k most (slice_get s.links k))
+      go : (m : Met core k e s) → LinkInv x s.history (seed_of seeds k) m.link → EndReported e2 m.session m.link most events → IsParts x core (slice_set ends k e2) (os ++ map (Reported k) events) (reported_at s k most (slice_get s.links k))
       go m i t =
           let few = (few_frames x s.history m.link.standing (seed_of seeds k) m.link.client m.link.client.call m.link.up.frames m.link.down.frames i.phase).1 in
           let arrives = few_of_split m.link.down.frames (arrived m.link.down most) _ few (split_few m.link.down most few) in
-          let events_told : outcomes_of (told_by k m.link.client (arrived m.link.down most)) ≡ map (Told k) events = few_told k m.link.client (arrived m.link.down most) arrives t.good ∙ ap (λ (es : List Event). map (Told k) es) (sym t.events_are) in
+          let events_reported : outcomes_of (reported_by k m.link.client (arrived m.link.down most)) ≡ map (Reported k) events = few_reported k m.link.client (arrived m.link.down most) arrives t.good ∙ ap (λ (es : List Event). map (Reported k) es) (sym t.events_are) in
           rw m.link_is (record {
             setting_is = p.setting_is;
             store_is = p.store_is;
-            ends_are = one_replaced x core core ends os s k e e2 m.link (link_told most m.link) m.session p at m.link_is m.session_is (λ j ne. refl) t.end_is;
-            outcomes_are = outcomes_more s.log (told_by k m.link.client (arrived m.link.down most)) os (map (Told k) events) p.outcomes_are events_told;
+            ends_are = one_replaced x core core ends os s k e e2 m.link (link_reported most m.link) m.session p at m.link_is m.session_is (λ j ne. refl) t.end_is;
+            outcomes_are = outcomes_more s.log (reported_by k m.link.client (arrived m.link.down most)) os (map (Reported k) events) p.outcomes_are events_reported;
           })
 
   pub parts_served : (core2 : Core) (seeds : List (List ℕ)) (most : ℕ) → Inv x seeds s
@@ -137,7 +137,7 @@ module _ (x : Setting) (core : Core) (ends : List Side) (os : List Outcome) (s :
   parts_served core2 seeds most inv others f =
       let m = met x core ends os s k e p at in
       let r = f s.history m.session p.store_is m.session_is in
-      let fed = subst (λ (y : Setting). Fed y s.history m.session (front most e.up) (Ok tt) core2.store r.0 [] r.2.replies) p.setting_is r.2.fed in
+      let fed = subst (λ (y : Setting). Fed y s.history m.session (prefix most e.up) (Ok tt) core2.store r.0 [] r.2.replies) p.setting_is r.2.fed in
       let t = served_end x seeds k s.history m.link (inv.links k m.link m.link_is) e e2 m.session r.0 core2.store most r.2.replies m.end_is fed r.2.client r.2.up r.2.down in
       let silent_ : outcomes_of (turn_of x t.short k most s.history m.link).log ≡ [] = serves_silent x t.short k _ (arrived m.link.up most) refl in (
         t.short,
@@ -157,11 +157,11 @@ module _ (x : Setting) (core : Core) (ends : List Side) (os : List Outcome) (s :
   accepted_end : (w : Want) (session : Session) (l : Link) → EndIs e session l → (bytes : List ℕ) → Accepts e.client.state w e2.client.state bytes → e2.client.reader ≡ e.client.reader → e2.up ≡ e.up ++ bytes → e2.down ≡ e.down
       → (refusal w l.client ≡ None) × EndIs e2 session (link_called w l)
   accepted_end w session l i bytes a reader up down =
-      let c : ClientState = called w l.client in
-      let state : e2.client.state ≡ c = a.state ∙ ap (λ (y : ClientState). called w y) i.client_is in
+      let c : ClientState = state_after_call w l.client in
+      let state : e2.client.state ≡ c = a.state ∙ ap (λ (y : ClientState). state_after_call w y) i.client_is in
       let fits : IsFrame (call_frame c c.call) = subst (λ (y : ClientState). IsFrame (call_frame y y.call)) state a.fits in
-      let written : e2.up ≡ e.up ++ flat_map spelling (call_frame c c.call ∷ []) =
-      up ∙ ap (λ (b : List ℕ). e.up ++ b) (a.written ∙ ap (λ (y : ClientState). spelling (call_frame y y.call)) state ∙ sym (append-nil (spelling (call_frame c c.call)))) in (
+      let written : e2.up ≡ e.up ++ flat_map encoding (call_frame c c.call ∷ []) =
+      up ∙ ap (λ (b : List ℕ). e.up ++ b) (a.written ∙ ap (λ (y : ClientState). encoding (call_frame y y.call)) state ∙ sym (append-nil (encoding (call_frame c c.call)))) in (
         ap (λ (y : ClientState). refusal w y) (sym i.client_is) ∙ a.may,
         record {
           client_is = state;

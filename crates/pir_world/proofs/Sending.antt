@@ -4,7 +4,7 @@ use Rattle.std.specs.Prelude.{slice_index_or}
 use Rattle.std.specs.Result.{OnOk, is_err}
 use Rattle.std.proofs.lemmas.Bool.{cases_eq}
 use Rattle.std.proofs.lemmas.List.{map-append}
-use Rattle.version_store.specs.Histories.{Held, History}
+use Rattle.version_store.specs.Histories.{StoreState, History}
 use Rattle.server_core.specs.Cores.{Core, session_of}
 use Rattle.server_core.specs.Serving.{Setting, setting_of}
 use Rattle.server_core.specs.Sessions.{Session, Fed, new_session}
@@ -19,7 +19,7 @@ pub when_ok : {A E : Type 0} (r : Result A E) (P : Type 0) → is_err r ≡ fals
 when_ok (Ok x) P e p = p
 when_ok (Err x) P e p = absurd cc
 
-pub serves_delivery : (most n : ℕ) (h : History) (before after : Held) (old new : Side) (session then_ : Session) (piece start replies : List ℕ) → n ≡ min most (length old.up) → piece ≡ old.up → start ≡ []
+pub serves_delivery : (most n : ℕ) (h : History) (before after : StoreState) (old new : Side) (session then_ : Session) (piece start replies : List ℕ) → n ≡ min most (length old.up) → piece ≡ old.up → start ≡ []
     → Fed (setting_of before) h session (take n piece) (Ok tt) after then_ start replies → new.client ≡ old.client → new.up ≡ drop n old.up → new.down ≡ old.down ++ replies → ServesDelivery most h before old session after new then_
 serves_delivery most n h before after old new session then_ piece start replies size same empty f client up down = record {
   replies = replies;

@@ -11,12 +11,12 @@ use Rattle.pir_schemes.specs.Plans.{shape_at, client_profile}
 use Rattle.pir_schemes.proofs.Lengths.{length_query}
 use Rattle.frame_codec.specs.declared.frame.Frame.{Frame}
 use Rattle.frame_codec.specs.declared.frame.Frame.TheVariants as frame
-use Rattle.version_store.specs.Histories.{History, number}
+use Rattle.version_store.specs.Histories.{History, current_version}
 use Rattle.server_core.specs.declared.standing.Standing.{Standing}
 use Rattle.server_core.specs.declared.standing.Standing.TheVariants.{Reader}
 use Rattle.server_core.specs.Serving.{Setting, Outcome, is_closed, is_reader_key, has_part, hint_words, words_asked}
 use Rattle.client_core.specs.declared.state.ClientState.{ClientState}
-use Rattle.client_core.specs.declared.state.Known.{Known}
+use Rattle.client_core.specs.declared.state.ServerInfo.{ServerInfo}
 use Rattle.client_core.specs.declared.state.Call.{Call}
 use Rattle.client_core.specs.declared.state.Hint.{Hint}
 use Rattle.client_core.specs.declared.state.Call.TheVariants.{Idle, Hello, Sync, Ask, Edit, Publish}
@@ -33,13 +33,13 @@ pub record Replied (x : Setting) (h : History) (seed : List ℕ) (st : Standing)
   pub unclosed : is_closed o.standing ≡ false
   pub reader : st ≡ Reader → o.standing ≡ Reader
   pub reply : (r : Frame) × (o.reply ≡ Some r) × IsReply x h o.standing seed call r
-  pub right : IsServed x h (number h) f o.reply
+  pub right : IsServed x h (current_version h) f o.reply
 
-now_is : (h : History) (v : ℕ) → v ≡ number h → HasVersion h v h.current
+now_is : (h : History) (v : ℕ) → v ≡ current_version h → HasVersion h v h.current
 now_is h v e = subst (λ (n : ℕ). HasVersion h n h.current) (sym e) (newest h)
 
 -- a version that isn't the current one is before it
-before_now : (h : History) (v : ℕ) (records : List (List ℕ)) → HasVersion h v records → (v ≡ number h → ⊥) → v < number h
+before_now : (h : History) (v : ℕ) (records : List (List ℕ)) → HasVersion h v records → (v ≡ current_version h → ⊥) → v < current_version h
 before_now h v records p ne = omega (arith, p.0, ne)
 
 reader_key_is : is_reader_key (replicate 32 0) ≡ true
@@ -47,8 +47,8 @@ unfolding is_reader_key
 reader_key_is = refl
 
 welcomed : (short : Bool) (x : Setting) (h : History) (seed : List ℕ) (st : Standing) → Replied x h seed st (Hello reader_key) (frame.Hello client_profile reader_key) (served_or short x h st (frame.Hello client_profile reader_key))
-welcomed false x h seed st = rw reader_key_is (record { history_is = refl; unclosed = refl; reader = λ e. refl; reply = (_, refl, (refl, (number h, h.current, newest h, refl))); right = tt })
-welcomed true x h seed st = rw reader_key_is (record { history_is = refl; unclosed = refl; reader = λ e. refl; reply = (_, refl, (refl, (number h, h.current, newest h, refl))); right = tt })
+welcomed false x h seed st = rw reader_key_is (record { history_is = refl; unclosed = refl; reader = λ e. refl; reply = (_, refl, (refl, (current_version h, h.current, newest h, refl))); right = tt })
+welcomed true x h seed st = rw reader_key_is (record { history_is = refl; unclosed = refl; reader = λ e. refl; reply = (_, refl, (refl, (current_version h, h.current, newest h, refl))); right = tt })
 
 -- a scheme's byte names it
 byte_names : (s : Scheme) → scheme_of_byte (scheme_byte s) ≡ Some s
@@ -66,28 +66,28 @@ unfolding has_part
 part_there x s records p lt = lt-ltb _ _ lt
 
 module _ (x : Setting) (h : History) (seed : List ℕ) (s : Scheme) (v p : ℕ) where
-  now : (short : Bool) → (v == number h) ≡ true → has_part x s h.current p ≡ true → Replied x h seed Reader (Sync s v p) (frame.HintAsk (scheme_byte s) v p) (served_or short x h Reader (frame.HintAsk (scheme_byte s) v p))
+  now : (short : Bool) → (v == current_version h) ≡ true → has_part x s h.current p ≡ true → Replied x h seed Reader (Sync s v p) (frame.HintAsk (scheme_byte s) v p) (served_or short x h Reader (frame.HintAsk (scheme_byte s) v p))
   now false t in_ =
-      let e : v ≡ number h = eqb-true v (number h) t in
+      let e : v ≡ current_version h = eqb-true v (current_version h) t in
       rw (byte_names s, t, in_) (record { history_is = refl; unclosed = refl; reader = λ e. e; reply = (_, refl, inr (inr (h.current, now_is h v e, rw e refl))); right = tt })
   now true t in_ = rw (byte_names s, t, in_) (record { history_is = refl; unclosed = refl; reader = λ e. e; reply = (_, refl, inl refl); right = tt })
 
-  old : (short : Bool) → (v == number h) ≡ false → v < number h → Replied x h seed Reader (Sync s v p) (frame.HintAsk (scheme_byte s) v p) (served_or short x h Reader (frame.HintAsk (scheme_byte s) v p))
-  old false t lt = rw (byte_names s, t) (record { history_is = refl; unclosed = refl; reader = λ e. e; reply = (_, refl, inr (inl (number h, h.current, newest h, lt, refl))); right = tt })
-  old true t lt = rw (byte_names s, t) (record { history_is = refl; unclosed = refl; reader = λ e. e; reply = (_, refl, inr (inl (number h, h.current, newest h, lt, refl))); right = tt })
+  old : (short : Bool) → (v == current_version h) ≡ false → v < current_version h → Replied x h seed Reader (Sync s v p) (frame.HintAsk (scheme_byte s) v p) (served_or short x h Reader (frame.HintAsk (scheme_byte s) v p))
+  old false t lt = rw (byte_names s, t) (record { history_is = refl; unclosed = refl; reader = λ e. e; reply = (_, refl, inr (inl (current_version h, h.current, newest h, lt, refl))); right = tt })
+  old true t lt = rw (byte_names s, t) (record { history_is = refl; unclosed = refl; reader = λ e. e; reply = (_, refl, inr (inl (current_version h, h.current, newest h, lt, refl))); right = tt })
 
-  replied_sync : (short : Bool) (known : Option Known) (parts : List ℕ) → SyncIs x h s v p known parts → Replied x h seed Reader (Sync s v p) (frame.HintAsk (scheme_byte s) v p) (served_or short x h Reader (frame.HintAsk (scheme_byte s) v p))
-  replied_sync short known parts i = elim (cases_Bool (v == number h)) [
+  replied_sync : (short : Bool) (known : Option ServerInfo) (parts : List ℕ) → SyncIs x h s v p known parts → Replied x h seed Reader (Sync s v p) (frame.HintAsk (scheme_byte s) v p) (served_or short x h Reader (frame.HintAsk (scheme_byte s) v p))
+  replied_sync short known parts i = elim (cases_Bool (v == current_version h)) [
     | inl t ↦
-        let e : i.records ≡ h.current = one_version h v i.records h.current i.version_is (now_is h v (eqb-true v (number h) t)) in
+        let e : i.records ≡ h.current = one_version h v i.records h.current i.version_is (now_is h v (eqb-true v (current_version h) t)) in
         now short t (part_there x s h.current p (subst (λ (r : List (List ℕ)). 65536 * p < length (hint_words x s r)) e i.further))
-    | inr t ↦ old short t (before_now h v i.records i.version_is (eqb-false v (number h) t))
+    | inr t ↦ old short t (before_now h v i.records i.version_is (eqb-false v (current_version h) t))
   ]
 
 -- ---- a query
 
 -- the words of a client's query, where what it knows is the version's
-pub asked_is : (x : Setting) (h : History) (y : Known) (records : List (List ℕ)) (seed : List ℕ) (r : Retrieval) → IsKnownOf x h y → HasVersion h y.version records →
+pub asked_is : (x : Setting) (h : History) (y : ServerInfo) (records : List (List ℕ)) (seed : List ℕ) (r : Retrieval) → IsKnownOf x h y → HasVersion h y.version records →
     call_words (Some y) r.scheme seed r.number r.index ≡ asked_words x.plan records seed r
 asked_is x h y records seed r k p =
     let same : k.records ≡ records = one_version h y.version k.records records k.version_is p in
@@ -95,57 +95,57 @@ asked_is x h y records seed r k p =
 
 module _ (x : Setting) (h : History) (seed : List ℕ) (i : ℕ) (s : Scheme) (v n : ℕ) (records : List (List ℕ)) (there : HasVersion h v records) where
   abbrev retrieval : Retrieval
-  retrieval = record { index = i; scheme = s; version = v; number = n }
+  retrieval = record { index = i; scheme = s; version = v; current_version = n }
 
   words_fit : (length (asked_words x.plan records seed retrieval) == words_asked x s records) ≡ true
   words_fit = eq-eqb _ _ (length_query s (shape_at x.plan (length records)) x.plan.dimension x.plan.seed seed n i)
 
   -- the words that are asked, under a short name
-  answer_now : (short : Bool) (words : List ℕ) → words ≡ asked_words x.plan records seed retrieval → (v == number h) ≡ true → records ≡ h.current → (length words == words_asked x s h.current) ≡ true →
+  answer_now : (short : Bool) (words : List ℕ) → words ≡ asked_words x.plan records seed retrieval → (v == current_version h) ≡ true → records ≡ h.current → (length words == words_asked x s h.current) ≡ true →
       Replied x h seed Reader (Ask i s v n) (frame.Query (scheme_byte s) v words) (served_or short x h Reader (frame.Query (scheme_byte s) v words))
   answer_now false words w t same fit =
-      let e : v ≡ number h = eqb-true v (number h) t in
+      let e : v ≡ current_version h = eqb-true v (current_version h) t in
       rw (byte_names s, t, fit) (record {
         history_is = refl;
         unclosed = refl;
         reader = λ e. e;
         reply = (_, refl, inr (inr (h.current, now_is h v e, rw (e, w, same) refl)));
-        right = right_query x h s v (number h) words _ (record { records = h.current; version_is = newest h; stale = λ ne. absurd (ne e); answered = λ same. inl refl });
+        right = right_query x h s v (current_version h) words _ (record { records = h.current; version_is = newest h; stale = λ ne. absurd (ne e); answered = λ same. inl refl });
       })
   answer_now true words w t same fit =
-      let e : v ≡ number h = eqb-true v (number h) t in
+      let e : v ≡ current_version h = eqb-true v (current_version h) t in
       rw (byte_names s, t, fit) (record {
         history_is = refl;
         unclosed = refl;
         reader = λ e. e;
         reply = (_, refl, inl refl);
-        right = right_query x h s v (number h) words _ (record { records = h.current; version_is = newest h; stale = λ ne. absurd (ne e); answered = λ same. inr refl });
+        right = right_query x h s v (current_version h) words _ (record { records = h.current; version_is = newest h; stale = λ ne. absurd (ne e); answered = λ same. inr refl });
       })
 
-  answer_old : (short : Bool) (words : List ℕ) → (v == number h) ≡ false → Replied x h seed Reader (Ask i s v n) (frame.Query (scheme_byte s) v words) (served_or short x h Reader (frame.Query (scheme_byte s) v words))
+  answer_old : (short : Bool) (words : List ℕ) → (v == current_version h) ≡ false → Replied x h seed Reader (Ask i s v n) (frame.Query (scheme_byte s) v words) (served_or short x h Reader (frame.Query (scheme_byte s) v words))
   answer_old false words t =
-      let ne : v ≡ number h → ⊥ = eqb-false v (number h) t in
+      let ne : v ≡ current_version h → ⊥ = eqb-false v (current_version h) t in
       rw (byte_names s, t) (record {
         history_is = refl;
         unclosed = refl;
         reader = λ e. e;
-        reply = (_, refl, inr (inl (number h, h.current, newest h, before_now h v records there ne, refl)));
-        right = right_query x h s v (number h) words _ (record { records = h.current; version_is = newest h; stale = λ other. refl; answered = λ same. absurd (ne same) });
+        reply = (_, refl, inr (inl (current_version h, h.current, newest h, before_now h v records there ne, refl)));
+        right = right_query x h s v (current_version h) words _ (record { records = h.current; version_is = newest h; stale = λ other. refl; answered = λ same. absurd (ne same) });
       })
   answer_old true words t =
-      let ne : v ≡ number h → ⊥ = eqb-false v (number h) t in
+      let ne : v ≡ current_version h → ⊥ = eqb-false v (current_version h) t in
       rw (byte_names s, t) (record {
         history_is = refl;
         unclosed = refl;
         reader = λ e. e;
-        reply = (_, refl, inr (inl (number h, h.current, newest h, before_now h v records there ne, refl)));
-        right = right_query x h s v (number h) words _ (record { records = h.current; version_is = newest h; stale = λ other. refl; answered = λ same. absurd (ne same) });
+        reply = (_, refl, inr (inl (current_version h, h.current, newest h, before_now h v records there ne, refl)));
+        right = right_query x h s v (current_version h) words _ (record { records = h.current; version_is = newest h; stale = λ other. refl; answered = λ same. absurd (ne same) });
       })
 
   pub replied_ask : (short : Bool) (words : List ℕ) → words ≡ asked_words x.plan records seed retrieval → Replied x h seed Reader (Ask i s v n) (frame.Query (scheme_byte s) v words) (served_or short x h Reader (frame.Query (scheme_byte s) v words))
-  replied_ask short words w = elim (cases_Bool (v == number h)) [
+  replied_ask short words w = elim (cases_Bool (v == current_version h)) [
     | inl t ↦
-        let same : records ≡ h.current = one_version h v records h.current there (now_is h v (eqb-true v (number h) t)) in
+        let same : records ≡ h.current = one_version h v records h.current there (now_is h v (eqb-true v (current_version h) t)) in
         answer_now short words w t same (ap (λ (z : List ℕ). length z == words_asked x s h.current) w ∙ ap (λ (r : List (List ℕ)). length (asked_words x.plan records seed retrieval) == words_asked x s r) (sym same) ∙ words_fit)
     | inr t ↦ answer_old short words t
   ]
@@ -194,8 +194,8 @@ module _ (x : Setting) (seeds : List (List ℕ)) (k : ℕ) (h : History) (seed :
       let f : HintIs x h (Some y) = subst (λ (z : Option Hint). HintIs x h z) at hint in
       (f.0, subst (λ (n : ℕ). HasVersion h n f.0) e f.1)
 
-  known_is : (o : Option Known) (y : Known) → KnownIs x h st o → o ≡ Some y → (st ≡ Reader) × IsKnownOf x h y
-  known_is o y k e = let P : Option Known → Type 0 = λ z. KnownIs x h st z in subst P e k
+  known_is : (o : Option ServerInfo) (y : ServerInfo) → KnownIs x h st o → o ≡ Some y → (st ≡ Reader) × IsKnownOf x h y
+  known_is o y k e = let P : Option ServerInfo → Type 0 = λ z. KnownIs x h st z in subst P e k
 
   -- the outstanding call's frame is served
   replied : (short : Bool) (call : Call) → (call ≡ Idle → ⊥) → c.seed ≡ seed → KnownIs x h st c.known → HintIs x h c.hint → CallIs x h c call → Replied x h seed st call (call_frame c call) (served_or short x h st (call_frame c call))
@@ -207,9 +207,9 @@ module _ (x : Setting) (seeds : List (List ℕ)) (k : ℕ) (h : History) (seed :
   replied short (Ask j scheme v n) busy s known hint i =
       let y = known_is c.known i.k known i.known_is in
       let there = hint_version c.hint i.hint v hint i.hint_is i.version_is in
-      let r : Retrieval = record { index = j; scheme = scheme; version = v; number = n } in
+      let r : Retrieval = record { index = j; scheme = scheme; version = v; current_version = n } in
       let w : call_words c.known scheme c.seed n j ≡ asked_words x.plan there.0 seed r =
-      ap (λ (o : Option Known). call_words o scheme c.seed n j) i.known_is
+      ap (λ (o : Option ServerInfo). call_words o scheme c.seed n j) i.known_is
       ∙ asked_is x h i.k there.0 c.seed r y.1 (subst (λ (m : ℕ). HasVersion h m there.0) (sym i.asked) there.1)
       ∙ ap (λ (z : List ℕ). asked_words x.plan there.0 z r) s in
       subst (λ (z : Standing). Replied x h seed z (Ask j scheme v n) (frame.Query (scheme_byte scheme) v (call_words c.known scheme c.seed n j)) (served_or short x h z (frame.Query (scheme_byte scheme) v (call_words c.known scheme c.seed n j))))

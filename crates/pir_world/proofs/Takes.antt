@@ -28,14 +28,14 @@ use Rattle.server_core.specs.declared.standing.Standing.{Standing}
 use Rattle.server_core.specs.declared.standing.Standing.TheVariants.{Reader}
 use Rattle.server_core.specs.Serving.{Setting, hint_words, part_words}
 use Rattle.client_core.specs.declared.state.ClientState.{ClientState}
-use Rattle.client_core.specs.declared.state.Known.{Known}
+use Rattle.client_core.specs.declared.state.ServerInfo.{ServerInfo}
 use Rattle.client_core.specs.declared.state.Hint.{Hint}
 use Rattle.client_core.specs.declared.state.Call.{Call}
 use Rattle.client_core.specs.declared.state.Call.TheVariants.{Idle, Hello, Sync, Ask, Edit, Publish}
 use Rattle.client_core.specs.declared.state.Event.TheVariants.{Retrieved}
 use Rattle.client_core.specs.declared.state.ClientFault.TheVariants.{BadReply}
 use Rattle.client_core.specs.States.{is_layout}
-use Rattle.client_core.specs.Replies.{Taken, takes, takes_welcome, takes_part, takes_answer, takes_stale, takes_refused, takes_asked_part, more_parts, hint_made, is_welcome, is_part, is_answer, with_count, event_of, answered, ended, faulty}
+use Rattle.client_core.specs.Replies.{Taken, reaction_to_reply, takes_welcome, takes_part, takes_answer, takes_stale, takes_refused, takes_asked_part, more_parts, hint_made, is_welcome, is_part, is_answer, with_count, event_of, answered, ended, faulty}
 use Rattle.client_core.specs.Feeding.{sends_of, fault_of}
 use Rattle.client_core.proofs.Layouts.{layout_accepted}
 use Rattle.pir_world.specs.Runs.{Retrieval, reacts}
@@ -101,8 +101,8 @@ parts_more : (x : Setting) (s : Scheme) (records : List (List ℕ)) (p : ℕ) �
 unfolding part_words
 parts_more x s records p = let e : 65536 * (p + 1) ≡ 65536 * p + 65536 = omega arith in rw e (sym (take-add (65536 * p) 65536 (hint_words x s records)))
 
-pub known_some : (x : Setting) (h : History) (st : Standing) (o : Option Known) (y : Known) → KnownIs x h st o → o ≡ Some y → (st ≡ Reader) × IsKnownOf x h y
-known_some x h st o y k e = let P : Option Known → Type 0 = λ z. KnownIs x h st z in subst P e k
+pub known_some : (x : Setting) (h : History) (st : Standing) (o : Option ServerInfo) (y : ServerInfo) → KnownIs x h st o → o ≡ Some y → (st ≡ Reader) × IsKnownOf x h y
+known_some x h st o y k e = let P : Option ServerInfo → Type 0 = λ z. KnownIs x h st z in subst P e k
 
 -- ---- each kind of reply
 
@@ -141,7 +141,7 @@ module _ (law : RetrievalGivesTheRecord) (x : Setting) (seeds : List (List ℕ))
     right = (inr (inr (refl, refl)), tt);
   }
 
-  module _ (y : Known) (at : c.known ≡ Some y) (known : (st ≡ Reader) × IsKnownOf x h y) where
+  module _ (y : ServerInfo) (at : c.known ≡ Some y) (known : (st ≡ Reader) × IsKnownOf x h y) where
     count_same : (n : ℕ) → with_count y.layout n ≡ shape_at x.plan n
     count_same n = ap (λ (l : Shape). with_count l n) known.1.layout_is
 
@@ -150,8 +150,8 @@ module _ (law : RetrievalGivesTheRecord) (x : Setting) (seeds : List (List ℕ))
         let ne : (now == v) ≡ false = ne_eqb now v (λ e. omega (arith, lt, e)) in
         rw ne (and_from _ _ (lt-ltb 0 now (version_positive x h now records g p)) (plan_accepted x.plan (length records) _ (plan_ok now records p) (count_same (length records))))
 
-    told_of : (now : ℕ) (records : List (List ℕ)) → HasVersion h now records → IsKnownOf x h (record y { version = now; layout = with_count y.layout (length records) })
-    told_of now records p = record {
+    reported_of : (now : ℕ) (records : List (List ℕ)) → HasVersion h now records → IsKnownOf x h (record y { version = now; layout = with_count y.layout (length records) })
+    reported_of now records p = record {
       records = records;
       version_is = p;
       layout_is = count_same (length records);
@@ -162,7 +162,7 @@ module _ (law : RetrievalGivesTheRecord) (x : Setting) (seeds : List (List ℕ))
     stale_sync : (s : Scheme) (v q now : ℕ) (records : List (List ℕ)) → HasVersion h now records → v < now
         → IsTaken x seeds k h st (Sync s v q) (frame.Stale now (length records)) (takes_stale (Sync s v q) c now (length records))
     stale_sync s v q now records p lt = rw (at, stale_good v now records p lt) (record {
-      client = record { seed_is = i.seed_is; alive = i.alive; known = (known.0, told_of now records p); hint = i.hint; call = tt };
+      client = record { seed_is = i.seed_is; alive = i.alive; known = (known.0, reported_of now records p); hint = i.hint; call = tt };
       no_fault = refl;
       phase = (refl, refl);
       right = ((records, p), tt);
@@ -171,7 +171,7 @@ module _ (law : RetrievalGivesTheRecord) (x : Setting) (seeds : List (List ℕ))
     stale_ask : (j : ℕ) (s : Scheme) (v n now : ℕ) (records : List (List ℕ)) → HasVersion h now records → v < now
         → IsTaken x seeds k h st (Ask j s v n) (frame.Stale now (length records)) (takes_stale (Ask j s v n) c now (length records))
     stale_ask j s v n now records p lt = rw (at, stale_good v now records p lt) (record {
-      client = record { seed_is = i.seed_is; alive = i.alive; known = (known.0, told_of now records p); hint = i.hint; call = tt };
+      client = record { seed_is = i.seed_is; alive = i.alive; known = (known.0, reported_of now records p); hint = i.hint; call = tt };
       no_fault = refl;
       phase = (refl, refl);
       right = (inr (inl (record { now = now; records = records; version_is = p; later = lt; reply_is = refl; event_is = refl })), tt);
@@ -238,7 +238,7 @@ module _ (law : RetrievalGivesTheRecord) (x : Setting) (seeds : List (List ℕ))
 
       part_step : takes_part (Sync s v p) c (scheme_byte s) v p (part_words x s r.records p) ≡ more_parts s y c v p (c.parts ++ part_words x s r.records p)
       part_step =
-          ap (λ (o : Option Known). takes_asked_part o s c v p (scheme_byte s) v p (part_words x s r.records p)) at
+          ap (λ (o : Option ServerInfo). takes_asked_part o s c v p (scheme_byte s) v p (part_words x s r.records p)) at
           ∙ ap (λ (b : Bool). cond b (more_parts s y c v p (c.parts ++ part_words x s r.records p)) (faulty c BadReply)) part_good
 
       part_came : IsTaken x seeds k h st (Sync s v p) (frame.HintPart (scheme_byte s) v p (part_words x s r.records p)) (takes_part (Sync s v p) c (scheme_byte s) v p (part_words x s r.records p))
@@ -287,7 +287,7 @@ module _ (law : RetrievalGivesTheRecord) (x : Setting) (seeds : List (List ℕ))
 
       answer_step : takes_answer (Ask j s v n) c (scheme_byte s) v answer ≡ ended c (event_of j v (record_of y.layout (reading hint.scheme y.layout hint.matrix c.seed n j answer)))
       answer_step =
-          ap (λ (o : Option Known). answered o c.hint c j v n (scheme_byte s) v answer) at
+          ap (λ (o : Option ServerInfo). answered o c.hint c j v n (scheme_byte s) v answer) at
           ∙ ap (λ (o : Option Hint). answered (Some y) o c j v n (scheme_byte s) v answer) held
           ∙ ap (λ (b : Bool). cond b (ended c (event_of j v (record_of y.layout (reading hint.scheme y.layout hint.matrix c.seed n j answer)))) (faulty c BadReply)) words_good
 
@@ -302,7 +302,7 @@ module _ (law : RetrievalGivesTheRecord) (x : Setting) (seeds : List (List ℕ))
   by_call : (f : Call → Taken) (call : Call) (r : Frame) → c.call ≡ call → IsTaken x seeds k h st call r (f call) → IsTaken x seeds k h st call r (f c.call)
   by_call f call r e t = subst (λ (a : Call). IsTaken x seeds k h st call r (f a)) (sym e) t
 
-  reply_taken : (call : Call) (r : Frame) → c.call ≡ call → CallIs x h c call → IsReply x h st (seed_of seeds k) call r → IsTaken x seeds k h st call r (takes c r)
+  reply_taken : (call : Call) (r : Frame) → c.call ≡ call → CallIs x h c call → IsReply x h st (seed_of seeds k) call r → IsTaken x seeds k h st call r (reaction_to_reply c r)
   reply_taken Idle r e a p = absurd p
   reply_taken (Hello key) r e a p =
       rw p.1.3 (by_call (λ (q : Call). takes_welcome q c (profile_of x.plan) (shape x.plan.width x.plan.record_len x.plan.groups (length p.1.1)) x.plan.dimension p.1.0 x.plan.seed) (Hello key) (welcome_frame x p.1.0 p.1.1) e (welcomed key p.1.0 p.1.1 p.1.2 p.0))
@@ -328,5 +328,5 @@ module _ (law : RetrievalGivesTheRecord) (x : Setting) (seeds : List (List ℕ))
   reply_taken (Edit j bytes) r e a p = absurd p
   reply_taken Publish r e a p = absurd p
 
-  pub taken : (r : Frame) → IsReply x h st (seed_of seeds k) c.call r → IsTaken x seeds k h st c.call r (takes c r)
+  pub taken : (r : Frame) → IsReply x h st (seed_of seeds k) c.call r → IsTaken x seeds k h st c.call r (reaction_to_reply c r)
   taken r p = reply_taken c.call r refl i.call p

@@ -2,11 +2,11 @@
 use Rattle.std.specs.Prelude.{◌≡◌, ◌≤◌, ℕ, List, Bool, Some, slice_get}
 use Rattle.std.specs.List.{AllByRecursion}
 use Rattle.snapshot_file.specs.declared.snapshot.Header.{Header}
-use Rattle.version_store.specs.Histories.{History, number}
+use Rattle.version_store.specs.Histories.{History, current_version}
 use Rattle.client_core.specs.declared.state.Event.{Event}
 use Rattle.client_core.specs.declared.state.Event.TheVariants.{Welcomed, Synced, Retrieved, Unreadable, Stale, Done, Refused}
 use Rattle.pir_world.specs.declared.steps.Step.{Step}
-use Rattle.pir_world.specs.declared.steps.Outcome.TheVariants.{Edited, EditRefused, Published, PublishRefused, Told, CallRefused, Failed}
+use Rattle.pir_world.specs.declared.steps.Outcome.TheVariants.{Edited, EditRefused, Published, PublishRefused, Reported, CallRefused, Failed}
 use Rattle.pir_world.specs.Runs.{State, Link, Entry, Served, Ended, Plain, Run, opening, setting_in, turn_of}
 use Rattle.pir_world.specs.Headlines.{IsOpening}
 
@@ -21,15 +21,15 @@ NamesUpTo n (Done v) = v ≤ n
 NamesUpTo n (Refused code) = Unit {0}
 
 -- nor does any outcome, nor what ended a retrieval
-abbrev pub ToldUpTo : ℕ → Entry → Type 0
-ToldUpTo n (Ended k r reply event) = NamesUpTo n event
-ToldUpTo n (Plain (Told k event)) = NamesUpTo n event
-ToldUpTo n (Plain (Published v)) = v ≤ n
-ToldUpTo n _ = Unit {0}
+abbrev pub ReportedUpTo : ℕ → Entry → Type 0
+ReportedUpTo n (Ended k r reply event) = NamesUpTo n event
+ReportedUpTo n (Plain (Reported k event)) = NamesUpTo n event
+ReportedUpTo n (Plain (Published v)) = v ≤ n
+ReportedUpTo n _ = Unit {0}
 
 -- a frame is served while the version that is current then is `now`, and nobody was told of a later one before
 abbrev pub IsFresh : History → List Entry → Entry → Type 0
-IsFresh h before (Served k f now reply) = (now ≡ number h) × AllByRecursion (ToldUpTo now) before
+IsFresh h before (Served k f now reply) = (now ≡ current_version h) × AllByRecursion (ReportedUpTo now) before
 IsFresh h before _ = Unit {0}
 
 -- So it is at every delivery to the server in every run. An answer is of the version that is current when its query is served, so it is never older than a version that anybody had been told of before.

@@ -13,7 +13,7 @@ use Rattle.frame_codec.specs.declared.refusal.Refusal.TheVariants as refusal
 use Rattle.frame_codec.specs.Refusals.{code_of, refused}
 use Rattle.snapshot_file.specs.declared.snapshot.Header.{Header}
 use Rattle.version_store.specs.Openings.{IsSound}
-use Rattle.version_store.specs.Histories.{History, number, records_of}
+use Rattle.version_store.specs.Histories.{History, current_version, records_of}
 use Rattle.server_core.specs.Serving.{Setting}
 use Rattle.client_core.specs.declared.state.Hint.{Hint}
 use Rattle.client_core.specs.declared.state.Event.{Event}
@@ -21,12 +21,12 @@ use Rattle.client_core.specs.declared.state.Event.TheVariants.{Welcomed, Synced,
 use Rattle.client_core.specs.Replies.{event_of}
 use Rattle.pir_world.specs.declared.steps.Step.{Step}
 use Rattle.pir_world.specs.declared.steps.Outcome.{Outcome}
-use Rattle.pir_world.specs.declared.steps.Outcome.TheVariants.{Edited, EditRefused, Published, PublishRefused, Told, CallRefused, Failed}
+use Rattle.pir_world.specs.declared.steps.Outcome.TheVariants.{Edited, EditRefused, Published, PublishRefused, Reported, CallRefused, Failed}
 use Rattle.pir_world.specs.Runs.{State, Link, Retrieval, Entry, Served, Ended, Plain, Run, opening, setting_in}
 
 -- these are the records of a version
 abbrev pub HasVersion : History → ℕ → List (List ℕ) → Type 0
-HasVersion h v records = (v ≤ number h) × (records_of h v ≡ Some records)
+HasVersion h v records = (v ≤ current_version h) × (records_of h v ≡ Some records)
 
 -- a version that there is
 abbrev pub IsVersion : History → ℕ → Type 0
@@ -76,7 +76,7 @@ IsRightEnd x h seed r reply event =
     IsAnswered x h seed r reply event ⊎ IsStale h r reply event
     ⊎ ((reply ≡ refused refusal.Memory) × (event ≡ Refused (code_of refusal.Memory)))
 
--- A query of a scheme was served while `now` was current: it is refused as stale, with the current version, exactly where it names another. Else it is answered on that version's records, or refused because the server was out of memory.
+-- A query of a scheme was served while `now` was current: it is refused as stale, with the current version, exactly when it names another. Else it is answered on that version's records, or refused because the server was out of memory.
 pub record IsRightReply (x : Setting) (h : History) (scheme : Scheme) (version now : ℕ) (words : List ℕ) (reply : Option Frame) : Type 0 where
   pub records : List (List ℕ)
   pub version_is : HasVersion h now records
@@ -108,7 +108,7 @@ IsRightEvent h (Done v) = ⊥
 
 -- no client fails
 abbrev pub IsRightOutcome : History → Outcome → Type 0
-IsRightOutcome h (Told k e) = IsRightEvent h e
+IsRightOutcome h (Reported k e) = IsRightEvent h e
 IsRightOutcome h (Failed k fault) = ⊥
 IsRightOutcome h (Published v) = IsVersion h v
 IsRightOutcome h _ = Unit {0}

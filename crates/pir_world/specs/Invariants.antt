@@ -9,12 +9,12 @@ use Rattle.frame_codec.specs.declared.frame.Frame.{Frame}
 use Rattle.frame_codec.specs.declared.frame.Frame.TheVariants as frame
 use Rattle.frame_codec.specs.declared.refusal.Refusal.TheVariants as refusal
 use Rattle.frame_codec.specs.Refusals.{refused}
-use Rattle.version_store.specs.Histories.{History, number}
+use Rattle.version_store.specs.Histories.{History, current_version}
 use Rattle.server_core.specs.declared.standing.Standing.{Standing}
 use Rattle.server_core.specs.declared.standing.Standing.TheVariants.{Reader}
 use Rattle.server_core.specs.Serving.{Setting, hint_words, part_words, is_closed}
 use Rattle.client_core.specs.declared.state.ClientState.{ClientState}
-use Rattle.client_core.specs.declared.state.Known.{Known}
+use Rattle.client_core.specs.declared.state.ServerInfo.{ServerInfo}
 use Rattle.client_core.specs.declared.state.Hint.{Hint}
 use Rattle.client_core.specs.declared.state.Call.{Call}
 use Rattle.client_core.specs.declared.state.Call.TheVariants.{Idle, Hello, Sync, Ask, Edit, Publish}
@@ -34,7 +34,7 @@ pub record GoodHistory (x : Setting) (h : History) : Type 0 where
   pub draft : AreRecords x.plan h.draft
 
 -- what is known of a version is true
-pub record IsKnownOf (x : Setting) (h : History) (k : Known) : Type 0 where
+pub record IsKnownOf (x : Setting) (h : History) (k : ServerInfo) : Type 0 where
   pub records : List (List ℕ)
   pub version_is : HasVersion h k.version records
   pub layout_is : k.layout ≡ shape_at x.plan (length records)
@@ -42,13 +42,13 @@ pub record IsKnownOf (x : Setting) (h : History) (k : Known) : Type 0 where
   pub seed_is : k.seed ≡ x.plan.seed
 
 -- what a client knows is true, and then it is a reader
-abbrev pub KnownIs : Setting → History → Standing → Option Known → Type 0
+abbrev pub KnownIs : Setting → History → Standing → Option ServerInfo → Type 0
 KnownIs x h st None = Unit {0}
 KnownIs x h st (Some k) = (st ≡ Reader) × IsKnownOf x h k
 
 -- the parts of the version's hint that came so far
-pub record SyncIs (x : Setting) (h : History) (s : Scheme) (v p : ℕ) (known : Option Known) (parts : List ℕ) : Type 0 where
-  pub k : Known
+pub record SyncIs (x : Setting) (h : History) (s : Scheme) (v p : ℕ) (known : Option ServerInfo) (parts : List ℕ) : Type 0 where
+  pub k : ServerInfo
   pub known_is : known ≡ Some k
   pub asked : k.version ≡ v
   pub records : List (List ℕ)
@@ -58,7 +58,7 @@ pub record SyncIs (x : Setting) (h : History) (s : Scheme) (v p : ℕ) (known : 
 
 -- the hint held is of the scheme and the version asked, which is the last known
 pub record AskIs (c : ClientState) (i : ℕ) (s : Scheme) (v : ℕ) : Type 0 where
-  pub k : Known
+  pub k : ServerInfo
   pub known_is : c.known ≡ Some k
   pub asked : k.version ≡ v
   pub inside : i < k.layout.count
@@ -72,7 +72,7 @@ abbrev pub CallIs : Setting → History → ClientState → Call → Type 0
 CallIs x h c Idle = Unit {0}
 CallIs x h c (Hello key) = key ≡ reader_key
 CallIs x h c (Sync scheme v p) = SyncIs x h scheme v p c.known c.parts
-CallIs x h c (Ask i scheme v number) = AskIs c i scheme v
+CallIs x h c (Ask i scheme v current_version) = AskIs c i scheme v
 CallIs x h c (Edit i bytes) = ⊥
 CallIs x h c Publish = ⊥
 
@@ -95,7 +95,7 @@ IsReply x h st seed (Sync s v p) r =
     IsReplyOf x h v r (λ records. frame.HintPart (scheme_byte s) v p (part_words x s records p))
 IsReply x h st seed (Ask i s v n) r =
     IsReplyOf x h v r (λ records. frame.Answer (scheme_byte s) v
-    (given_words x.plan records seed (record { index = i; scheme = s; version = v; number = n })))
+    (given_words x.plan records seed (record { index = i; scheme = s; version = v; current_version = n })))
 IsReply x h st seed _ r = ⊥
 
 -- the call's frame is on its way, or a reply to it is

@@ -6,15 +6,15 @@ use Rattle.pir_schemes.specs.declared.scheme.Scheme.{Scheme}
 use Rattle.pir_schemes.specs.Plans.{plan_of, fits}
 use Rattle.frame_codec.specs.declared.frame.Frame.{Frame}
 use Rattle.frame_codec.specs.declared.refusal.Refusal.TheVariants as refusal
-use Rattle.frame_codec.specs.Frames.{spelling}
+use Rattle.frame_codec.specs.Frames.{encoding}
 use Rattle.snapshot_file.specs.declared.snapshot.Header.{Header}
 use Rattle.snapshot_file.specs.Snapshots.{shape_of}
 use Rattle.version_store.specs.declared.store.EditError.TheVariants as edit_error
 use Rattle.version_store.specs.declared.store.PublishError.TheVariants as publish_error
-use Rattle.version_store.specs.Histories.{History, opened, number, edited, published}
+use Rattle.version_store.specs.Histories.{History, opened, current_version, after_edit, published}
 use Rattle.server_core.specs.declared.standing.Standing.{Standing}
 use Rattle.server_core.specs.declared.standing.Standing.TheVariants.{Stranger}
-use Rattle.server_core.specs.Serving.{Setting, served, takes_memory, refuses, is_closed}
+use Rattle.server_core.specs.Serving.{Setting, outcome_of_frame, takes_memory, refuses, is_closed}
 use Rattle.server_core.specs.Serving.{Outcome as Reply}
 use Rattle.client_core.specs.declared.state.ClientState.{ClientState}
 use Rattle.client_core.specs.declared.state.Call.{Call}
@@ -22,16 +22,16 @@ use Rattle.client_core.specs.declared.state.Call.TheVariants as call
 use Rattle.client_core.specs.declared.state.CallFault.{CallFault}
 use Rattle.client_core.specs.declared.state.Event.{Event}
 use Rattle.client_core.specs.declared.state.Reaction.{Reaction}
-use Rattle.client_core.specs.declared.state.Reaction.TheVariants.{Asks, Tells, Fails}
+use Rattle.client_core.specs.declared.state.Reaction.TheVariants.{Asks, Reports, Fails}
 use Rattle.client_core.specs.States.{fresh}
-use Rattle.client_core.specs.Calls.{Want, refusal, called, call_frame}
+use Rattle.client_core.specs.Calls.{Want, refusal, state_after_call, call_frame}
 use Rattle.client_core.specs.Calls.{Hello as want_hello, Sync as want_sync, Ask as want_ask}
-use Rattle.client_core.specs.Replies.{takes}
+use Rattle.client_core.specs.Replies.{reaction_to_reply}
 use Rattle.client_core.specs.Feeding.{takes_all, fault_of}
 use Rattle.pir_world.specs.declared.steps.Step.{Step}
 use Rattle.pir_world.specs.declared.steps.Step.TheVariants.{Edit, Publish, Hello, Sync, Ask, ToServer, ToClient}
 use Rattle.pir_world.specs.declared.steps.Outcome.{Outcome}
-use Rattle.pir_world.specs.declared.steps.Outcome.TheVariants.{Edited, EditRefused, Published, PublishRefused, Told, CallRefused, Failed}
+use Rattle.pir_world.specs.declared.steps.Outcome.TheVariants.{Edited, EditRefused, Published, PublishRefused, Reported, CallRefused, Failed}
 
 -- ---- one direction of a link
 
@@ -49,22 +49,22 @@ sent w fs = record { frames = w.frames ++ fs; got = w.got }
 -- the frames that are whole within the first n bytes, and what is after them
 abbrev pub whole : List Frame → ℕ → List Frame
 whole [] n = []
-whole (f ∷ fs) n = if nat_le (length (spelling f)) n then f ∷ whole fs (n - length (spelling f)) else []
+whole (f ∷ fs) n = if nat_le (length (encoding f)) n then f ∷ whole fs (n - length (encoding f)) else []
 
 abbrev pub unread : List Frame → ℕ → Wire
 unread [] n = silent
-unread (f ∷ fs) n = if nat_le (length (spelling f)) n then unread fs (n - length (spelling f)) else record { frames = f ∷ fs; got = n }
+unread (f ∷ fs) n = if nat_le (length (encoding f)) n then unread fs (n - length (encoding f)) else record { frames = f ∷ fs; got = n }
 
 -- how far a delivery of at most some bytes comes
 abbrev pub reach : Wire → ℕ → ℕ
-reach w most = w.got + min most (length (flat_map spelling w.frames) - w.got)
+reach w most = w.got + min most (length (flat_map encoding w.frames) - w.got)
 
 -- the frames whose last byte it hands over, and what stays on its way
 abbrev pub arrived : Wire → ℕ → List Frame
 arrived w most = whole w.frames (reach w most)
 
-abbrev pub behind : Wire → ℕ → Wire
-behind w most = unread w.frames (reach w most)
+abbrev pub beyond : Wire → ℕ → Wire
+beyond w most = unread w.frames (reach w most)
 
 -- ---- what is written down of a run
 
@@ -73,7 +73,7 @@ pub record Retrieval : Type 0 where
   pub index : ℕ
   pub scheme : Scheme
   pub version : ℕ
-  pub number : ℕ
+  pub current_version : ℕ
 
 -- A frame was served while `now` was the current version; a reply ended a retrieval with an event; any other outcome.
 pub data Entry : Type 0 where
@@ -84,7 +84,7 @@ pub data Entry : Type 0 where
 -- what the publisher and the clients are told of it
 abbrev pub outcome_of : Entry → List Outcome
 outcome_of (Served k frame now reply) = []
-outcome_of (Ended k r reply event) = Told k event ∷ []
+outcome_of (Ended k r reply event) = Reported k event ∷ []
 outcome_of (Plain o) = o ∷ []
 
 abbrev pub outcomes_of : List Entry → List Outcome
@@ -94,8 +94,8 @@ outcomes_of log = flat_map outcome_of log
 
 -- what a frame leads to; short says that the server is out of memory where the checks end with memory
 abbrev pub served_or : Bool → Setting → History → Standing → Frame → Reply
-served_or false x h st f = served x h st f
-served_or true x h st f = if takes_memory x h st f then refuses refusal.Memory st h else served x h st f
+served_or false x h st f = outcome_of_frame x h st f
+served_or true x h st f = if takes_memory x h st f then refuses refusal.Memory st h else outcome_of_frame x h st f
 
 pub record Turn : Type 0 where
   pub history : History
@@ -109,7 +109,7 @@ turn_more x short k t f =
     if is_closed t.standing then t
     else (
     let o = served_or short x t.history t.standing f in
-    record { history = o.history; standing = o.standing; replies = t.replies ++ option_to_list o.reply; log = t.log ++ Served k f (number t.history) o.reply ∷ [] })
+    record { history = o.history; standing = o.standing; replies = t.replies ++ option_to_list o.reply; log = t.log ++ Served k f (current_version t.history) o.reply ∷ [] })
 
 abbrev pub turns : Setting → Bool → ℕ → Turn → List Frame → Turn
 turns x short k t [] = t
@@ -135,33 +135,33 @@ turn_of x short k most h l = serves x short k h l.standing (arrived l.up most)
 abbrev pub link_served : Setting → Bool → ℕ → ℕ → History → Link → Link
 link_served x short k most h l =
     let t = turn_of x short k most h l in
-    record { client = l.client; standing = t.standing; up = behind l.up most; down = sent l.down t.replies }
+    record { client = l.client; standing = t.standing; up = beyond l.up most; down = sent l.down t.replies }
 
 -- a delivery to the client
-abbrev pub link_told : ℕ → Link → Link
-link_told most l =
+abbrev pub link_reported : ℕ → Link → Link
+link_reported most l =
     let t = takes_all l.client (arrived l.down most) in
-    record { client = t.state; standing = l.standing; up = sent l.up t.sends; down = behind l.down most }
+    record { client = t.state; standing = l.standing; up = sent l.up t.sends; down = beyond l.down most }
 
 -- an event ends the outstanding call
-abbrev pub tells : ℕ → Call → Frame → Event → Entry
-tells k (call.Ask i s v n) reply e = Ended k (record { index = i; scheme = s; version = v; number = n }) reply e
-tells k _ reply e = Plain (Told k e)
+abbrev pub reports : ℕ → Call → Frame → Event → Entry
+reports k (call.Ask i s v n) reply e = Ended k (record { index = i; scheme = s; version = v; current_version = n }) reply e
+reports k _ reply e = Plain (Reported k e)
 
 abbrev pub reacts : ℕ → Call → Frame → Reaction → List Entry
 reacts k c reply (Asks scheme version part) = []
-reacts k c reply (Tells e) = tells k c reply e ∷ []
+reacts k c reply (Reports e) = reports k c reply e ∷ []
 reacts k c reply (Fails fault) = Plain (Failed k fault) ∷ []
 
 -- what client k tells of replies, one after another, up to a fault
-abbrev pub told_by : ℕ → ClientState → List Frame → List Entry
-told_by k c [] = []
-told_by k c (f ∷ fs) = reacts k c.call f (takes c f).reaction ++ cond (is_some (fault_of (takes c f).reaction)) [] (told_by k (takes c f).state fs)
+abbrev pub reported_by : ℕ → ClientState → List Frame → List Entry
+reported_by k c [] = []
+reported_by k c (f ∷ fs) = reacts k c.call f (reaction_to_reply c f).reaction ++ cond (is_some (fault_of (reaction_to_reply c f).reaction)) [] (reported_by k (reaction_to_reply c f).state fs)
 
 -- an accepted call
 abbrev pub link_called : Want → Link → Link
 link_called w l =
-    let c = called w l.client in
+    let c = state_after_call w l.client in
     record { client = c; standing = l.standing; up = sent l.up (call_frame c c.call ∷ []); down = l.down }
 
 -- ---- runs
@@ -193,9 +193,9 @@ served_at x short s k most (Some l) =
     let t = turn_of x short k most s.history l in
     with_link s t.history k (link_served x short k most s.history l) t.log
 
-abbrev pub told_at : State → ℕ → ℕ → Option Link → State
-told_at s k most None = s
-told_at s k most (Some l) = with_link s s.history k (link_told most l) (told_by k l.client (arrived l.down most))
+abbrev pub reported_at : State → ℕ → ℕ → Option Link → State
+reported_at s k most None = s
+reported_at s k most (Some l) = with_link s s.history k (link_reported most l) (reported_by k l.client (arrived l.down most))
 
 -- the key of a reader
 abbrev pub reader_key : List ℕ
@@ -205,15 +205,15 @@ reader_key = replicate 32 0
 abbrev pub edit_after : Setting → State → ℕ → List ℕ → State
 edit_after x s i bytes =
     if nat_lt i (length s.history.draft) then (
-    if fits x.plan bytes then with_history s (edited i bytes s.history) (Edited i)
+    if fits x.plan bytes then with_history s (after_edit i bytes s.history) (Edited i)
     else with_history s s.history (EditRefused i edit_error.BadLength))
     else with_history s s.history (EditRefused i edit_error.BadIndex)
 
 abbrev pub publish_after : State → State
 publish_after s =
     if s.history.marked then (
-    if number s.history + 1 == 2 ^ 64 then with_history s s.history (PublishRefused publish_error.VersionsUsedUp)
-    else with_history s (published s.history) (Published (number s.history + 1)))
+    if current_version s.history + 1 == 2 ^ 64 then with_history s s.history (PublishRefused publish_error.VersionsUsedUp)
+    else with_history s (published s.history) (Published (current_version s.history + 1)))
     else with_history s s.history (PublishRefused publish_error.NothingToPublish)
 
 -- what a step leads to
@@ -224,7 +224,7 @@ after x short s (Hello k) = called_at s (want_hello reader_key) k (slice_get s.l
 after x short s (Sync k scheme) = called_at s (want_sync scheme) k (slice_get s.links k)
 after x short s (Ask k i) = called_at s (want_ask i) k (slice_get s.links k)
 after x short s (ToServer k most) = served_at x short s k most (slice_get s.links k)
-after x short s (ToClient k most) = told_at s k most (slice_get s.links k)
+after x short s (ToClient k most) = reported_at s k most (slice_get s.links k)
 
 -- an edit's bytes are bytes
 abbrev pub FitsStep : Step → Type 0

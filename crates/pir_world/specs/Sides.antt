@@ -1,8 +1,8 @@
 -- A client's end of a link, and what it has to do with the link of a run.
 use Rattle.std.specs.Prelude.{◌≡◌, ◌++◌, ℕ, List, [], length, min, take, drop, Option, Some, None, Ok, Bool, true, nat_lt, slice_get}
 use Rattle.std.specs.List.{flat_map, AllByRecursion}
-use Rattle.frame_codec.specs.Frames.{IsFrame, spelling}
-use Rattle.version_store.specs.Histories.{Held, History, StandsFor}
+use Rattle.frame_codec.specs.Frames.{IsFrame, encoding}
+use Rattle.version_store.specs.Histories.{StoreState, History, StandsFor}
 use Rattle.server_core.specs.Serving.{Setting, setting_of}
 use Rattle.server_core.specs.Sessions.{Session, Fed}
 use Rattle.server_core.specs.Cores.{Core, session_of}
@@ -47,37 +47,37 @@ has_client (step.ToServer k most) n = nat_lt k n
 has_client (step.ToClient k most) n = nat_lt k n
 
 -- the bytes that a delivery of at most some hands over, and those that stay
-abbrev pub front : ℕ → List ℕ → List ℕ
-front most bytes = take (min most (length bytes)) bytes
+abbrev pub prefix : ℕ → List ℕ → List ℕ
+prefix most bytes = take (min most (length bytes)) bytes
 
 abbrev pub rest : ℕ → List ℕ → List ℕ
 rest most bytes = drop (min most (length bytes)) bytes
 
--- a delivery to the client: what it sends waits behind the other bytes
+-- a delivery to the client: what it sends waits after the other bytes
 pub record TakesDelivery (most : ℕ) (old : Side) (out : List ℕ) (events : List Event) (fault : Option ClientFault) (new : Side) : Type 0 where
-  pub fed : FeedsClient old.client (front most old.down) out events fault new.client
+  pub fed : FeedsClient old.client (prefix most old.down) out events fault new.client
   pub up : new.up ≡ old.up ++ out
   pub down : new.down ≡ rest most old.down
 
--- a delivery to the server: its replies wait behind the other bytes
-pub record ServesDelivery (most : ℕ) (h : History) (before : Held) (old : Side) (session : Session) (after : Held) (new : Side) (then_ : Session) : Type 0 where
+-- a delivery to the server: its replies wait after the other bytes
+pub record ServesDelivery (most : ℕ) (h : History) (before : StoreState) (old : Side) (session : Session) (after : StoreState) (new : Side) (then_ : Session) : Type 0 where
   pub replies : List ℕ
-  pub fed : Fed (setting_of before) h session (front most old.up) (Ok tt) after then_ [] replies
+  pub fed : Fed (setting_of before) h session (prefix most old.up) (Ok tt) after then_ [] replies
   pub client : new.client ≡ old.client
   pub up : new.up ≡ rest most old.up
   pub down : new.down ≡ old.down ++ replies
 
--- a call: its frame waits behind the other bytes, or it is refused and nothing changes
+-- a call: its frame waits after the other bytes, or it is refused and nothing changes
 abbrev pub MakesCall : Want → Side → Option CallFault → Side → Type 0
 MakesCall want old None new =
     (bytes : List ℕ) × Accepts old.client.state want new.client.state bytes × (new.client.reader ≡ old.client.reader) × (new.up ≡ old.up ++ bytes) × (new.down ≡ old.down)
 MakesCall want old (Some fault) new = (refusal want old.client.state ≡ Some fault) × (new ≡ old)
 
--- a wire by its bytes: what the reader has of the next frame, and then what waits, spell the frames on their way
+-- a wire by its bytes: what the reader has of the next frame, and then what waits, encode the frames on their way
 pub record Carries (reader : Option (List ℕ)) (waiting : List ℕ) (w : Wire) : Type 0 where
   pub unfinished : List ℕ
   pub reader_is : reader ≡ Some unfinished
-  pub bytes : unfinished ++ waiting ≡ flat_map spelling w.frames
+  pub bytes : unfinished ++ waiting ≡ flat_map encoding w.frames
   pub got : w.got ≡ length unfinished
   pub each : AllByRecursion IsFrame w.frames
 

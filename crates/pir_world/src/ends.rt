@@ -5,7 +5,8 @@ ghost use Rattle.version_store.specs.Histories.{History, StandsFor};
 ghost use Rattle.server_core.specs.Cores.{session_of};
 ghost use Rattle.server_core.specs.Sessions.{Session};
 ghost use Rattle.client_core.specs.Calls.{Accepts, Refuses};
-ghost use Rattle.pir_world.specs.Sides.{fresh_side, want_of, TakesDelivery, ServesDelivery, MakesCall};
+ghost use Rattle.pir_world.specs.Sides.{fresh_side, want_of, TakesDelivery, ServesDelivery,
+    MakesCall};
 
 use bytes::BytesMut;
 use client_core::{CallFault, ClientCore, Fed, Scheme};
@@ -27,13 +28,13 @@ pub enum Request {
 
 /// A client, with the bytes on their way from it (`up`) and to it (`down`).
 #[derive(Drop)]
-pub struct End<K: Kernel> {
+pub struct ClientEndpoint<K: Kernel> {
     client: ClientCore<K>,
     up: BytesMut,
     down: BytesMut,
 }
 
-impl<K: Kernel> Model for End<K> {
+impl<K: Kernel> Model for ClientEndpoint<K> {
     ghost use Rattle.pir_world.specs.Sides.{Side};
 
     ghost Value = { Side };
@@ -41,21 +42,22 @@ impl<K: Kernel> Model for End<K> {
     ghost view = { λ e. record { client = e.client; up = e.up.items; down = e.down.items } };
 }
 
-impl<K: Kernel> End<K> {
+impl<K: Kernel> ClientEndpoint<K> {
     /// A client of this seed that has sent nothing.
-    pub fn new(alloc: Global, kernel: K, seed: [u8; 32]) -> End<K>
+    pub fn new(alloc: Global, kernel: K, seed: [u8; 32]) -> ClientEndpoint<K>
         ensures { result ≡ fresh_side seed }
     {
-        End {
+        ClientEndpoint {
             client: ClientCore::new(alloc, kernel, seed, 0),
             up: BytesMut::new(alloc),
             down: BytesMut::new(alloc),
         }
     }
 
-    /// Hands at most `most` of the server's bytes to the client. What it sends waits behind its other bytes.
+    /// Hands at most `most` of the server's bytes to the client. What it sends waits after its other bytes.
     pub fn take(&mut self, most: usize) -> Result<Fed, AllocError>
-        ensures { IfOk result (λ fed. TakesDelivery most self.old fed.out.items fed.events.items fed.fault self.new) }
+        ensures { IfOk result
+            (λ fed. TakesDelivery most self.old fed.out.items fed.events.items fed.fault self.new) }
     {
         let n = most.min(self.down.len());
         let fed = self.client.feed(&self.down.as_slice()[..n]);
@@ -66,7 +68,7 @@ impl<K: Kernel> End<K> {
         Ok(fed)
     }
 
-    /// Hands at most `most` of the client's bytes to its session. The replies wait behind the server's other
+    /// Hands at most `most` of the client's bytes to its session. The replies wait after the server's other
     /// bytes.
     pub fn send<S: Kernel>(
         &mut self,
@@ -75,9 +77,13 @@ impl<K: Kernel> End<K> {
         id: u64,
         most: usize,
     ) -> Result<(), AllocError>
-        ensures served { OnOk result ((h : History) (session : Session) → StandsFor server.old.store h → session_of server.old.sessions id ≡ Some session →
-            (after : Session) × (session_of server.new.sessions id ≡ Some after) × ServesDelivery most h server.old.store self.old session server.new.store self.new after) }
-        ensures others { (other : ℕ) → other ≢ id → session_of server.new.sessions other ≡ session_of server.old.sessions other }
+        ensures served { OnOk result ((h : History) (session : Session) →
+            StandsFor server.old.store h → session_of server.old.sessions id ≡ Some session →
+            (after : Session) × (session_of server.new.sessions id ≡ Some after) ×
+                ServesDelivery most h server.old.store self.old session server.new.store self.new
+                after) }
+        ensures others { (other : ℕ) → other ≢ id →
+            session_of server.new.sessions other ≡ session_of server.old.sessions other }
     {
         let n = most.min(self.up.len());
         let mut replies = Vec::new(alloc);
@@ -92,7 +98,7 @@ impl<K: Kernel> End<K> {
         Ok(())
     }
 
-    /// Makes a call, and says why it is refused, if it is. Its bytes wait behind the others.
+    /// Makes a call, and says why it is refused, if it is. Its bytes wait after the others.
     pub fn call(&mut self, request: Request) -> Result<Option<CallFault>, AllocError>
         ensures { IfOk result (λ refused. MakesCall (want_of request) self.old refused self.new) }
     {
@@ -111,9 +117,12 @@ impl<K: Kernel> End<K> {
 
     /// The call alone.
     fn request(&mut self, request: Request) -> Result<Vec<u8>, CallFault>
-        ensures accepted { IfOk result (λ bytes. Accepts self.old.client.state (want_of request) self.new.client.state bytes.items) }
-        ensures refused { IfErr result (λ e. Refuses self.old.client.state (want_of request) e self.new.client.state) }
-        ensures kept { (self.new.client.reader ≡ self.old.client.reader) × (self.new.up ≡ self.old.up) × (self.new.down ≡ self.old.down) }
+        ensures accepted { IfOk result (λ bytes. Accepts self.old.client.state
+            (want_of request) self.new.client.state bytes.items) }
+        ensures refused { IfErr result (λ e. Refuses self.old.client.state
+            (want_of request) e self.new.client.state) }
+        ensures kept { (self.new.client.reader ≡ self.old.client.reader) ×
+            (self.new.up ≡ self.old.up) × (self.new.down ≡ self.old.down) }
     {
         match request {
             Request::Hello => return self.client.hello([0; 32]),

@@ -12,7 +12,7 @@ mod moves;
 mod steps;
 mod world;
 
-pub use ends::End;
+pub use ends::ClientEndpoint;
 pub use steps::{Outcome, Step, StepFault};
 pub use world::World;
 

@@ -1,15 +1,16 @@
 //! Steps on the parts of a world.
 
-ghost use Rattle.std.specs.Prelude.{◌≡◌, ◌<◌, ◌≤◌, ◌+◌, ◌++◌, ℕ, List, length, map, OnOk, OnErr, slice_get, Bool, true, false, vec_len, vec_capacity};
+ghost use Rattle.std.specs.Prelude.{◌≡◌, ◌<◌, ◌≤◌, ◌+◌, ◌++◌, ℕ, List, length, map, OnOk, OnErr,
+    slice_get, Bool, true, false, vec_len, vec_capacity};
 ghost use Rattle.server_core.specs.Cores.{Core};
 ghost use Rattle.server_core.specs.Serving.{Setting};
-ghost use Rattle.pir_world.specs.declared.steps.Outcome.TheVariants.{Told};
+ghost use Rattle.pir_world.specs.declared.steps.Outcome.TheVariants.{Reported};
 ghost use Rattle.pir_world.specs.declared.steps.Step.TheVariants as step;
 ghost use Rattle.pir_world.specs.Runs.{State, Steps, after, edit_after, publish_after, called_at};
 ghost use Rattle.pir_world.specs.Invariants.{Inv};
 ghost use Rattle.pir_world.specs.Sides.{Side, IsParts, want_of, has_client};
 
-use crate::ends::{End, Request};
+use crate::ends::{ClientEndpoint, Request};
 use crate::steps::{Outcome, Step};
 use client_core::{ClientFault, Event, Fed};
 use matrix_u32::Kernel;
@@ -34,16 +35,18 @@ pub fn names_client(step: &Step, clients: usize) -> bool
 }
 
 /// Makes one step on the parts. At an `Err` memory was refused, and no outcome was added.
-pub fn make<K: Kernel>(
+pub fn apply_step<K: Kernel>(
     alloc: Global,
     server: &mut ServerCore<K>,
-    ends: &mut Vec<End<K>>,
+    ends: &mut Vec<ClientEndpoint<K>>,
     outcomes: &mut Vec<Outcome>,
     step: &Step,
 ) -> Result<(), AllocError>
     requires { has_client step.now (length ends.old.items) ≡ true }
-    ensures made { OnOk result ((x : Setting) (seeds : List (List ℕ)) (s : State) → Inv x seeds s → IsParts x server.old ends.old.items outcomes.old.items s →
-        (t : State) × Steps x s step.now t × IsParts x server.new ends.new.items outcomes.new.items t) }
+    ensures made { OnOk result ((x : Setting) (seeds : List (List ℕ)) (s : State) → Inv x seeds s →
+        IsParts x server.old ends.old.items outcomes.old.items s →
+        (t : State) × Steps x s step.now t ×
+            IsParts x server.new ends.new.items outcomes.new.items t) }
     ensures clients { length ends.new.items ≡ length ends.old.items }
     ensures none { OnErr result (outcomes.new.items ≡ outcomes.old.items) }
 {
@@ -54,7 +57,7 @@ pub fn make<K: Kernel>(
         Step::Sync { client, scheme } => call(ends, *client, Request::Sync(*scheme), outcomes),
         Step::Ask { client, index } => call(ends, *client, Request::Ask(*index), outcomes),
         Step::ToServer { client, most } => serve(alloc, server, ends, *client, *most),
-        Step::ToClient { client, most } => tell(ends, *client, *most, outcomes),
+        Step::ToClient { client, most } => report(ends, *client, *most, outcomes),
     }
 }
 
@@ -65,7 +68,8 @@ fn edit<K: Kernel>(
     bytes: &[u8],
     outcomes: &mut Vec<Outcome>,
 ) -> Result<(), AllocError>
-    ensures made { OnOk result ((ends : List Side) (x : Setting) (s : State) → IsParts x server.old ends outcomes.old.items s →
+    ensures made { OnOk result ((ends : List Side) (x : Setting) (s : State) →
+        IsParts x server.old ends outcomes.old.items s →
         IsParts x server.new ends outcomes.new.items (edit_after x s index bytes.now)) }
     ensures none { OnErr result (outcomes.new.items ≡ outcomes.old.items) }
 {
@@ -83,7 +87,8 @@ fn publish<K: Kernel>(
     server: &mut ServerCore<K>,
     outcomes: &mut Vec<Outcome>,
 ) -> Result<(), AllocError>
-    ensures made { OnOk result ((ends : List Side) (x : Setting) (s : State) → IsParts x server.old ends outcomes.old.items s →
+    ensures made { OnOk result ((ends : List Side) (x : Setting) (s : State) →
+        IsParts x server.old ends outcomes.old.items s →
         IsParts x server.new ends outcomes.new.items (publish_after s)) }
     ensures none { OnErr result (outcomes.new.items ≡ outcomes.old.items) }
 {
@@ -98,14 +103,16 @@ fn publish<K: Kernel>(
 
 /// A call of client k.
 fn call<K: Kernel>(
-    ends: &mut Vec<End<K>>,
+    ends: &mut Vec<ClientEndpoint<K>>,
     k: usize,
     request: Request,
     outcomes: &mut Vec<Outcome>,
 ) -> Result<(), AllocError>
     requires { k < length ends.old.items }
-    ensures made { OnOk result ((core : Core) (x : Setting) (s : State) → IsParts x core ends.old.items outcomes.old.items s →
-        IsParts x core ends.new.items outcomes.new.items (called_at s (want_of request) k (slice_get s.links k))) }
+    ensures made { OnOk result ((core : Core) (x : Setting) (s : State) →
+        IsParts x core ends.old.items outcomes.old.items s →
+        IsParts x core ends.new.items outcomes.new.items (called_at s (want_of request) k
+            (slice_get s.links k))) }
     ensures clients { length ends.new.items ≡ length ends.old.items }
     ensures none { OnErr result (outcomes.new.items ≡ outcomes.old.items) }
 {
@@ -122,13 +129,15 @@ fn call<K: Kernel>(
 fn serve<K: Kernel>(
     alloc: Global,
     server: &mut ServerCore<K>,
-    ends: &mut Vec<End<K>>,
+    ends: &mut Vec<ClientEndpoint<K>>,
     k: usize,
     most: usize,
 ) -> Result<(), AllocError>
     requires { k < length ends.old.items }
-    ensures made { OnOk result ((x : Setting) (seeds : List (List ℕ)) (s : State) (outcomes : List Outcome) → Inv x seeds s → IsParts x server.old ends.old.items outcomes s →
-        (short : Bool) × IsParts x server.new ends.new.items outcomes (after x short s (step.ToServer k most))) }
+    ensures made { OnOk result ((x : Setting) (seeds : List (List ℕ)) (s : State)
+        (outcomes : List Outcome) → Inv x seeds s → IsParts x server.old ends.old.items outcomes s →
+        (short : Bool) × IsParts x server.new ends.new.items outcomes
+            (after x short s (step.ToServer k most))) }
     ensures clients { length ends.new.items ≡ length ends.old.items }
 {
     match ends[k].send(alloc, server, k as u64, most) {
@@ -140,7 +149,8 @@ fn serve<K: Kernel>(
 
 /// Adds the events that client k told, and leaves room for one outcome more.
 fn put_events(k: usize, events: Vec<Event>, outcomes: &mut Vec<Outcome>) -> Result<(), AllocError>
-    ensures items { OnOk result (outcomes.new.items ≡ outcomes.old.items ++ map (Told k) events.items) }
+    ensures items { OnOk result (outcomes.new.items ≡ outcomes.old.items ++ map
+        (Reported k) events.items) }
     ensures room { OnOk result (vec_len outcomes.new < vec_capacity outcomes.new) }
     ensures none { OnErr result (outcomes.new.items ≡ outcomes.old.items) }
 {
@@ -152,23 +162,24 @@ fn put_events(k: usize, events: Vec<Event>, outcomes: &mut Vec<Outcome>) -> Resu
 /// The same where there is the room.
 fn put_reserved(k: usize, events: Vec<Event>, outcomes: &mut Vec<Outcome>)
     requires { vec_len outcomes.old + length events.items ≤ vec_capacity outcomes.old }
-    ensures items { outcomes.new.items ≡ outcomes.old.items ++ map (Told k) events.items }
+    ensures items { outcomes.new.items ≡ outcomes.old.items ++ map (Reported k) events.items }
     ensures room { vec_capacity outcomes.new ≡ vec_capacity outcomes.old }
 {
     for event in events {
-        outcomes.push_reserved(Outcome::Told { client: k, event });
+        outcomes.push_reserved(Outcome::Reported { client: k, event });
     }
 }
 
 /// A delivery to client k.
-fn tell<K: Kernel>(
-    ends: &mut Vec<End<K>>,
+fn report<K: Kernel>(
+    ends: &mut Vec<ClientEndpoint<K>>,
     k: usize,
     most: usize,
     outcomes: &mut Vec<Outcome>,
 ) -> Result<(), AllocError>
     requires { k < length ends.old.items }
-    ensures made { OnOk result ((core : Core) (x : Setting) (seeds : List (List ℕ)) (s : State) → Inv x seeds s → IsParts x core ends.old.items outcomes.old.items s →
+    ensures made { OnOk result ((core : Core) (x : Setting) (seeds : List (List ℕ)) (s : State) →
+        Inv x seeds s → IsParts x core ends.old.items outcomes.old.items s →
         IsParts x core ends.new.items outcomes.new.items (after x false s (step.ToClient k most))) }
     ensures clients { length ends.new.items ≡ length ends.old.items }
     ensures none { OnErr result (outcomes.new.items ≡ outcomes.old.items) }

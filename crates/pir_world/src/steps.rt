@@ -35,8 +35,8 @@ pub enum Outcome {
     Published { version: u64 },
     /// A publication was refused.
     PublishRefused { fault: PublishError },
-    /// A client told an event.
-    Told { client: usize, event: Event },
+    /// A client reported an event.
+    Reported { client: usize, event: Event },
     /// A client refused a call.
     CallRefused { client: usize, fault: CallFault },
     /// A client failed.

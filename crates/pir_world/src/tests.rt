@@ -146,8 +146,8 @@ fn add_event(rt: &impl AllocGlobal, text: &mut String, event: &Event) -> Result<
     Ok(())
 }
 
-/// What came of the steps so far, with a semicolon behind each.
-fn told(rt: &impl AllocGlobal, world: &World<Plain>) -> Result<String, Fail> {
+/// What came of the steps so far, with a semicolon after each.
+fn reported(rt: &impl AllocGlobal, world: &World<Plain>) -> Result<String, Fail> {
     let mut text = String::new(rt.alloc());
     for outcome in world.outcomes() {
         match outcome {
@@ -159,7 +159,7 @@ fn told(rt: &impl AllocGlobal, world: &World<Plain>) -> Result<String, Fail> {
                 text.push_str(&format!(in rt.alloc(); "version {version}")?)?
             }
             Outcome::PublishRefused { .. } => text.push_str("not published")?,
-            Outcome::Told { client, event } => {
+            Outcome::Reported { client, event } => {
                 text.push_str(&format!(in rt.alloc(); "{client} ")?)?;
                 add_event(rt, &mut text, event)?;
             }
@@ -191,7 +191,7 @@ fn cut_query(rt: &(impl Abort + AllocGlobal), world: &mut World<Plain>) -> Resul
     ask(world, 0, 1)?;
     exchange(world, 0)?;
     assert_eq!(rt;
-        told(rt, world)?.as_str(),
+        reported(rt, world)?.as_str(),
         "0 welcomed 1;1 welcomed 1;0 simple 1;1 double 1;edited 1;version 2;0 stale 2;1 retrieved 1 1 c8;0 simple 2;0 retrieved 1 2 64;"
     );
     Ok(())
@@ -218,7 +218,7 @@ fn single_bytes(rt: &(impl Abort + AllocGlobal), world: &mut World<Plain>) -> Re
     assert_eq!(rt; count(world), 2);
     to_client(world, 0, 1)?;
     assert_eq!(rt;
-        told(rt, world)?.as_str(),
+        reported(rt, world)?.as_str(),
         "0 welcomed 1;0 simple 1;0 retrieved 0 1 a;"
     );
     Ok(())
@@ -250,7 +250,7 @@ fn two_parts(rt: &(impl Abort + AllocGlobal), world: &mut World<Plain>) -> Resul
     ask(world, 0, 7)?;
     exchange(world, 0)?;
     assert_eq!(rt;
-        told(rt, world)?.as_str(),
+        reported(rt, world)?.as_str(),
         "0 welcomed 1;edited 3;version 2;0 stale 2;0 call refused;0 simple 2;edited 5;version 3;edited 7;version 4;0 stale 4;0 simple 4;0 retrieved 7 4 33;"
     );
     Ok(())
@@ -286,7 +286,7 @@ fn refusals(rt: &(impl Abort + AllocGlobal), world: &mut World<Plain>) -> Result
     greet(world, 1)?;
     sync(world, 1, Scheme::Double, 1)?;
     assert_eq!(rt;
-        told(rt, world)?.as_str(),
+        reported(rt, world)?.as_str(),
         "not published;edit 2 refused;edit 0 refused;1 call refused;1 welcomed 1;1 double 1;"
     );
     assert_eq!(rt; steps(world), 10);

@@ -1,6 +1,7 @@
 //! A world.
 
-ghost use Rattle.std.specs.Prelude.{◌≡◌, ◌∷◌, ◌++◌, [], List, ℕ, ◌↔◌, true, false, OnOk, IfOk, IfErr, IsErrOf, length, map, Some, None, All, ◌^◌, ◌<◌, ◌⊎◌};
+ghost use Rattle.std.specs.Prelude.{◌≡◌, ◌∷◌, ◌++◌, [], List, ℕ, ◌↔◌, true, false, OnOk, IfOk,
+    IfErr, IsErrOf, length, map, Some, None, All, ◌^◌, ◌<◌, ◌⊎◌};
 ghost use Rattle.snapshot_file.specs.Snapshots.{header_of};
 ghost use Rattle.version_store.specs.Openings.{IsOpenFault};
 ghost use Rattle.server_core.specs.Cores.{session_of};
@@ -10,9 +11,9 @@ ghost use Rattle.pir_world.specs.Headlines.{Headline};
 ghost use Rattle.pir_world.specs.Sides.{fresh_side, has_client};
 ghost use Rattle.pir_world.specs.Worlds.{IsNew, IsRunOf};
 
-use crate::ends::End;
+use crate::ends::ClientEndpoint;
 use crate::laws::every_run_is_right;
-use crate::moves::{make, names_client};
+use crate::moves::{apply_step, names_client};
 use crate::steps::{Outcome, Step, StepFault};
 use matrix_u32::Kernel;
 use server_core::ServerCore;
@@ -20,7 +21,7 @@ use std::alloc::{AllocError, Global};
 use std::marker::Model;
 use version_store::{Header, OpenError, Snapshot, Store};
 
-/// A store behind its server, and clients with a session each, with the bytes that wait between them.
+/// A store after its server, and clients with a session each, with the bytes that wait between them.
 ///
 /// Contracts see what it was opened with, the server, the clients' ends, the steps made, the outcomes, and
 /// whether memory was refused in a step. Until it was, they are what a run of the steps leaves.
@@ -31,7 +32,7 @@ pub struct World<K: Kernel> {
     records: Vec<u8>,
     seeds: Vec<[u8; 32]>,
     server: ServerCore<K>,
-    ends: Vec<End<K>>,
+    ends: Vec<ClientEndpoint<K>>,
     steps: Vec<Step>,
     outcomes: Vec<Outcome>,
     broken: bool,
@@ -59,7 +60,8 @@ impl<K: Kernel> World<K> {
         snapshot: Snapshot,
         seeds: Vec<[u8; 32]>,
     ) -> Result<World<K>, OpenError>
-        ensures opened { IfOk result (λ w. IsNew w (header_of snapshot) snapshot.records.items seeds.items) }
+        ensures opened { IfOk result
+            (λ w. IsNew w (header_of snapshot) snapshot.records.items seeds.items) }
         ensures refused { IfErr result (IsOpenFault (header_of snapshot) snapshot.records.items) }
     {
         let header = snapshot.header();
@@ -68,7 +70,7 @@ impl<K: Kernel> World<K> {
             Ok(store) => store,
             Err(fault) => return Err(fault),
         };
-        // Memory is judged behind the snapshot's own faults.
+        // Memory is judged after the snapshot's own faults.
         let Ok(records) = copied else {
             return Err(OpenError::Memory);
         };
@@ -94,11 +96,12 @@ impl<K: Kernel> World<K> {
     ///
     /// They are what a run of the steps leaves, and all of it is right: an answered retrieval whose noise
     /// sums stay below half of delta gave exactly its record's bytes in the version that its hint names, and
-    /// a query was refused as stale, with the current version, exactly where it named another.
+    /// a query was refused as stale, with the current version, exactly when it named another.
     pub fn outcomes(&self) -> &[Outcome]
         ensures kept { result.now ≡ self.now.outcomes }
         ensures right { self.now.broken ≡ false →
-            (s : State) × IsRunOf self.now s × (result.now ≡ outcomes_of s.log) × Headline (setting_in self.now.header) self.now.seeds s }
+            (s : State) × IsRunOf self.now s × (result.now ≡ outcomes_of s.log) ×
+                Headline (setting_in self.now.header) self.now.seeds s }
     {
         every_run_is_right();
         self.outcomes.as_slice()
@@ -113,19 +116,25 @@ impl<K: Kernel> World<K> {
 
     /// Makes one step.
     ///
-    /// `Broken` exactly where memory was refused in an earlier step; else `NoClient` exactly where the step
+    /// `Broken` exactly when memory was refused in an earlier step; else `NoClient` exactly when the step
     /// names a client that there is none of, and the world is as it was; else it is made, or `Memory`: then
     /// outcomes and steps are as they were, and every later step answers `Broken`. A reply that the server
-    /// finds no memory for is no such fault: the client is told of it, and the world goes on.
+    /// is refused memory for is no such fault: the client is told of it, and the world goes on.
     pub fn step(&mut self, step: Step) -> Result<(), StepFault>
-        ensures extends { OnOk result ((s : State) → IsRunOf self.old s → (t : State) × Steps (setting_in self.old.header) s step t × IsRunOf self.new t) }
+        ensures extends { OnOk result ((s : State) → IsRunOf self.old s → (t : State) ×
+            Steps (setting_in self.old.header) s step t × IsRunOf self.new t) }
         ensures steps { OnOk result (self.new.steps ≡ self.old.steps ++ step ∷ []) }
         ensures alive { OnOk result ((self.old.broken ≡ false) × (self.new.broken ≡ false)) }
         ensures broken { IsErrOf result StepFault.Broken ↔ (self.old.broken ≡ true) }
-        ensures no_client { IsErrOf result StepFault.NoClient ↔ ((self.old.broken ≡ false) × (has_client step (length self.old.ends) ≡ false)) }
-        ensures unchanged { (IsErrOf result StepFault.NoClient ⊎ IsErrOf result StepFault.Broken) → self.new ≡ self.old }
-        ensures memory { IsErrOf result StepFault.Memory → (self.new.broken ≡ true) × (self.new.outcomes ≡ self.old.outcomes) × (self.new.steps ≡ self.old.steps) }
-        ensures opening { (self.new.header ≡ self.old.header) × (self.new.records ≡ self.old.records) × (self.new.seeds ≡ self.old.seeds) × (length self.new.ends ≡ length self.old.ends) }
+        ensures no_client { IsErrOf result StepFault.NoClient ↔ ((self.old.broken ≡ false) ×
+            (has_client step (length self.old.ends) ≡ false)) }
+        ensures unchanged { (IsErrOf result StepFault.NoClient ⊎ IsErrOf result StepFault.Broken) →
+            self.new ≡ self.old }
+        ensures memory { IsErrOf result StepFault.Memory → (self.new.broken ≡ true) ×
+            (self.new.outcomes ≡ self.old.outcomes) × (self.new.steps ≡ self.old.steps) }
+        ensures opening { (self.new.header ≡ self.old.header) ×
+            (self.new.records ≡ self.old.records) × (self.new.seeds ≡ self.old.seeds) ×
+            (length self.new.ends ≡ length self.old.ends) }
     {
         pir_schemes::laws::retrieval_gives_the_record();
         if self.broken {
@@ -138,7 +147,7 @@ impl<K: Kernel> World<K> {
             self.broken = true;
             return Err(StepFault::Memory);
         }
-        if make(
+        if apply_step(
             self.alloc,
             &mut self.server,
             &mut self.ends,
@@ -169,10 +178,11 @@ fn open_ends<K: Kernel>(
     kernel: K,
     server: &mut ServerCore<K>,
     seeds: &[[u8; 32]],
-) -> Result<Vec<End<K>>, AllocError>
+) -> Result<Vec<ClientEndpoint<K>>, AllocError>
     requires { (id : ℕ) → session_of server.old.sessions id ≡ None }
     ensures ends { IfOk result (λ ends. ends.items ≡ map fresh_side seeds.now) }
-    ensures opened { OnOk result ((id : ℕ) → id < length seeds.now → session_of server.new.sessions id ≡ Some new_session) }
+    ensures opened { OnOk result ((id : ℕ) → id < length seeds.now →
+        session_of server.new.sessions id ≡ Some new_session) }
     ensures store { server.new.store ≡ server.old.store }
 {
     let mut ends = Vec::new(alloc);
@@ -180,7 +190,7 @@ fn open_ends<K: Kernel>(
         if server.open_session(id as u64).is_err() {
             return Err(AllocError);
         }
-        if ends.push(End::new(alloc, kernel, *seed)).is_err() {
+        if ends.push(ClientEndpoint::new(alloc, kernel, *seed)).is_err() {
             return Err(AllocError);
         }
     }

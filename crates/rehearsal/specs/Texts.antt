@@ -17,7 +17,7 @@ use Rattle.version_store.specs.declared.store.PublishError.TheVariants as publis
 use Rattle.version_store.specs.declared.opening.OpenError.{OpenError}
 use Rattle.version_store.specs.declared.opening.OpenError.TheVariants as opening
 use Rattle.pir_world.specs.declared.steps.Outcome.{Outcome}
-use Rattle.pir_world.specs.declared.steps.Outcome.TheVariants.{Edited, EditRefused, Published, PublishRefused, Told, CallRefused, Failed}
+use Rattle.pir_world.specs.declared.steps.Outcome.TheVariants.{Edited, EditRefused, Published, PublishRefused, Reported, CallRefused, Failed}
 
 unfoldable pub scheme_name : Scheme → List ℕ
 scheme_name Simple = codes "simple"
@@ -83,6 +83,6 @@ outcome_text (Edited index) = codes "edit " ++ (decimal index ++ codes ": accept
 outcome_text (EditRefused index e) = codes "edit " ++ (decimal index ++ (codes ": refused " ++ (edit_fault_name e ++ codes "\n")))
 outcome_text (Published version) = codes "publish: version " ++ (decimal version ++ codes "\n")
 outcome_text (PublishRefused e) = codes "publish: refused " ++ (publish_fault_name e ++ codes "\n")
-outcome_text (Told client e) = event_text client e
+outcome_text (Reported client e) = event_text client e
 outcome_text (CallRefused client e) = call_refused_text client (call_fault_name e)
 outcome_text (Failed client e) = about_client client (codes ": failed " ++ (client_fault_name e ++ codes "\n"))

@@ -14,10 +14,13 @@ pub const SCRIPT_LIMIT: usize = 1_048_576;
 /// Reads a script to the end of its reader. It is too long as soon as more bytes have come than a script may
 /// have; no further one is read then.
 pub fn read_script<R: Read>(alloc: Global, reader: &mut R) -> Result<Vec<u8>, Stop>
-    ensures whole { IfOk result (λ script. Consumes (R.remaining reader.old) (R.remaining reader.new) script.items) }
+    ensures whole { IfOk result (λ script. Consumes (R.remaining reader.old)
+        (R.remaining reader.new) script.items) }
     ensures end { IfOk result (λ script. IsAtEnd (R.remaining reader.new)) }
     ensures within { IfOk result (λ script. length script.items ≤ SCRIPT_LIMIT) }
-    ensures long { IsErrOf result Stop.TooLong → (read : List ℕ) × Consumes (R.remaining reader.old) (R.remaining reader.new) read × (SCRIPT_LIMIT < length read) }
+    ensures long { IsErrOf result Stop.TooLong → (read : List ℕ) ×
+        Consumes (R.remaining reader.old) (R.remaining reader.new) read ×
+        (SCRIPT_LIMIT < length read) }
 {
     let Ok(mut buffer) = piece_buffer(alloc) else {
         return Err(Stop::Memory);

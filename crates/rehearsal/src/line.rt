@@ -46,9 +46,9 @@ pub fn read_line(alloc: Global, text: &[u8]) -> Result<Option<Line>, AllocError>
         ["world", width, record_len, groups, dimension] => {
             Ok(sizes_of(width, record_len, groups, dimension).map(Line::World))
         }
-        ["seed", seed] => Ok(key_of(seed).map(Line::Seed)),
+        ["seed", seed] => Ok(publisher_key(seed).map(Line::Seed)),
         ["record", bytes] => Ok(bytes_of(alloc, bytes)?.map(Line::Record)),
-        ["client", seed] => Ok(key_of(seed).map(Line::Client)),
+        ["client", seed] => Ok(publisher_key(seed).map(Line::Client)),
         others => Ok(read_step(alloc, others)?.map(Line::Step)),
     }
 }
@@ -143,7 +143,7 @@ fn scheme_of(text: &str) -> Option<Scheme> {
 }
 
 /// 32 bytes in hex.
-fn key_of(text: &str) -> Option<[u8; 32]> {
+fn publisher_key(text: &str) -> Option<[u8; 32]> {
     <[u8; 32] as FromHex>::from_hex(text).ok()
 }
 

@@ -2,7 +2,9 @@
 
 ghost use Rattle.std.specs.Prelude.{◌≡◌, IfOk};
 ghost use Rattle.std.specs.String.{string_bytes};
-ghost use Rattle.rehearsal.specs.Texts.{outcome_text, call_fault_name, call_refused_text, client_fault_name, edit_fault_name, event_text, open_fault_name, publish_fault_name, retrieved_text, scheme_name, shown_bytes};
+ghost use Rattle.rehearsal.specs.Texts.{outcome_text, call_fault_name, call_refused_text,
+    client_fault_name, edit_fault_name, event_text, open_fault_name, publish_fault_name,
+    retrieved_text, scheme_name, shown_bytes};
 
 use client_core::{CallFault, ClientFault, Event, Scheme};
 use pir_world::Outcome;
@@ -24,7 +26,7 @@ pub fn outcome_line(alloc: Global, outcome: &Outcome) -> Result<String, AllocErr
             let name = publish_fault_name(*fault);
             format!(in alloc; "publish: refused {name}\n")
         }
-        Outcome::Told { client, event } => event_line(alloc, *client, event),
+        Outcome::Reported { client, event } => event_line(alloc, *client, event),
         Outcome::CallRefused { client, fault } => {
             call_refused_line(alloc, *client, call_fault_name(*fault))
         }
@@ -77,7 +79,8 @@ fn retrieved_line(
     version: u64,
     shown: &str,
 ) -> Result<String, AllocError>
-    ensures { IfOk result (λ line. string_bytes line ≡ retrieved_text client index version shown.now) }
+    ensures { IfOk result (λ line. string_bytes line ≡
+        retrieved_text client index version shown.now) }
 {
     format!(in alloc; "client {client}: retrieved {index} {version} {shown}\n")
 }

@@ -42,17 +42,17 @@ pub fn rehearse<R: Read, W: Write>(
         Ok(()) => return Ok(0),
         Err(stop) => stop,
     };
-    match tell(alloc, stop, writer) {
+    match report(alloc, stop, writer) {
         Ok(status) => Ok(status),
         Err(fault) => Err(fault),
     }
 }
 
 /// Prints why a rehearsal ended before its script, and answers the status.
-fn tell<W: Write>(alloc: Global, stop: Stop, writer: &mut W) -> Result<u8, RehearseFault>
+fn report<W: Write>(alloc: Global, stop: Stop, writer: &mut W) -> Result<u8, RehearseFault>
     ensures status { IfOk result (λ status. (status ≡ 3) ⊎ (status ≡ 4)) }
 {
-    let told = match stop {
+    let reported = match stop {
         Stop::Read => return Err(RehearseFault::Read),
         Stop::Write => return Err(RehearseFault::Write),
         Stop::TooLong => say(writer, "script: too long\n"),
@@ -69,15 +69,15 @@ fn tell<W: Write>(alloc: Global, stop: Stop, writer: &mut W) -> Result<u8, Rehea
         }
         Stop::Memory => Err(Stop::Memory),
     };
-    match told {
+    match reported {
         Ok(()) => Ok(3),
-        Err(Stop::Memory) => tell_memory(writer),
+        Err(Stop::Memory) => report_memory(writer),
         Err(_) => Err(RehearseFault::Write),
     }
 }
 
 /// Prints that there was no memory. This takes none.
-fn tell_memory<W: Write>(writer: &mut W) -> Result<u8, RehearseFault>
+fn report_memory<W: Write>(writer: &mut W) -> Result<u8, RehearseFault>
     ensures { IfOk result (λ status. status ≡ 4) }
 {
     if say(writer, "memory\n").is_err() {

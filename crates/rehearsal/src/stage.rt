@@ -25,7 +25,7 @@ pub enum Stage {
     Start,
     /// The sizes were.
     Sized(Sizes),
-    /// The seed was, and maybe records, and behind these maybe clients.
+    /// The seed was, and maybe records, and after these maybe clients.
     Filling(Opening),
     /// Steps are made.
     Running(Running),
@@ -109,7 +109,7 @@ fn seeded(alloc: Global, sizes: Sizes, line: Line) -> Option<Stage> {
 }
 
 impl Opening {
-    /// Takes a record, or behind the records a client. `None` where it has no place here.
+    /// Takes a record, or after the records a client. `None` where it has no place here.
     fn fill(mut self, line: Line) -> Result<Option<Stage>, Stop> {
         match line {
             Line::Record(bytes) => {
@@ -205,7 +205,8 @@ impl Running {
 
 /// Prints a line for each outcome.
 fn say_all<W: Write>(alloc: Global, outcomes: &[Outcome], writer: &mut W) -> Result<(), Stop>
-    ensures { OnOk result (Appends (W.contents writer.old) (W.contents writer.new) (flat_map outcome_text outcomes.now)) }
+    ensures { OnOk result (Appends (W.contents writer.old) (W.contents writer.new)
+        (flat_map outcome_text outcomes.now)) }
 {
     for outcome in outcomes {
         let line = outcome_line(alloc, outcome)?;

@@ -48,7 +48,7 @@ to-server 0 all
 to-client 0 all
 ";
 
-const TOLD: &str = "client 0: welcomed 1
+const REPORTED: &str = "client 0: welcomed 1
 client 1: welcomed 1
 client 0: synced simple 1
 client 1: synced simple 1
@@ -106,29 +106,29 @@ impl Read for Input<'_> {
 }
 
 // Plays a script, and compares what it prints and its status.
-fn check(rt: &impl Abort, alloc: Global, script: &str, told: &str, status: u8) -> Result<(), Fail> {
+fn check(rt: &impl Abort, alloc: Global, script: &str, reported: &str, status: u8) -> Result<(), Fail> {
     let mut out = Vec::new(alloc);
     let played = rehearse(alloc, &mut script.as_bytes(), &mut out);
     assert_eq!(rt; played, Ok(status), "{script}");
-    assert_eq!(rt; out.as_slice(), told.as_bytes(), "{script}");
+    assert_eq!(rt; out.as_slice(), reported.as_bytes(), "{script}");
     Ok(())
 }
 
-// Plays a script behind a whole header of two records and one client.
+// Plays a script after a whole header of two records and one client.
 fn check_steps(
     rt: &impl Abort,
     alloc: Global,
     steps: &str,
-    told: &str,
+    reported: &str,
     status: u8,
 ) -> Result<(), Fail> {
     let script = format!(in alloc; "world 8 1 1 1\n{SEED}record 0a\nrecord c8\n{CLIENT}{steps}")?;
-    check(rt, alloc, script.as_str(), told, status)
+    check(rt, alloc, script.as_str(), reported, status)
 }
 
 #[test]
 fn the_stored_run(rt: HostRuntime) -> Result<(), Fail> {
-    check(&rt, rt.alloc(), RUN, TOLD, 0)?;
+    check(&rt, rt.alloc(), RUN, REPORTED, 0)?;
     // A byte at a time, both ways.
     let mut output = Output {
         bytes: Vec::new(rt.alloc()),
@@ -142,7 +142,7 @@ fn the_stored_run(rt: HostRuntime) -> Result<(), Fail> {
         fails: false,
     };
     assert_eq!(rt; rehearse(rt.alloc(), &mut input, &mut output), Ok(0));
-    assert_eq!(rt; output.bytes.as_slice(), TOLD.as_bytes());
+    assert_eq!(rt; output.bytes.as_slice(), REPORTED.as_bytes());
     Ok(())
 }
 
@@ -189,9 +189,9 @@ const STEPS: &[(&str, &str)] = &[
 ];
 
 #[test]
-fn steps_tell_what_comes_of_them(rt: HostRuntime) -> Result<(), Fail> {
-    for (steps, told) in STEPS {
-        check_steps(&rt, rt.alloc(), steps, told, 0)?;
+fn steps_report_what_comes_of_them(rt: HostRuntime) -> Result<(), Fail> {
+    for (steps, reported) in STEPS {
+        check_steps(&rt, rt.alloc(), steps, reported, 0)?;
     }
     Ok(())
 }
@@ -272,8 +272,8 @@ const HEADERS: &[(&str, &str)] = &[
 
 #[test]
 fn a_header_has_its_order(rt: HostRuntime) -> Result<(), Fail> {
-    for (script, told) in HEADERS {
-        check(&rt, rt.alloc(), script, told, 3)?;
+    for (script, reported) in HEADERS {
+        check(&rt, rt.alloc(), script, reported, 3)?;
     }
     Ok(())
 }
@@ -294,14 +294,14 @@ const FILLINGS: &[(&str, &str)] = &[
 #[test]
 fn records_and_clients_stand_in_their_place(rt: HostRuntime) -> Result<(), Fail> {
     let alloc = rt.alloc();
-    for (lines, told) in FILLINGS {
+    for (lines, reported) in FILLINGS {
         let script = format!(in alloc; "world 8 1 1 1\n{SEED}{lines}")?;
-        check(&rt, alloc, script.as_str(), told, 3)?;
+        check(&rt, alloc, script.as_str(), reported, 3)?;
     }
     let early = format!(in alloc; "world 8 1 1 1\n{SEED}{CLIENT}")?;
     check(&rt, alloc, early.as_str(), "line 3: bad\n", 3)?;
-    let behind = format!(in alloc; "world 8 1 1 1\n{SEED}record 00\n{CLIENT}record 00\n")?;
-    check(&rt, alloc, behind.as_str(), "line 5: bad\n", 3)?;
+    let beyond = format!(in alloc; "world 8 1 1 1\n{SEED}record 00\n{CLIENT}record 00\n")?;
+    check(&rt, alloc, beyond.as_str(), "line 5: bad\n", 3)?;
     let empty = format!(in alloc; "world 8 0 1 1\n{SEED}record 00\n{CLIENT}")?;
     check(&rt, alloc, empty.as_str(), "line 3: bad\n", 3)
 }
@@ -353,7 +353,7 @@ fn a_script_can_be_too_long(rt: HostRuntime) -> Result<(), Fail> {
 }
 
 #[test]
-fn a_read_that_fails_is_told_before_anything_is_played(rt: HostRuntime) -> Result<(), Fail> {
+fn a_read_that_fails_is_reported_before_anything_is_played(rt: HostRuntime) -> Result<(), Fail> {
     let mut input = Input {
         bytes: RUN.as_bytes(),
         most: 100,
@@ -371,7 +371,7 @@ fn check_cut(
     rt: &impl Abort,
     alloc: Global,
     script: &str,
-    told: &str,
+    reported: &str,
     room: usize,
     fails: bool,
 ) -> Result<(), Fail> {
@@ -384,15 +384,15 @@ fn check_cut(
     let played = rehearse(alloc, &mut script.as_bytes(), &mut output);
     assert_eq!(rt; played, Err(RehearseFault::Write), "{room}");
     assert_eq!(rt; output.bytes.len(), room);
-    assert!(rt; told.as_bytes().starts_with(&output.bytes), "{room}");
+    assert!(rt; reported.as_bytes().starts_with(&output.bytes), "{room}");
     Ok(())
 }
 
 #[test]
 fn a_write_that_fails_ends_the_rehearsal(rt: HostRuntime) -> Result<(), Fail> {
     for fails in [true, false] {
-        check_cut(&rt, rt.alloc(), RUN, TOLD, 0, fails)?;
-        check_cut(&rt, rt.alloc(), RUN, TOLD, 50, fails)?;
+        check_cut(&rt, rt.alloc(), RUN, REPORTED, 0, fails)?;
+        check_cut(&rt, rt.alloc(), RUN, REPORTED, 50, fails)?;
         check_cut(&rt, rt.alloc(), "", "line 1: bad\n", 0, fails)?;
         check_cut(&rt, rt.alloc(), "", "line 1: bad\n", 5, fails)?;
     }

@@ -11,7 +11,7 @@ further-further source first then =
     let place : ((source.word_pos + first) % 2 ^ 68 + then) % 2 ^ 68 ≡ (source.word_pos + (first + then)) % 2 ^ 68 = omega arith in
     ap (λ (p : ℕ). record { key = source.key; stream = source.stream; word_pos = p }) place
 
--- behind its last place a stream begins anew
+-- after its last place a stream begins anew
 pub word-past_end : (seed : List ℕ) (stream place : ℕ) → word seed stream (place + 2 ^ 68) ≡ word seed stream place
 unfolding word
 word-past_end seed stream place =

@@ -11,6 +11,6 @@ SourceGivesWords = (seed : List ℕ) (stream place k : ℕ) → source_word (sou
 pub record PlacesRunOn : Type 0 where
   -- to read some words and then others is to read them all
   pub in_turn : (source : ChaCha) (first then : ℕ) → further (further source first) then ≡ further source (first + then)
-  -- behind its last place a stream begins anew
+  -- after its last place a stream begins anew
   pub anew : (seed : List ℕ) (stream : ℕ) → further (source_at seed stream (2 ^ 68 - 1)) 1 ≡ source_at seed stream 0
   pub words_anew : (seed : List ℕ) (stream place : ℕ) → word seed stream (place + 2 ^ 68) ≡ word seed stream place

@@ -7,7 +7,8 @@
 
 ghost use Rattle.std.specs.Prelude.{◌≡◌, ℕ, ◌+◌, ◌%◌, ◌^◌, ◌<◌, ◌≤◌, IfOk, length};
 ghost use Rattle.matrix_u32.specs.Sum.{list_of};
-ghost use Rattle.seed_expand.specs.Words.{source_at, further, word_here, source_word, words_from, public_rows};
+ghost use Rattle.seed_expand.specs.Words.{source_at, further, word_here, source_word, words_from,
+    public_rows};
 ghost use Rattle.seed_expand.specs.Laws.{SourceGivesWords, PlacesRunOn};
 
 use matrix_u32::Matrix;
@@ -90,7 +91,7 @@ pub fn fill_words(source: &mut WordSource, out: &mut [u32])
 
 /// `count` words of a seed's stream from a place on.
 ///
-/// Only want of memory gives an `Err`.
+/// Only refused memory gives an `Err`.
 pub fn stream_words(
     alloc: Global,
     seed: &[u8; 32],
@@ -109,7 +110,7 @@ pub fn stream_words(
 /// Rows `first_row` to `first_row + rows - 1` of the public matrix of a stream, which has n words a
 /// row: its word (i, j) is the stream's word at place i n + j.
 ///
-/// Only want of memory gives an `Err`. The words are made in place, with no second copy of them.
+/// Only refused memory gives an `Err`. The words are made in place, with no second copy of them.
 pub fn expand(
     alloc: Global,
     seed: &[u8; 32],
@@ -132,7 +133,7 @@ pub fn source_gives_words()
     ensures { SourceGivesWords }
 {}
 
-/// Places run on: a source that was read on is read on from there, and behind the last place, 2^68 - 1,
+/// Places run on: a source that was read on is read on from there, and after the last place, 2^68 - 1,
 /// a stream begins anew.
 pub fn places_run_on()
     ensures { PlacesRunOn }

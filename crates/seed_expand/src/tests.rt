@@ -114,7 +114,7 @@ fn a_source_opens_at_its_place(rt: HostRuntime) {
 }
 
 #[test]
-fn a_stream_begins_anew_behind_its_last_place(rt: HostRuntime) {
+fn a_stream_begins_anew_after_its_last_place(rt: HostRuntime) {
     let last: u128 = (1 << 68) - 1;
     let mut source = WordSource::at_wide(&COUNTING, 7, last - 1);
     assert_eq!(rt; source.next(), 0xe64f_490e);

@@ -17,7 +17,7 @@ use Rattle.server_core.specs.Sessions.{Session, AfterReading, EndsPiece, ServesP
 use Rattle.server_core.proofs.Courses.{decided}
 use Rattle.server_core.proofs.Runs.{not_both}
 
--- ---- frames behind a closing one
+-- ---- frames after a closing one
 
 dropped : (x : Setting) (h : History) (st : Standing) (more : List Frame) (h2 : History) (st2 : Standing) (rs : List Frame) → (h2 ≡ h) × (st2 ≡ st) × (rs ≡ []) → is_closed st ≡ true → ServesAll x h st more h2 st2 rs
 dropped x h st [] h2 st2 rs s shut = s
@@ -41,16 +41,16 @@ closing_course x h st fs gs more h2 st2 rs s shut lacks e =
 
 -- ---- the end of a piece
 
-front_clear : (rs others : List Frame) → lacks_memory (rs ++ others) ≡ false → lacks_memory rs ≡ false
-front_clear [] others e = refl
-front_clear (f ∷ rs) others e = first (is_memory f) (lacks_memory (rs ++ others)) (lacks_memory rs) e (front_clear rs others)
+prefix_clear : (rs others : List Frame) → lacks_memory (rs ++ others) ≡ false → lacks_memory rs ≡ false
+prefix_clear [] others e = refl
+prefix_clear (f ∷ rs) others e = first (is_memory f) (lacks_memory (rs ++ others)) (lacks_memory rs) e (prefix_clear rs others)
   where
     first : (a b c : Bool) → (a || b) ≡ false → (b ≡ false → c ≡ false) → (a || c) ≡ false
     first true b c e f = let bad : true ≡ false = e in absurd cc
     first false b c e f = f e
 
-told_clear : (replies told more : List Frame) → replies ≡ told ++ more → lacks_memory replies ≡ false → lacks_memory told ≡ false
-told_clear replies told more e lacks = front_clear told more (subst (λ (y : List Frame). lacks_memory y ≡ false) e lacks)
+reported_clear : (replies reported more : List Frame) → replies ≡ reported ++ more → lacks_memory replies ≡ false → lacks_memory reported ≡ false
+reported_clear replies reported more e lacks = prefix_clear reported more (subst (λ (y : List Frame). lacks_memory y ≡ false) e lacks)
 
 memory_or : (a : Result (Unit {0}) ReadFault) → (a ≡ Err Memory) ⊎ (a ≢ Err Memory)
 memory_or (Ok d) = inr (λ e. let bad : Ok d ≡ Err Memory = e in cc)
@@ -60,26 +60,26 @@ memory_or (Err BadPayload) = inr (λ e. let bad : Err BadPayload ≡ Err Memory 
 memory_or (Err Memory) = inl refl
 memory_or (Err Failed) = inr (λ e. let bad : Err Failed ≡ Err Memory = e in cc)
 
--- behind frames that leave the session open
-after_open : (answer : Result (Unit {0}) ReadFault) (h2 : History) (middle after : Standing) (told more replies : List Frame) → AfterReading answer middle after more → replies ≡ told ++ more
-    → record { history = h2; standing = after; replies = replies } ≡ at_end answer (record { history = h2; standing = middle; replies = told })
-after_open (Ok d) h2 middle after told more replies e all = rw (e.0, all, e.1, append-nil told) refl
-after_open (Err TooLong) h2 middle after told more replies e all = rw (e.0, all, e.1) refl
-after_open (Err UnknownKind) h2 middle after told more replies e all = rw (e.0, all, e.1) refl
-after_open (Err BadPayload) h2 middle after told more replies e all = rw (e.0, all, e.1) refl
-after_open (Err Memory) h2 middle after told more replies e all = absurd e
-after_open (Err Failed) h2 middle after told more replies e all = absurd e
+-- after frames that leave the session open
+after_open : (answer : Result (Unit {0}) ReadFault) (h2 : History) (middle after : Standing) (reported more replies : List Frame) → AfterReading answer middle after more → replies ≡ reported ++ more
+    → record { history = h2; standing = after; replies = replies } ≡ at_end answer (record { history = h2; standing = middle; replies = reported })
+after_open (Ok d) h2 middle after reported more replies e all = rw (e.0, all, e.1, append-nil reported) refl
+after_open (Err TooLong) h2 middle after reported more replies e all = rw (e.0, all, e.1) refl
+after_open (Err UnknownKind) h2 middle after reported more replies e all = rw (e.0, all, e.1) refl
+after_open (Err BadPayload) h2 middle after reported more replies e all = rw (e.0, all, e.1) refl
+after_open (Err Memory) h2 middle after reported more replies e all = absurd e
+after_open (Err Failed) h2 middle after reported more replies e all = absurd e
 
--- behind any frames
-after_frames : (answer : Result (Unit {0}) ReadFault) (h2 : History) (middle after : Standing) (told more replies : List Frame) → EndsPiece answer middle after more → replies ≡ told ++ more
+-- after any frames
+after_frames : (answer : Result (Unit {0}) ReadFault) (h2 : History) (middle after : Standing) (reported more replies : List Frame) → EndsPiece answer middle after more → replies ≡ reported ++ more
     → record { history = h2; standing = after; replies = replies }
-    ≡ cond (is_closed middle) (record { history = h2; standing = middle; replies = told }) (at_end answer (record { history = h2; standing = middle; replies = told }))
-after_frames answer h2 Closed after told more replies e all = rw (e.0, all, e.1, append-nil told) refl
-after_frames answer h2 Stranger after told more replies e all = after_open answer h2 Stranger after told more replies e all
-after_frames answer h2 Reader after told more replies e all = after_open answer h2 Reader after told more replies e all
-after_frames answer h2 Publisher after told more replies e all = after_open answer h2 Publisher after told more replies e all
+    ≡ cond (is_closed middle) (record { history = h2; standing = middle; replies = reported }) (at_end answer (record { history = h2; standing = middle; replies = reported }))
+after_frames answer h2 Closed after reported more replies e all = rw (e.0, all, e.1, append-nil reported) refl
+after_frames answer h2 Stranger after reported more replies e all = after_open answer h2 Stranger after reported more replies e all
+after_frames answer h2 Reader after reported more replies e all = after_open answer h2 Reader after reported more replies e all
+after_frames answer h2 Publisher after reported more replies e all = after_open answer h2 Publisher after reported more replies e all
 
--- want of memory is passed over only where the frames before it closed the session
+-- refused memory is passed over only where the frames before it closed the session
 closed_before : (middle after : Standing) (more : List Frame) → EndsPiece (Err Memory) middle after more → (is_closed middle ≡ true) × (after ≡ middle) × (more ≡ [])
 closed_before Closed after more e = (refl, e.0, e.1)
 closed_before Stranger after more e = absurd e
@@ -94,7 +94,7 @@ record Silent (x : Setting) (h : History) (st : Standing) (frames : List Frame) 
 silent : (x : Setting) (h : History) (old : Session) (piece : List ℕ) (h2 : History) (new : Session) (replies : List Frame) (s : ServesPiece x h old piece h2 new replies) → s.answer ≡ Err Memory → Silent x h old.standing s.frames h2 new.standing replies
 silent x h old piece h2 new replies s m =
     let c = closed_before s.middle new.standing s.more (subst (λ (y : Result (Unit {0}) ReadFault). EndsPiece y s.middle new.standing s.more) m s.ends) in
-    let same : replies ≡ s.told = s.all ∙ ap (λ (y : List Frame). s.told ++ y) c.2 ∙ append-nil s.told in
+    let same : replies ≡ s.reported = s.all ∙ ap (λ (y : List Frame). s.reported ++ y) c.2 ∙ append-nil s.reported in
     record { shut = ap is_closed c.1 ∙ c.0; serves = rw (c.1, same) s.serves }
 
 -- ---- a piece
@@ -118,10 +118,10 @@ piece_decided decide begin x h old piece h2 new replies answer frames rest s lac
           (closed_alone c answer q.shut ∙ by_course x h old.standing frames answer c e, λ open_. not_both new.standing q.shut open_)
       | inr pure ↦
           let d = decide old.unfinished piece s.answer answer s.frames frames new.unfinished rest s.reads reads pure clear in
-          let c : Course = record { history = h2; standing = s.middle; replies = s.told } in
-          let e : c ≡ course_of x h old.standing frames = rw (← d.1) (decided x h old.standing s.frames h2 s.middle s.told s.serves (told_clear replies s.told s.more s.all lacks)) in
+          let c : Course = record { history = h2; standing = s.middle; replies = s.reported } in
+          let e : c ≡ course_of x h old.standing frames = rw (← d.1) (decided x h old.standing s.frames h2 s.middle s.reported s.serves (reported_clear replies s.reported s.more s.all lacks)) in
           let f : record { history = h2; standing = new.standing; replies = replies } ≡ cond (is_closed s.middle) c (at_end answer c) =
-          after_frames answer h2 s.middle new.standing s.told s.more replies (subst (λ (y : Result (Unit {0}) ReadFault). EndsPiece y s.middle new.standing s.more) d.0 s.ends) s.all in
+          after_frames answer h2 s.middle new.standing s.reported s.more replies (subst (λ (y : Result (Unit {0}) ReadFault). EndsPiece y s.middle new.standing s.more) d.0 s.ends) s.all in
           (f ∙ by_course x h old.standing frames answer c e, λ open_. d.2)
     ]
 

@@ -11,9 +11,9 @@ use Rattle.frame_codec.specs.declared.reader.ReadFault.{ReadFault}
 use Rattle.frame_codec.specs.declared.reader.ReadFault.TheVariants.{TooLong, UnknownKind, BadPayload, Memory, Failed}
 use Rattle.frame_codec.specs.declared.refusal.Refusal.TheVariants as refusal
 use Rattle.frame_codec.specs.Refusals.{refused}
-use Rattle.frame_codec.specs.Frames.{IsFrame, spelling}
+use Rattle.frame_codec.specs.Frames.{IsFrame, encoding}
 use Rattle.frame_codec.specs.Streams.{Feeds}
-use Rattle.version_store.specs.Histories.{Held, History, StandsFor}
+use Rattle.version_store.specs.Histories.{StoreState, History, StandsFor}
 use Rattle.server_core.specs.declared.standing.Standing.{Standing}
 use Rattle.server_core.specs.declared.standing.Standing.TheVariants.{Closed}
 use Rattle.server_core.specs.Serving.{Setting, setting_of, ServedAll, is_closed, BrokenOff}
@@ -26,7 +26,7 @@ each_append (g ∷ rs) more all others = (all.0, each_append rs more all.1 other
 -- ---- a piece's frames and its end
 
 -- the frames closed the session
-pub closed_by_frames : (x : Setting) (h : History) (st : Standing) (frames : List Frame) (answer : Result (Unit {0}) ReadFault) (store : Held) (after : Standing) (before new : List ℕ) → is_closed after ≡ true
+pub closed_by_frames : (x : Setting) (h : History) (st : Standing) (frames : List Frame) (answer : Result (Unit {0}) ReadFault) (store : StoreState) (after : Standing) (before new : List ℕ) → is_closed after ≡ true
     → ServedAll x h st frames store after before new → ServedFrames x h st frames answer store after before new
 closed_by_frames x h st frames answer store after before new shut a =
     record {
@@ -40,7 +40,7 @@ closed_by_frames x h st frames answer store after before new shut a =
     }
 
 -- they left it open
-pub ended : (x : Setting) (h : History) (st : Standing) (frames : List Frame) (answer : Result (Unit {0}) ReadFault) (store : Held) (middle after : Standing) (before bytes new : List ℕ) → is_closed middle ≡ false
+pub ended : (x : Setting) (h : History) (st : Standing) (frames : List Frame) (answer : Result (Unit {0}) ReadFault) (store : StoreState) (middle after : Standing) (before bytes new : List ℕ) → is_closed middle ≡ false
     → ServedAll x h st frames store middle before bytes → Ended answer middle after bytes new → ServedFrames x h st frames answer store after before new
 ended x h st frames answer store middle after before bytes new open_ a e =
     record {
@@ -53,14 +53,14 @@ ended x h st frames answer store middle after before bytes new open_ a e =
       each = e.each;
     }
 
-pub stopped_before : (x : Setting) (h : History) (st : Standing) (frames : List Frame) (answer : Result (Unit {0}) ReadFault) (store : Held) (before new : List ℕ)
+pub stopped_before : (x : Setting) (h : History) (st : Standing) (frames : List Frame) (answer : Result (Unit {0}) ReadFault) (store : StoreState) (before new : List ℕ)
     → BrokenOff x h st frames store before new → StoppedFrames x h st frames answer store before new
 stopped_before x h st frames answer store before new b =
     record { count = b.count; middle = b.after; stop = inl b.within; goes_on = b.goes_on; frames_are = b.served_all }
 
-pub stopped_behind : (x : Setting) (h : History) (st : Standing) (frames : List Frame) (answer : Result (Unit {0}) ReadFault) (store : Held) (middle : Standing) (before bytes new : List ℕ) → is_closed middle ≡ false
+pub stopped_after : (x : Setting) (h : History) (st : Standing) (frames : List Frame) (answer : Result (Unit {0}) ReadFault) (store : StoreState) (middle : Standing) (before bytes new : List ℕ) → is_closed middle ≡ false
     → ServedAll x h st frames store middle before bytes → IsErr answer → new ≡ bytes → StoppedFrames x h st frames answer store before new
-stopped_behind x h st frames answer store middle before bytes new open_ a err same =
+stopped_after x h st frames answer store middle before bytes new open_ a err same =
     record {
       count = length frames;
       middle = middle;
@@ -71,27 +71,27 @@ stopped_behind x h st frames answer store middle before bytes new open_ a err sa
 
 -- ---- a piece
 
-pub fed_closed : (x : Setting) (h : History) (old : Session) (piece : List ℕ) (d : Unit {0}) (store : Held) (before : List ℕ) → is_closed old.standing ≡ true → setting_of store ≡ x → StandsFor store h → Fed x h old piece (Ok d) store old before before
+pub fed_closed : (x : Setting) (h : History) (old : Session) (piece : List ℕ) (d : Unit {0}) (store : StoreState) (before : List ℕ) → is_closed old.standing ≡ true → setting_of store ≡ x → StandsFor store h → Fed x h old piece (Ok d) store old before before
 fed_closed x h old piece d store before shut s i =
     record { history = h; replies = []; setting_is = s; store_is = i; course = rw shut (refl, refl, refl); written = sym (append-nil before); each = tt }
 
-pub fed_well : (x : Setting) (h : History) (old : Session) (piece : List ℕ) (d : Unit {0}) (store : Held) (after : Standing) (u : Option (List ℕ)) (before new : List ℕ) (answer : Result (Unit {0}) ReadFault) (frames : List Frame) → is_closed old.standing ≡ false
+pub fed_well : (x : Setting) (h : History) (old : Session) (piece : List ℕ) (d : Unit {0}) (store : StoreState) (after : Standing) (u : Option (List ℕ)) (before new : List ℕ) (answer : Result (Unit {0}) ReadFault) (frames : List Frame) → is_closed old.standing ≡ false
     → Feeds old.unfinished piece answer frames u → ServedFrames x h old.standing frames answer store after before new → Fed x h old piece (Ok d) store (record { standing = after; unfinished = u }) before new
 fed_well x h old piece d store after u before new answer frames open_ reads s =
     let a = s.frames_are in
-    let p : ServesPiece x h old piece a.history (record { standing = after; unfinished = u }) (a.replies ++ s.more) = record { answer = answer; frames = frames; middle = s.middle; told = a.replies; more = s.more; reads = reads; serves = a.serves; ends = s.ends; all = refl } in
+    let p : ServesPiece x h old piece a.history (record { standing = after; unfinished = u }) (a.replies ++ s.more) = record { answer = answer; frames = frames; middle = s.middle; reported = a.replies; more = s.more; reads = reads; serves = a.serves; ends = s.ends; all = refl } in
     record {
       history = a.history;
       replies = a.replies ++ s.more;
       setting_is = a.setting_is;
       store_is = a.store_is;
       course = rw open_ p;
-      written = s.written ∙ ap (λ (y : List ℕ). y ++ flat_map spelling s.more) a.written ∙ append_assoc before (flat_map spelling a.replies) (flat_map spelling s.more)
-          ∙ ap (λ (y : List ℕ). before ++ y) (sym (flat_map-append spelling a.replies s.more));
+      written = s.written ∙ ap (λ (y : List ℕ). y ++ flat_map encoding s.more) a.written ∙ append_assoc before (flat_map encoding a.replies) (flat_map encoding s.more)
+          ∙ ap (λ (y : List ℕ). before ++ y) (sym (flat_map-append encoding a.replies s.more));
       each = each_append a.replies s.more a.each s.each;
     }
 
-pub fed_short : (x : Setting) (h : History) (old : Session) (piece : List ℕ) (e : AllocError) (store : Held) (u : Option (List ℕ)) (before new : List ℕ) (answer : Result (Unit {0}) ReadFault) (frames : List Frame) → is_closed old.standing ≡ false
+pub fed_short : (x : Setting) (h : History) (old : Session) (piece : List ℕ) (e : AllocError) (store : StoreState) (u : Option (List ℕ)) (before new : List ℕ) (answer : Result (Unit {0}) ReadFault) (frames : List Frame) → is_closed old.standing ≡ false
     → Feeds old.unfinished piece answer frames u → StoppedFrames x h old.standing frames answer store before new → Fed x h old piece (Err e) store (record { standing = Closed; unfinished = u }) before new
 fed_short x h old piece e store u before new answer frames open_ reads s =
     let a = s.frames_are in
@@ -126,17 +126,17 @@ reads_on : (old : Option (List ℕ)) (piece : List ℕ) (d : Unit {0}) (frames :
 reads_on None piece d frames u f n = let bad : Ok d ≡ Err Failed = f.0 in cc
 reads_on (Some bytes) piece d frames u f n = let bad : Some f.0 ≡ None = sym f.2 ∙ n in cc
 
-pub stays_live : (old : Option (List ℕ)) (piece : List ℕ) (answer : Result (Unit {0}) ReadFault) (frames : List Frame) (u : Option (List ℕ)) (x : Setting) (h : History) (st : Standing) (store : Held) (after : Standing) (before new : List ℕ)
+pub stays_live : (old : Option (List ℕ)) (piece : List ℕ) (answer : Result (Unit {0}) ReadFault) (frames : List Frame) (u : Option (List ℕ)) (x : Setting) (h : History) (st : Standing) (store : StoreState) (after : Standing) (before new : List ℕ)
     → Feeds old piece answer frames u → ServedFrames x h st frames answer store after before new → IsLive after u
 stays_live old piece answer frames u x h st store after before new f s open_ =
     let m = open_means answer s.middle after s.more s.ends open_ in
     reads_on old piece m.0 frames u (subst (λ (a : Result (Unit {0}) ReadFault). Feeds old piece a frames u) m.1 f)
 
 -- every store stands for a history
-abbrev pub history_of : Held → History
+abbrev pub history_of : StoreState → History
 history_of s = record { first = s.version; past = []; current = s.edition.records; draft = s.draft; marked = s.marked }
 
-pub stands_for_one : (s : Held) → StandsFor s (history_of s)
+pub stands_for_one : (s : StoreState) → StandsFor s (history_of s)
 stands_for_one s = record { version = omega arith; current = refl; draft = refl; marked = refl }
 
 pub on_err : {T E P Q : Type 0} (r : Result T E) → OnErr r P → (P → Q) → OnErr r Q
@@ -144,13 +144,13 @@ on_err (Ok x) p f = tt
 on_err (Err x) p f = f p
 
 -- a fault is told
-pub told : (answer : Result (Unit {0}) ReadFault) (middle : Standing) (r : Result Standing AllocError) (out new : List ℕ) → ((after : Standing) → after ≡ Closed → AfterReading answer middle after (refused refusal.BadFrame ∷ []))
-    → IfOk r (λ after. after ≡ Closed) → OnOk r (new ≡ out ++ spelling (refused refusal.BadFrame)) → OnOk r (IsFrame (refused refusal.BadFrame)) → IfOk r (λ after. Ended answer middle after out new)
-told answer middle (Ok after) out new f shut written fits =
+pub reported : (answer : Result (Unit {0}) ReadFault) (middle : Standing) (r : Result Standing AllocError) (out new : List ℕ) → ((after : Standing) → after ≡ Closed → AfterReading answer middle after (refused refusal.BadFrame ∷ []))
+    → IfOk r (λ after. after ≡ Closed) → OnOk r (new ≡ out ++ encoding (refused refusal.BadFrame)) → OnOk r (IsFrame (refused refusal.BadFrame)) → IfOk r (λ after. Ended answer middle after out new)
+reported answer middle (Ok after) out new f shut written fits =
     record {
       more = refused refusal.BadFrame ∷ [];
       ends = f after shut;
-      written = written ∙ ap (λ (y : List ℕ). out ++ y) (sym (flat_map-cons spelling (refused refusal.BadFrame) [] ∙ append-nil (spelling (refused refusal.BadFrame))));
+      written = written ∙ ap (λ (y : List ℕ). out ++ y) (sym (flat_map-cons encoding (refused refusal.BadFrame) [] ∙ append-nil (encoding (refused refusal.BadFrame))));
       each = (fits, tt);
     }
-told answer middle (Err e) out new f shut written fits = tt
+reported answer middle (Err e) out new f shut written fits = tt

@@ -7,11 +7,11 @@ use Rattle.std.proofs.lemmas.List.Concat.{flat_map-cons, flat_map-append}
 use Rattle.frame_codec.specs.declared.refusal.Refusal.TheVariants as refusal
 use Rattle.frame_codec.specs.declared.frame.Frame.{Frame}
 use Rattle.frame_codec.specs.declared.frame.Frame.TheVariants.{Publish}
-use Rattle.frame_codec.specs.Frames.{IsFrame, spelling}
-use Rattle.version_store.specs.Histories.{Held, History, StandsFor}
+use Rattle.frame_codec.specs.Frames.{IsFrame, encoding}
+use Rattle.version_store.specs.Histories.{StoreState, History, StandsFor}
 use Rattle.server_core.specs.declared.standing.Standing.{Standing}
 use Rattle.server_core.specs.declared.standing.Standing.TheVariants.{Stranger, Reader, Publisher, Closed}
-use Rattle.server_core.specs.Serving.{Setting, setting_of, Outcome, IsOutcome, ServesAll, ServedAll, Serves, HasOutcome, served, refuses, is_closed, reply_bytes, FitsReply}
+use Rattle.server_core.specs.Serving.{Setting, setting_of, Outcome, IsOutcome, ServesAll, ServedAll, Serves, HasOutcome, outcome_of_frame, refuses, is_closed, reply_bytes, FitsReply}
 
 -- a closed session is not open
 pub not_both : {P : Type 0} (st : Standing) → is_closed st ≡ true → is_closed st ≡ false → P
@@ -49,14 +49,14 @@ drops_more x h Reader (g ∷ fs) h2 st2 rs f s shut = (s.0, s.1, s.2, s.3, drops
 drops_more x h Publisher (g ∷ fs) h2 st2 rs f s shut = (s.0, s.1, s.2, s.3, drops_more x s.0.history s.0.standing fs h2 st2 s.1 f s.4 shut)
 
 -- what a call on a store says of the history
-outcome_of : (x : Setting) (h : History) (st : Standing) (f : Frame) (store : Held) (st2 : Standing) (before after : List ℕ) → Serves x h st f store st2 before after
+outcome_of : (x : Setting) (h : History) (st : Standing) (f : Frame) (store : StoreState) (st2 : Standing) (before after : List ℕ) → Serves x h st f store st2 before after
     → (o : Outcome) × IsOutcome x h st f o × HasOutcome x o store st2 before after
-outcome_of x h st f store st2 before after (inl s) = (served x h st f, inl refl, s)
+outcome_of x h st f store st2 before after (inl s) = (outcome_of_frame x h st f, inl refl, s)
 outcome_of x h st f store st2 before after (inr s) = (refuses refusal.Memory st h, inr (s.0, refl), s.1)
 
-spells : (r : Option Frame) → flat_map spelling (option_to_list r) ≡ reply_bytes r
-spells None = refl
-spells (Some f) = flat_map-cons spelling f [] ∙ append-nil (spelling f)
+encodes : (r : Option Frame) → flat_map encoding (option_to_list r) ≡ reply_bytes r
+encodes None = refl
+encodes (Some f) = flat_map-cons encoding f [] ∙ append-nil (encoding f)
 
 each_with : (rs : List Frame) (r : Option Frame) → AllByRecursion IsFrame rs → FitsReply r → AllByRecursion IsFrame (rs ++ option_to_list r)
 each_with [] None all one = tt
@@ -64,7 +64,7 @@ each_with [] (Some f) all one = (one, tt)
 each_with (g ∷ rs) r all one = (all.0, each_with rs r all.1 one)
 
 -- the next frame of an open session
-pub serves_one : (x : Setting) (h : History) (st : Standing) (fs : List Frame) (i : ℕ) (store1 : Held) (st1 : Standing) (old out1 : List ℕ) (store2 : Held) (st2 : Standing) (out2 : List ℕ) → i < length fs → (f : Frame) → f ≡ get_or fs i f → is_closed st1 ≡ false
+pub serves_one : (x : Setting) (h : History) (st : Standing) (fs : List Frame) (i : ℕ) (store1 : StoreState) (st1 : Standing) (old out1 : List ℕ) (store2 : StoreState) (st2 : Standing) (out2 : List ℕ) → i < length fs → (f : Frame) → f ≡ get_or fs i f → is_closed st1 ≡ false
     → ServedAll x h st (take i fs) store1 st1 old out1 → ((h1 : History) → StandsFor store1 h1 → Serves (setting_of store1) h1 st1 f store2 st2 out1 out2)
     → ServedAll x h st (take (i + 1) fs) store2 st2 old out2
 serves_one x h st fs i store1 st1 old out1 store2 st2 out2 lt f is_f open_ a step =
@@ -77,13 +77,13 @@ serves_one x h st fs i store1 st1 old out1 store2 st2 out2 lt f is_f open_ a ste
       setting_is = s.2.setting_is;
       store_is = s.2.store_is;
       serves = subst (λ (y : List Frame). ServesAll x h st y s.0.history st2 (a.replies ++ option_to_list s.0.reply)) (sym (take_more fs i f lt ∙ ap (λ (y : Frame). take i fs ++ y ∷ []) (sym is_f))) n;
-      written = s.2.reply_is ∙ ap (λ (y : List ℕ). y ++ reply_bytes s.0.reply) a.written ∙ append_assoc old (flat_map spelling a.replies) (reply_bytes s.0.reply)
-          ∙ ap (λ (y : List ℕ). old ++ y) (ap (λ (y : List ℕ). flat_map spelling a.replies ++ y) (sym (spells s.0.reply)) ∙ sym (flat_map-append spelling a.replies (option_to_list s.0.reply)));
+      written = s.2.reply_is ∙ ap (λ (y : List ℕ). y ++ reply_bytes s.0.reply) a.written ∙ append_assoc old (flat_map encoding a.replies) (reply_bytes s.0.reply)
+          ∙ ap (λ (y : List ℕ). old ++ y) (ap (λ (y : List ℕ). flat_map encoding a.replies ++ y) (sym (encodes s.0.reply)) ∙ sym (flat_map-append encoding a.replies (option_to_list s.0.reply)));
       each = each_with a.replies s.0.reply a.each s.2.reply_fits;
     }
 
 -- the next frame of a closed one
-pub drops_one : (x : Setting) (h : History) (st : Standing) (fs : List Frame) (i : ℕ) (store1 : Held) (st1 : Standing) (old out1 : List ℕ) → i < length fs → is_closed st1 ≡ true
+pub drops_one : (x : Setting) (h : History) (st : Standing) (fs : List Frame) (i : ℕ) (store1 : StoreState) (st1 : Standing) (old out1 : List ℕ) → i < length fs → is_closed st1 ≡ true
     → ServedAll x h st (take i fs) store1 st1 old out1 → ServedAll x h st (take (i + 1) fs) store1 st1 old out1
 drops_one x h st fs i store1 st1 old out1 lt shut a =
     record {

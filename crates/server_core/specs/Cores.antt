@@ -4,7 +4,7 @@ use Rattle.std.specs.Map.{lookup}
 use Rattle.std.specs.BTreeMap.{is_at}
 use Rattle.std.specs.Ordering.{nat_cmp}
 use Rattle.std.specs.declared.alloc.AllocError.{AllocError}
-use Rattle.version_store.specs.Histories.{Held, History}
+use Rattle.version_store.specs.Histories.{StoreState, History}
 use Rattle.server_core.specs.Serving.{Setting, is_closed}
 use Rattle.server_core.specs.Sessions.{Session, Fed}
 use Rattle.server_core.specs.declared.server.FeedError.{FeedError}
@@ -12,7 +12,7 @@ use Rattle.server_core.specs.declared.server.FeedError.TheVariants.{NoSession, M
 
 -- what the store keeps, and the sessions by their numbers
 pub record Core : Type 0 where
-  pub store : Held
+  pub store : StoreState
   pub sessions : List (ℕ × Session)
 
 -- the session of a number
@@ -30,7 +30,7 @@ HasFailed None = ⊥
 HasFailed (Some s) = s.unfinished ≡ None
 
 -- What a piece did, as the answer says: all of it was served, or memory was refused. Without a session nothing is served.
-abbrev pub FeedsCore : Setting → History → Session → List ℕ → Result (Unit {0}) FeedError → Held → Session → List ℕ → List ℕ → Type 0
+abbrev pub FeedsCore : Setting → History → Session → List ℕ → Result (Unit {0}) FeedError → StoreState → Session → List ℕ → List ℕ → Type 0
 FeedsCore x h old piece (Ok done) store new before after = Fed x h old piece (Ok done) store new before after
 FeedsCore x h old piece (Err Memory) store new before after = (e : AllocError) × Fed x h old piece (Err e) store new before after
 FeedsCore x h old piece (Err NoSession) store new before after = ⊥

@@ -8,7 +8,7 @@ use Rattle.frame_codec.specs.declared.reader.ReadFault.{ReadFault}
 use Rattle.version_store.specs.Histories.{History}
 use Rattle.server_core.specs.declared.standing.Standing.{Standing}
 use Rattle.server_core.specs.declared.standing.Standing.TheVariants.{Closed}
-use Rattle.server_core.specs.Serving.{Setting, Outcome, served, is_closed}
+use Rattle.server_core.specs.Serving.{Setting, Outcome, outcome_of_frame, is_closed}
 
 -- the history and the standing after some frames, and the replies
 pub record Course : Type 0 where
@@ -25,9 +25,9 @@ abbrev pub course_of : Setting → History → Standing → List Frame → Cours
 course_of x h st [] = record { history = h; standing = st; replies = [] }
 course_of x h st (f ∷ fs) =
     cond (is_closed st) (record { history = h; standing = st; replies = [] })
-    (with_reply (served x h st f) (course_of x (served x h st f).history (served x h st f).standing fs))
+    (with_reply (outcome_of_frame x h st f) (course_of x (outcome_of_frame x h st f).history (outcome_of_frame x h st f).standing fs))
 
--- where the reading stops behind frames that leave the session open: a fault is refused, and closes it
+-- where the reading stops after frames that leave the session open: a fault is refused, and closes it
 abbrev pub at_end : Result (Unit {0}) ReadFault → Course → Course
 at_end (Ok done) c = c
 at_end (Err fault) c = record { history = c.history; standing = Closed; replies = c.replies ++ refused refusal.BadFrame ∷ [] }
@@ -37,7 +37,7 @@ abbrev pub course_of_piece : Setting → History → Standing → List Frame →
 course_of_piece x h st frames answer =
     cond (is_closed (course_of x h st frames).standing) (course_of x h st frames) (at_end answer (course_of x h st frames))
 
--- whether a reply refuses for want of memory
+-- whether a reply refuses for lack of memory
 abbrev pub is_memory : Frame → Bool
 is_memory (Refused code) = code == code_of refusal.Memory
 is_memory _ = false

@@ -19,13 +19,13 @@ PiecesDecide = (x : Setting) (h : History) (old : Session) (piece : List ℕ) (d
     → is_closed old.standing ≡ false → FeedsSession x h old piece (Ok done) h2 new replies → lacks_memory replies ≡ false → Feeds old.unfinished piece answer frames rest → answer ≢ Err Memory
     → (record { history = h2; standing = new.standing; replies = replies } ≡ course_of_piece x h old.standing frames answer) × (is_closed new.standing ≡ false → new.unfinished ≡ rest)
 
--- The setting, the history, a session and a piece of its stream decide the history after the piece, the session then and the replies, where none of these is refused for want of memory.
+-- The setting, the history, a session and a piece of its stream decide the history after the piece, the session then and the replies, where none of these is refused for lack of memory.
 abbrev pub PiecesAgree : Type 0
 PiecesAgree = (x : Setting) (h : History) (old old2 : Session) (piece : List ℕ) (done done2 : Unit {0}) (after after2 : History) (new new2 : Session) (replies replies2 : List Frame)
     → IsAlike old old2 → FeedsSession x h old piece (Ok done) after new replies → FeedsSession x h old2 piece (Ok done2) after2 new2 replies2 → lacks_memory replies ≡ false → lacks_memory replies2 ≡ false
     → (after ≡ after2) × IsAlike new new2 × (replies ≡ replies2)
 
--- A session's pieces one after another, each with the history on which it is served, whatever others did between them: the history after each and its replies, and the session behind them all. Memory is never refused.
+-- A session's pieces one after another, each with the history on which it is served, whatever others did between them: the history after each and its replies, and the session after them all. Memory is never refused.
 abbrev pub FeedsInTurn : Setting → Session → List (History × List ℕ) → List (History × List Frame) → Session → Type 0
 FeedsInTurn x old [] outcomes new = (outcomes ≡ []) × (new ≡ old)
 FeedsInTurn x old (fed ∷ later) outcomes new =

@@ -10,13 +10,13 @@ use Rattle.pir_schemes.specs.Schemes.{scheme_byte, scheme_of_byte}
 use Rattle.pir_schemes.specs.Parts.{part_of, is_part_of}
 use Rattle.pir_schemes.specs.Plans.{Plan, shape_at, profile_of, fits}
 use Rattle.pir_schemes.specs.Retrievals.{hint_matrix, query_count, answer_words}
-use Rattle.version_store.specs.Histories.{Held, History, StandsFor, number, edited, published}
+use Rattle.version_store.specs.Histories.{StoreState, History, StandsFor, current_version, after_edit, published}
 use Rattle.frame_codec.specs.declared.frame.Frame.{Frame}
 use Rattle.frame_codec.specs.declared.frame.Frame.TheVariants.{Load, Hello, HintAsk, Query, Edit, Publish, Bye, Welcome, HintPart, Answer, Stale, Done, Refused}
 use Rattle.frame_codec.specs.declared.refusal.Refusal.{Refusal}
 use Rattle.frame_codec.specs.declared.refusal.Refusal.TheVariants as refusal
 use Rattle.frame_codec.specs.Refusals.{refused}
-use Rattle.frame_codec.specs.Frames.{IsFrame, spelling}
+use Rattle.frame_codec.specs.Frames.{IsFrame, encoding}
 use Rattle.server_core.specs.declared.standing.Standing.{Standing}
 use Rattle.server_core.specs.declared.standing.Standing.TheVariants.{Stranger, Reader, Publisher, Closed}
 
@@ -26,7 +26,7 @@ pub record Setting : Type 0 where
   pub publisher : List ℕ
 
 -- the setting of what a store keeps
-abbrev pub setting_of : Held → Setting
+abbrev pub setting_of : StoreState → Setting
 setting_of s = record { plan = s.edition.plan; publisher = s.publisher }
 
 -- the key of 32 zero bytes is a reader's
@@ -69,13 +69,13 @@ refuses why st h = replies_with (refused why) st h
 
 -- a frame that names another version than the current one is answered with the current one and its record count
 abbrev pub stale : Standing → History → Outcome
-stale st h = replies_with (Stale (number h) (length h.current)) st h
+stale st h = replies_with (Stale (current_version h) (length h.current)) st h
 
 -- a greeting that is accepted
 abbrev pub welcomes : Setting → Standing → History → Outcome
 welcomes x st h =
     replies_with (Welcome (profile_of x.plan) x.plan.width x.plan.record_len x.plan.groups (length h.current)
-    (number h) x.plan.dimension x.plan.seed) st h
+    (current_version h) x.plan.dimension x.plan.seed) st h
 
 -- a greeting was accepted before
 abbrev pub is_welcome : Standing → Bool
@@ -96,9 +96,9 @@ is_closed _ = false
 abbrev pub hint_asked : Setting → History → Standing → Option Scheme → ℕ → ℕ → Outcome
 hint_asked x h st None version part = refuses refusal.BadScheme st h
 hint_asked x h st (Some scheme) version part =
-    if version == number h then (
+    if version == current_version h then (
     if has_part x scheme h.current part
-    then replies_with (HintPart (scheme_byte scheme) (number h) part (part_words x scheme h.current part)) st h
+    then replies_with (HintPart (scheme_byte scheme) (current_version h) part (part_words x scheme h.current part)) st h
     else refuses refusal.BadPart st h)
     else stale st h
 
@@ -106,55 +106,55 @@ hint_asked x h st (Some scheme) version part =
 abbrev pub query_asked : Setting → History → Standing → Option Scheme → ℕ → List ℕ → Outcome
 query_asked x h st None version words = refuses refusal.BadScheme st h
 query_asked x h st (Some scheme) version words =
-    if version == number h then (
+    if version == current_version h then (
     if length words == words_asked x scheme h.current
-    then replies_with (Answer (scheme_byte scheme) (number h) (answer_words scheme x.plan h.current words)) st h
+    then replies_with (Answer (scheme_byte scheme) (current_version h) (answer_words scheme x.plan h.current words)) st h
     else refuses refusal.BadQueryLength st h)
     else stale st h
 
 -- What a frame leads to, in an open session: the first check that applies decides. Words of hints and answers are made from scratch.
-abbrev pub served : Setting → History → Standing → Frame → Outcome
-served x h st (Hello profile key) =
+abbrev pub outcome_of_frame : Setting → History → Standing → Frame → Outcome
+outcome_of_frame x h st (Hello profile key) =
     if profile == profile_of x.plan then (
     if is_reader_key key then welcomes x Reader h else (
     if is_publisher_key x key then welcomes x Publisher h
     else refuses refusal.BadKey st h))
     else refuses refusal.BadProfile st h
-served x h st (HintAsk scheme version part) =
+outcome_of_frame x h st (HintAsk scheme version part) =
     if is_welcome st then hint_asked x h st (scheme_of_byte scheme) version part else refuses refusal.NotWelcome st h
-served x h st (Query scheme version words) =
+outcome_of_frame x h st (Query scheme version words) =
     if is_welcome st then query_asked x h st (scheme_of_byte scheme) version words else refuses refusal.NotWelcome st h
-served x h st (Edit index bytes) =
+outcome_of_frame x h st (Edit index bytes) =
     if is_welcome st then (
     if is_publisher st then (
     if nat_lt index (length h.draft) then (
     if fits x.plan bytes
-    then record { reply = Some (Done (number h)); standing = st; history = edited index bytes h }
+    then record { reply = Some (Done (current_version h)); standing = st; history = after_edit index bytes h }
     else refuses refusal.BadLength st h)
     else refuses refusal.BadIndex st h)
     else refuses refusal.NotPublisher st h)
     else refuses refusal.NotWelcome st h
-served x h st Publish =
+outcome_of_frame x h st Publish =
     if is_welcome st then (
     if is_publisher st then (
     if h.marked then (
-    if number h + 1 == 2 ^ 64 then refuses refusal.VersionsUsedUp st h
-    else record { reply = Some (Done (number h + 1)); standing = st; history = published h })
+    if current_version h + 1 == 2 ^ 64 then refuses refusal.VersionsUsedUp st h
+    else record { reply = Some (Done (current_version h + 1)); standing = st; history = published h })
     else refuses refusal.NothingToPublish st h)
     else refuses refusal.NotPublisher st h)
     else refuses refusal.NotWelcome st h
-served x h st Bye = record { reply = None; standing = Closed; history = h }
-served x h st _ = refuses refusal.BadFrame Closed h
+outcome_of_frame x h st Bye = record { reply = None; standing = Closed; history = h }
+outcome_of_frame x h st _ = refuses refusal.BadFrame Closed h
 
 -- whether a part of a hint is there to be sent, or a query to be answered
 abbrev pub has_asked_part : Setting → History → Option Scheme → ℕ → ℕ → Bool
 has_asked_part x h None version part = false
-has_asked_part x h (Some scheme) version part = if version == number h then has_part x scheme h.current part else false
+has_asked_part x h (Some scheme) version part = if version == current_version h then has_part x scheme h.current part else false
 
 abbrev pub has_asked_query : Setting → History → Option Scheme → ℕ → List ℕ → Bool
 has_asked_query x h None version words = false
 has_asked_query x h (Some scheme) version words =
-    if version == number h then length words == words_asked x scheme h.current else false
+    if version == current_version h then length words == words_asked x scheme h.current else false
 
 -- whether every check is passed, and the reply or the change takes memory
 abbrev pub takes_memory : Setting → History → Standing → Frame → Bool
@@ -167,7 +167,7 @@ takes_memory x h st (Edit index bytes) =
     if is_publisher st then (if nat_lt index (length h.draft) then fits x.plan bytes else false) else false) else false
 takes_memory x h st Publish =
     if is_welcome st then (
-    if is_publisher st then (if h.marked then not (number h + 1 == 2 ^ 64) else false) else false) else false
+    if is_publisher st then (if h.marked then not (current_version h + 1 == 2 ^ 64) else false) else false) else false
 takes_memory x h st _ = false
 
 -- the room for a short reply is not there
@@ -176,7 +176,7 @@ IsFull out = vec_capacity out < vec_len out + 64
 
 -- what a frame may lead to: what the checks say, or a refusal for memory where the last of them is memory
 abbrev pub IsOutcome : Setting → History → Standing → Frame → Outcome → Type 0
-IsOutcome x h st f o = (o ≡ served x h st f) ⊎ ((takes_memory x h st f ≡ true) × (o ≡ refuses refusal.Memory st h))
+IsOutcome x h st f o = (o ≡ outcome_of_frame x h st f) ⊎ ((takes_memory x h st f ≡ true) × (o ≡ refuses refusal.Memory st h))
 
 -- Frames are served one after another until the session is closed; then the others are dropped. The history and the standing after them, and the replies.
 abbrev pub ServesAll : Setting → History → Standing → List Frame → History → Standing → List Frame → Type 0
@@ -193,10 +193,10 @@ FitsReply (Some reply) = IsFrame reply
 -- the bytes of a reply
 abbrev pub reply_bytes : Option Frame → List ℕ
 reply_bytes None = []
-reply_bytes (Some reply) = spelling reply
+reply_bytes (Some reply) = encoding reply
 
 -- A store that stands for an outcome's history in the setting, the outcome's standing, and what is written: before it, and with its reply at the end.
-pub record HasOutcome (x : Setting) (o : Outcome) (store : Held) (standing : Standing) (before after : List ℕ) : Type 0 where
+pub record HasOutcome (x : Setting) (o : Outcome) (store : StoreState) (standing : Standing) (before after : List ℕ) : Type 0 where
   pub setting_is : setting_of store ≡ x
   pub store_is : StandsFor store o.history
   pub standing_is : standing ≡ o.standing
@@ -204,23 +204,23 @@ pub record HasOutcome (x : Setting) (o : Outcome) (store : Held) (standing : Sta
   pub reply_fits : FitsReply o.reply
 
 -- a frame was served by a store
-abbrev pub Serves : Setting → History → Standing → Frame → Held → Standing → List ℕ → List ℕ → Type 0
+abbrev pub Serves : Setting → History → Standing → Frame → StoreState → Standing → List ℕ → List ℕ → Type 0
 Serves x h st f store standing before after =
-    HasOutcome x (served x h st f) store standing before after
+    HasOutcome x (outcome_of_frame x h st f) store standing before after
     ⊎ ((takes_memory x h st f ≡ true) × HasOutcome x (refuses refusal.Memory st h) store standing before after)
 
 -- frames were served by a store
-pub record ServedAll (x : Setting) (h : History) (st : Standing) (frames : List Frame) (store : Held) (after : Standing) (old new : List ℕ) : Type 0 where
+pub record ServedAll (x : Setting) (h : History) (st : Standing) (frames : List Frame) (store : StoreState) (after : Standing) (old new : List ℕ) : Type 0 where
   pub history : History
   pub replies : List Frame
   pub setting_is : setting_of store ≡ x
   pub store_is : StandsFor store history
   pub serves : ServesAll x h st frames history after replies
-  pub written : new ≡ old ++ flat_map spelling replies
+  pub written : new ≡ old ++ flat_map encoding replies
   pub each : AllByRecursion IsFrame replies
 
 -- the first of the frames were served by a store, and left the session open
-pub record BrokenOff (x : Setting) (h : History) (st : Standing) (frames : List Frame) (store : Held) (old new : List ℕ) : Type 0 where
+pub record BrokenOff (x : Setting) (h : History) (st : Standing) (frames : List Frame) (store : StoreState) (old new : List ℕ) : Type 0 where
   pub count : ℕ
   pub after : Standing
   pub within : count < length frames

@@ -2,13 +2,13 @@
 use Rattle.std.specs.Prelude.{◌≡◌, ◌≢◌, ◌⊎◌, ℕ, ◌<◌, List, [], ◌∷◌, ◌++◌, length, take, false, Option, Some, None, MatchBool, Result, Ok, Err, IsErr}
 use Rattle.std.specs.List.{flat_map, AllByRecursion}
 use Rattle.std.specs.declared.alloc.AllocError.{AllocError}
-use Rattle.version_store.specs.Histories.{Held, History, StandsFor}
+use Rattle.version_store.specs.Histories.{StoreState, History, StandsFor}
 use Rattle.frame_codec.specs.declared.frame.Frame.{Frame}
 use Rattle.frame_codec.specs.declared.refusal.Refusal.TheVariants as refusal
 use Rattle.frame_codec.specs.Refusals.{refused}
 use Rattle.frame_codec.specs.declared.reader.ReadFault.{ReadFault}
 use Rattle.frame_codec.specs.declared.reader.ReadFault.TheVariants.{TooLong, UnknownKind, BadPayload, Memory, Failed}
-use Rattle.frame_codec.specs.Frames.{IsFrame, spelling}
+use Rattle.frame_codec.specs.Frames.{IsFrame, encoding}
 use Rattle.frame_codec.specs.Streams.{Feeds}
 use Rattle.server_core.specs.declared.standing.Standing.{Standing}
 use Rattle.server_core.specs.declared.standing.Standing.TheVariants.{Stranger, Closed}
@@ -40,7 +40,7 @@ AfterReading (Err Failed) middle after more = ⊥
 abbrev pub EndsPiece : Result (Unit {0}) ReadFault → Standing → Standing → List Frame → Type 0
 EndsPiece answer middle after more = MatchBool (is_closed middle) ((after ≡ middle) × (more ≡ [])) (AfterReading answer middle after more)
 
--- Where memory was refused: before one of the frames, or behind them, where the reading stopped with a fault.
+-- Where memory was refused: before one of the frames, or after them, where the reading stopped with a fault.
 abbrev pub IsStop : Result (Unit {0}) ReadFault → List Frame → ℕ → Type 0
 IsStop answer frames count = (count < length frames) ⊎ ((count ≡ length frames) × IsErr answer)
 
@@ -49,14 +49,14 @@ pub record ServesPiece (x : Setting) (h : History) (old : Session) (piece : List
   pub answer : Result (Unit {0}) ReadFault
   pub frames : List Frame
   pub middle : Standing
-  pub told : List Frame
+  pub reported : List Frame
   pub more : List Frame
   pub reads : Feeds old.unfinished piece answer frames new.unfinished
-  pub serves : ServesAll x h old.standing frames h2 middle told
+  pub serves : ServesAll x h old.standing frames h2 middle reported
   pub ends : EndsPiece answer middle new.standing more
-  pub all : replies ≡ told ++ more
+  pub all : replies ≡ reported ++ more
 
--- memory was refused behind some of them: those are served, no other is, and the session is closed
+-- memory was refused after some of them: those are served, no other is, and the session is closed
 pub record BreaksOff (x : Setting) (h : History) (old : Session) (piece : List ℕ) (h2 : History) (new : Session) (replies : List Frame) : Type 0 where
   pub answer : Result (Unit {0}) ReadFault
   pub frames : List Frame
@@ -75,34 +75,34 @@ FeedsSession x h old piece (Ok done) h2 new replies =
 FeedsSession x h old piece (Err e) h2 new replies = (is_closed old.standing ≡ false) × BreaksOff x h old piece h2 new replies
 
 -- A store was fed a session's piece: it stands for the history after it in the same setting, and the replies are written.
-pub record Fed (x : Setting) (h : History) (old : Session) (piece : List ℕ) (result : Result (Unit {0}) AllocError) (store : Held) (new : Session) (before after : List ℕ) : Type 0 where
+pub record Fed (x : Setting) (h : History) (old : Session) (piece : List ℕ) (result : Result (Unit {0}) AllocError) (store : StoreState) (new : Session) (before after : List ℕ) : Type 0 where
   pub history : History
   pub replies : List Frame
   pub setting_is : setting_of store ≡ x
   pub store_is : StandsFor store history
   pub course : FeedsSession x h old piece result history new replies
-  pub written : after ≡ before ++ flat_map spelling replies
+  pub written : after ≡ before ++ flat_map encoding replies
   pub each : AllByRecursion IsFrame replies
 
 -- what the end of a piece wrote
 pub record Ended (answer : Result (Unit {0}) ReadFault) (middle after : Standing) (before new : List ℕ) : Type 0 where
   pub more : List Frame
   pub ends : AfterReading answer middle after more
-  pub written : new ≡ before ++ flat_map spelling more
+  pub written : new ≡ before ++ flat_map encoding more
   pub each : AllByRecursion IsFrame more
 
 -- a piece's frames and its end, served by a store
-pub record ServedFrames (x : Setting) (h : History) (st : Standing) (frames : List Frame) (answer : Result (Unit {0}) ReadFault) (store : Held) (after : Standing) (before new : List ℕ) : Type 0 where
+pub record ServedFrames (x : Setting) (h : History) (st : Standing) (frames : List Frame) (answer : Result (Unit {0}) ReadFault) (store : StoreState) (after : Standing) (before new : List ℕ) : Type 0 where
   pub middle : Standing
   pub bytes : List ℕ
   pub more : List Frame
   pub frames_are : ServedAll x h st frames store middle before bytes
   pub ends : EndsPiece answer middle after more
-  pub written : new ≡ bytes ++ flat_map spelling more
+  pub written : new ≡ bytes ++ flat_map encoding more
   pub each : AllByRecursion IsFrame more
 
--- memory was refused behind some of a piece's frames
-pub record StoppedFrames (x : Setting) (h : History) (st : Standing) (frames : List Frame) (answer : Result (Unit {0}) ReadFault) (store : Held) (before new : List ℕ) : Type 0 where
+-- memory was refused after some of a piece's frames
+pub record StoppedFrames (x : Setting) (h : History) (st : Standing) (frames : List Frame) (answer : Result (Unit {0}) ReadFault) (store : StoreState) (before new : List ℕ) : Type 0 where
   pub count : ℕ
   pub middle : Standing
   pub stop : IsStop answer frames count

@@ -8,11 +8,13 @@ ghost use Rattle.server_core.specs.Laws.{PiecesDecide, PiecesAgree, SessionsNeve
 ghost use Rattle.server_core.specs.Courses.{course_of, lacks_memory};
 ghost use Rattle.server_core.specs.Serving.{Setting, ServesAll};
 
-/// Where no frame is refused for want of memory, the replies, the standing and the history after them are
+/// Where no frame is refused for lack of memory, the replies, the standing and the history after them are
 /// determined by the setting, the history, the standing before and the frames, whatever other sessions do.
 pub fn frames_decide()
-    ensures { (x : Setting) (h : History) (st : Standing) (frames : List Frame) (h2 : History) (st2 : Standing) (replies : List Frame) →
-        ServesAll x h st frames h2 st2 replies → lacks_memory replies ≡ false → record { history = h2; standing = st2; replies = replies } ≡ course_of x h st frames }
+    ensures { (x : Setting) (h : History) (st : Standing) (frames : List Frame) (h2 : History)
+        (st2 : Standing) (replies : List Frame) →
+        ServesAll x h st frames h2 st2 replies → lacks_memory replies ≡ false →
+            record { history = h2; standing = st2; replies = replies } ≡ course_of x h st frames }
 {}
 
 /// What a feed leads to is decided by the setting, the history, this session and the piece, where memory isn't refused: the frames that the

@@ -1,8 +1,10 @@
-//! Replies, written behind those before.
+//! Replies, written after those before.
 
-ghost use Rattle.std.specs.Prelude.{◌≡◌, ◌≤◌, ◌<◌, ◌+◌, ◌*◌, ◌++◌, length, vec_len, vec_capacity, OnOk, OnErr, IfOk, IfSome, IfNone, true, false};
-ghost use Rattle.frame_codec.specs.Frames.{IsFrame, spelling, payload_size};
-ghost use Rattle.frame_codec.specs.declared.frame.Frame.TheVariants.{Answer, Done, HintPart, Stale, Welcome};
+ghost use Rattle.std.specs.Prelude.{◌≡◌, ◌≤◌, ◌<◌, ◌+◌, ◌*◌, ◌++◌, length, vec_len, vec_capacity,
+    OnOk, OnErr, IfOk, IfSome, IfNone, true, false};
+ghost use Rattle.frame_codec.specs.Frames.{IsFrame, encoding, payload_size};
+ghost use Rattle.frame_codec.specs.declared.frame.Frame.TheVariants.{Answer, Done, HintPart, Stale,
+    Welcome};
 ghost use Rattle.frame_codec.specs.Refusals.{refused};
 ghost use Rattle.pir_schemes.specs.Schemes.{scheme_byte};
 ghost use Rattle.pir_schemes.specs.Plans.{profile_of};
@@ -22,7 +24,7 @@ pub const SHORT_REPLY: usize = 64;
 fn put(reply: &Frame, out: &mut Vec<u8>)
     requires short { payload_size reply.now ≤ 59 }
     requires room { vec_len out.old + 64 ≤ vec_capacity out.old }
-    ensures items { out.new.items ≡ out.old.items ++ spelling reply.now }
+    ensures items { out.new.items ≡ out.old.items ++ encoding reply.now }
     ensures fits { IsFrame reply.now }
 {
     let _ = write_frame(reply, out);
@@ -31,7 +33,7 @@ fn put(reply: &Frame, out: &mut Vec<u8>)
 /// Adds a refusal.
 pub fn put_refused(why: Refusal, out: &mut Vec<u8>)
     requires { vec_len out.old + 64 ≤ vec_capacity out.old }
-    ensures items { out.new.items ≡ out.old.items ++ spelling (refused why) }
+    ensures items { out.new.items ≡ out.old.items ++ encoding (refused why) }
     ensures fits { IsFrame (refused why) }
 {
     put(&Frame::Refused { code: why.code() }, out);
@@ -40,7 +42,7 @@ pub fn put_refused(why: Refusal, out: &mut Vec<u8>)
 /// Adds that it is done.
 pub fn put_done(version: u64, out: &mut Vec<u8>)
     requires { vec_len out.old + 64 ≤ vec_capacity out.old }
-    ensures items { out.new.items ≡ out.old.items ++ spelling (Done version) }
+    ensures items { out.new.items ≡ out.old.items ++ encoding (Done version) }
     ensures fits { IsFrame (Done version) }
 {
     put(&Frame::Done { version }, out);
@@ -49,7 +51,8 @@ pub fn put_done(version: u64, out: &mut Vec<u8>)
 /// Adds the current version and its record count.
 pub fn put_stale<K: Kernel>(store: &Store<K>, out: &mut Vec<u8>)
     requires { vec_len out.old + 64 ≤ vec_capacity out.old }
-    ensures items { out.new.items ≡ out.old.items ++ spelling (Stale store.now.version (length store.now.edition.records)) }
+    ensures items { out.new.items ≡ out.old.items ++ encoding
+        (Stale store.now.version (length store.now.edition.records)) }
     ensures fits { IsFrame (Stale store.now.version (length store.now.edition.records)) }
 {
     let reply = Frame::Stale {
@@ -62,12 +65,15 @@ pub fn put_stale<K: Kernel>(store: &Store<K>, out: &mut Vec<u8>)
 /// Adds the sizes, the current version and the public seed.
 pub fn put_welcome<K: Kernel>(store: &Store<K>, out: &mut Vec<u8>)
     requires { vec_len out.old + 64 ≤ vec_capacity out.old }
-    ensures items { out.new.items ≡ out.old.items ++ spelling (Welcome (profile_of store.now.edition.plan)
+    ensures items { out.new.items ≡ out.old.items ++ encoding
+        (Welcome (profile_of store.now.edition.plan)
         store.now.edition.plan.width store.now.edition.plan.record_len store.now.edition.plan.groups
-        (length store.now.edition.records) store.now.version store.now.edition.plan.dimension store.now.edition.plan.seed) }
+        (length store.now.edition.records) store.now.version store.now.edition.plan.dimension
+            store.now.edition.plan.seed) }
     ensures fits { IsFrame (Welcome (profile_of store.now.edition.plan)
         store.now.edition.plan.width store.now.edition.plan.record_len store.now.edition.plan.groups
-        (length store.now.edition.records) store.now.version store.now.edition.plan.dimension store.now.edition.plan.seed) }
+        (length store.now.edition.records) store.now.version store.now.edition.plan.dimension
+            store.now.edition.plan.seed) }
 {
     let layout = store.layout();
     let reply = Frame::Welcome {
@@ -85,7 +91,8 @@ pub fn put_welcome<K: Kernel>(store: &Store<K>, out: &mut Vec<u8>)
 
 /// The words of a part of a scheme's hint.
 pub fn part_of_hint<K: Kernel>(store: &Store<K>, scheme: Scheme, part: u32) -> Option<&[u32]>
-    ensures none { IfNone result (has_part (setting_of store.now) scheme store.now.edition.records part ≡ false) }
+    ensures none { IfNone result
+        (has_part (setting_of store.now) scheme store.now.edition.records part ≡ false) }
     ensures some { IfSome result (λ words.
         has_part (setting_of store.now) scheme store.now.edition.records part ≡ true) }
     ensures words { IfSome result (λ words.
@@ -105,7 +112,8 @@ pub fn put_part(
     out: &mut Vec<u8>,
 ) -> Result<(), AllocError>
     requires { length words.now ≤ 65536 }
-    ensures ok { OnOk result (out.new.items ≡ out.old.items ++ spelling (HintPart (scheme_byte scheme) version part words.now)) }
+    ensures ok { OnOk result (out.new.items ≡ out.old.items ++ encoding
+        (HintPart (scheme_byte scheme) version part words.now)) }
     ensures fits { OnOk result (IsFrame (HintPart (scheme_byte scheme) version part words.now)) }
     ensures err { OnErr result (out.new.items ≡ out.old.items) }
     ensures room { vec_capacity out.old ≤ vec_capacity out.new }
@@ -129,8 +137,10 @@ pub fn put_answer<K: Kernel>(
     words: &Words,
     out: &mut Vec<u8>,
 ) -> Result<(), AllocError>
-    requires { length words.now ≡ words_asked (setting_of store.now) scheme store.now.edition.records }
-    ensures ok { OnOk result (out.new.items ≡ out.old.items ++ spelling (Answer (scheme_byte scheme) store.now.version
+    requires { length words.now ≡
+        words_asked (setting_of store.now) scheme store.now.edition.records }
+    ensures ok { OnOk result (out.new.items ≡ out.old.items ++ encoding
+        (Answer (scheme_byte scheme) store.now.version
         (answer_words scheme store.now.edition.plan store.now.edition.records words.now))) }
     ensures fits { OnOk result (IsFrame (Answer (scheme_byte scheme) store.now.version
         (answer_words scheme store.now.edition.plan store.now.edition.records words.now))) }
@@ -152,7 +162,8 @@ fn answer_to<K: Kernel>(
     scheme: Scheme,
     words: &[u32],
 ) -> Result<Vec<u32>, AllocError>
-    requires { length words.now ≡ words_asked (setting_of store.now) scheme store.now.edition.records }
+    requires { length words.now ≡
+        words_asked (setting_of store.now) scheme store.now.edition.records }
     ensures words { IfOk result (λ v.
         v.items ≡ answer_words scheme store.now.edition.plan store.now.edition.records words.now) }
     ensures few { IfOk result (λ v. length v.items ≤ 2109444) }

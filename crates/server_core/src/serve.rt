@@ -1,11 +1,13 @@
 //! Frames, served one after another.
 
 ghost use Rattle.std.specs.Prelude.{◌≡◌, ◌≤◌, ◌+◌, ◌++◌, vec_len, vec_capacity, OnErr, IfOk};
-ghost use Rattle.frame_codec.specs.Frames.{IsFrame, spelling};
-ghost use Rattle.frame_codec.specs.declared.frame.Frame.TheVariants.{Edit, Hello, HintAsk, Publish, Query};
+ghost use Rattle.frame_codec.specs.Frames.{IsFrame, encoding};
+ghost use Rattle.frame_codec.specs.declared.frame.Frame.TheVariants.{Edit, Hello, HintAsk, Publish,
+    Query};
 ghost use Rattle.frame_codec.specs.Refusals.{refused};
 ghost use Rattle.version_store.specs.Histories.{History, StandsFor};
-ghost use Rattle.server_core.specs.Serving.{setting_of, is_publisher_key, is_reader_key, Serves, ServedAll, BrokenOff, IsFull};
+ghost use Rattle.server_core.specs.Serving.{setting_of, is_publisher_key, is_reader_key, Serves,
+    ServedAll, BrokenOff, IsFull};
 
 use crate::replies::{
     SHORT_REPLY, part_of_hint, put_answer, put_done, put_part, put_refused, put_stale, put_welcome,
@@ -41,7 +43,9 @@ fn serve_hello<K: Kernel>(
     out: &mut Vec<u8>,
 ) -> Standing
     requires { vec_len out.old + 64 ≤ vec_capacity out.old }
-    ensures { (h : History) → StandsFor store.now h → Serves (setting_of store.now) h standing (Hello profile key.now) store.now result out.old.items out.new.items }
+    ensures { (h : History) → StandsFor store.now h →
+        Serves (setting_of store.now) h standing
+        (Hello profile key.now) store.now result out.old.items out.new.items }
 {
     if profile != PROFILE {
         put_refused(Refusal::BadProfile, out);
@@ -70,7 +74,9 @@ fn serve_hint_ask<K: Kernel>(
     out: &mut Vec<u8>,
 )
     requires { vec_len out.old + 64 ≤ vec_capacity out.old }
-    ensures { (h : History) → StandsFor store.now h → Serves (setting_of store.now) h standing (HintAsk scheme version part) store.now standing out.old.items out.new.items }
+    ensures { (h : History) → StandsFor store.now h →
+        Serves (setting_of store.now) h standing
+        (HintAsk scheme version part) store.now standing out.old.items out.new.items }
 {
     if !standing.is_welcome() {
         return put_refused(Refusal::NotWelcome, out);
@@ -101,7 +107,9 @@ fn serve_query<K: Kernel>(
     out: &mut Vec<u8>,
 )
     requires { vec_len out.old + 64 ≤ vec_capacity out.old }
-    ensures { (h : History) → StandsFor store.now h → Serves (setting_of store.now) h standing (Query scheme version words.now) store.now standing out.old.items out.new.items }
+    ensures { (h : History) → StandsFor store.now h →
+        Serves (setting_of store.now) h standing
+        (Query scheme version words.now) store.now standing out.old.items out.new.items }
 {
     if !standing.is_welcome() {
         return put_refused(Refusal::NotWelcome, out);
@@ -129,7 +137,9 @@ fn serve_edit<K: Kernel>(
     out: &mut Vec<u8>,
 )
     requires { vec_len out.old + 64 ≤ vec_capacity out.old }
-    ensures { (h : History) → StandsFor store.old h → Serves (setting_of store.old) h standing (Edit index bytes.now) store.new standing out.old.items out.new.items }
+    ensures { (h : History) → StandsFor store.old h →
+        Serves (setting_of store.old) h standing
+        (Edit index bytes.now) store.new standing out.old.items out.new.items }
 {
     if !standing.is_welcome() {
         put_refused(Refusal::NotWelcome, out);
@@ -150,7 +160,9 @@ fn serve_edit<K: Kernel>(
 /// Publishes the draft.
 fn serve_publish<K: Kernel>(store: &mut Store<K>, standing: Standing, out: &mut Vec<u8>)
     requires { vec_len out.old + 64 ≤ vec_capacity out.old }
-    ensures { (h : History) → StandsFor store.old h → Serves (setting_of store.old) h standing Publish store.new standing out.old.items out.new.items }
+    ensures { (h : History) → StandsFor store.old h →
+        Serves (setting_of store.old) h standing Publish store.new standing out.old.items
+        out.new.items }
 {
     if !standing.is_welcome() {
         put_refused(Refusal::NotWelcome, out);
@@ -172,7 +184,7 @@ fn serve_publish<K: Kernel>(store: &mut Store<K>, standing: Standing, out: &mut 
 fn serve_bad_frame(out: &mut Vec<u8>) -> Standing
     requires { vec_len out.old + 64 ≤ vec_capacity out.old }
     ensures standing { result ≡ Standing.Closed }
-    ensures items { out.new.items ≡ out.old.items ++ spelling (refused Refusal.BadFrame) }
+    ensures items { out.new.items ≡ out.old.items ++ encoding (refused Refusal.BadFrame) }
     ensures fits { IsFrame (refused Refusal.BadFrame) }
 {
     put_refused(Refusal::BadFrame, out);
@@ -188,7 +200,9 @@ fn serve_with_room<K: Kernel>(
     out: &mut Vec<u8>,
 ) -> Standing
     requires { vec_len out.old + 64 ≤ vec_capacity out.old }
-    ensures { (h : History) → StandsFor store.old h → Serves (setting_of store.old) h standing frame.now store.new result out.old.items out.new.items }
+    ensures { (h : History) → StandsFor store.old h →
+        Serves (setting_of store.old) h standing frame.now store.new result out.old.items
+        out.new.items }
 {
     match frame {
         Frame::Hello { profile, key } => serve_hello(store, standing, *profile, key, out),
@@ -230,7 +244,9 @@ fn serve_frame<K: Kernel>(
     frame: &Frame,
     out: &mut Vec<u8>,
 ) -> Result<Standing, AllocError>
-    ensures ok { IfOk result (λ after. (h : History) → StandsFor store.old h → Serves (setting_of store.old) h standing frame.now store.new after out.old.items out.new.items) }
+    ensures ok { IfOk result (λ after. (h : History) → StandsFor store.old h →
+        Serves (setting_of store.old) h standing frame.now store.new after out.old.items
+        out.new.items) }
     ensures err { OnErr result ((store.new ≡ store.old) × (out.new.items ≡ out.old.items)) }
     ensures full { OnErr result (IsFull out.new) }
 {
@@ -247,8 +263,12 @@ pub fn serve_frames<K: Kernel>(
     frames: &[Frame],
     out: &mut Vec<u8>,
 ) -> Result<Standing, AllocError>
-    ensures ok { IfOk result (λ after. (h : History) → StandsFor store.old h → ServedAll (setting_of store.old) h standing frames.now store.new after out.old.items out.new.items) }
-    ensures err { OnErr result ((h : History) → StandsFor store.old h → BrokenOff (setting_of store.old) h standing frames.now store.new out.old.items out.new.items) }
+    ensures ok { IfOk result (λ after. (h : History) → StandsFor store.old h →
+        ServedAll (setting_of store.old) h standing frames.now store.new after out.old.items
+        out.new.items) }
+    ensures err { OnErr result ((h : History) → StandsFor store.old h →
+        BrokenOff (setting_of store.old) h standing frames.now store.new out.old.items
+        out.new.items) }
     ensures full { OnErr result (IsFull out.new) }
 {
     for frame in frames {

@@ -1,8 +1,9 @@
 //! Sessions over one store.
 
-ghost use Rattle.std.specs.Prelude.{◌≡◌, ◌≢◌, ◌⊎◌, ◌≤◌, ◌<◌, ◌^◌, ◌+◌, ◌↔◌, ℕ, length, OnOk, OnErr, IfOk, IsSome, Some, None, IsErrOf, is_some, slice_set, true, false};
+ghost use Rattle.std.specs.Prelude.{◌≡◌, ◌≢◌, ◌⊎◌, ◌≤◌, ◌<◌, ◌^◌, ◌+◌, ◌↔◌, ℕ, length, OnOk, OnErr,
+    IfOk, IsSome, Some, None, IsErrOf, is_some, slice_set, true, false};
 ghost use Rattle.pir_schemes.specs.Plans.{fits};
-ghost use Rattle.version_store.specs.Histories.{History, StandsFor, edited, published};
+ghost use Rattle.version_store.specs.Histories.{History, StandsFor, after_edit, published};
 ghost use Rattle.server_core.specs.Cores.{session_of, is_open, FeedsCore, HasFailed, OnNoSession};
 ghost use Rattle.server_core.specs.Serving.{setting_of, IsFull};
 ghost use Rattle.server_core.specs.Sessions as sessions;
@@ -71,12 +72,14 @@ impl<K: Kernel> ServerCore<K> {
 
     /// Opens a session: its stream is empty so far, and no greeting was accepted.
     ///
-    /// `IdInUse` exactly where there is one of this number, also a closed one; else it is opened, or `Memory`.
+    /// `IdInUse` exactly when there is one of this number, also a closed one; else it is opened, or `Memory`.
     /// A refused opening changes nothing.
     pub fn open_session(&mut self, id: u64) -> Result<(), OpenError>
         ensures opened { OnOk result (session_of self.new.sessions id ≡ Some sessions.new_session) }
-        ensures in_use { IsErrOf result OpenError.IdInUse ↔ IsSome (session_of self.old.sessions id) }
-        ensures others { (other : ℕ) → other ≢ id → session_of self.new.sessions other ≡ session_of self.old.sessions other }
+        ensures in_use { IsErrOf result OpenError.IdInUse ↔ IsSome
+            (session_of self.old.sessions id) }
+        ensures others { (other : ℕ) → other ≢ id →
+            session_of self.new.sessions other ≡ session_of self.old.sessions other }
         ensures store { self.new.store ≡ self.old.store }
         ensures refused { OnErr result (self.new ≡ self.old) }
     {
@@ -93,7 +96,8 @@ impl<K: Kernel> ServerCore<K> {
     pub fn close_session(&mut self, id: u64) -> bool
         ensures was { result ≡ is_some (session_of self.old.sessions id) }
         ensures gone { session_of self.new.sessions id ≡ None }
-        ensures others { (other : ℕ) → other ≢ id → session_of self.new.sessions other ≡ session_of self.old.sessions other }
+        ensures others { (other : ℕ) → other ≢ id →
+            session_of self.new.sessions other ≡ session_of self.old.sessions other }
         ensures store { self.new.store ≡ self.old.store }
     {
         self.sessions.remove(&id).is_some()
@@ -129,10 +133,12 @@ impl<K: Kernel> ServerCore<K> {
           draft = slice_set self.old.store.draft i bytes.now;
           marked = true;
         }) }
-        ensures history { OnOk result ((h : History) → StandsFor self.old.store h → StandsFor self.new.store (edited i bytes.now h)) }
+        ensures history { OnOk result ((h : History) → StandsFor self.old.store h →
+            StandsFor self.new.store (after_edit i bytes.now h)) }
         ensures bad_index { IsErrOf result EditError.BadIndex ↔ (length self.old.store.draft ≤ i) }
         ensures bad_length { IsErrOf result EditError.BadLength ↔
-            (i < length self.old.store.draft) × (fits self.old.store.edition.plan bytes.now ≡ false) }
+            (i < length self.old.store.draft) ×
+                (fits self.old.store.edition.plan bytes.now ≡ false) }
         ensures refused { OnErr result (self.new.store ≡ self.old.store) }
         ensures sessions { self.new.sessions ≡ self.old.sessions }
     {
@@ -148,9 +154,12 @@ impl<K: Kernel> ServerCore<K> {
           edition = record self.old.store.edition { records = self.old.store.draft };
           marked = false;
         }) }
-        ensures history { OnOk result ((h : History) → StandsFor self.old.store h → StandsFor self.new.store (published h)) }
-        ensures nothing { IsErrOf result PublishError.NothingToPublish ↔ (self.old.store.marked ≡ false) }
-        ensures used_up { IsErrOf result PublishError.VersionsUsedUp ↔ (self.old.store.marked ≡ true) × (self.old.store.version + 1 ≡ 2 ^ 64) }
+        ensures history { OnOk result ((h : History) → StandsFor self.old.store h →
+            StandsFor self.new.store (published h)) }
+        ensures nothing { IsErrOf result PublishError.NothingToPublish ↔ (self.old.store.marked ≡
+            false) }
+        ensures used_up { IsErrOf result PublishError.VersionsUsedUp ↔ (self.old.store.marked ≡
+            true) × (self.old.store.version + 1 ≡ 2 ^ 64) }
         ensures refused { OnErr result (self.new.store ≡ self.old.store) }
         ensures sessions { self.new.sessions ≡ self.old.sessions }
     {
@@ -160,17 +169,23 @@ impl<K: Kernel> ServerCore<K> {
     /// Takes the next piece of a session's stream, and adds to `out` the replies to the frames that are whole
     /// now, each served against the version that is current then.
     ///
-    /// `NoSession` exactly where there is no session of this number: nothing changes. At `Memory` the session
+    /// `NoSession` exactly when there is no session of this number: nothing changes. At `Memory` the session
     /// is closed and `out` has gained the whole replies to the frames before the one at hand, which isn't
     /// served. A closed session takes bytes and replies nothing. No other session changes.
     pub fn feed(&mut self, id: u64, piece: &[u8], out: &mut Vec<u8>) -> Result<(), FeedError>
-        ensures fed { (h : History) → StandsFor self.old.store h → (old : sessions.Session) → session_of self.old.sessions id ≡ Some old →
+        ensures fed { (h : History) → StandsFor self.old.store h → (old : sessions.Session) →
+            session_of self.old.sessions id ≡ Some old →
             (new : sessions.Session) × (session_of self.new.sessions id ≡ Some new)
-            × FeedsCore (setting_of self.old.store) h old piece.now result self.new.store new out.old.items out.new.items }
-        ensures no_session { IsErrOf result FeedError.NoSession ↔ (session_of self.old.sessions id ≡ None) }
-        ensures full { IsErrOf result FeedError.Memory → IsFull out.new ⊎ HasFailed (session_of self.new.sessions id) }
-        ensures unchanged { OnNoSession result ((self.new ≡ self.old) × (out.new.items ≡ out.old.items)) }
-        ensures others { (other : ℕ) → other ≢ id → session_of self.new.sessions other ≡ session_of self.old.sessions other }
+            × FeedsCore (setting_of self.old.store) h old piece.now result self.new.store new
+                out.old.items out.new.items }
+        ensures no_session { IsErrOf result FeedError.NoSession ↔
+            (session_of self.old.sessions id ≡ None) }
+        ensures full { IsErrOf result FeedError.Memory → IsFull out.new ⊎
+            HasFailed (session_of self.new.sessions id) }
+        ensures unchanged { OnNoSession result ((self.new ≡ self.old) ×
+            (out.new.items ≡ out.old.items)) }
+        ensures others { (other : ℕ) → other ≢ id →
+            session_of self.new.sessions other ≡ session_of self.old.sessions other }
     {
         let Some(session) = self.sessions.get_mut(&id) else {
             return Err(FeedError::NoSession);

@@ -2,7 +2,7 @@
 
 ghost use Rattle.std.specs.Prelude.{◌≡◌, ◌⊎◌, ◌++◌, IfOk, IsErr, None, OnErr, OnOk};
 ghost use Rattle.frame_codec.specs.Refusals.{refused};
-ghost use Rattle.frame_codec.specs.Frames.{IsFrame, spelling};
+ghost use Rattle.frame_codec.specs.Frames.{IsFrame, encoding};
 ghost use Rattle.version_store.specs.Histories.{History, StandsFor};
 ghost use Rattle.server_core.specs.Serving.{setting_of, is_closed, IsFull};
 ghost use Rattle.server_core.specs.Sessions.{new_session, Ended, Fed, ServedFrames, StoppedFrames};
@@ -61,7 +61,9 @@ impl Session {
         piece: &[u8],
         out: &mut Vec<u8>,
     ) -> Result<(), AllocError>
-        ensures fed { (h : History) → StandsFor store.old h → Fed (setting_of store.old) h self.old piece.now result store.new self.new out.old.items out.new.items }
+        ensures fed { (h : History) → StandsFor store.old h →
+            Fed (setting_of store.old) h self.old piece.now result store.new self.new out.old.items
+            out.new.items }
         ensures full { OnErr result (IsFull out.new ⊎ (self.new.unfinished ≡ None)) }
     {
         if self.standing.is_closed() {
@@ -92,8 +94,12 @@ fn serve_piece<K: Kernel>(
     read: Result<(), ReadFault>,
     out: &mut Vec<u8>,
 ) -> Result<Standing, AllocError>
-    ensures ok { IfOk result (λ after. (h : History) → StandsFor store.old h → ServedFrames (setting_of store.old) h standing frames.now read store.new after out.old.items out.new.items) }
-    ensures err { OnErr result ((h : History) → StandsFor store.old h → StoppedFrames (setting_of store.old) h standing frames.now read store.new out.old.items out.new.items) }
+    ensures ok { IfOk result (λ after. (h : History) → StandsFor store.old h →
+        ServedFrames (setting_of store.old) h standing frames.now read store.new after
+        out.old.items out.new.items) }
+    ensures err { OnErr result ((h : History) → StandsFor store.old h →
+        StoppedFrames (setting_of store.old) h standing frames.now read store.new out.old.items
+        out.new.items) }
     ensures full { OnErr result (IsFull out.new ⊎ IsErr read) }
 {
     let middle = match serve_frames(alloc, store, standing, frames, out) {
@@ -130,7 +136,8 @@ fn end_piece(
 /// Refuses what can't be read, and closes the session. At an `Err` memory was refused, and nothing was added.
 fn refuse(out: &mut Vec<u8>) -> Result<Standing, AllocError>
     ensures closed { IfOk result (λ after. after ≡ Standing.Closed) }
-    ensures items { OnOk result (out.new.items ≡ out.old.items ++ spelling (refused Refusal.BadFrame)) }
+    ensures items { OnOk result (out.new.items ≡ out.old.items ++ encoding
+        (refused Refusal.BadFrame)) }
     ensures fits { OnOk result (IsFrame (refused Refusal.BadFrame)) }
     ensures err { OnErr result (out.new.items ≡ out.old.items) }
     ensures full { OnErr result (IsFull out.new) }

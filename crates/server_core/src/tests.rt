@@ -102,20 +102,20 @@ fn joined(alloc: Global, parts: &[&[u8]]) -> Result<Vec<u8>, Fail> {
     Ok(whole)
 }
 
-// Pieces of one session, each with what it is told.
+// Pieces of one session, each with what it is answered.
 type Dialogue = &'static [(&'static [&'static [u8]], &'static [&'static [u8]])];
 
-// Feeds a session a piece, and compares what it is told.
+// Feeds a session a piece, and compares what it is answered.
 fn check(
     rt: &impl Abort,
     alloc: Global,
     server: &mut ServerCore<Plain>,
     id: u64,
     asked: &[&[u8]],
-    told: &[&[u8]],
+    reported: &[&[u8]],
 ) -> Result<(), Fail> {
     let piece = joined(alloc, asked)?;
-    let wanted = joined(alloc, told)?;
+    let wanted = joined(alloc, reported)?;
     let mut out = Vec::new(alloc);
     server.feed(id, &piece, &mut out)?;
     assert_eq!(rt; out.as_slice(), wanted.as_slice());
@@ -134,8 +134,8 @@ const RETRIEVAL: Dialogue = &[
 #[test]
 fn a_reader_gets_the_hint_and_answers(rt: HostRuntime) -> Result<(), Fail> {
     let mut server = server(&rt, rt.alloc(), RECORDS, 1)?;
-    for (asked, told) in RETRIEVAL {
-        check(&rt, rt.alloc(), &mut server, 0, asked, told)?;
+    for (asked, reported) in RETRIEVAL {
+        check(&rt, rt.alloc(), &mut server, 0, asked, reported)?;
     }
     assert_eq!(rt; server.has_session(0), true);
     Ok(())
@@ -217,8 +217,8 @@ const REFUSALS: Dialogue = &[
 #[test]
 fn refusals_come_in_this_order(rt: HostRuntime) -> Result<(), Fail> {
     let mut server = server(&rt, rt.alloc(), RECORDS, 1)?;
-    for (asked, told) in REFUSALS {
-        check(&rt, rt.alloc(), &mut server, 0, asked, told)?;
+    for (asked, reported) in REFUSALS {
+        check(&rt, rt.alloc(), &mut server, 0, asked, reported)?;
     }
     Ok(())
 }
@@ -279,12 +279,12 @@ const QUERIES: Dialogue = &[
 ];
 
 #[test]
-fn an_old_version_is_told_before_the_word_count(rt: HostRuntime) -> Result<(), Fail> {
+fn an_old_version_is_reported_before_the_word_count(rt: HostRuntime) -> Result<(), Fail> {
     let mut server = server(&rt, rt.alloc(), &[1, 2, 3, 4, 5], 3)?;
     let mut out = Vec::new(rt.alloc());
     server.feed(0, &joined(rt.alloc(), &[GREETING, ZEROS])?, &mut out)?;
-    for (asked, told) in QUERIES {
-        check(&rt, rt.alloc(), &mut server, 0, asked, told)?;
+    for (asked, reported) in QUERIES {
+        check(&rt, rt.alloc(), &mut server, 0, asked, reported)?;
     }
     Ok(())
 }
@@ -316,8 +316,8 @@ const LAST_VERSION: Dialogue = &[
 #[test]
 fn the_last_version_is_served_and_not_followed(rt: HostRuntime) -> Result<(), Fail> {
     let mut server = server(&rt, rt.alloc(), RECORDS, u64::MAX)?;
-    for (asked, told) in LAST_VERSION {
-        check(&rt, rt.alloc(), &mut server, 0, asked, told)?;
+    for (asked, reported) in LAST_VERSION {
+        check(&rt, rt.alloc(), &mut server, 0, asked, reported)?;
     }
     Ok(())
 }
@@ -354,13 +354,13 @@ fn a_session_is_served_beside_closed_ones(rt: HostRuntime) -> Result<(), Fail> {
 #[test]
 fn a_query_is_served_when_its_last_byte_comes(rt: HostRuntime) -> Result<(), Fail> {
     let mut server = server(&rt, rt.alloc(), RECORDS, 1)?;
-    let (front, rest) = QUERY.split_at(11);
+    let (prefix, rest) = QUERY.split_at(11);
     check(
         &rt,
         rt.alloc(),
         &mut server,
         0,
-        &[GREETING, ZEROS, front],
+        &[GREETING, ZEROS, prefix],
         &[WELCOME, ZEROS],
     )?;
     server.open_session(1)?;

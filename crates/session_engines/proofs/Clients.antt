@@ -8,10 +8,10 @@ use Rattle.frame_codec.specs.declared.frame.Frame.{Frame}
 use Rattle.frame_codec.specs.declared.frame.Frame.TheVariants as frame
 use Rattle.frame_codec.specs.declared.reader.ReadFault.{ReadFault}
 use Rattle.frame_codec.specs.declared.reader.ReadFault.TheVariants as read_fault
-use Rattle.frame_codec.specs.Frames.{IsFrame, spelling}
+use Rattle.frame_codec.specs.Frames.{IsFrame, encoding}
 use Rattle.frame_codec.specs.Streams.{Feeds}
 use Rattle.client_core.specs.declared.state.ClientState.{ClientState}
-use Rattle.client_core.specs.declared.state.Known.{Known}
+use Rattle.client_core.specs.declared.state.ServerInfo.{ServerInfo}
 use Rattle.client_core.specs.declared.state.Hint.{Hint}
 use Rattle.client_core.specs.declared.state.Call.{Call}
 use Rattle.client_core.specs.declared.state.Call.TheVariants.{Idle, Hello, Sync, Ask, Edit, Publish}
@@ -21,7 +21,7 @@ use Rattle.client_core.specs.declared.state.Event.{Event}
 use Rattle.pir_schemes.specs.declared.scheme.Scheme.{Scheme}
 use Rattle.pir_schemes.specs.Retrievals.{hint_len}
 use Rattle.digit_pack.specs.Layout.{Shape}
-use Rattle.client_core.specs.Replies.{Taken, faulty, takes, takes_welcome, takes_part, takes_answer, takes_stale, takes_done, takes_refused, is_welcome, is_part, more_parts, takes_asked_part, answered, staled}
+use Rattle.client_core.specs.Replies.{Taken, faulty, reaction_to_reply, takes_welcome, takes_part, takes_answer, takes_stale, takes_done, takes_refused, is_welcome, is_part, more_parts, takes_asked_part, answered, staled}
 use Rattle.client_core.specs.Feeding.{Client, Course, start, goes_on, course_more, runs, takes_all, sends_of, fault_of, codec_fault, failing, ends_with, Gives, Follows, BreaksOff, FeedsOpen, FeedsFailed, FeedsClient}
 use Rattle.client_core.proofs.Courses.{runs_append, fault_stays}
 use Rattle.session_engines.proofs.Streams.{each_both, take_both, feeds_both}
@@ -45,7 +45,7 @@ sound_welcome (Ask i s w k) c profile l n v seed = bad c client.BadReply
 sound_welcome (Edit i b) c profile l n v seed = bad c client.BadReply
 sound_welcome Publish c profile l n v seed = bad c client.BadReply
 
-sound_asked : (known : Option Known) (s : Scheme) (c : ClientState) (asked next scheme version part : ℕ) (words : List ℕ) → IsSound c (takes_asked_part known s c asked next scheme version part words)
+sound_asked : (known : Option ServerInfo) (s : Scheme) (c : ClientState) (asked next scheme version part : ℕ) (words : List ℕ) → IsSound c (takes_asked_part known s c asked next scheme version part words)
 sound_asked None s c asked next scheme version part words = bad c client.BadReply
 sound_asked (Some k) s c asked next scheme version part words =
     either c (is_part s (hint_len s k.layout k.dimension) asked next scheme version part words) (more_parts s k c asked next (c.parts ++ words)) (faulty c client.BadReply)
@@ -59,7 +59,7 @@ sound_part (Ask i s v k) c scheme version part words = bad c client.BadReply
 sound_part (Edit i b) c scheme version part words = bad c client.BadReply
 sound_part Publish c scheme version part words = bad c client.BadReply
 
-sound_answered : (known : Option Known) (hint : Option Hint) (c : ClientState) (i asked number scheme version : ℕ) (words : List ℕ) → IsSound c (answered known hint c i asked number scheme version words)
+sound_answered : (known : Option ServerInfo) (hint : Option Hint) (c : ClientState) (i asked number scheme version : ℕ) (words : List ℕ) → IsSound c (answered known hint c i asked number scheme version words)
 sound_answered None hint c i asked number scheme version words = bad c client.BadReply
 sound_answered (Some k) None c i asked number scheme version words = bad c client.BadReply
 sound_answered (Some k) (Some h) c i asked number scheme version words = either c _ _ (faulty c client.BadReply) (λ _. (refl, refl)) (bad c client.BadReply)
@@ -72,7 +72,7 @@ sound_answer (Ask i s v k) c scheme version words = sound_answered c.known c.hin
 sound_answer (Edit i b) c scheme version words = bad c client.BadReply
 sound_answer Publish c scheme version words = bad c client.BadReply
 
-sound_staled : (known : Option Known) (after c : ClientState) (asked version count : ℕ) → (after.failed ≡ c.failed) × (after.number ≡ c.number) → IsSound c (staled known after c asked version count)
+sound_staled : (known : Option ServerInfo) (after c : ClientState) (asked version count : ℕ) → (after.failed ≡ c.failed) × (after.number ≡ c.number) → IsSound c (staled known after c asked version count)
 sound_staled None after c asked version count e = bad c client.BadReply
 sound_staled (Some k) after c asked version count e = either c _ _ (faulty c client.BadReply) (λ _. e) (bad c client.BadReply)
 
@@ -100,7 +100,7 @@ sound_refused (Ask i s v k) c code = λ _. (refl, refl)
 sound_refused (Edit i b) c code = λ _. (refl, refl)
 sound_refused Publish c code = λ _. (refl, refl)
 
-sound : (c : ClientState) (f : Frame) → IsSound c (takes c f)
+sound : (c : ClientState) (f : Frame) → IsSound c (reaction_to_reply c f)
 sound c (frame.Load record_len groups width records) = bad c client.BadReply
 sound c (frame.Hello profile key) = bad c client.BadReply
 sound c (frame.HintAsk scheme version part) = bad c client.BadReply
@@ -123,12 +123,12 @@ Lives c d = (d.failed ≡ c.failed) × (d.number ≡ c.number)
 
 more_lives : (k : Course) (f : Frame) (o : Option ClientFault) → k.fault ≡ o → (course_more k f).fault ≡ None → Lives k.state (course_more k f).state
 more_lives k f (Some x) e n =
-    let P : Option ClientFault → Type 0 = λ o. (if is_some o then k else goes_on k (takes k.state f)).fault ≡ k.fault in
+    let P : Option ClientFault → Type 0 = λ o. (if is_some o then k else goes_on k (reaction_to_reply k.state f)).fault ≡ k.fault in
     let same : (course_more k f).fault ≡ k.fault = subst P (sym e) refl in
     none_is_not k.fault x e (sym same ∙ n)
 more_lives k f None e n =
-    let Q : Option ClientFault → Type 0 = λ o. (if is_some o then k else goes_on k (takes k.state f)) ≡ goes_on k (takes k.state f) in
-    let same : course_more k f ≡ goes_on k (takes k.state f) = subst Q (sym e) refl in
+    let Q : Option ClientFault → Type 0 = λ o. (if is_some o then k else goes_on k (reaction_to_reply k.state f)) ≡ goes_on k (reaction_to_reply k.state f) in
+    let same : course_more k f ≡ goes_on k (reaction_to_reply k.state f) = subst Q (sym e) refl in
     let s = sound k.state f (ap (λ (y : Course). y.fault) (sym same) ∙ n) in
     (ap (λ (y : Course). y.state.failed) same ∙ s.0, ap (λ (y : Course). y.state.number) same ∙ s.1)
 
@@ -142,26 +142,26 @@ runs_lives k (f ∷ fs) n = by_next (course_more k f).fault refl (runs_lives (co
         (later.0 ∙ one.0, later.1 ∙ one.1)
     by_next (Some x) e later = none_is_not (course_more k f).fault x e (ap (λ (y : Course). y.fault) (sym (fault_stays (course_more k f) fs x e)) ∙ n)
 
--- ---- a course behind what was sent before
+-- ---- a course after what was sent before
 
-abbrev behind : List Frame → Course → Course
-behind s k = record { state = k.state; sends = s ++ k.sends; events = k.events; fault = k.fault }
+abbrev beyond : List Frame → Course → Course
+beyond s k = record { state = k.state; sends = s ++ k.sends; events = k.events; fault = k.fault }
 
 abbrev course : ClientState → List Frame → List Event → Option ClientFault → Course
 course c ss es o = record { state = c; sends = ss; events = es; fault = o }
 
-more_behind : (s : List Frame) (c : ClientState) (ss : List Frame) (es : List Event) (o : Option ClientFault) (f : Frame) → course_more (behind s (course c ss es o)) f ≡ behind s (course_more (course c ss es o) f)
-more_behind s c ss es None f = rw (append_assoc s ss (sends_of (takes c f).reaction)) refl
-more_behind s c ss es (Some x) f = refl
+more_after : (s : List Frame) (c : ClientState) (ss : List Frame) (es : List Event) (o : Option ClientFault) (f : Frame) → course_more (beyond s (course c ss es o)) f ≡ beyond s (course_more (course c ss es o) f)
+more_after s c ss es None f = rw (append_assoc s ss (sends_of (reaction_to_reply c f).reaction)) refl
+more_after s c ss es (Some x) f = refl
 
-runs_behind : (s : List Frame) (k : Course) (fs : List Frame) → runs (behind s k) fs ≡ behind s (runs k fs)
-runs_behind s k [] = refl
-runs_behind s k (f ∷ fs) = ap (λ (y : Course). runs y fs) (more_behind s k.state k.sends k.events k.fault f) ∙ runs_behind s (course_more k f) fs
+runs_after : (s : List Frame) (k : Course) (fs : List Frame) → runs (beyond s k) fs ≡ beyond s (runs k fs)
+runs_after s k [] = refl
+runs_after s k (f ∷ fs) = ap (λ (y : Course). runs y fs) (more_after s k.state k.sends k.events k.fault f) ∙ runs_after s (course_more k f) fs
 
-failing_behind : (s : List Frame) (c : ClientState) (ss : List Frame) (es : List Event) (o fault : Option ClientFault) → failing (behind s (course c ss es o)) fault ≡ behind s (failing (course c ss es o) fault)
-failing_behind s c ss es o None = refl
-failing_behind s c ss es None (Some x) = refl
-failing_behind s c ss es (Some y) (Some x) = refl
+failing_after : (s : List Frame) (c : ClientState) (ss : List Frame) (es : List Event) (o fault : Option ClientFault) → failing (beyond s (course c ss es o)) fault ≡ beyond s (failing (course c ss es o) fault)
+failing_after s c ss es o None = refl
+failing_after s c ss es None (Some x) = refl
+failing_after s c ss es (Some y) (Some x) = refl
 
 failing_fails : (c : ClientState) (ss : List Frame) (es : List Event) (o : Option ClientFault) (x : ClientFault) → (failing (course c ss es o) (Some x)).fault ≡ None → ⊥
 failing_fails c ss es None x n = let no : Some x ≡ None = n in cc
@@ -182,9 +182,9 @@ record First (old : Client) (read out : List ℕ) (mid : Client) : Type 0 where
   frames : List Frame
   reads : Feeds old.reader read (Ok tt) frames mid.reader
   sends : List Frame
-  out_is : out ≡ flat_map spelling sends
+  out_is : out ≡ flat_map encoding sends
   each : AllByRecursion IsFrame sends
-  course_is : takes_all old.state frames ≡ behind sends (start mid.state)
+  course_is : takes_all old.state frames ≡ beyond sends (start mid.state)
   lives : Lives old.state mid.state
 
 first_followed : (old : Client) (read out : List ℕ) (mid : Client) (frames : List Frame) (answer : Result (Unit {0}) ReadFault) → Feeds old.reader read answer frames mid.reader
@@ -202,7 +202,7 @@ first_followed old read out mid frames answer reads f =
       out_is = g.gives.written;
       each = g.gives.each;
       course_is = ap (λ (c : ClientState). make c k.sends k.events k.fault) (sym g.state)
-          ∙ ap (λ (es : List Event). make mid.state k.sends es k.fault) (sym g.gives.told)
+          ∙ ap (λ (es : List Event). make mid.state k.sends es k.fault) (sym g.gives.reported)
           ∙ ap (λ (o : Option ClientFault). make mid.state k.sends [] o) (sym g.fault_is)
           ∙ ap (λ (ss : List Frame). make mid.state ss [] None) (sym (append-nil k.sends));
       lives = subst (Lives old.state) (sym g.state) (runs_lives (start old.state) frames (sym g.fault_is));
@@ -215,36 +215,36 @@ first_of old read out mid a = elim a.takes [
 ]
 
 -- the course of both
-both_run : (old : Client) (read out : List ℕ) (mid : Client) (a : First old read out mid) (gs : List Frame) → takes_all old.state (a.frames ++ gs) ≡ behind a.sends (takes_all mid.state gs)
+both_run : (old : Client) (read out : List ℕ) (mid : Client) (a : First old read out mid) (gs : List Frame) → takes_all old.state (a.frames ++ gs) ≡ beyond a.sends (takes_all mid.state gs)
 both_run old read out mid a gs =
-    runs_append (start old.state) a.frames gs ∙ ap (λ (y : Course). runs y gs) a.course_is ∙ runs_behind a.sends (start mid.state) gs
+    runs_append (start old.state) a.frames gs ∙ ap (λ (y : Course). runs y gs) a.course_is ∙ runs_after a.sends (start mid.state) gs
 
-gives_behind : (s : List Frame) (k : Course) (out more : List ℕ) (events : List Event) → out ≡ flat_map spelling s → AllByRecursion IsFrame s → Gives k more events → Gives (behind s k) (out ++ more) events
-gives_behind s k out more events e all g = record {
-  written = ap (λ (y : List ℕ). y ++ more) e ∙ ap (λ (y : List ℕ). flat_map spelling s ++ y) g.written ∙ sym (flat_map-append spelling s k.sends);
+gives_after : (s : List Frame) (k : Course) (out more : List ℕ) (events : List Event) → out ≡ flat_map encoding s → AllByRecursion IsFrame s → Gives k more events → Gives (beyond s k) (out ++ more) events
+gives_after s k out more events e all g = record {
+  written = ap (λ (y : List ℕ). y ++ more) e ∙ ap (λ (y : List ℕ). flat_map encoding s ++ y) g.written ∙ sym (flat_map-append encoding s k.sends);
   each = each_both s k.sends all g.each;
-  told = g.told;
+  reported = g.reported;
 }
 
-followed_behind : (old : Client) (read out : List ℕ) (mid : Client) (a : First old read out mid) (gs : List Frame) (answer : Result (Unit {0}) ReadFault) (more : List ℕ) (events : List Event) (fault : Option ClientFault) (new : ClientState)
+followed_after : (old : Client) (read out : List ℕ) (mid : Client) (a : First old read out mid) (gs : List Frame) (answer : Result (Unit {0}) ReadFault) (more : List ℕ) (events : List Event) (fault : Option ClientFault) (new : ClientState)
     → Follows (ends_with (takes_all mid.state gs) answer) more events fault new → Follows (ends_with (takes_all old.state (a.frames ++ gs)) answer) (out ++ more) events fault new
-followed_behind old read out mid a gs answer more events fault new f =
+followed_after old read out mid a gs answer more events fault new f =
     let k : Course = takes_all mid.state gs in
-    let e : ends_with (takes_all old.state (a.frames ++ gs)) answer ≡ behind a.sends (ends_with k answer) =
-    ap (λ (y : Course). ends_with y answer) (both_run old read out mid a gs) ∙ failing_behind a.sends k.state k.sends k.events k.fault (codec_fault answer) in
+    let e : ends_with (takes_all old.state (a.frames ++ gs)) answer ≡ beyond a.sends (ends_with k answer) =
+    ap (λ (y : Course). ends_with y answer) (both_run old read out mid a gs) ∙ failing_after a.sends k.state k.sends k.events k.fault (codec_fault answer) in
     subst (λ (y : Course). Follows y (out ++ more) events fault new) (sym e)
-    (record { gives = gives_behind a.sends (ends_with k answer) out more events a.out_is a.each f.gives; fault_is = f.fault_is; state = f.state })
+    (record { gives = gives_after a.sends (ends_with k answer) out more events a.out_is a.each f.gives; fault_is = f.fault_is; state = f.state })
 
-broken_behind : (old : Client) (read out : List ℕ) (mid : Client) (a : First old read out mid) (gs : List Frame) (more : List ℕ) (events : List Event) (fault : Option ClientFault) (new : ClientState)
+broken_after : (old : Client) (read out : List ℕ) (mid : Client) (a : First old read out mid) (gs : List Frame) (more : List ℕ) (events : List Event) (fault : Option ClientFault) (new : ClientState)
     → BreaksOff mid.state gs more events fault new → BreaksOff old.state (a.frames ++ gs) (out ++ more) events fault new
-broken_behind old read out mid a gs more events fault new b =
-    let e : takes_all old.state (take (length a.frames + b.n) (a.frames ++ gs)) ≡ behind a.sends (takes_all mid.state (take b.n gs)) =
+broken_after old read out mid a gs more events fault new b =
+    let e : takes_all old.state (take (length a.frames + b.n) (a.frames ++ gs)) ≡ beyond a.sends (takes_all mid.state (take b.n gs)) =
     ap (λ (fs : List Frame). takes_all old.state fs) (take_both b.n a.frames gs) ∙ both_run old read out mid a (take b.n gs) in
     record {
       n = length a.frames + b.n;
       inside = omega (arith, length-append a.frames gs, b.inside);
       good = ap (λ (y : Course). y.fault) e ∙ b.good;
-      gives = subst (λ (y : Course). Gives y (out ++ more) events) (sym e) (gives_behind a.sends (takes_all mid.state (take b.n gs)) out more events a.out_is a.each b.gives);
+      gives = subst (λ (y : Course). Gives y (out ++ more) events) (sym e) (gives_after a.sends (takes_all mid.state (take b.n gs)) out more events a.out_is a.each b.gives);
       fault_is = b.fault_is;
       failed = b.failed;
       number = b.number ∙ a.lives.1;
@@ -256,9 +256,9 @@ open_both old read out mid piece more events fault new a b = record {
   answer = b.answer;
   frames = a.frames ++ b.frames;
   reads = feeds_both old.reader read piece b.answer a.frames b.frames mid.reader new.reader a.reads b.reads;
-  takes = elim b.takes [
-    | inl f ↦ inl (followed_behind old read out mid a b.frames b.answer more events fault new.state f)
-    | inr f ↦ inr (broken_behind old read out mid a b.frames more events fault new.state f)
+  reaction_to_reply = elim b.takes [
+    | inl f ↦ inl (followed_after old read out mid a b.frames b.answer more events fault new.state f)
+    | inr f ↦ inr (broken_after old read out mid a b.frames more events fault new.state f)
   ];
 }
 

@@ -5,8 +5,8 @@ use Rattle.client_core.specs.declared.state.Event.{Event}
 use Rattle.client_core.specs.Feeding.{Client, FeedsClient}
 use Rattle.session_engines.specs.declared.conversing.ConverseFault.{ConverseFault}
 use Rattle.session_engines.specs.declared.conversing.ConverseFault.TheVariants as fault
-use Rattle.session_engines.specs.Conversing.{HearsPiece, Waits, Hears}
-use Rattle.session_engines.proofs.Streams.{cut_behind}
+use Rattle.session_engines.specs.Conversing.{ReceivesPiece, Waits, Receives}
+use Rattle.session_engines.proofs.Streams.{cut_after}
 use Rattle.session_engines.proofs.Clients.{fed_both}
 
 -- what was heard before a piece, and the piece
@@ -16,25 +16,25 @@ waits_feeds old read out mid piece more events f new (inl w) b = rw (w.0, w.1) (
 waits_feeds old read out mid piece more events f new (inr w) b = fed_both old read out mid piece more events f new w b
 
 -- a piece of which nothing came
-pub waits_on : (old : Client) (read out : List ℕ) (mid : Client) (piece more : List ℕ) (found : Option Event) (new : Client) → found ≡ None → Waits old read out mid → HearsPiece mid piece (Ok found) new more → Waits old (read ++ piece) (out ++ more) new
+pub waits_on : (old : Client) (read out : List ℕ) (mid : Client) (piece more : List ℕ) (found : Option Event) (new : Client) → found ≡ None → Waits old read out mid → ReceivesPiece mid piece (Ok found) new more → Waits old (read ++ piece) (out ++ more) new
 waits_on old read out mid piece more found new e w h =
-    let none : FeedsClient mid piece more [] None new = subst (λ (o : Option Event). HearsPiece mid piece (Ok o) new more) e h in
+    let none : FeedsClient mid piece more [] None new = subst (λ (o : Option Event). ReceivesPiece mid piece (Ok o) new more) e h in
     inr (waits_feeds old read out mid piece more [] None new w none)
 
 -- one that brought an event
-pub event_heard : (old : Client) (turns : ℕ) (read out : List ℕ) (mid : Client) (piece more : List ℕ) (found : Option Event) (event : Event) (left : Option (List ℕ)) (new : Client) → found ≡ Some event → Waits old read out mid → HearsPiece mid piece (Ok found) new more
-    → Hears old turns (Ok event) (read ++ piece) (out ++ more) left new
+pub event_heard : (old : Client) (turns : ℕ) (read out : List ℕ) (mid : Client) (piece more : List ℕ) (found : Option Event) (event : Event) (left : Option (List ℕ)) (new : Client) → found ≡ Some event → Waits old read out mid → ReceivesPiece mid piece (Ok found) new more
+    → Receives old turns (Ok event) (read ++ piece) (out ++ more) left new
 event_heard old turns read out mid piece more found event left new e w h =
-    let some : (later : List Event) × (fault : Option ClientFault) × FeedsClient mid piece more (event ∷ later) fault new = subst (λ (o : Option Event). HearsPiece mid piece (Ok o) new more) e h in
+    let some : (later : List Event) × (fault : Option ClientFault) × FeedsClient mid piece more (event ∷ later) fault new = subst (λ (o : Option Event). ReceivesPiece mid piece (Ok o) new more) e h in
     (some.0, some.1, waits_feeds old read out mid piece more (event ∷ some.0) some.1 new w some.2)
 
 -- one that ended it
-pub fault_heard : (old : Client) (turns : ℕ) (read out : List ℕ) (mid : Client) (piece more : List ℕ) (e : ConverseFault) (left : Option (List ℕ)) (new : Client) → Waits old read out mid → HearsPiece mid piece (Err e) new more
-    → Hears old turns (Err e) (read ++ piece) (out ++ more) left new
+pub fault_heard : (old : Client) (turns : ℕ) (read out : List ℕ) (mid : Client) (piece more : List ℕ) (e : ConverseFault) (left : Option (List ℕ)) (new : Client) → Waits old read out mid → ReceivesPiece mid piece (Err e) new more
+    → Receives old turns (Err e) (read ++ piece) (out ++ more) left new
 fault_heard old turns read out mid piece more fault.Ended left new w h = absurd h
 fault_heard old turns read out mid piece more fault.Read left new w h = absurd h
 fault_heard old turns read out mid piece more fault.Write left new w h =
-    (out ++ h.0, h.1, h.2, waits_feeds old read out mid piece h.0 h.1 h.2 new w h.3, cut_behind out more h.0 h.4)
+    (out ++ h.0, h.1, h.2, waits_feeds old read out mid piece h.0 h.1 h.2 new w h.3, cut_after out more h.0 h.4)
 fault_heard old turns read out mid piece more fault.BadWelcome left new w h = waits_feeds old read out mid piece more [] (Some _) new w h
 fault_heard old turns read out mid piece more fault.BadReply left new w h = waits_feeds old read out mid piece more [] (Some _) new w h
 fault_heard old turns read out mid piece more fault.Memory left new w h = waits_feeds old read out mid piece more [] (Some _) new w h

@@ -10,8 +10,8 @@ use Rattle.client_core.specs.declared.state.Event.{Event}
 use Rattle.session_engines.specs.declared.conversing.ConverseFault.{ConverseFault}
 use Rattle.session_engines.specs.declared.conversing.ConverseFault.TheVariants as fault
 use Rattle.connection_io.specs.Turns.{Turn}
-use Rattle.session_engines.specs.Conversing.{Waits, Hears, Converses}
-use Rattle.session_engines.specs.ConversingTurns.{TakesReply, GoesOn, EndsTurns, HearsTurns, NeverHearsOver, ConversesOver}
+use Rattle.session_engines.specs.Conversing.{Waits, Receives, Converses}
+use Rattle.session_engines.specs.ConversingTurns.{TakesReply, GoesOn, EndsTurns, ReceivesTurns, NeverReceivesOver, ConversesOver}
 use Rattle.connection_io.proofs.Parts.{most_more, least_more, within}
 use Rattle.session_engines.proofs.Conversations.{waits_on, event_heard, fault_heard}
 
@@ -67,7 +67,7 @@ record Whole {R W : Type 0} (remaining : R → Option (List ℕ)) (contents : W 
 last_piece : {R W : Type 0} (remaining : R → Option (List ℕ)) (contents : W → Option (List ℕ)) (turns : ℕ) (old : Client) (first : List ℕ) (a : Pair R W) (count : ℕ) (mid : Client) (b : Pair R W) (result : Result Event ConverseFault) (answer : Result (Option Event) ConverseFault) (turn : Turn) (new : Client) (c : Pair R W)
     → count < turns → (i : SoFar remaining contents old a first count mid b) → (t : TakesReply (PairDoes remaining contents) mid b answer turn new c)
     → Sends (PairDoes remaining contents) t.middle turn.output c ⊎ SendsUntilFault (PairDoes remaining contents) t.middle turn.output c
-    → Hears old turns result (i.read ++ turn.piece) (i.said ++ turn.output) (remaining c.reader.now) new → Whole remaining contents turns old first a result new c
+    → Receives old turns result (i.read ++ turn.piece) (i.said ++ turn.output) (remaining c.reader.now) new → Whole remaining contents turns old first a result new c
 last_piece remaining contents turns old first a count mid b result answer turn new c lt i t s h = record {
   read = i.read ++ turn.piece;
   out = first ++ (i.said ++ turn.output);
@@ -130,7 +130,7 @@ ended remaining contents turns old first a count mid b (Err fault.TurnsUsedUp) n
 
 -- the first bytes, and all turns
 whole_talk : {R W : Type 0} (remaining : R → Option (List ℕ)) (contents : W → Option (List ℕ)) (turns : ℕ) (old : Client) (first : List ℕ) (a m : Pair R W) (result : Result Event ConverseFault) (new : Client) (b : Pair R W)
-    → Sends (PairDoes remaining contents) a first m → HearsTurns (PairDoes remaining contents) turns old m result new b → Whole remaining contents turns old first a result new b
+    → Sends (PairDoes remaining contents) a first m → ReceivesTurns (PairDoes remaining contents) turns old m result new b → Whole remaining contents turns old first a result new b
 whole_talk remaining contents turns old first a m result new b s t =
     let begun : SoFar remaining contents old a first 0 old m = record {
       read = [];
@@ -144,7 +144,7 @@ whole_talk remaining contents turns old first a m result new b s t =
     (many_more remaining contents old a first 0 old m t.before t.client t.middle (length t.before) (omega arith) begun t.go_on) t.ends
 
 never : {R W : Type 0} (remaining : R → Option (List ℕ)) (contents : W → Option (List ℕ)) (turns : ℕ) (old : Client) (first : List ℕ) (a : Pair R W) (result : Result Event ConverseFault) (new : Client) (b : Pair R W)
-    → NeverHearsOver (PairDoes remaining contents) old first a result new b → Whole remaining contents turns old first a result new b
+    → NeverReceivesOver (PairDoes remaining contents) old first a result new b → Whole remaining contents turns old first a result new b
 never remaining contents turns old first a (Ok event) new b n = absurd n
 never remaining contents turns old first a (Err fault.Ended) new b n = absurd n
 never remaining contents turns old first a (Err fault.Read) new b n = absurd n

@@ -4,7 +4,7 @@ use Rattle.std.specs.Io.KnownBytes.{Appends, Consumes}
 use Rattle.connection_io.specs.declared.pair.Pair.{Pair}
 use Rattle.connection_io.specs.Pairs.{PairDoes}
 use Rattle.connection_io.proofs.Pairs.{Moved, moved_none, moved_read, moved_end, at_end, moved_unread, moved_sent, moved_faulty, finally_taken, finally_given}
-use Rattle.version_store.specs.Histories.{Held, History, StandsFor}
+use Rattle.version_store.specs.Histories.{StoreState, History, StandsFor}
 use Rattle.server_core.specs.Cores.{Core, session_of}
 use Rattle.server_core.specs.Serving.{Setting, setting_of}
 use Rattle.server_core.specs.Sessions.{Session}
@@ -125,7 +125,7 @@ ended remaining contents id turns old a count mid b (Err fault.TurnsUsedUp) new 
 whole_session : {R W : Type 0} (remaining : R → Option (List ℕ)) (contents : W → Option (List ℕ)) (id turns : ℕ) (old : Core) (a : Pair R W) (result : Result Ending ServeFault) (new : Core) (b : Pair R W)
     → NeverServes old a result new b ⊎ ServesSession (PairDoes remaining contents) id turns old a result new b → Whole remaining contents turns old a result new b
 whole_session {R = R} {W = W} remaining contents id turns old a result new b (inl n) =
-    let at : Result Ending ServeFault → Held → Pair R W → Type 0 = λ r store p. (h : History) → StandsFor old.store h → ServesStream (setting_of old.store) h turns r [] [] (remaining p.reader.now) store in
+    let at : Result Ending ServeFault → StoreState → Pair R W → Type 0 = λ r store p. (h : History) → StandsFor old.store h → ServesStream (setting_of old.store) h turns r [] [] (remaining p.reader.now) store in
     record {
       read = [];
       out = [];

@@ -8,11 +8,11 @@ use Rattle.std.proofs.lemmas.List.Concat.{flat_map-append}
 use Rattle.frame_codec.specs.declared.frame.Frame.{Frame}
 use Rattle.frame_codec.specs.declared.reader.ReadFault.{ReadFault}
 use Rattle.frame_codec.specs.declared.reader.ReadFault.TheVariants as read_fault
-use Rattle.frame_codec.specs.Frames.{spelling}
+use Rattle.frame_codec.specs.Frames.{encoding}
 use Rattle.frame_codec.specs.Streams.{Feeds}
 use Rattle.frame_codec.proofs.Runs.{begins_none}
-use Rattle.frame_codec.proofs.Fronts.{nothing_partial}
-use Rattle.version_store.specs.Histories.{Held, History, StandsFor}
+use Rattle.frame_codec.proofs.Prefixes.{nothing_partial}
+use Rattle.version_store.specs.Histories.{StoreState, History, StandsFor}
 use Rattle.server_core.specs.Cores.{is_open, FeedsCore}
 use Rattle.server_core.specs.declared.server.FeedError.{FeedError}
 use Rattle.server_core.specs.declared.server.FeedError.TheVariants as feed_error
@@ -24,7 +24,7 @@ use Rattle.session_engines.specs.declared.serving.Ending.{Ending}
 use Rattle.session_engines.specs.declared.serving.ServeFault.{ServeFault}
 use Rattle.session_engines.specs.declared.serving.ServeFault.TheVariants as fault
 use Rattle.session_engines.specs.Serving.{IsServed, ServesStream, ServesPiece as TurnServes}
-use Rattle.session_engines.proofs.Streams.{each_both, take_both, feeds_both, cut_behind}
+use Rattle.session_engines.proofs.Streams.{each_both, take_both, feeds_both, cut_after}
 
 not_both : {P : Type 0} (b : Bool) → b ≡ true → b ≡ false → P
 not_both b t f = absurd (let no : true ≡ false = sym t ∙ f in cc)
@@ -44,7 +44,7 @@ serves_both x h standing.Publisher (f ∷ fs) gs h1 h2 st1 st2 rs more a open_ b
 
 -- ---- a piece that leaves the session open
 
--- it was read without a fault, and nothing was said behind its frames
+-- it was read without a fault, and nothing was said after its frames
 record LeftOpen (answer : Result (Unit {0}) ReadFault) (middle after : Standing) (more : List Frame) : Type 0 where
   answer_is : answer ≡ Ok tt
   after_is : after ≡ middle
@@ -76,12 +76,12 @@ record First (x : Setting) (h : History) (read : List ℕ) (h1 : History) (s1 : 
 first_of : (x : Setting) (h : History) (read : List ℕ) (h1 : History) (s1 : Session) (rs : List Frame) → ServesPiece x h new_session read h1 s1 rs → is_closed s1.standing ≡ false → First x h read h1 s1 rs
 first_of x h read h1 s1 rs a open_ =
     let left = left_open a.answer a.middle s1.standing a.more a.ends open_ in
-    let rs_is : rs ≡ a.told = a.all ∙ ap (λ (m : List Frame). a.told ++ m) left.none ∙ append-nil a.told in
+    let rs_is : rs ≡ a.reported = a.all ∙ ap (λ (m : List Frame). a.reported ++ m) left.none ∙ append-nil a.reported in
     record {
       frames = a.frames;
       reads = subst (λ (r : Result (Unit {0}) ReadFault). Feeds (Some []) read r a.frames s1.unfinished) left.answer_is a.reads;
       serves = subst (λ (r : List Frame). ServesAll x h standing.Stranger a.frames h1 s1.standing r) (sym rs_is)
-          (subst (λ (st : Standing). ServesAll x h standing.Stranger a.frames h1 st a.told) (sym left.after_is) a.serves);
+          (subst (λ (st : Standing). ServesAll x h standing.Stranger a.frames h1 st a.reported) (sym left.after_is) a.serves);
     }
 
 then_whole : (x : Setting) (h : History) (read piece : List ℕ) (h1 h2 : History) (s1 s2 : Session) (rs more : List Frame) → First x h read h1 s1 rs → is_closed s1.standing ≡ false → ServesPiece x h1 s1 piece h2 s2 more
@@ -90,17 +90,17 @@ then_whole x h read piece h1 h2 s1 s2 rs more a open_ b = record {
   answer = b.answer;
   frames = a.frames ++ b.frames;
   middle = b.middle;
-  told = rs ++ b.told;
+  reported = rs ++ b.reported;
   more = b.more;
   reads = feeds_both (Some []) read piece b.answer a.frames b.frames s1.unfinished s2.unfinished a.reads b.reads;
-  serves = serves_both x h standing.Stranger a.frames b.frames h1 h2 s1.standing b.middle rs b.told a.serves open_ b.serves;
+  serves = serves_both x h standing.Stranger a.frames b.frames h1 h2 s1.standing b.middle rs b.reported a.serves open_ b.serves;
   ends = b.ends;
-  all = ap (λ (m : List Frame). rs ++ m) b.all ∙ sym (append_assoc rs b.told b.more);
+  all = ap (λ (m : List Frame). rs ++ m) b.all ∙ sym (append_assoc rs b.reported b.more);
 }
 
-stop_behind : (answer : Result (Unit {0}) ReadFault) (fs gs : List Frame) (n : ℕ) → IsStop answer gs n → IsStop answer (fs ++ gs) (length fs + n)
-stop_behind answer fs gs n (inl lt) = inl (omega (arith, length-append fs gs, lt))
-stop_behind answer fs gs n (inr e) = inr (omega (arith, length-append fs gs, e.0), e.1)
+stop_after : (answer : Result (Unit {0}) ReadFault) (fs gs : List Frame) (n : ℕ) → IsStop answer gs n → IsStop answer (fs ++ gs) (length fs + n)
+stop_after answer fs gs n (inl lt) = inl (omega (arith, length-append fs gs, lt))
+stop_after answer fs gs n (inr e) = inr (omega (arith, length-append fs gs, e.0), e.1)
 
 then_broken : (x : Setting) (h : History) (read piece : List ℕ) (h1 h2 : History) (s1 s2 : Session) (rs more : List Frame) → First x h read h1 s1 rs → is_closed s1.standing ≡ false → BreaksOff x h1 s1 piece h2 s2 more
     → BreaksOff x h new_session (read ++ piece) h2 s2 (rs ++ more)
@@ -110,7 +110,7 @@ then_broken x h read piece h1 h2 s1 s2 rs more a open_ b = record {
   count = length a.frames + b.count;
   middle = b.middle;
   reads = feeds_both (Some []) read piece b.answer a.frames b.frames s1.unfinished s2.unfinished a.reads b.reads;
-  stop = stop_behind b.answer a.frames b.frames b.count b.stop;
+  stop = stop_after b.answer a.frames b.frames b.count b.stop;
   serves = subst (λ (fs : List Frame). ServesAll x h standing.Stranger fs h2 b.middle (rs ++ more)) (sym (take_both b.count a.frames b.frames))
       (serves_both x h standing.Stranger a.frames (take b.count b.frames) h1 h2 s1.standing b.middle rs more a.serves open_ b.serves);
   goes_on = b.goes_on;
@@ -129,7 +129,7 @@ then_feeds x h read piece h1 h2 s1 s2 rs more (Ok d) a open_ b =
 then_feeds x h read piece h1 h2 s1 s2 rs more (Err e) a open_ b = (refl, then_broken x h read piece h1 h2 s1 s2 rs more (first_of x h read h1 s1 rs a open_) open_ b.1)
 
 -- a stream that left the session open, and another piece of it
-fed_both : (x : Setting) (h : History) (read piece out bytes : List ℕ) (answer : Result (Unit {0}) AllocError) (store1 store2 : Held) (s1 s2 : Session) (a : Fed x h new_session read (Ok tt) store1 s1 [] out) → is_closed s1.standing ≡ false
+fed_both : (x : Setting) (h : History) (read piece out bytes : List ℕ) (answer : Result (Unit {0}) AllocError) (store1 store2 : StoreState) (s1 s2 : Session) (a : Fed x h new_session read (Ok tt) store1 s1 [] out) → is_closed s1.standing ≡ false
     → Fed (setting_of store1) a.history s1 piece answer store2 s2 [] bytes → Fed x h new_session (read ++ piece) answer store2 s2 [] (out ++ bytes)
 fed_both x h read piece out bytes answer store1 store2 s1 s2 a open_ step =
     let b : Fed x a.history s1 piece answer store2 s2 [] bytes = subst (λ (y : Setting). Fed y a.history s1 piece answer store2 s2 [] bytes) a.setting_is step in
@@ -139,12 +139,12 @@ fed_both x h read piece out bytes answer store1 store2 s1 s2 a open_ step =
       setting_is = b.setting_is;
       store_is = b.store_is;
       course = then_feeds x h read piece a.history b.history s1 s2 a.replies b.replies answer a.course open_ b.course;
-      written = ap (λ (y : List ℕ). y ++ bytes) a.written ∙ ap (λ (y : List ℕ). flat_map spelling a.replies ++ y) b.written ∙ sym (flat_map-append spelling a.replies b.replies);
+      written = ap (λ (y : List ℕ). y ++ bytes) a.written ∙ ap (λ (y : List ℕ). flat_map encoding a.replies ++ y) b.written ∙ sym (flat_map-append encoding a.replies b.replies);
       each = each_both a.replies b.replies a.each b.each;
     }
 
 -- nothing was read yet
-fed_none : (h : History) (store : Held) → StandsFor store h → Fed (setting_of store) h new_session [] (Ok tt) store new_session [] []
+fed_none : (h : History) (store : StoreState) → StandsFor store h → Fed (setting_of store) h new_session [] (Ok tt) store new_session [] []
 fed_none h store stands = record {
   history = h;
   replies = [];
@@ -154,7 +154,7 @@ fed_none h store stands = record {
     answer = Ok tt;
     frames = [];
     middle = standing.Stranger;
-    told = [];
+    reported = [];
     more = [];
     reads = ([], record { begins = begins_none []; partial = nothing_partial }, refl);
     serves = (refl, refl, refl);
@@ -168,40 +168,40 @@ fed_none h store stands = record {
 -- ---- turns
 
 -- the session is open, and all that was read was served
-abbrev pub IsOpenStill : Setting → History → List ℕ → List ℕ → Held → Option Session → Type 0
+abbrev pub IsOpenStill : Setting → History → List ℕ → List ℕ → StoreState → Option Session → Type 0
 IsOpenStill x h read out store found = (s : Session) × (found ≡ Some s) × (is_closed s.standing ≡ false) × Fed x h new_session read (Ok tt) store s [] out
 
 -- it was served, whether it is open or not
-abbrev pub IsThere : Setting → History → List ℕ → List ℕ → Held → Option Session → Type 0
+abbrev pub IsThere : Setting → History → List ℕ → List ℕ → StoreState → Option Session → Type 0
 IsThere x h read out store found = (s : Session) × (found ≡ Some s) × Fed x h new_session read (Ok tt) store s [] out
 
 -- what a piece does to the session that is there
-abbrev pub Step : Held → Option Session → List ℕ → Result (Unit {0}) ServeFault → Held → Option Session → List ℕ → Type 0
+abbrev pub Step : StoreState → Option Session → List ℕ → Result (Unit {0}) ServeFault → StoreState → Option Session → List ℕ → Type 0
 Step store1 found piece answer store2 new bytes =
     (h : History) → StandsFor store1 h → (old : Session) → found ≡ Some old → TurnServes (setting_of store1) h old piece answer store2 new bytes
 
-pub opened : (h : History) (store : Held) (found : Option Session) → StandsFor store h → found ≡ Some new_session → IsOpenStill (setting_of store) h [] [] store found
+pub opened : (h : History) (store : StoreState) (found : Option Session) → StandsFor store h → found ≡ Some new_session → IsOpenStill (setting_of store) h [] [] store found
 opened h store found stands e = (new_session, e, refl, fed_none h store stands)
 
-pub not_begun : (h : History) (store : Held) (turns : ℕ) (left : Option (List ℕ)) → StandsFor store h → ServesStream (setting_of store) h turns (Err fault.Memory) [] [] left store
+pub not_begun : (h : History) (store : StoreState) (turns : ℕ) (left : Option (List ℕ)) → StandsFor store h → ServesStream (setting_of store) h turns (Err fault.Memory) [] [] left store
 not_begun h store turns left stands = (new_session, Ok tt, fed_none h store stands, λ _. refl)
 
-pub left_so : (x : Setting) (h : History) (read out : List ℕ) (store : Held) (found : Option Session) → IsOpenStill x h read out store found → IsServed x h read out store false
+pub left_so : (x : Setting) (h : History) (read out : List ℕ) (store : StoreState) (found : Option Session) → IsOpenStill x h read out store found → IsServed x h read out store false
 left_so x h read out store found o = (o.0, o.3, o.2)
 
-pub step_well : (x : Setting) (h : History) (read out piece bytes : List ℕ) (store1 store2 : Held) (found new : Option Session) → IsOpenStill x h read out store1 found → Step store1 found piece (Ok tt) store2 new bytes
+pub step_well : (x : Setting) (h : History) (read out piece bytes : List ℕ) (store1 store2 : StoreState) (found new : Option Session) → IsOpenStill x h read out store1 found → Step store1 found piece (Ok tt) store2 new bytes
     → IsThere x h (read ++ piece) (out ++ bytes) store2 new
 step_well x h read out piece bytes store1 store2 found new o step =
     let t = step o.3.history o.3.store_is o.0 o.1 in
     (t.0, t.1, fed_both x h read piece out bytes (Ok tt) store1 store2 o.0 t.0 o.3 o.2 t.2)
 
-pub step_faulty : (e : ServeFault) (x : Setting) (h : History) (turns : ℕ) (read out piece bytes : List ℕ) (left : Option (List ℕ)) (store1 store2 : Held) (found new : Option Session) → IsOpenStill x h read out store1 found
+pub step_faulty : (e : ServeFault) (x : Setting) (h : History) (turns : ℕ) (read out piece bytes : List ℕ) (left : Option (List ℕ)) (store1 store2 : StoreState) (found new : Option Session) → IsOpenStill x h read out store1 found
     → Step store1 found piece (Err e) store2 new bytes → e ≢ fault.IdInUse → ServesStream x h turns (Err e) (read ++ piece) (out ++ bytes) left store2
 step_faulty fault.IdInUse x h turns read out piece bytes left store1 store2 found new o step other = absurd (other refl)
 step_faulty fault.Read x h turns read out piece bytes left store1 store2 found new o step other = absurd (step o.3.history o.3.store_is o.0 o.1)
 step_faulty fault.Write x h turns read out piece bytes left store1 store2 found new o step other =
     let t = step o.3.history o.3.store_is o.0 o.1 in
-    (t.0, t.1, out ++ t.2, fed_both x h read piece out t.2 t.1 store1 store2 o.0 t.0 o.3 o.2 t.3, cut_behind out bytes t.2 t.4)
+    (t.0, t.1, out ++ t.2, fed_both x h read piece out t.2 t.1 store1 store2 o.0 t.0 o.3 o.2 t.3, cut_after out bytes t.2 t.4)
 step_faulty fault.Memory x h turns read out piece bytes left store1 store2 found new o step other =
     let t = step o.3.history o.3.store_is o.0 o.1 in
     (t.0, Err t.1, fed_both x h read piece out bytes (Err t.1) store1 store2 o.0 t.0 o.3 o.2 t.2, λ e. absurd (let no : Err t.1 ≡ Ok tt = e in cc))
@@ -211,31 +211,31 @@ negated : (b c : Bool) → not b ≡ c → b ≡ not c
 negated true c e = ap not e
 negated false c e = ap not e
 
-pub found_open : (x : Setting) (h : History) (read out : List ℕ) (store : Held) (found : Option Session) → IsThere x h read out store found → is_open found ≡ true → IsOpenStill x h read out store found
+pub found_open : (x : Setting) (h : History) (read out : List ℕ) (store : StoreState) (found : Option Session) → IsThere x h read out store found → is_open found ≡ true → IsOpenStill x h read out store found
 found_open x h read out store found t e = (t.0, t.1, negated (is_closed t.0.standing) true (ap is_open (sym t.1) ∙ e), t.2)
 
-pub found_shut : (x : Setting) (h : History) (read out : List ℕ) (store : Held) (found : Option Session) → IsThere x h read out store found → is_open found ≡ false → IsServed x h read out store true
+pub found_shut : (x : Setting) (h : History) (read out : List ℕ) (store : StoreState) (found : Option Session) → IsThere x h read out store found → is_open found ≡ false → IsServed x h read out store true
 found_shut x h read out store found t e = (t.0, t.2, negated (is_closed t.0.standing) false (ap is_open (sym t.1) ∙ e))
 
--- stores that are the same before and behind
-pub same_stores : (h : History) (turns : ℕ) (answer : Result Ending ServeFault) (read out : List ℕ) (left : Option (List ℕ)) (a b c d : Held) → b ≡ a → d ≡ c → (StandsFor b h → ServesStream (setting_of b) h turns answer read out left c)
+-- stores that are the same before and after
+pub same_stores : (h : History) (turns : ℕ) (answer : Result Ending ServeFault) (read out : List ℕ) (left : Option (List ℕ)) (a b c d : StoreState) → b ≡ a → d ≡ c → (StandsFor b h → ServesStream (setting_of b) h turns answer read out left c)
     → StandsFor a h → ServesStream (setting_of a) h turns answer read out left d
 same_stores h turns answer read out left a b c d first last served =
-    subst (λ (y : Held). StandsFor a h → ServesStream (setting_of a) h turns answer read out left y) (sym last)
-    (subst (λ (y : Held). StandsFor y h → ServesStream (setting_of y) h turns answer read out left c) first served)
+    subst (λ (y : StoreState). StandsFor a h → ServesStream (setting_of a) h turns answer read out left y) (sym last)
+    (subst (λ (y : StoreState). StandsFor y h → ServesStream (setting_of y) h turns answer read out left c) first served)
 
 -- ---- one piece
 
-pub core_served : (x : Setting) (h : History) (old : Session) (piece : List ℕ) (answer : Result (Unit {0}) FeedError) (store : Held) (new : Session) (before after : List ℕ) → before ≡ [] → FeedsCore x h old piece answer store new before after
+pub core_served : (x : Setting) (h : History) (old : Session) (piece : List ℕ) (answer : Result (Unit {0}) FeedError) (store : StoreState) (new : Session) (before after : List ℕ) → before ≡ [] → FeedsCore x h old piece answer store new before after
     → (r : Result (Unit {0}) AllocError) × Fed x h old piece r store new [] after
 core_served x h old piece (Ok d) store new before after e f = (Ok tt, subst (λ (y : List ℕ). Fed x h old piece (Ok tt) store new y after) e f)
 core_served x h old piece (Err feed_error.NoSession) store new before after e f = absurd f
 core_served x h old piece (Err feed_error.Memory) store new before after e f = (Err f.0, subst (λ (y : List ℕ). Fed x h old piece (Err f.0) store new y after) e f.1)
 
-pub core_whole : (x : Setting) (h : History) (old : Session) (piece : List ℕ) (d : Unit {0}) (store : Held) (new : Session) (before after : List ℕ) → before ≡ [] → Fed x h old piece (Ok d) store new before after → Fed x h old piece (Ok tt) store new [] after
+pub core_whole : (x : Setting) (h : History) (old : Session) (piece : List ℕ) (d : Unit {0}) (store : StoreState) (new : Session) (before after : List ℕ) → before ≡ [] → Fed x h old piece (Ok d) store new before after → Fed x h old piece (Ok tt) store new [] after
 core_whole x h old piece d store new before after e f = subst (λ (y : List ℕ). Fed x h old piece (Ok tt) store new y after) e f
 
-pub core_short : (x : Setting) (h : History) (old : Session) (piece : List ℕ) (answer : Result (Unit {0}) FeedError) (e : FeedError) (store : Held) (new : Session) (before after : List ℕ) → answer ≡ Err e → before ≡ [] → FeedsCore x h old piece answer store new before after
+pub core_short : (x : Setting) (h : History) (old : Session) (piece : List ℕ) (answer : Result (Unit {0}) FeedError) (e : FeedError) (store : StoreState) (new : Session) (before after : List ℕ) → answer ≡ Err e → before ≡ [] → FeedsCore x h old piece answer store new before after
     → (r : AllocError) × Fed x h old piece (Err r) store new [] after
 core_short x h old piece answer e store new before after is none f =
     by_fault e (subst (λ (r : Result (Unit {0}) FeedError). FeedsCore x h old piece r store new before after) is f)

@@ -8,7 +8,7 @@ use Rattle.frame_codec.specs.declared.reader.ReadFault.TheVariants.{Failed}
 use Rattle.frame_codec.specs.Frames.{IsFrame}
 use Rattle.frame_codec.specs.Streams.{Feeds}
 use Rattle.frame_codec.proofs.Runs.{begins_ahead, reads_on, stops_on}
-use Rattle.session_engines.specs.Fronts.{IsCutOff}
+use Rattle.session_engines.specs.Prefixes.{IsCutOff}
 
 -- frames that are all frames, and others
 pub each_both : (fs gs : List Frame) → AllByRecursion IsFrame fs → AllByRecursion IsFrame gs → AllByRecursion IsFrame (fs ++ gs)
@@ -33,8 +33,8 @@ feeds_both (Some o) p q (Err fault) fs gs mid new a b =
     (rw (sym (append_assoc o p q)) (stops_on ((o ++ p) ++ q) fs gs (a.0 ++ q) fault (begins_ahead (o ++ p) fs a.0 q a.1.begins) second.0), second.1)
 
 -- what was cut off of the second part of what was owed was cut off of all
-pub cut_behind : (a b c : List ℕ) → IsCutOff b c → IsCutOff (a ++ b) (a ++ c)
-cut_behind a b c f = (f.0, ap (λ (x : List ℕ). a ++ x) f.1 ∙ sym (append_assoc a b f.0), f.2)
+pub cut_after : (a b c : List ℕ) → IsCutOff b c → IsCutOff (a ++ b) (a ++ c)
+cut_after a b c f = (f.0, ap (λ (x : List ℕ). a ++ x) f.1 ∙ sym (append_assoc a b f.0), f.2)
 
 pub cut_taken : (n : ℕ) (xs : List ℕ) → n < length xs → IsCutOff (take n xs) xs
 cut_taken n xs lt = (drop n xs, sym (take-append-drop n xs), omega (arith, length-drop n xs))

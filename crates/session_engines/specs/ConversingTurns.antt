@@ -6,9 +6,9 @@ use Rattle.client_core.specs.Feeding.{Client}
 use Rattle.client_core.specs.declared.state.Event.{Event}
 use Rattle.session_engines.specs.declared.conversing.ConverseFault.{ConverseFault}
 use Rattle.session_engines.specs.declared.conversing.ConverseFault.TheVariants.{Ended, Read as read_fault, Write, Memory, TurnsUsedUp}
-use Rattle.session_engines.specs.Fronts.{IsCutOff}
+use Rattle.session_engines.specs.Prefixes.{IsCutOff}
 use Rattle.connection_io.specs.Turns.{Turn, ReadsPiece}
-use Rattle.session_engines.specs.Conversing.{HearsPiece}
+use Rattle.session_engines.specs.Conversing.{ReceivesPiece}
 
 -- how what the client says to a piece went out: all of it, or a part until a write failed
 abbrev pub WritesSayings : {C : Type 0} → (C → Call → C → Type 0) → Result (Option Event) ConverseFault → C → List ℕ → C → Type 0
@@ -20,26 +20,26 @@ pub record TakesReply {C : Type 0} (does : C → Call → C → Type 0) (old : C
   pub middle : C
   pub reads : ReadsPiece does a turn.piece middle
   pub writes : WritesSayings does answer middle turn.output b
-  pub heard : HearsPiece old turn.piece answer new turn.output
+  pub heard : ReceivesPiece old turn.piece answer new turn.output
 
 -- A turn, by its answer: an event or none came of a piece, or something failed. The end and a read that failed leave the client alone.
-abbrev pub HearsTurn : {C : Type 0} → (C → Call → C → Type 0) → Client → C → Result (Option Event) ConverseFault → Client → C → Type 0
-HearsTurn does old a (Err Ended) new b = does a (Read 65536 []) b × (new ≡ old)
-HearsTurn does old a (Err read_fault) new b = does a ReadFails b × (new ≡ old)
-HearsTurn does old a answer new b = (turn : Turn) × TakesReply does old a answer turn new b
+abbrev pub ReceivesTurn : {C : Type 0} → (C → Call → C → Type 0) → Client → C → Result (Option Event) ConverseFault → Client → C → Type 0
+ReceivesTurn does old a (Err Ended) new b = does a (Read 65536 []) b × (new ≡ old)
+ReceivesTurn does old a (Err read_fault) new b = does a ReadFails b × (new ≡ old)
+ReceivesTurn does old a answer new b = (turn : Turn) × TakesReply does old a answer turn new b
 
 -- turns one after another, none of which brought an event or a fault
 abbrev pub GoesOn : {C : Type 0} → (C → Call → C → Type 0) → Client → C → List Turn → Client → C → Type 0
 GoesOn {C = C} does old a turns new b = FoldsTo {P = Client × C} (λ p turn q. TakesReply does p.0 p.1 (Ok None) turn q.0 q.1) (old, a) turns (new, b)
 
--- the last turn behind so many, of which there may be `turns`
+-- the last turn after so many, of which there may be `turns`
 abbrev pub EndsTurns : {C : Type 0} → (C → Call → C → Type 0) → ℕ → ℕ → Client → C → Result Event ConverseFault → Client → C → Type 0
-EndsTurns does turns count old a (Ok event) new b = (count < turns) × HearsTurn does old a (Ok (Some event)) new b
+EndsTurns does turns count old a (Ok event) new b = (count < turns) × ReceivesTurn does old a (Ok (Some event)) new b
 EndsTurns does turns count old a (Err TurnsUsedUp) new b = (count ≡ turns) × (new ≡ old) × (b ≡ a)
-EndsTurns does turns count old a (Err e) new b = (count < turns) × HearsTurn does old a (Err e) new b
+EndsTurns does turns count old a (Err e) new b = (count < turns) × ReceivesTurn does old a (Err e) new b
 
--- Turn after turn, each with a read of its own: those that left the client waiting, and the last. There is no call behind it.
-pub record HearsTurns {C : Type 0} (does : C → Call → C → Type 0) (turns : ℕ) (old : Client) (a : C) (result : Result Event ConverseFault) (new : Client) (b : C) : Type 0 where
+-- Turn after turn, each with a read of its own: those that left the client waiting, and the last. There is no call after it.
+pub record ReceivesTurns {C : Type 0} (does : C → Call → C → Type 0) (turns : ℕ) (old : Client) (a : C) (result : Result Event ConverseFault) (new : Client) (b : C) : Type 0 where
   pub before : List Turn
   pub client : Client
   pub middle : C
@@ -47,11 +47,11 @@ pub record HearsTurns {C : Type 0} (does : C → Call → C → Type 0) (turns :
   pub ends : EndsTurns does turns (length before) client middle result new b
 
 -- There was no memory for a piece, and no call was made; or a write of the first bytes failed, and none was read.
-abbrev pub NeverHearsOver : {C : Type 0} → (C → Call → C → Type 0) → Client → List ℕ → C → Result Event ConverseFault → Client → C → Type 0
-NeverHearsOver does old first a (Err Memory) new b = (new ≡ old) × (b ≡ a)
-NeverHearsOver does old first a (Err Write) new b = (new ≡ old) × (sent : List ℕ) × IsCutOff sent first × SendsUntilFault does a sent b
-NeverHearsOver does old first a _ new b = ⊥
+abbrev pub NeverReceivesOver : {C : Type 0} → (C → Call → C → Type 0) → Client → List ℕ → C → Result Event ConverseFault → Client → C → Type 0
+NeverReceivesOver does old first a (Err Memory) new b = (new ≡ old) × (b ≡ a)
+NeverReceivesOver does old first a (Err Write) new b = (new ≡ old) × (sent : List ℕ) × IsCutOff sent first × SendsUntilFault does a sent b
+NeverReceivesOver does old first a _ new b = ⊥
 
 -- the first bytes were written, and then turn after turn was made
 abbrev pub ConversesOver : {C : Type 0} → (C → Call → C → Type 0) → Client → List ℕ → C → ℕ → Result Event ConverseFault → Client → C → Type 0
-ConversesOver {C = C} does old first a turns result new b = NeverHearsOver does old first a result new b ⊎ ((m : C) × Sends does a first m × HearsTurns does turns old m result new b)
+ConversesOver {C = C} does old first a turns result new b = NeverReceivesOver does old first a result new b ⊎ ((m : C) × Sends does a first m × ReceivesTurns does turns old m result new b)

@@ -1,4 +1,4 @@
-pub mod Fronts
+pub mod Prefixes
 pub mod Serving
 pub mod ServingTurns
 pub mod Conversing

@@ -46,13 +46,13 @@ ServesTurn does id old a (Err fault.TurnsUsedUp) new b = ⊥
 abbrev pub GoesOn : {C : Type 0} → (C → Call → C → Type 0) → ℕ → Core → C → List Turn → Core → C → Type 0
 GoesOn {C = C} does id old a turns new b = FoldsTo {P = Core × C} (λ p turn q. LeavesSession does id true p.0 p.1 turn q.0 q.1) (old, a) turns (new, b)
 
--- the last turn behind so many, of which there may be `turns`
+-- the last turn after so many, of which there may be `turns`
 abbrev pub EndsTurns : {C : Type 0} → (C → Call → C → Type 0) → ℕ → ℕ → ℕ → Core → C → Result Ending ServeFault → Core → C → Type 0
 EndsTurns does id turns count old a (Ok ending) new b = (count < turns) × ServesTurn does id old a (Ok (Some ending)) new b
 EndsTurns does id turns count old a (Err fault.TurnsUsedUp) new b = (count ≡ turns) × (new ≡ old) × (b ≡ a)
 EndsTurns does id turns count old a (Err e) new b = (count < turns) × ServesTurn does id old a (Err e) new b
 
--- Turn after turn, each with a read of its own: those that left the session open, and the last. There is no call behind it.
+-- Turn after turn, each with a read of its own: those that left the session open, and the last. There is no call after it.
 pub record ServesTurns {C : Type 0} (does : C → Call → C → Type 0) (id turns : ℕ) (old : Core) (a : C) (result : Result Ending ServeFault) (new : Core) (b : C) : Type 0 where
   pub before : List Turn
   pub core : Core

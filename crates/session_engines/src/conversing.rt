@@ -2,8 +2,10 @@
 
 ghost use Rattle.std.specs.Prelude.{◌≡◌, ◌≤◌, ◌<◌, ◌*◌, ℕ, List, [], length, Option, Some, None};
 ghost use Rattle.std.specs.Io.KnownBytes.{Appends, Consumes};
-ghost use Rattle.session_engines.specs.Conversing.{converse_fault, HearsPiece, Hears, Converses};
-ghost use Rattle.session_engines.specs.ConversingTurns.{WritesSayings, HearsTurn, HearsTurns, ConversesOver};
+ghost use Rattle.session_engines.specs.Conversing.{converse_fault, ReceivesPiece, Receives,
+    Converses};
+ghost use Rattle.session_engines.specs.ConversingTurns.{WritesSayings, ReceivesTurn, ReceivesTurns,
+    ConversesOver};
 
 use client_core::{ClientCore, ClientFault, Event};
 use connection_io::{Connection, Pair, receive, send};
@@ -61,7 +63,7 @@ fn take_piece<K: Kernel, C: Connection>(
     connection: &mut C,
 ) -> Result<Option<Event>, ConverseFault>
     ensures { (bytes : List ℕ) × WritesSayings C.does result connection.old bytes connection.new
-        × HearsPiece client.old piece.now result client.new bytes }
+        × ReceivesPiece client.old piece.now result client.new bytes }
 {
     let fed = client.feed(piece);
     let Ok(()) = send(connection, &fed.out) else {
@@ -92,7 +94,7 @@ pub fn converse_turn<K: Kernel, C: Connection>(
     buffer: &mut Vec<u8>,
 ) -> Result<Option<Event>, ConverseFault>
     requires { length buffer.old.items ≡ 65536 }
-    ensures turn { HearsTurn C.does client.old connection.old result client.new connection.new }
+    ensures turn { ReceivesTurn C.does client.old connection.old result client.new connection.new }
     ensures room { length buffer.new.items ≡ 65536 }
 {
     let Ok(n) = receive(connection, buffer) else {
@@ -108,14 +110,15 @@ pub fn converse_turn<K: Kernel, C: Connection>(
 }
 
 // Makes turns until an event comes of one.
-fn hear<K: Kernel, C: Connection>(
+fn read_until_event<K: Kernel, C: Connection>(
     client: &mut ClientCore<K>,
     buffer: &mut Vec<u8>,
     connection: &mut C,
     turns: u64,
 ) -> Result<Event, ConverseFault>
     requires { length buffer.old.items ≡ 65536 }
-    ensures { HearsTurns C.does turns client.old connection.old result client.new connection.new }
+    ensures { ReceivesTurns C.does turns client.old connection.old result client.new connection.new
+        }
 {
     'turns: for _ in 0..turns {
         match converse_turn(client, connection, buffer) {
@@ -142,7 +145,8 @@ pub fn converse_over<K: Kernel, C: Connection>(
     connection: &mut C,
     turns: u64,
 ) -> Result<Event, ConverseFault>
-    ensures { ConversesOver C.does client.old first.now connection.old turns result client.new connection.new }
+    ensures { ConversesOver C.does client.old first.now connection.old turns result client.new
+        connection.new }
 {
     let Ok(mut buffer) = piece_buffer(alloc) else {
         return Err(ConverseFault::Memory);
@@ -150,7 +154,7 @@ pub fn converse_over<K: Kernel, C: Connection>(
     let Ok(()) = send(connection, first) else {
         return Err(ConverseFault::Write);
     };
-    hear(client, &mut buffer, connection, turns)
+    read_until_event(client, &mut buffer, connection, turns)
 }
 
 /// Writes `first`, which a call of the client gave, and gives the client what the server says, in at most
@@ -158,7 +162,7 @@ pub fn converse_over<K: Kernel, C: Connection>(
 /// the client says to a piece is written before the next is read, and before an event or a fault of the piece is
 /// answered.
 ///
-/// With an event, `first` was written, and behind it exactly what the client said to all that was read. An
+/// With an event, `first` was written, and after it exactly what the client said to all that was read. An
 /// event is answered also where a fault follows it in its piece: the next call then answers `Failed`.
 ///
 /// # Errors

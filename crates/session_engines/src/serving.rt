@@ -1,13 +1,15 @@
 //! The server's side.
 
-ghost use Rattle.std.specs.Prelude.{◌≡◌, ◌≢◌, ◌≤◌, ◌<◌, ◌*◌, ◌↔◌, ◌⊎◌, true, ℕ, List, length, IfErr, IsErrOf, IsSome, Some, None, Err};
+ghost use Rattle.std.specs.Prelude.{◌≡◌, ◌≢◌, ◌≤◌, ◌<◌, ◌*◌, ◌↔◌, ◌⊎◌, true, ℕ, List, length,
+    IfErr, IsErrOf, IsSome, Some, None, Err};
 ghost use Rattle.std.specs.Io.KnownBytes.{Appends, Consumes};
 ghost use Rattle.version_store.specs.Histories.{History, StandsFor};
 ghost use Rattle.server_core.specs.Cores.{session_of, is_open};
 ghost use Rattle.server_core.specs.Serving.{setting_of};
 ghost use Rattle.server_core.specs.Sessions.{Session, new_session};
 ghost use Rattle.session_engines.specs.Serving.{ServesPiece, ServesStream};
-ghost use Rattle.session_engines.specs.ServingTurns.{WritesReplies, ServesTurn, ServesTurns, NeverServes, ServesOver};
+ghost use Rattle.session_engines.specs.ServingTurns.{WritesReplies, ServesTurn, ServesTurns,
+    NeverServes, ServesOver};
 
 use connection_io::{Connection, Pair, receive, send};
 use engine_io::piece_buffer;
@@ -20,7 +22,7 @@ use thiserror::Error;
 /// How a session came to its end.
 #[derive(Clone, Copy, Debug, PartialEq, Eq)]
 pub enum Ending {
-    /// A frame or what could not be read closed it: nothing behind the piece was read.
+    /// A frame or what could not be read closed it: nothing after the piece was read.
     Closed,
     /// The input ended, and the session was open until then.
     EndOfInput,
@@ -58,7 +60,8 @@ fn serve_piece<K: Kernel, C: Connection>(
         × WritesReplies C.does result connection.old bytes connection.new
         × ((h : History) → StandsFor core.old.store h → (old : Session) →
         session_of core.old.sessions id ≡ Some old →
-        ServesPiece (setting_of core.old.store) h old piece.now result core.new.store (session_of core.new.sessions id) bytes) }
+        ServesPiece (setting_of core.old.store) h old piece.now result core.new.store
+            (session_of core.new.sessions id) bytes) }
     ensures fault { IfErr result (λ e. (e ≡ ServeFault.Write) ⊎ (e ≡ ServeFault.Memory)) }
     ensures others { (other : ℕ) → other ≢ id →
         session_of core.new.sessions other ≡ session_of core.old.sessions other }
@@ -152,7 +155,7 @@ fn serve_opened<K: Kernel, C: Connection>(
 ///
 /// # Errors
 ///
-/// `IdInUse` exactly where there was a session of this number: it is left alone, and nothing is read. Those of
+/// `IdInUse` exactly when there was a session of this number: it is left alone, and nothing is read. Those of
 /// the last turn, `Read`, `Write` and `Memory`; `Memory` also where there was none to begin with, and nothing was
 /// read. `TurnsUsedUp` where the session was open after all turns.
 pub fn serve_over<K: Kernel, C: Connection>(
@@ -162,7 +165,8 @@ pub fn serve_over<K: Kernel, C: Connection>(
     connection: &mut C,
     turns: u64,
 ) -> Result<Ending, ServeFault>
-    ensures turns { ServesOver C.does id turns core.old connection.old result core.new connection.new }
+    ensures turns { ServesOver C.does id turns core.old connection.old result core.new
+        connection.new }
     ensures in_use { IsErrOf result ServeFault.IdInUse ↔ IsSome (session_of core.old.sessions id) }
     ensures closed { session_of core.old.sessions id ≡ None →
         session_of core.new.sessions id ≡ None }
@@ -188,7 +192,7 @@ pub fn serve_over<K: Kernel, C: Connection>(
 ///
 /// # Errors
 ///
-/// `IdInUse` exactly where there was a session of this number: it is left alone, and nothing is read.
+/// `IdInUse` exactly when there was a session of this number: it is left alone, and nothing is read.
 /// `Read` where a read failed, and `TurnsUsedUp` where the session was open after all turns: the replies to
 /// what was read were written. `Write` where a write failed or took no byte: a part of the replies was
 /// written, from their start on. `Memory` where there was none for the session or for a reply: the replies
@@ -206,7 +210,8 @@ pub fn serve<K: Kernel, R: Read, W: Write>(
         × Appends (W.contents writer.old) (W.contents writer.new) out
         × (length read ≤ 65536 * turns)
         × ((h : History) → StandsFor core.old.store h →
-        ServesStream (setting_of core.old.store) h turns result read out (R.remaining reader.new) core.new.store) }
+        ServesStream (setting_of core.old.store) h turns result read out
+            (R.remaining reader.new) core.new.store) }
     ensures in_use { IsErrOf result ServeFault.IdInUse ↔ IsSome (session_of core.old.sessions id) }
     ensures unchanged { IsErrOf result ServeFault.IdInUse → core.new ≡ core.old }
     ensures closed { session_of core.old.sessions id ≡ None →

@@ -85,7 +85,8 @@ fn add_digits<K: Kernel, S: DigitStore>(
     requires inner { (S.digits digits.now).cols ≡ a.now.rows }
     requires width { length out.old ≡ a.now.cols }
     requires room { start + count < 2 ^ 64 }
-    ensures { out.new ≡ plus_rows out.old count (λ k. entry (S.digits digits.now) i (start + k)) a.now start }
+    ensures { out.new ≡ plus_rows out.old count (λ k. entry (S.digits digits.now) i
+        (start + k)) a.now start }
 {
     for k in 0..count {
         let row = start + k;

@@ -56,7 +56,7 @@ fn read_all<K: Kernel>(
     Ok(digits)
 }
 
-/// The record that digits write, in a buffer of its length: `BadDigits` exactly where they set a bit past the
+/// The record that digits write, in a buffer of its length: `BadDigits` exactly when they set a bit past the
 /// record's last byte, and never `Memory`.
 pub fn record_of_digits(
     layout: &Layout,
@@ -105,8 +105,8 @@ fn read_record<K: Kernel>(
 /// The record that the answer to the query for record i gives, with the client's seed and the number of the
 /// retrieval.
 ///
-/// `BadLength` exactly where the answer hasn't a word for each row; else `Memory`, or the bytes that the
-/// answer's reading writes, `BadDigits` exactly where the digits read set a bit past the record's last
+/// `BadLength` exactly when the answer hasn't a word for each row; else `Memory`, or the bytes that the
+/// answer's reading writes, `BadDigits` exactly when the digits read set a bit past the record's last
 /// byte. Where the hint and the answer are those of some records and the retrieval is quiet, it is the
 /// record.
 pub fn recover<K: Kernel>(
@@ -147,7 +147,8 @@ pub fn read_digits<K: Kernel>(
     requires rows { first + length out.old ≤ hint.now.rows }
     requires words { length answer.now ≡ hint.now.rows }
     ensures { out.new ≡
-        list_of (length out.old) (λ d. nearest w (stripped (slice_index answer.now (first + d)) (row hint.now (first + d)) s.now)) }
+        list_of (length out.old) (λ d. nearest w (stripped (slice_index answer.now (first + d))
+            (row hint.now (first + d)) s.now)) }
 {
     for d in 0..out.len() {
         let word = regev_core::strip(kernel, answer[first + d], hint.row(first + d), s);

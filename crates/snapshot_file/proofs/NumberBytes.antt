@@ -1,4 +1,4 @@
--- Numbers, lowest byte first, and their only spelling.
+-- Numbers, lowest byte first, and their only encoding.
 use Rattle.std.proofs.Common.{◌≡◌, ℕ, zero, suc, ◌+◌, ◌*◌, ◌/◌, ◌%◌, ◌^◌, ◌<◌, ◌≤◌, List, [], ◌∷◌, ◌++◌, length, slice_index, take, drop, refl, sym, ap, ◌∙◌, append_assoc, arith}
 use Rattle.std.proofs.Math.Nat.{div-div-eq-div-mul, pow-succ'}
 use Rattle.std.proofs.Math.Seq.{take-add}
@@ -27,7 +27,7 @@ shifted_bytes : (j n x : ℕ) → bytes_low_first (suc j) n x ≡ bytes_low_firs
 shifted_bytes j zero x = refl
 shifted_bytes j (suc n) x = rw (shifted_byte j x, shifted_bytes (suc j) n x) refl
 
--- the bytes read are the number's only spelling
+-- the bytes read are the number's only encoding
 pub only_bytes : (n : ℕ) (bytes : List ℕ) → IsBytes bytes → n ≤ length bytes → little_bytes n (little_number n bytes) ≡ take n bytes
 only_bytes zero bytes fits le = refl
 only_bytes (suc n) [] fits le = absurd (omega arith)
@@ -48,21 +48,21 @@ pub number_back : (n x : ℕ) (more : List ℕ) → x < 256 ^ n → little_numbe
 unfolding number_bytes
 number_back n x more h = little_number-reads_back n x more h
 
--- a number behind the bytes before it
-pub number_behind : (n x : ℕ) (before fields : List ℕ) (k : ℕ) → IsBytes fields → k + n ≤ length fields → x ≡ little_number n (drop k fields)
+-- a number after the bytes before it
+pub number_after : (n x : ℕ) (before fields : List ℕ) (k : ℕ) → IsBytes fields → k + n ≤ length fields → x ≡ little_number n (drop k fields)
     → before ++ take k fields ++ number_bytes n x ≡ before ++ take (k + n) fields
 unfolding number_bytes
-number_behind n x before fields k fits le e =
+number_after n x before fields k fits le e =
     let room : n ≤ length (drop k fields) = omega (arith, length-drop k fields) in
-    let spelled : little_bytes n x ≡ take n (drop k fields) = ap (little_bytes n) e ∙ only_bytes n (drop k fields) (IsBytes-drop k fields fits) room in
+    let encoded : little_bytes n x ≡ take n (drop k fields) = ap (little_bytes n) e ∙ only_bytes n (drop k fields) (IsBytes-drop k fields fits) room in
     append_assoc before (take k fields) (little_bytes n x)
-    ∙ ap (λ (y : List ℕ). before ++ (take k fields ++ y)) spelled
+    ∙ ap (λ (y : List ℕ). before ++ (take k fields ++ y)) encoded
     ∙ ap (λ (y : List ℕ). before ++ y) (sym (take-add k n fields))
 
--- bytes behind the bytes before them
-pub bytes_behind : (n : ℕ) (xs before fields : List ℕ) (k : ℕ) → xs ≡ take n (drop k fields)
+-- bytes after the bytes before them
+pub bytes_after : (n : ℕ) (xs before fields : List ℕ) (k : ℕ) → xs ≡ take n (drop k fields)
     → before ++ take k fields ++ xs ≡ before ++ take (k + n) fields
-bytes_behind n xs before fields k e =
+bytes_after n xs before fields k e =
     append_assoc before (take k fields) xs
     ∙ ap (λ (y : List ℕ). before ++ (take k fields ++ y)) e
     ∙ ap (λ (y : List ℕ). before ++ y) (sym (take-add k n fields))

@@ -7,7 +7,7 @@ use Rattle.snapshot_file.specs.declared.snapshot.Header.{Header}
 use Rattle.snapshot_file.specs.declared.snapshot.SnapshotFault.{SnapshotFault}
 use Rattle.snapshot_file.specs.declared.snapshot.SnapshotFault.TheVariants as faults
 use Rattle.snapshot_file.specs.Snapshots.{magic, header_bytes, hashed_bytes, snapshot_bytes, IsSnapshot}
-use Rattle.snapshot_file.specs.Verdicts.{IsUnfinished, HasBadDigest, EndsBelow, EndsKept, EndsBehind, StopsAt, MayRefuse}
+use Rattle.snapshot_file.specs.Verdicts.{IsUnfinished, HasBadDigest, EndsBelow, EndsKept, EndsAfter, StopsAt, MayRefuse}
 
 -- the input ended, or failed, in the fields
 pub stops_in_fields : (fault : SnapshotFault) (first part : List ℕ) (left : Option (List ℕ)) → first ≡ magic → EndsBelow 83 fault part left → StopsAt fault (first ++ part) left
@@ -19,7 +19,7 @@ stops_in_fields faults.BadDigest first part left e d = absurd d
 stops_in_fields faults.TrailingBytes first part left e d = absurd d
 stops_in_fields faults.Memory first part left e d = absurd d
 
--- behind the records, and not yet behind the digest
+-- after the records, and not yet after the digest
 in_digest : (h : Header) (records part : List ℕ) → IsSnapshot h records → length part < 32 → IsUnfinished (header_bytes h ++ (records ++ part))
 in_digest h records part is lt = inr (inr (h, records ++ part, (is.header, is.accepted, refl), omega (arith, length-append records part, is.len)))
 
@@ -44,21 +44,21 @@ joined h records digest part e =
     sym (append_assoc (header_bytes h) (records ++ digest) part)
     ∙ ap (λ (x : List ℕ). x ++ part) (sym (append_assoc (header_bytes h) records digest) ∙ ap (λ (x : List ℕ). hashed_bytes h records ++ x) e)
 
-pub stops_behind : (fault : SnapshotFault) (h : Header) (records digest part : List ℕ) (left : Option (List ℕ)) → IsSnapshot h records → digest ≡ sha256 (hashed_bytes h records)
-    → EndsBehind fault part → StopsAt fault (header_bytes h ++ ((records ++ digest) ++ part)) left
-stops_behind faults.TrailingBytes h records digest part left is e d =
+pub stops_after : (fault : SnapshotFault) (h : Header) (records digest part : List ℕ) (left : Option (List ℕ)) → IsSnapshot h records → digest ≡ sha256 (hashed_bytes h records)
+    → EndsAfter fault part → StopsAt fault (header_bytes h ++ ((records ++ digest) ++ part)) left
+stops_after faults.TrailingBytes h records digest part left is e d =
     (d.0, (h, records, is, joined h records digest part e ∙ ap (λ (x : List ℕ). snapshot_bytes h records ++ x) d.1))
-stops_behind faults.Read h records digest part left is e d =
+stops_after faults.Read h records digest part left is e d =
     inr (h, records, is, joined h records digest part e ∙ ap (λ (x : List ℕ). snapshot_bytes h records ++ x) d)
-stops_behind faults.Short h records digest part left is e d = absurd d
-stops_behind faults.NotSnapshot h records digest part left is e d = absurd d
-stops_behind faults.BadLayout h records digest part left is e d = absurd d
-stops_behind faults.BadDigest h records digest part left is e d = absurd d
-stops_behind faults.Memory h records digest part left is e d = absurd d
+stops_after faults.Short h records digest part left is e d = absurd d
+stops_after faults.NotSnapshot h records digest part left is e d = absurd d
+stops_after faults.BadLayout h records digest part left is e d = absurd d
+stops_after faults.BadDigest h records digest part left is e d = absurd d
+stops_after faults.Memory h records digest part left is e d = absurd d
 
--- what is behind the bytes at which reading stopped
-more : (read front rest ys : List ℕ) → read ≡ front ++ rest → read ++ ys ≡ front ++ (rest ++ ys)
-more read front rest ys e = ap (λ (x : List ℕ). x ++ ys) e ∙ append_assoc front rest ys
+-- what is after the bytes at which reading stopped
+more : (read prefix rest ys : List ℕ) → read ≡ prefix ++ rest → read ++ ys ≡ prefix ++ (rest ++ ys)
+more read prefix rest ys e = ap (λ (x : List ℕ). x ++ ys) e ∙ append_assoc prefix rest ys
 
 answered : (fault : SnapshotFault) (read ys : List ℕ) → StopsAt fault read (Some ys) → MayRefuse fault (read ++ ys)
 answered faults.NotSnapshot read ys s = (omega (arith, length-append read ys, s.0), λ e. s.1 (sym (take_at read ys 8 s.0) ∙ e))

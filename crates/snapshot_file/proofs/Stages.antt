@@ -7,9 +7,9 @@ use Rattle.snapshot_file.specs.declared.snapshot.Header.{Header}
 use Rattle.snapshot_file.specs.declared.snapshot.SnapshotFault.{SnapshotFault}
 use Rattle.snapshot_file.specs.declared.snapshot.SnapshotFault.TheVariants as faults
 use Rattle.snapshot_file.specs.Snapshots.{magic, header_bytes, hashed_bytes, snapshot_bytes, records_len, IsHeader, IsAccepted, IsSnapshot}
-use Rattle.snapshot_file.specs.Verdicts.{EndsInHeader, HasHeader, EndsBehindHeader, HasBadHeader, HasBadDigest, HasSnapshot, HasFault, IsVerdict}
+use Rattle.snapshot_file.specs.Verdicts.{EndsInHeader, HasHeader, EndsAfterHeader, HasBadHeader, HasBadDigest, HasSnapshot, HasFault, IsVerdict}
 use Rattle.snapshot_file.proofs.Headers.{length-header, length-magic, header_fields}
-use Rattle.snapshot_file.proofs.Unique.{cut_front, one_header, same_records, one_snapshot, length-sha256}
+use Rattle.snapshot_file.proofs.Unique.{cut_prefix, one_header, same_records, one_snapshot, length-sha256}
 
 -- so far, and no less, the input is good
 abbrev Reached : ℕ → List ℕ → Type 0
@@ -27,15 +27,15 @@ record StopsAfter (n : ℕ) (bytes : List ℕ) : Type 0 where
   reached : Reached n bytes
   last : ¬ Reached (suc n) bytes
 
--- what stands at the front of a header
-front_of_header : (h : Header) (rest bytes : List ℕ) → IsHeader h → bytes ≡ header_bytes h ++ rest → (take 8 bytes ≡ magic) × (91 ≤ length bytes)
-front_of_header h rest bytes is e =
+-- what stands at the beginning of a header
+prefix_of_header : (h : Header) (rest bytes : List ℕ) → IsHeader h → bytes ≡ header_bytes h ++ rest → (take 8 bytes ≡ magic) × (91 ≤ length bytes)
+prefix_of_header h rest bytes is e =
     let fields = header_fields h is in
     let split : bytes ≡ magic ++ (fields.0 ++ rest) = e ∙ ap (λ (x : List ℕ). x ++ rest) fields.1 ∙ append_assoc magic fields.0 rest in
     let len = length-header h is in
     (ap (take 8) split ∙ take_at magic (fields.0 ++ rest) 8 length-magic, omega (arith, ap length e, length-append (header_bytes h) rest))
 
--- a snapshot has a header, and enough bytes behind it
+-- a snapshot has a header, and enough bytes after it
 rest_of_snapshot : (bytes end : List ℕ) → HasSnapshot bytes end → (h : Header) × (rest : List ℕ) × HasHeader bytes h rest × (records_len h + 32 ≤ length rest)
 rest_of_snapshot bytes end p =
     let digest : List ℕ = sha256 (hashed_bytes p.0 p.1) in
@@ -52,7 +52,7 @@ back : (n : ℕ) (bytes : List ℕ) → Reached (suc n) bytes → Reached n byte
 back zero bytes p = tt
 back (suc zero) bytes p = omega (arith, length-take 8 bytes, ap length p, length-magic)
 back (suc (suc zero)) bytes p = p.0
-back (suc (suc (suc zero))) bytes p = front_of_header p.0 p.1 bytes p.2.0 p.2.2
+back (suc (suc (suc zero))) bytes p = prefix_of_header p.0 p.1 bytes p.2.0 p.2.2
 back (suc (suc (suc (suc zero)))) bytes p = (p.0, p.1, p.2)
 back (suc (suc (suc (suc (suc zero))))) bytes p = rest_of_snapshot bytes p.0 p.1
 back (suc (suc (suc (suc (suc (suc zero)))))) bytes p = ([], p)
@@ -96,26 +96,26 @@ ends_in_header bytes p = record {
 
 bad_header : (bytes rest : List ℕ) → HasBadHeader bytes rest → StopsAfter 3 bytes
 bad_header bytes rest p = record {
-  reached = front_of_header p.0 rest bytes p.1 p.3;
+  reached = prefix_of_header p.0 rest bytes p.1 p.3;
   last = λ q. p.2 (subst IsAccepted (one_header q.0 p.0 q.1 rest q.2.0 p.1 (sym q.2.2 ∙ p.3)).0 q.2.1);
 }
 
-ends_behind : (bytes : List ℕ) → EndsBehindHeader bytes → StopsAfter 4 bytes
-ends_behind bytes p = record {
+ends_after : (bytes : List ℕ) → EndsAfterHeader bytes → StopsAfter 4 bytes
+ends_after bytes p = record {
   reached = (p.0, p.1, p.2);
   last = λ q. absurd (
       let same = one_header q.0 p.0 q.1 p.1 q.2.0 p.2.0 (sym q.2.2 ∙ p.2.2) in
       omega (arith, ap records_len same.0, ap length same.1, p.3, q.3));
 }
 
--- behind the same header and records there is the same digest
+-- after the same header and records there is the same digest
 digest_of_snapshot : (bytes digest rest end : List ℕ) (h : Header) (records : List ℕ) → IsSnapshot h records → length digest ≡ 32
     → bytes ≡ hashed_bytes h records ++ (digest ++ rest) → HasSnapshot bytes end → digest ≡ sha256 (hashed_bytes h records)
 digest_of_snapshot bytes digest rest end h records is len e q =
     let whole : hashed_bytes q.0 q.1 ++ (sha256 (hashed_bytes q.0 q.1) ++ end) ≡ hashed_bytes h records ++ (digest ++ rest) =
     sym (q.3 ∙ append_assoc (hashed_bytes q.0 q.1) (sha256 (hashed_bytes q.0 q.1)) end) ∙ e in
     let same = same_records q.0 h q.1 records (sha256 (hashed_bytes q.0 q.1) ++ end) (digest ++ rest) q.2 is whole in
-    let cut = cut_front (sha256 (hashed_bytes q.0 q.1)) digest end rest (length-sha256 (hashed_bytes q.0 q.1) ∙ sym len) same.2 in
+    let cut = cut_prefix (sha256 (hashed_bytes q.0 q.1)) digest end rest (length-sha256 (hashed_bytes q.0 q.1) ∙ sym len) same.2 in
     sym cut.0 ∙ (λ i. sha256 (hashed_bytes (same.0 i) (same.1 i)))
 
 bad_digest : (bytes rest : List ℕ) → HasBadDigest bytes rest → StopsAfter 5 bytes
@@ -146,7 +146,7 @@ stage_of_fault faults.NotSnapshot bytes p = record { stage = 1; early = omega ar
 stage_of_fault faults.BadLayout bytes p = record { stage = 3; early = omega arith; stops = bad_header bytes p.0 p.1; is = refl }
 stage_of_fault faults.Short bytes (inl p) = record { stage = 0; early = omega arith; stops = record { reached = tt; last = λ q. absurd (omega arith) }; is = refl }
 stage_of_fault faults.Short bytes (inr (inl p)) = record { stage = 2; early = omega arith; stops = ends_in_header bytes p; is = refl }
-stage_of_fault faults.Short bytes (inr (inr p)) = record { stage = 4; early = omega arith; stops = ends_behind bytes p; is = refl }
+stage_of_fault faults.Short bytes (inr (inr p)) = record { stage = 4; early = omega arith; stops = ends_after bytes p; is = refl }
 stage_of_fault faults.BadDigest bytes p = record { stage = 5; early = omega arith; stops = bad_digest bytes p.0 p.1; is = refl }
 stage_of_fault faults.TrailingBytes bytes p = record { stage = 6; early = omega arith; stops = trailing p.0 bytes p.1 p.2; is = refl }
 stage_of_fault faults.Read bytes p = absurd p

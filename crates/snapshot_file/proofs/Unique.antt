@@ -1,4 +1,4 @@
--- That a header and a snapshot have one spelling.
+-- That a header and a snapshot have one encoding.
 use Rattle.std.proofs.Common.{◌≡◌, ℕ, zero, suc, ◌+◌, ◌*◌, ◌^◌, ◌<◌, List, [], ◌∷◌, ◌++◌, length, slice_index, take, drop, refl, sym, ap, ◌∙◌, append_assoc, arith}
 use Rattle.std.proofs.lemmas.List.{length-append, take_at, drop_at}
 use Rattle.std.specs.Int.{w32, to_be_bytes}
@@ -12,8 +12,8 @@ use Rattle.snapshot_file.proofs.Headers.{length-header}
 -- ---- lists
 
 -- two lists are cut at the same place
-pub cut_front : (a b x y : List ℕ) → length a ≡ length b → a ++ x ≡ b ++ y → (a ≡ b) × (x ≡ y)
-cut_front a b x y len e = (
+pub cut_prefix : (a b x y : List ℕ) → length a ≡ length b → a ++ x ≡ b ++ y → (a ≡ b) × (x ≡ y)
+cut_prefix a b x y len e = (
   sym (take_at a x (length b) len) ∙ ap (take (length b)) e ∙ take_at b y (length b) refl,
   sym (drop_at a x (length b) len) ∙ ap (drop (length b)) e ∙ drop_at b y (length b) refl,
 )
@@ -22,7 +22,7 @@ cut_front a b x y len e = (
 cut_back : (n : ℕ) (a b x y : List ℕ) → length x ≡ n → length y ≡ n → a ++ x ≡ b ++ y → (a ≡ b) × (x ≡ y)
 cut_back n a b x y lx ly e =
     let len : length a ≡ length b = omega (arith, length-append a x, length-append b y, ap length e) in
-    cut_front a b x y len e
+    cut_prefix a b x y len e
 
 one_number : (n x y : ℕ) → x < 256 ^ n → y < 256 ^ n → number_bytes n x ≡ number_bytes n y → x ≡ y
 one_number n x y hx hy e = sym (number_back n x [] hx) ∙ ap (λ (b : List ℕ). little_number n (b ++ [])) e ∙ number_back n y [] hy
@@ -70,7 +70,7 @@ same_header h k ih ik e =
 -- no header begins another, and no two have the same bytes
 pub one_header : (h k : Header) (x y : List ℕ) → IsHeader h → IsHeader k → header_bytes h ++ x ≡ header_bytes k ++ y → (h ≡ k) × (x ≡ y)
 one_header h k x y ih ik e =
-    let cut = cut_front (header_bytes h) (header_bytes k) x y (length-header h ih ∙ sym (length-header k ik)) e in
+    let cut = cut_prefix (header_bytes h) (header_bytes k) x y (length-header h ih ∙ sym (length-header k ik)) e in
     (same_header h k ih ik cut.0, cut.1)
 
 -- ---- a snapshot
@@ -89,19 +89,19 @@ length-sha256 m = length-digest_bytes _ 8
 
 pub length-snapshot : (h : Header) (records : List ℕ) → IsSnapshot h records → length (snapshot_bytes h records) ≡ 123 + records_len h
 length-snapshot h records is =
-    let front = length-header h is.header in
+    let prefix = length-header h is.header in
     let digest = length-sha256 (hashed_bytes h records) in
     omega (arith, length-append (hashed_bytes h records) (sha256 (hashed_bytes h records)), length-append (header_bytes h) records, is.len)
 
--- behind an equal header there are equal records, and what follows is equal
+-- after an equal header there are equal records, and what follows is equal
 pub same_records : (h k : Header) (records others x y : List ℕ) → IsSnapshot h records → IsSnapshot k others → hashed_bytes h records ++ x ≡ hashed_bytes k others ++ y
     → (h ≡ k) × (records ≡ others) × (x ≡ y)
 same_records h k records others x y is js e =
     let whole : header_bytes h ++ (records ++ x) ≡ header_bytes k ++ (others ++ y) = sym (append_assoc (header_bytes h) records x) ∙ e ∙ append_assoc (header_bytes k) others y in
-    let front = one_header h k (records ++ x) (others ++ y) is.header js.header whole in
-    let len : length records ≡ length others = is.len ∙ ap records_len front.0 ∙ sym js.len in
-    let cut = cut_front records others x y len front.1 in
-    (front.0, cut.0, cut.1)
+    let prefix = one_header h k (records ++ x) (others ++ y) is.header js.header whole in
+    let len : length records ≡ length others = is.len ∙ ap records_len prefix.0 ∙ sym js.len in
+    let cut = cut_prefix records others x y len prefix.1 in
+    (prefix.0, cut.0, cut.1)
 
 pub one_snapshot : (h k : Header) (records others rest end : List ℕ) → IsSnapshot h records → IsSnapshot k others
     → snapshot_bytes h records ++ rest ≡ snapshot_bytes k others ++ end → (h ≡ k) × (records ≡ others) × (rest ≡ end)
@@ -111,5 +111,5 @@ one_snapshot h k records others rest end is js e =
     let apart : hashed_bytes h records ++ (sha256 (hashed_bytes h records) ++ rest) ≡ hashed_bytes k others ++ (sha256 (hashed_bytes k others) ++ end) =
     sym (append_assoc (hashed_bytes h records) (sha256 (hashed_bytes h records)) rest) ∙ e ∙ append_assoc (hashed_bytes k others) (sha256 (hashed_bytes k others)) end in
     let same = same_records h k records others (sha256 (hashed_bytes h records) ++ rest) (sha256 (hashed_bytes k others) ++ end) is js apart in
-    let cut = cut_front (sha256 (hashed_bytes h records)) (sha256 (hashed_bytes k others)) rest end (length-sha256 (hashed_bytes h records) ∙ sym (length-sha256 (hashed_bytes k others))) same.2 in
+    let cut = cut_prefix (sha256 (hashed_bytes h records)) (sha256 (hashed_bytes k others)) rest end (length-sha256 (hashed_bytes h records) ∙ sym (length-sha256 (hashed_bytes k others))) same.2 in
     (same.0, same.1, cut.1)

@@ -8,7 +8,7 @@ use Rattle.snapshot_file.specs.declared.snapshot.Header.{Header}
 use Rattle.snapshot_file.specs.Snapshots.{header_bytes, hashed_bytes, snapshot_bytes}
 use Rattle.snapshot_file.proofs.Headers.{header_some}
 
--- a part of a piece, behind the pieces before it
+-- a part of a piece, after the pieces before it
 pub part_taken : (a b c whole : List ℕ) (n : ℕ) → whole ≡ a ++ (b ++ c) → n < length b → a ++ take n b ≡ take (length a + n) whole
 part_taken a b c whole n e lt =
     let le : n ≤ length b = omega arith in
@@ -21,9 +21,9 @@ pub part_shorter : (a b c whole : List ℕ) (n : ℕ) → whole ≡ a ++ (b ++ c
 part_shorter a b c whole n e lt = omega (arith, ap length e, length-append a (b ++ c), length-append b c)
 
 -- what a `?` returns where only one fault can come
-pub told_as : {T E : Type 0} (r : Result T E) (w : E) (Q : E → Type 0) → IsErrAnd r (λ e. e ≡ w) → Q w → IfErr r Q
-told_as (Ok x) w Q h q = absurd h
-told_as (Err e) w Q h q = subst Q (sym h) q
+pub reported_as : {T E : Type 0} (r : Result T E) (w : E) (Q : E → Type 0) → IsErrAnd r (λ e. e ≡ w) → Q w → IfErr r Q
+reported_as (Ok x) w Q h q = absurd h
+reported_as (Err e) w Q h q = subst Q (sym h) q
 
 -- less than the whole
 pub nothing_shorter : (h : Header) (records : List ℕ) → 0 < length (snapshot_bytes h records)

@@ -6,7 +6,7 @@ use Rattle.snapshot_file.specs.declared.snapshot.SnapshotFault.{SnapshotFault}
 use Rattle.snapshot_file.specs.Snapshots.{header_bytes, snapshot_bytes, records_len, IsSnapshot}
 use Rattle.snapshot_file.specs.Verdicts.{IsVerdict}
 
--- the bytes that are read as a number are its only spelling in so many bytes
+-- the bytes that are read as a number are its only encoding in so many bytes
 abbrev pub OneNumber : Type 0
 OneNumber = (n : ℕ) (bytes : List ℕ) → ((i : ℕ) → slice_index bytes i < 256) → n ≤ length bytes → little_bytes n (little_number n bytes) ≡ take n bytes
 

@@ -11,28 +11,28 @@ use Rattle.snapshot_file.specs.Snapshots.{magic, header_bytes, hashed_bytes, sna
 abbrev pub EndsInHeader : List ℕ → Type 0
 EndsInHeader bytes = (fields : List ℕ) × (bytes ≡ magic ++ fields) × (length fields < 83)
 
--- an accepted header, and bytes behind it
+-- an accepted header, and bytes after it
 abbrev pub HasHeader : List ℕ → Header → List ℕ → Type 0
 HasHeader bytes h rest = IsHeader h × IsAccepted h × (bytes ≡ header_bytes h ++ rest)
 
 -- an accepted header, and a part of its records and their digest
-abbrev pub EndsBehindHeader : List ℕ → Type 0
-EndsBehindHeader bytes = (h : Header) × (rest : List ℕ) × HasHeader bytes h rest × (length rest < records_len h + 32)
+abbrev pub EndsAfterHeader : List ℕ → Type 0
+EndsAfterHeader bytes = (h : Header) × (rest : List ℕ) × HasHeader bytes h rest × (length rest < records_len h + 32)
 
 -- bytes without a fault so far, of which more are wanted
 abbrev pub IsUnfinished : List ℕ → Type 0
-IsUnfinished bytes = (length bytes < 8) ⊎ EndsInHeader bytes ⊎ EndsBehindHeader bytes
+IsUnfinished bytes = (length bytes < 8) ⊎ EndsInHeader bytes ⊎ EndsAfterHeader bytes
 
--- a header that is not accepted, and bytes behind it
+-- a header that is not accepted, and bytes after it
 abbrev pub HasBadHeader : List ℕ → List ℕ → Type 0
 HasBadHeader bytes rest = (h : Header) × IsHeader h × (¬ IsAccepted h) × (bytes ≡ header_bytes h ++ rest)
 
--- header and records with another digest than theirs, and bytes behind it
+-- header and records with another digest than theirs, and bytes after it
 abbrev pub HasBadDigest : List ℕ → List ℕ → Type 0
 HasBadDigest bytes rest = (h : Header) × (records : List ℕ) × (digest : List ℕ) × IsSnapshot h records × (length digest ≡ 32)
     × (¬ (digest ≡ sha256 (hashed_bytes h records))) × (bytes ≡ hashed_bytes h records ++ digest ++ rest)
 
--- a whole snapshot, and bytes behind it
+-- a whole snapshot, and bytes after it
 abbrev pub HasSnapshot : List ℕ → List ℕ → Type 0
 HasSnapshot bytes rest = (h : Header) × (records : List ℕ) × IsSnapshot h records × (bytes ≡ snapshot_bytes h records ++ rest)
 
@@ -52,7 +52,7 @@ IsVerdict bytes (Ok s) = IsSnapshot s.0 s.1 × (bytes ≡ snapshot_bytes s.0 s.1
 IsVerdict bytes (Err fault) = HasFault fault bytes
 
 -- what may be answered to a whole input in place of its snapshot: its fault, or that a read failed or,
--- behind an accepted header, that there was no memory
+-- after an accepted header, that there was no memory
 abbrev pub MayRefuse : SnapshotFault → List ℕ → Type 0
 MayRefuse faults.NotSnapshot bytes = HasFault faults.NotSnapshot bytes
 MayRefuse faults.BadLayout bytes = HasFault faults.BadLayout bytes
@@ -86,7 +86,7 @@ EndsKept wanted faults.Read part left = length part < wanted
 EndsKept wanted _ part left = ⊥
 
 -- what came where the input should end: a byte, or a read failed
-abbrev pub EndsBehind : SnapshotFault → List ℕ → Type 0
-EndsBehind faults.TrailingBytes part = (b : ℕ) × (part ≡ b ∷ [])
-EndsBehind faults.Read part = part ≡ []
-EndsBehind _ part = ⊥
+abbrev pub EndsAfter : SnapshotFault → List ℕ → Type 0
+EndsAfter faults.TrailingBytes part = (b : ℕ) × (part ≡ b ∷ [])
+EndsAfter faults.Read part = part ≡ []
+EndsAfter _ part = ⊥

@@ -12,7 +12,7 @@ use std::alloc::{AllocError, Global};
 /// How many bytes the magic has.
 pub const MAGIC_LEN: usize = 8;
 
-/// How many bytes the fields behind the magic have.
+/// How many bytes the fields after the magic have.
 pub const FIELDS_LEN: usize = 83;
 
 /// How many bytes the digest has.
@@ -81,7 +81,7 @@ fn first_32(bytes: &[u8]) -> [u8; 32]
     first
 }
 
-/// The header whose fields these bytes are: each number has no other spelling.
+/// The header whose fields these bytes are: each number has no other encoding.
 pub fn header_in(fields: &[u8]) -> Header
     requires { length fields.now ≡ 83 }
     ensures bytes { header_bytes result ≡ magic ++ fields.now }
@@ -99,7 +99,7 @@ pub fn header_in(fields: &[u8]) -> Header
     }
 }
 
-/// The digest of a header's bytes and the records behind them.
+/// The digest of a header's bytes and the records after them.
 pub fn digest_of(header: &[u8], records: &[u8]) -> [u8; DIGEST_LEN]
     ensures { result ≡ sha256 (header.now ++ records.now) }
 {

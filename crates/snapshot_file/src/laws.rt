@@ -3,7 +3,7 @@
 
 ghost use Rattle.snapshot_file.specs.Laws.{OneNumber, LengthOfSnapshot, OneSnapshot, OneVerdict};
 
-/// The bytes that are read as a number are its only spelling in so many bytes.
+/// The bytes that are read as a number are its only encoding in so many bytes.
 pub fn one_number()
     ensures { OneNumber }
 {}

@@ -1,10 +1,12 @@
 //! A snapshot read from a reader.
 
-ghost use Rattle.std.specs.Prelude.{◌≡◌, ◌≤◌, ◌<◌, ◌*◌, ◌++◌, ◌∷◌, [], ℕ, List, length, min, vec_len, vec_capacity, IfOk, IfErr, OnOk, OnErr, IfSome};
+ghost use Rattle.std.specs.Prelude.{◌≡◌, ◌≤◌, ◌<◌, ◌*◌, ◌++◌, ◌∷◌, [], ℕ, List, length, min,
+    vec_len, vec_capacity, IfOk, IfErr, OnOk, OnErr, IfSome};
 ghost use Rattle.std.specs.Io.KnownBytes.{Consumes, IsAtEnd};
 ghost use Rattle.sha2.specs.Sha256.{sha256};
-ghost use Rattle.snapshot_file.specs.Snapshots.{magic, header_of, header_bytes, hashed_bytes, snapshot_bytes, records_len, IsHeader, IsAccepted, IsSnapshot};
-ghost use Rattle.snapshot_file.specs.Verdicts.{EndsBelow, EndsKept, EndsBehind, StopsAt, MayRefuse};
+ghost use Rattle.snapshot_file.specs.Snapshots.{magic, header_of, header_bytes, hashed_bytes,
+    snapshot_bytes, records_len, IsHeader, IsAccepted, IsSnapshot};
+ghost use Rattle.snapshot_file.specs.Verdicts.{EndsBelow, EndsKept, EndsAfter, StopsAt, MayRefuse};
 
 use crate::header::{
     DIGEST_LEN, FIELDS_LEN, MAGIC_LEN, digest_of, header_bytes, header_in, magic_bytes,
@@ -17,7 +19,8 @@ use std::io::Read;
 // As many bytes as there is room for.
 fn fill<R: Read>(reader: &mut R, out: &mut [u8]) -> Result<(), SnapshotFault>
     ensures ok { OnOk result (Consumes (R.remaining reader.old) (R.remaining reader.new) out.new) }
-    ensures err { IfErr result (λ fault. (part : List ℕ) × Consumes (R.remaining reader.old) (R.remaining reader.new) part
+    ensures err { IfErr result (λ fault. (part : List ℕ) ×
+        Consumes (R.remaining reader.old) (R.remaining reader.new) part
         × EndsBelow (length out.old) fault part (R.remaining reader.new)) }
 {
     let mut at = 0;
@@ -33,8 +36,10 @@ fn fill<R: Read>(reader: &mut R, out: &mut [u8]) -> Result<(), SnapshotFault>
 
 // The next N bytes.
 fn read_array<const N: usize, R: Read>(reader: &mut R) -> Result<[u8; N], SnapshotFault>
-    ensures ok { IfOk result (λ bytes. (length bytes ≡ N) × Consumes (R.remaining reader.old) (R.remaining reader.new) bytes) }
-    ensures err { IfErr result (λ fault. (part : List ℕ) × Consumes (R.remaining reader.old) (R.remaining reader.new) part
+    ensures ok { IfOk result (λ bytes. (length bytes ≡ N) ×
+        Consumes (R.remaining reader.old) (R.remaining reader.new) bytes) }
+    ensures err { IfErr result (λ fault. (part : List ℕ) ×
+        Consumes (R.remaining reader.old) (R.remaining reader.new) part
         × EndsBelow N fault part (R.remaining reader.new)) }
 {
     let mut bytes = [0u8; N];
@@ -44,8 +49,10 @@ fn read_array<const N: usize, R: Read>(reader: &mut R) -> Result<[u8; N], Snapsh
 
 // An accepted header.
 fn read_header<R: Read>(reader: &mut R) -> Result<Header, SnapshotFault>
-    ensures ok { IfOk result (λ h. IsHeader h × IsAccepted h × Consumes (R.remaining reader.old) (R.remaining reader.new) (header_bytes h)) }
-    ensures err { IfErr result (λ fault. (read : List ℕ) × Consumes (R.remaining reader.old) (R.remaining reader.new) read
+    ensures ok { IfOk result (λ h. IsHeader h × IsAccepted h ×
+        Consumes (R.remaining reader.old) (R.remaining reader.new) (header_bytes h)) }
+    ensures err { IfErr result (λ fault. (read : List ℕ) ×
+        Consumes (R.remaining reader.old) (R.remaining reader.new) read
         × StopsAt fault read (R.remaining reader.new)) }
 {
     let first = read_array::<MAGIC_LEN, R>(reader)?;
@@ -75,9 +82,12 @@ fn read_piece<R: Read>(
     records: &mut Vec<u8>,
 ) -> Result<(), SnapshotFault>
     requires { 0 < length buffer.old }
-    ensures ok { OnOk result ((part : List ℕ) × (0 < length part) × (length part ≤ length buffer.old)
-        × Consumes (R.remaining reader.old) (R.remaining reader.new) part × (records.new.items ≡ records.old.items ++ part)) }
-    ensures err { IfErr result (λ fault. (part : List ℕ) × Consumes (R.remaining reader.old) (R.remaining reader.new) part
+    ensures ok { OnOk result ((part : List ℕ) × (0 < length part) ×
+        (length part ≤ length buffer.old)
+        × Consumes (R.remaining reader.old) (R.remaining reader.new) part ×
+            (records.new.items ≡ records.old.items ++ part)) }
+    ensures err { IfErr result (λ fault. (part : List ℕ) ×
+        Consumes (R.remaining reader.old) (R.remaining reader.new) part
         × EndsKept 1 fault part (R.remaining reader.new)) }
 {
     match reader.read(buffer) {
@@ -101,7 +111,8 @@ fn read_records<R: Read>(
 ) -> Result<Vec<u8>, SnapshotFault>
     ensures ok { IfOk result (λ records. (length records.items ≡ wanted)
         × Consumes (R.remaining reader.old) (R.remaining reader.new) records.items) }
-    ensures err { IfErr result (λ fault. (part : List ℕ) × Consumes (R.remaining reader.old) (R.remaining reader.new) part
+    ensures err { IfErr result (λ fault. (part : List ℕ) ×
+        Consumes (R.remaining reader.old) (R.remaining reader.new) part
         × EndsKept wanted fault part (R.remaining reader.new)) }
 {
     let Ok(buffer) = piece_buffer(alloc, wanted.min(PIECE_LEN)) else {
@@ -122,7 +133,8 @@ fn read_by_pieces<R: Read>(
     requires nothing_reserved { vec_capacity records ≡ 0 }
     ensures ok { IfOk result (λ records. (length records.items ≡ wanted)
         × Consumes (R.remaining reader.old) (R.remaining reader.new) records.items) }
-    ensures err { IfErr result (λ fault. (part : List ℕ) × Consumes (R.remaining reader.old) (R.remaining reader.new) part
+    ensures err { IfErr result (λ fault. (part : List ℕ) ×
+        Consumes (R.remaining reader.old) (R.remaining reader.new) part
         × EndsKept wanted fault part (R.remaining reader.new)) }
 {
     while records.len() < wanted {
@@ -134,8 +146,10 @@ fn read_by_pieces<R: Read>(
 
 // Nothing more.
 fn read_end<R: Read>(reader: &mut R) -> Result<(), SnapshotFault>
-    ensures ok { OnOk result (Consumes (R.remaining reader.old) (R.remaining reader.new) [] × IsAtEnd (R.remaining reader.new)) }
-    ensures err { IfErr result (λ fault. (part : List ℕ) × Consumes (R.remaining reader.old) (R.remaining reader.new) part × EndsBehind fault part) }
+    ensures ok { OnOk result (Consumes (R.remaining reader.old) (R.remaining reader.new) [] ×
+        IsAtEnd (R.remaining reader.new)) }
+    ensures err { IfErr result (λ fault. (part : List ℕ) ×
+        Consumes (R.remaining reader.old) (R.remaining reader.new) part × EndsAfter fault part) }
 {
     let mut next = [0u8; 1];
     match reader.read(&mut next) {
@@ -145,7 +159,7 @@ fn read_end<R: Read>(reader: &mut R) -> Result<(), SnapshotFault>
     }
 }
 
-// The records and the digest behind a header, and the end of the input.
+// The records and the digest after a header, and the end of the input.
 fn read_body<R: Read>(
     alloc: Global,
     reader: &mut R,
@@ -154,18 +168,20 @@ fn read_body<R: Read>(
     requires header { IsHeader header.now }
     requires accepted { IsAccepted header.now }
     ensures ok { IfOk result (λ records. IsSnapshot header.now records.items
-        × Consumes (R.remaining reader.old) (R.remaining reader.new) (records.items ++ sha256 (hashed_bytes header.now records.items))
+        × Consumes (R.remaining reader.old) (R.remaining reader.new)
+            (records.items ++ sha256 (hashed_bytes header.now records.items))
         × IsAtEnd (R.remaining reader.new)) }
-    ensures err { IfErr result (λ fault. (read : List ℕ) × Consumes (R.remaining reader.old) (R.remaining reader.new) read
+    ensures err { IfErr result (λ fault. (read : List ℕ) ×
+        Consumes (R.remaining reader.old) (R.remaining reader.new) read
         × StopsAt fault (header_bytes header.now ++ read) (R.remaining reader.new)) }
 {
     // the bytes that were read: a header has no others
-    let Ok(front) = header_bytes(alloc, header) else {
+    let Ok(prefix) = header_bytes(alloc, header) else {
         return Err(SnapshotFault::Memory);
     };
     let records = read_records(alloc, reader, header.records_len())?;
     let digest = read_array::<DIGEST_LEN, R>(reader)?;
-    if digest != digest_of(&front, &records) {
+    if digest != digest_of(&prefix, &records) {
         return Err(SnapshotFault::BadDigest);
     }
     read_end(reader)?;
@@ -174,16 +190,20 @@ fn read_body<R: Read>(
 
 /// Reads a snapshot, which must be the whole input. Each fault is answered with the first byte that makes
 /// it: `NotSnapshot` with byte 8, `BadLayout` with byte 91, `BadDigest` with the last byte of the digest,
-/// `TrailingBytes` with the byte behind it; `Short` where the input ends before that. `Read` is answered
-/// where a read fails, an interrupted one too, and `Memory` only behind an accepted header. What is
+/// `TrailingBytes` with the byte after it; `Short` where the input ends before that. `Read` is answered
+/// where a read fails, an interrupted one too, and `Memory` only after an accepted header. What is
 /// reserved never passes 64 KiB and a small multiple of the bytes that came.
 pub fn read_snapshot<R: Read>(alloc: Global, reader: &mut R) -> Result<Snapshot, SnapshotFault>
     ensures accepted { IfOk result (λ s. IsSnapshot (header_of s) s.records.items) }
-    ensures input { IfOk result (λ s. IfSome (R.remaining reader.old) (λ bytes. bytes ≡ snapshot_bytes (header_of s) s.records.items)) }
-    ensures refused { IfErr result (λ fault. IfSome (R.remaining reader.old) (λ bytes. MayRefuse fault bytes)) }
-    ensures taken { IfOk result (λ s. Consumes (R.remaining reader.old) (R.remaining reader.new) (snapshot_bytes (header_of s) s.records.items)
+    ensures input { IfOk result (λ s. IfSome (R.remaining reader.old) (λ bytes. bytes ≡
+        snapshot_bytes (header_of s) s.records.items)) }
+    ensures refused { IfErr result (λ fault. IfSome (R.remaining reader.old)
+        (λ bytes. MayRefuse fault bytes)) }
+    ensures taken { IfOk result (λ s. Consumes (R.remaining reader.old) (R.remaining reader.new)
+        (snapshot_bytes (header_of s) s.records.items)
         × IsAtEnd (R.remaining reader.new)) }
-    ensures stops { IfErr result (λ fault. (read : List ℕ) × Consumes (R.remaining reader.old) (R.remaining reader.new) read
+    ensures stops { IfErr result (λ fault. (read : List ℕ) ×
+        Consumes (R.remaining reader.old) (R.remaining reader.new) read
         × StopsAt fault read (R.remaining reader.new)) }
 {
     let header = read_header(reader)?;

@@ -70,13 +70,13 @@ pub enum SnapshotFault {
     /// The digest is not that of the header and the records.
     #[error("the snapshot's digest is wrong")]
     BadDigest,
-    /// There is a byte behind the digest.
-    #[error("there are bytes behind the snapshot")]
+    /// There is a byte after the digest.
+    #[error("there are bytes after the snapshot")]
     TrailingBytes,
     /// A read failed.
     #[error("the snapshot could not be read")]
     Read,
-    /// There is no memory, which is wanted only behind an accepted header.
+    /// There is no memory, which is wanted only after an accepted header.
     #[error("out of memory")]
     Memory,
 }

@@ -54,7 +54,7 @@ fn store_header() -> Header {
     }
 }
 
-// Gives at most `most` bytes a read. Behind its bytes it ends, or every read fails.
+// Gives at most `most` bytes a read. After its bytes it ends, or every read fails.
 #[derive(Drop)]
 struct Input<'a> {
     bytes: &'a [u8],
@@ -119,7 +119,7 @@ fn fault(alloc: Global, bytes: &[u8]) -> Option<SnapshotFault> {
     .err()
 }
 
-// The fault of an input that fails behind its bytes.
+// The fault of an input that fails after its bytes.
 fn fault_failing(alloc: Global, bytes: &[u8]) -> Option<SnapshotFault> {
     read_snapshot(
         alloc,
@@ -399,7 +399,7 @@ fn faults_are_printed(rt: HostRuntime) -> Result<(), Fail> {
         (SnapshotFault::BadDigest, "the snapshot's digest is wrong"),
         (
             SnapshotFault::TrailingBytes,
-            "there are bytes behind the snapshot",
+            "there are bytes after the snapshot",
         ),
         (SnapshotFault::Read, "the snapshot could not be read"),
         (SnapshotFault::Memory, "out of memory"),

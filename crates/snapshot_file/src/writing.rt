@@ -19,16 +19,19 @@ pub fn write_snapshot_bytes<W: Write>(
     records: &[u8],
     writer: &mut W,
 ) -> Result<(), WriteFault>
-    ensures whole { OnOk result (Appends (W.contents writer.old) (W.contents writer.new) (snapshot_bytes header.now records.now)) }
-    ensures part { IfErr result (λ fault. (n : ℕ) × (n < length (snapshot_bytes header.now records.now))
-        × Appends (W.contents writer.old) (W.contents writer.new) (take n (snapshot_bytes header.now records.now))
+    ensures whole { OnOk result (Appends (W.contents writer.old) (W.contents writer.new)
+        (snapshot_bytes header.now records.now)) }
+    ensures part { IfErr result (λ fault. (n : ℕ) ×
+        (n < length (snapshot_bytes header.now records.now))
+        × Appends (W.contents writer.old) (W.contents writer.new)
+            (take n (snapshot_bytes header.now records.now))
         × (fault ≡ WriteFault.Memory → n ≡ 0)) }
 {
-    let Ok(front) = header_bytes(alloc, header) else {
+    let Ok(prefix) = header_bytes(alloc, header) else {
         return Err(WriteFault::Memory);
     };
-    let digest = digest_of(&front, records);
-    write_out(writer, &front)?;
+    let digest = digest_of(&prefix, records);
+    write_out(writer, &prefix)?;
     write_out(writer, records)?;
     write_out(writer, &digest)?;
     Ok(())

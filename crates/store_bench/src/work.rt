@@ -78,14 +78,14 @@ pub fn figures(rt: &impl Runtime, alloc: Global, sizes: Sizes) -> anyhow::Result
         None => 0,
     };
     figures.push(timed("Store::open", nanos, check))?;
-    if check != check_of(front(hint.words())) {
+    if check != check_of(prefix(hint.words())) {
         bail!("the store's hint is another one than that made alone");
     }
     Ok(figures)
 }
 
 // As many words as the first part of a hint has.
-fn front(words: &[u32]) -> &[u32] {
+fn prefix(words: &[u32]) -> &[u32] {
     &words[..words.len().min(65_536)]
 }
 
@@ -127,7 +127,8 @@ fn hint_alone(
 ) -> anyhow::Result<Matrix>
     requires dimension { (1 ≤ dimension) × (dimension ≤ 1024) }
     requires count { length bytes.now ≡ layout.now.count * layout.now.record_len }
-    ensures { IfOk result (λ hint. hint ≡ hint_of (digit_matrix layout.now (records_in layout.now bytes.now))
+    ensures { IfOk result (λ hint. hint ≡
+        hint_of (digit_matrix layout.now (records_in layout.now bytes.now))
         (public_rows SEED 0 0 (digit_cols layout.now) dimension)) }
 {
     let start = Instant::now(rt)?;
@@ -146,7 +147,7 @@ fn hint_alone(
     figures.push(timed(
         "simple_scheme::setup alone",
         made,
-        check_of(front(hint.words())),
+        check_of(prefix(hint.words())),
     ))?;
     Ok(hint)
 }

@@ -4,7 +4,7 @@ use Rattle.version_store.specs.Editions.{Records}
 
 -- what a store keeps: the number of the current version and its records, the draft, whether an edit was accepted since
 -- the last publication, and the digest of the publisher's key
-pub record Held : Type 0 where
+pub record StoreState : Type 0 where
   pub version : ℕ
   pub edition : Records
   pub draft : List (List ℕ)
@@ -25,27 +25,27 @@ abbrev pub opened : ℕ → List (List ℕ) → History
 opened version records = record { first = version; past = []; current = records; draft = records; marked = false }
 
 -- the number of the current version
-abbrev pub number : History → ℕ
-number h = h.first + length h.past
+abbrev pub current_version : History → ℕ
+current_version h = h.first + length h.past
 
 -- the records of a version; none before the opening one, and none above the current one
 abbrev pub records_of : History → ℕ → Option (List (List ℕ))
-records_of h v = if nat_lt (number h) v then None else slice_get (h.current ∷ h.past) (number h - v)
+records_of h v = if nat_lt (current_version h) v then None else slice_get (h.current ∷ h.past) (current_version h - v)
 
 -- an edit replaces one record of the draft, and sets the mark
-abbrev pub edited : ℕ → List ℕ → History → History
-edited i bytes h = record h { draft = slice_set h.draft i bytes; marked = true }
+abbrev pub after_edit : ℕ → List ℕ → History → History
+after_edit i bytes h = record h { draft = slice_set h.draft i bytes; marked = true }
 
 -- a publication makes the draft the current version, and clears the mark
 abbrev pub published : History → History
 published h = record h { past = h.current ∷ h.past; current = h.draft; marked = false }
 
 -- what is kept after an edit
-abbrev pub held_edited : ℕ → List ℕ → Held → Held
+abbrev pub held_edited : ℕ → List ℕ → StoreState → StoreState
 held_edited i bytes s = record s { draft = slice_set s.draft i bytes; marked = true }
 
 -- what is kept after a publication
-abbrev pub held_published : Held → Held
+abbrev pub held_published : StoreState → StoreState
 held_published s = record s { version = s.version + 1; edition = record s.edition { records = s.draft }; marked = false }
 
 -- an accepted edit of a record by its bytes, or (where there is none) a publication
@@ -55,18 +55,18 @@ Change = Option (ℕ × List ℕ)
 -- the history after changes
 abbrev pub history_after : List Change → History → History
 history_after [] h = h
-history_after (Some (i, bytes) ∷ more) h = history_after more (edited i bytes h)
+history_after (Some (i, bytes) ∷ more) h = history_after more (after_edit i bytes h)
 history_after (None ∷ more) h = history_after more (published h)
 
 -- what is kept after changes
-abbrev pub held_after : List Change → Held → Held
+abbrev pub held_after : List Change → StoreState → StoreState
 held_after [] s = s
 held_after (Some (i, bytes) ∷ more) s = held_after more (held_edited i bytes s)
 held_after (None ∷ more) s = held_after more (held_published s)
 
 -- what is kept is that of the history
-pub record StandsFor (s : Held) (h : History) : Type 0 where
-  pub version : number h ≡ s.version
+pub record StandsFor (s : StoreState) (h : History) : Type 0 where
+  pub version : current_version h ≡ s.version
   pub current : h.current ≡ s.edition.records
   pub draft : h.draft ≡ s.draft
   pub marked : h.marked ≡ s.marked

@@ -7,7 +7,7 @@ use Rattle.snapshot_file.specs.Snapshots.{shape_of, records_len, snapshot_bytes}
 use Rattle.version_store.specs.declared.opening.OpenError.{OpenError}
 use Rattle.version_store.specs.declared.opening.OpenError.TheVariants.{BadLayout, BadVersion, BadRecords, Memory}
 use Rattle.pir_schemes.specs.Plans.{plan_of}
-use Rattle.version_store.specs.Histories.{Held}
+use Rattle.version_store.specs.Histories.{StoreState}
 
 -- a layout within its limits, and a dimension of 1 to 1024
 pub record HasSizes (h : Header) : Type 0 where
@@ -29,7 +29,7 @@ IsOpenFault h records BadRecords = HasSizes h × (1 ≤ h.version) × ¬ (length
 IsOpenFault h records Memory = IsSound h records
 
 -- what a store of a snapshot holds: its records as the only version, and as the draft
-abbrev pub held_of : Header → List ℕ → Held
+abbrev pub held_of : Header → List ℕ → StoreState
 held_of h records = record {
   version = h.version;
   edition = record { plan = plan_of (shape_of h) h.dimension h.seed; records = records_in (shape_of h) records };
@@ -39,7 +39,7 @@ held_of h records = record {
 }
 
 -- the fields of a snapshot of what a store holds
-abbrev pub header_of_held : Held → Header
+abbrev pub header_of_held : StoreState → Header
 header_of_held s = record {
   width = s.edition.plan.width;
   record_len = s.edition.plan.record_len;
@@ -56,5 +56,5 @@ abbrev pub bytes_of_records : List (List ℕ) → List ℕ
 bytes_of_records records = flat_map (λ bytes. bytes) records
 
 -- the snapshot of a store's current version
-abbrev pub snapshot_of : Held → List ℕ
+abbrev pub snapshot_of : StoreState → List ℕ
 snapshot_of s = snapshot_bytes (header_of_held s) (bytes_of_records s.edition.records)

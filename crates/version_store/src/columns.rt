@@ -27,7 +27,8 @@ pub fn replace_digits<K: Kernel, S: DigitStore>(
     requires inner { (S.digits digits.old).cols ≡ a1.now.rows }
     requires made { hint.old ≡ product (S.digits digits.old) a1.now }
     requires marks { length marks.old ≡ (S.digits digits.old).rows }
-    ensures digits { WritesColumn (S.digits digits.old) (S.digits digits.new) first col written.now }
+    ensures digits { WritesColumn (S.digits digits.old)
+        (S.digits digits.new) first col written.now }
     ensures made { hint.new ≡ product (S.digits digits.new) a1.now }
     ensures marks { MarksChanges (S.digits digits.old) (S.digits digits.new) marks.old marks.new }
 {

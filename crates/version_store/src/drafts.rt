@@ -25,7 +25,8 @@ pub fn apply_changes<K: Kernel>(
     requires fit { FitRecords layer.old changes.old.entries }
     requires room { length scratch.old ≡ digits_per_record (version_shape layer.old) }
     requires marks { length marks.old ≡ digit_rows (version_shape layer.old) }
-    ensures records { layer.new ≡ record layer.old { records = draft_of layer.old.records changes.old.entries } }
+    ensures records { layer.new ≡
+        record layer.old { records = draft_of layer.old.records changes.old.entries } }
     ensures none { changes.new.entries ≡ [] }
     ensures marks { MarksChanges (digits_at layer.old.plan layer.old.records)
         (digits_at layer.new.plan layer.new.records) marks.old marks.new }

@@ -1,7 +1,8 @@
 //! One version's records, with everything that is made from them.
 
 ghost use Rattle.std.specs.Prelude.{◌≡◌, [], ◌*◌, ◌<◌, ◌≤◌, IfOk, length};
-ghost use Rattle.digit_pack.specs.Layout.{digit_rows, digit_cols, digits_per_record, record_at, records_in};
+ghost use Rattle.digit_pack.specs.Layout.{digit_rows, digit_cols, digits_per_record, record_at,
+    records_in};
 ghost use Rattle.pir_schemes.specs.Plans.{IsPlan, plan_of};
 ghost use Rattle.pir_schemes.specs.Retrievals.{hint_matrix, query_count, answer_words};
 ghost use Rattle.version_store.specs.Drafts.{draft_of, FitRecords};
@@ -53,7 +54,8 @@ impl<K: Kernel> Edition<K> {
         requires dimension { (1 ≤ dimension) × (dimension ≤ 1024) }
         requires count { length bytes.items ≡ layout.count * layout.record_len }
         ensures { IfOk result (λ e.
-            e ≡ record { plan = plan_of layout dimension seed; records = records_in layout bytes.items }) }
+            e ≡ record { plan = plan_of layout dimension seed; records = records_in layout
+                bytes.items }) }
     {
         let layer = FirstLayer::open(alloc, kernel, layout, dimension, seed, bytes)?;
         let layout = layer.layout();
@@ -130,7 +132,8 @@ impl<K: Kernel> Edition<K> {
         words: &[u32],
     ) -> Result<Vec<u32>, AllocError>
         requires { length words.now ≡ query_count scheme (version_shape self.now) }
-        ensures { IfOk result (λ v. v.items ≡ answer_words scheme self.now.plan self.now.records words.now) }
+        ensures { IfOk result (λ v. v.items ≡
+            answer_words scheme self.now.plan self.now.records words.now) }
     {
         match scheme {
             Scheme::Simple => self.layer.answer(alloc, self.kernel, words),
@@ -166,7 +169,8 @@ impl<K: Kernel> Edition<K> {
         requires fit { FitRecords self.old changes.old.entries }
         requires room { length scratch.old ≡ digits_per_record (version_shape self.old) }
         requires marks { length marks.old ≡ digit_rows (version_shape self.old) }
-        ensures records { self.new ≡ record self.old { records = draft_of self.old.records changes.old.entries } }
+        ensures records { self.new ≡
+            record self.old { records = draft_of self.old.records changes.old.entries } }
         ensures none { changes.new.entries ≡ [] }
     {
         apply_changes(self.kernel, &mut self.layer, changes, scratch, marks);

@@ -1,7 +1,8 @@
 //! The records of one version, with what SimplePIR makes from them.
 
 ghost use Rattle.std.specs.Prelude.{◌≡◌, ◌*◌, ◌<◌, ◌≤◌, IfOk, length, slice_set};
-ghost use Rattle.digit_pack.specs.Layout.{IsLayout, digit_rows, digit_cols, digits_per_record, record_at, records_in};
+ghost use Rattle.digit_pack.specs.Layout.{IsLayout, digit_rows, digit_cols, digits_per_record,
+    record_at, records_in};
 ghost use Rattle.pir_schemes.specs.Plans.{IsPlan, plan_of, digits_at};
 ghost use Rattle.pir_schemes.specs.Retrievals.{hint_matrix, answer_words};
 ghost use Rattle.version_store.specs.Editions.{Records, version_shape, MarksChanges};
@@ -59,7 +60,8 @@ impl FirstLayer {
         requires dimension { (1 ≤ dimension) × (dimension ≤ 1024) }
         requires count { length bytes.items ≡ layout.count * layout.record_len }
         ensures { IfOk result (λ e.
-            e ≡ record { plan = plan_of layout dimension seed; records = records_in layout bytes.items }) }
+            e ≡ record { plan = plan_of layout dimension seed; records = records_in layout
+                bytes.items }) }
     {
         let digits: Digits = digits_of_records(alloc, &layout, &bytes)?;
         let a1 = expand(alloc, &seed, 0, 0, layout.cols(), dimension)?;
@@ -162,7 +164,8 @@ impl FirstLayer {
         requires len { length bytes.now ≡ self.old.plan.record_len }
         requires room { length scratch.old ≡ digits_per_record (version_shape self.old) }
         requires marks { length marks.old ≡ digit_rows (version_shape self.old) }
-        ensures records { self.new ≡ record self.old { records = slice_set self.old.records i bytes.now } }
+        ensures records { self.new ≡
+            record self.old { records = slice_set self.old.records i bytes.now } }
         ensures marks { MarksChanges (digits_at self.old.plan self.old.records)
             (digits_at self.new.plan self.new.records) marks.old marks.new }
     {

@@ -30,7 +30,8 @@ pub enum OpenError {
 pub(crate) fn sizes_of(snapshot: &Snapshot) -> Result<Layout, OpenError>
     ensures sizes { IfOk result (λ l. (l ≡ shape_of (header_of snapshot.now)) × IsLayout l) }
     ensures sound { OnOk result (IsSound (header_of snapshot.now) snapshot.now.records.items) }
-    ensures refused { IfErr result (IsOpenFault (header_of snapshot.now) snapshot.now.records.items) }
+    ensures refused { IfErr result
+        (IsOpenFault (header_of snapshot.now) snapshot.now.records.items) }
 {
     let layout = Layout::new(
         u32::from(snapshot.width),

@@ -1,6 +1,7 @@
 //! The store: the current version, a draft, and their publication.
 
-ghost use Rattle.std.specs.Prelude.{ℕ, ◌≡◌, ◌≢◌, ◌+◌, ◌*◌, ◌^◌, ◌<◌, ◌≤◌, ◌↔◌, length, true, false, OnOk, OnErr, IfErr, IfOk, IfSome, IsNone, take, slice_set, IsErrOf, IsTrue};
+ghost use Rattle.std.specs.Prelude.{ℕ, ◌≡◌, ◌≢◌, ◌+◌, ◌*◌, ◌^◌, ◌<◌, ◌≤◌, ◌↔◌, length, true, false,
+    OnOk, OnErr, IfErr, IfOk, IfSome, IsNone, take, slice_set, IsErrOf, IsTrue};
 ghost use Rattle.matrix_u32.specs.Matrix.{row};
 ghost use Rattle.digit_pack.specs.Layout.{digits_per_record, digit_rows, record_at, records_in};
 ghost use Rattle.pir_schemes.specs.Plans.{IsPlan, fits};
@@ -8,9 +9,11 @@ ghost use Rattle.pir_schemes.specs.Parts.{part_of};
 ghost use Rattle.pir_schemes.specs.Retrievals.{hint_matrix, query_count, answer_words};
 ghost use Rattle.version_store.specs.Editions.{version_shape};
 ghost use Rattle.snapshot_file.specs.Snapshots.{header_of, shape_of};
-ghost use Rattle.version_store.specs.Openings.{IsSound, IsOpenFault, held_of, header_of_held, bytes_of_records, snapshot_of};
+ghost use Rattle.version_store.specs.Openings.{IsSound, IsOpenFault, held_of, header_of_held,
+    bytes_of_records, snapshot_of};
 ghost use Rattle.std.specs.Io.KnownBytes.{Appends};
-ghost use Rattle.version_store.specs.Histories.{Held, History, StandsFor, opened, edited, published, held_edited, held_published};
+ghost use Rattle.version_store.specs.Histories.{StoreState, History, StandsFor, opened, after_edit,
+    published, held_edited, held_published};
 
 use crate::drafts::Changes;
 use crate::edition::Edition;
@@ -55,7 +58,7 @@ pub enum PublishError {
 
 /// The current version of the records, with its hints, and the draft of the next.
 ///
-/// The draft is kept as its changes alone. Contracts see a store as what it holds, `Held`, and say what a
+/// The draft is kept as its changes alone. Contracts see a store as what it holds, `StoreState`, and say what a
 /// call does to every history that the store stands for.
 #[derive(Drop)]
 pub struct Store<K: Kernel> {
@@ -67,10 +70,10 @@ pub struct Store<K: Kernel> {
 }
 
 impl<K: Kernel> Model for Store<K> {
-    ghost use Rattle.version_store.specs.Histories.{Held};
+    ghost use Rattle.version_store.specs.Histories.{StoreState};
     ghost use Rattle.version_store.specs.Drafts.{draft_of, is_some_change, FitRecords};
 
-    ghost Value = { Held };
+    ghost Value = { StoreState };
 
     ghost view = { λ s. record {
       version = s.version;
@@ -87,12 +90,15 @@ impl<K: Kernel> Store<K> {
     /// The store of a snapshot's records, with an empty draft; its hints are made by the schemes' `setup`. The
     /// store keeps the allocator.
     ///
-    /// `BadLayout` exactly where the layout is refused or the dimension is not in 1 to 1024; else
-    /// `BadVersion` exactly where the version is 0; else `BadRecords` exactly where the bytes are not as many
+    /// `BadLayout` exactly when the layout is refused or the dimension is not in 1 to 1024; else
+    /// `BadVersion` exactly when the version is 0; else `BadRecords` exactly when the bytes are not as many
     /// as the records have; else it is opened, or `Memory`.
     pub fn open(alloc: Global, kernel: K, snapshot: Snapshot) -> Result<Store<K>, OpenError>
         ensures held { IfOk result (λ s. s ≡ held_of (header_of snapshot) snapshot.records.items) }
-        ensures history { IfOk result (λ s. StandsFor s (opened snapshot.version (records_in (shape_of (header_of snapshot)) snapshot.records.items))) }
+        ensures history { IfOk result
+            (λ s. StandsFor s
+            (opened snapshot.version
+            (records_in (shape_of (header_of snapshot)) snapshot.records.items))) }
         ensures sound { OnOk result (IsSound (header_of snapshot) snapshot.records.items) }
         ensures refused { IfErr result (IsOpenFault (header_of snapshot) snapshot.records.items) }
     {
@@ -206,9 +212,11 @@ impl<K: Kernel> Store<K> {
     /// most 65,536 of them. `None` exactly when there is no such part.
     pub fn hint_words(&self, scheme: Scheme, part: usize) -> Option<&[u32]>
         ensures none { IsNone result ↔
-            (length (hint_matrix scheme self.now.edition.plan self.now.edition.records).words ≤ 65536 * part) }
+            (length (hint_matrix scheme self.now.edition.plan self.now.edition.records).words ≤
+                65536 * part) }
         ensures words { IfSome result (λ words.
-            words.now ≡ part_of (hint_matrix scheme self.now.edition.plan self.now.edition.records).words part) }
+            words.now ≡ part_of (hint_matrix scheme self.now.edition.plan
+                self.now.edition.records).words part) }
     {
         part_words(self.edition.hint(scheme).words(), part)
     }
@@ -228,7 +236,8 @@ impl<K: Kernel> Store<K> {
     pub fn answer(&self, scheme: Scheme, words: &[u32]) -> Result<Vec<u32>, AllocError>
         requires { length words.now ≡ query_count scheme (version_shape self.now.edition) }
         ensures { IfOk result (λ v.
-            v.items ≡ answer_words scheme self.now.edition.plan self.now.edition.records words.now) }
+            v.items ≡ answer_words scheme self.now.edition.plan self.now.edition.records words.now)
+                }
     {
         self.edition.answer(self.alloc, scheme, words)
     }
@@ -237,7 +246,8 @@ impl<K: Kernel> Store<K> {
     pub fn answer_simple(&self, words: &[u32]) -> Result<Vec<u32>, AllocError>
         requires { length words.now ≡ query_count Scheme.Simple (version_shape self.now.edition) }
         ensures { IfOk result (λ v.
-            v.items ≡ answer_words Scheme.Simple self.now.edition.plan self.now.edition.records words.now) }
+            v.items ≡ answer_words Scheme.Simple self.now.edition.plan self.now.edition.records
+                words.now) }
     {
         self.answer(Scheme::Simple, words)
     }
@@ -246,7 +256,8 @@ impl<K: Kernel> Store<K> {
     pub fn answer_double(&self, words: &[u32]) -> Result<Vec<u32>, AllocError>
         requires { length words.now ≡ query_count Scheme.Double (version_shape self.now.edition) }
         ensures { IfOk result (λ v.
-            v.items ≡ answer_words Scheme.Double self.now.edition.plan self.now.edition.records words.now) }
+            v.items ≡ answer_words Scheme.Double self.now.edition.plan self.now.edition.records
+                words.now) }
     {
         self.answer(Scheme::Double, words)
     }
@@ -259,7 +270,7 @@ impl<K: Kernel> Store<K> {
     pub fn edit(&mut self, i: usize, bytes: &[u8]) -> Result<(), EditError>
         ensures accepted { OnOk result (self.new ≡ held_edited i bytes.now self.old) }
         ensures history { OnOk result ((h : History) →
-            StandsFor self.old h → StandsFor self.new (edited i bytes.now h)) }
+            StandsFor self.old h → StandsFor self.new (after_edit i bytes.now h)) }
         ensures bad_index { IsErrOf result EditError.BadIndex ↔ (length self.old.draft ≤ i) }
         ensures bad_length { IsErrOf result EditError.BadLength ↔
             (i < length self.old.draft) × (fits self.old.edition.plan bytes.now ≡ false) }
@@ -338,7 +349,8 @@ pub fn write_snapshot<K: Kernel, W: Write>(
     store: &Store<K>,
     writer: &mut W,
 ) -> Result<(), WriteFault>
-    ensures whole { OnOk result (Appends (W.contents writer.old) (W.contents writer.new) (snapshot_of store.now)) }
+    ensures whole { OnOk result (Appends (W.contents writer.old) (W.contents writer.new)
+        (snapshot_of store.now)) }
     ensures part { IfErr result (λ fault. (n : ℕ) × (n < length (snapshot_of store.now))
         × Appends (W.contents writer.old) (W.contents writer.new) (take n (snapshot_of store.now))
         × (fault ≡ WriteFault.Memory → n ≡ 0)) }

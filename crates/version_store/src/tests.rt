@@ -52,7 +52,7 @@ fn two_records(alloc: Global, version: u64) -> Result<Store<Plain>, Fail> {
 }
 
 #[test]
-fn a_store_tells_its_sizes(rt: HostRuntime) -> Result<(), Fail> {
+fn a_store_reports_its_sizes(rt: HostRuntime) -> Result<(), Fail> {
     let store = two_records(rt.alloc(), 1)?;
     assert_eq!(rt; store.version(), 1);
     assert_eq!(rt; store.layout().count(), 2);

@@ -24,8 +24,8 @@ fn edits_and_publishes(
 fn hello_edit_and_publish(rt: HostRuntime) -> Result<(), Fail> {
     let mut client = newcomer(&rt, 5);
     counts(&rt, &client, 5);
-    let front = [34, 0, 0, 0, 2, 1, 0, 9, 0];
-    sends(&rt, &mut client, Wanted::Hello(9), 39, &front)?;
+    let prefix = [34, 0, 0, 0, 2, 1, 0, 9, 0];
+    sends(&rt, &mut client, Wanted::Hello(9), 39, &prefix)?;
     let frame = welcome(&rt, TWO_RECORDS)?;
     feeds(&rt, &mut client, frame.as_slice(), "welcomed 1 ")?;
     edits_and_publishes(&rt, &mut client)
@@ -39,8 +39,8 @@ fn syncs_after_a_publication(
     let frame = done(rt, 2)?;
     feeds(rt, client, frame.as_slice(), "done 2 ")?;
     // Done sets no version: the hint of version 1 is asked for
-    let front = [13, 0, 0, 0, 3, 0, 1, 0];
-    sends(rt, client, Wanted::Sync(Scheme::Simple), 18, &front)?;
+    let prefix = [13, 0, 0, 0, 3, 0, 1, 0];
+    sends(rt, client, Wanted::Sync(Scheme::Simple), 18, &prefix)?;
     let frame = part(rt, 0, 1, 0, &[0])?;
     feeds(rt, client, frame.as_slice(), "synced simple 1 ")
 }
@@ -49,8 +49,8 @@ fn syncs_after_a_publication(
 fn sync_and_ask(rt: HostRuntime) -> Result<(), Fail> {
     let mut client = guest(&rt, TWO_RECORDS, 5)?;
     syncs_after_a_publication(&rt, &mut client)?;
-    let front = [17, 0, 0, 0, 5, 0, 1, 0];
-    sends(&rt, &mut client, Wanted::Ask(1), 22, &front)?;
+    let prefix = [17, 0, 0, 0, 5, 0, 1, 0];
+    sends(&rt, &mut client, Wanted::Ask(1), 22, &prefix)?;
     counts(&rt, &client, 6);
     Ok(())
 }

@@ -94,8 +94,8 @@ fn a_double_hint_is_fetched_and_asked_with(rt: HostRuntime) -> Result<(), Fail> 
     let mut client = guest(&rt, ONE_RECORD, 0)?;
     fetches_a_double_hint(&rt, &mut client)?;
     // ten words: one for the column, and for each of three digits one for each of three rows
-    let front = [49, 0, 0, 0, 5, 1, 1, 0];
-    sends(&rt, &mut client, Wanted::Ask(0), 54, &front)
+    let prefix = [49, 0, 0, 0, 5, 1, 1, 0];
+    sends(&rt, &mut client, Wanted::Ask(0), 54, &prefix)
 }
 
 #[test]

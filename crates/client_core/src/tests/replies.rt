@@ -124,7 +124,7 @@ enum Reply {
     Refused,
 }
 
-fn spelled_reply(rt: &(impl Abort + AllocGlobal), reply: Reply) -> Result<Vec<u8>, Fail> {
+fn encoded_reply(rt: &(impl Abort + AllocGlobal), reply: Reply) -> Result<Vec<u8>, Fail> {
     match reply {
         Reply::Welcome => welcome(rt, ONE_RECORD),
         Reply::HintPart => part(rt, 0, 1, 0, &[0, 0, 0]),
@@ -141,7 +141,7 @@ fn is_bad_for(
     reply: Reply,
     calls: &[Outstanding],
 ) -> Result<(), Fail> {
-    let frame = spelled_reply(rt, reply)?;
+    let frame = encoded_reply(rt, reply)?;
     for call in calls {
         is_bad(rt, *call, frame.as_slice())?;
     }
@@ -215,19 +215,19 @@ fn frames_that_are_no_replies(rt: HostRuntime) -> Result<(), Fail> {
     is_bad(&rt, Outstanding::Edit, &[0, 0, 0, 0, 0x87])
 }
 
-/// Feeds a client that waits for Done that reply and more bytes behind it.
-fn told_before(rt: &(impl Abort + AllocGlobal), behind: &[u8]) -> Result<(), Fail> {
+/// Feeds a client that waits for Done that reply and more bytes after it.
+fn reported_before(rt: &(impl Abort + AllocGlobal), beyond: &[u8]) -> Result<(), Fail> {
     let mut piece = done(rt, 1)?;
-    piece.extend_from_slice(behind)?;
+    piece.extend_from_slice(beyond)?;
     let mut client = waiting(rt, Outstanding::Edit)?;
     feeds(rt, &mut client, piece.as_slice(), "done 1 BadReply ")
 }
 
 #[test]
-fn what_came_before_a_fault_is_told(rt: HostRuntime) -> Result<(), Fail> {
+fn what_came_before_a_fault_is_reported(rt: HostRuntime) -> Result<(), Fail> {
     let again = done(&rt, 1)?;
-    told_before(&rt, again.as_slice())?;
-    told_before(&rt, &[0, 0, 0, 0, 0x7f])
+    reported_before(&rt, again.as_slice())?;
+    reported_before(&rt, &[0, 0, 0, 0, 0x7f])
 }
 
 fn takes_another_count(

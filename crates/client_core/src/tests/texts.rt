@@ -18,8 +18,8 @@ fn each_call_fault_has_its_text(rt: HostRuntime) -> Result<(), Fail> {
         (CallFault::AlreadyWelcome, "the client is welcome already"),
     ];
     for (fault, text) in texts {
-        let told = format!(in rt.alloc(); "{fault}")?;
-        assert_eq!(rt; told.as_str(), text);
+        let reported = format!(in rt.alloc(); "{fault}")?;
+        assert_eq!(rt; reported.as_str(), text);
     }
     Ok(())
 }
@@ -33,8 +33,8 @@ fn each_client_fault_has_its_text(rt: HostRuntime) -> Result<(), Fail> {
         (ClientFault::Failed, "the client had failed"),
     ];
     for (fault, text) in texts {
-        let told = format!(in rt.alloc(); "{fault}")?;
-        assert_eq!(rt; told.as_str(), text);
+        let reported = format!(in rt.alloc(); "{fault}")?;
+        assert_eq!(rt; reported.as_str(), text);
     }
     Ok(())
 }

@@ -105,8 +105,8 @@ fn each_fault_has_a_text_of_its_own(rt: HostRuntime) -> Result<(), Fail> {
         (OnceFault::TurnsUsedUp, "all turns are used up"),
     ];
     for (fault, text) in texts {
-        let told = format!(in rt.alloc(); "{fault}")?;
-        assert_eq!(rt; told.as_str(), text);
+        let reported = format!(in rt.alloc(); "{fault}")?;
+        assert_eq!(rt; reported.as_str(), text);
     }
     Ok(())
 }

@@ -80,23 +80,23 @@ fn call(hand: &mut Hand, called: Result<Vec<u8>, CallFault>) -> Result<(), Fail>
     Ok(())
 }
 
-/// Takes at most so many bytes from the front.
-fn front(rt: &impl AllocGlobal, bytes: &mut Vec<u8>, most: usize) -> Result<Vec<u8>, Fail> {
+/// Takes at most so many bytes from the beginning.
+fn prefix(rt: &impl AllocGlobal, bytes: &mut Vec<u8>, most: usize) -> Result<Vec<u8>, Fail> {
     let n = most.min(bytes.len());
-    let front = bytes[..n].to_vec(rt.alloc())?;
+    let prefix = bytes[..n].to_vec(rt.alloc())?;
     let rest = bytes[n..].to_vec(rt.alloc())?;
     *bytes = rest;
-    Ok(front)
+    Ok(prefix)
 }
 
 fn up(rt: &impl AllocGlobal, hand: &mut Hand, most: usize) -> Result<(), Fail> {
-    let piece = front(rt, &mut hand.up, most)?;
+    let piece = prefix(rt, &mut hand.up, most)?;
     hand.server.feed(0, piece.as_slice(), &mut hand.down)?;
     Ok(())
 }
 
 fn down(rt: &impl AllocGlobal, hand: &mut Hand, most: usize) -> Result<(), Fail> {
-    let piece = front(rt, &mut hand.down, most)?;
+    let piece = prefix(rt, &mut hand.down, most)?;
     let fed = hand.client.feed(piece.as_slice());
     hand.up.extend_from_slice(fed.out.as_slice())?;
     for event in fed.events.as_slice() {
@@ -173,7 +173,7 @@ fn both(
     let step = step_of(rt, one)?;
     go(world, step)?;
     move_hand(rt, hand, one)?;
-    assert_eq!(rt; told(rt, world)?.as_str(), hand.text.as_str());
+    assert_eq!(rt; reported(rt, world)?.as_str(), hand.text.as_str());
     Ok(())
 }
 

@@ -10,8 +10,8 @@ fn each_step_fault_has_its_text(rt: HostRuntime) -> Result<(), Fail> {
         (StepFault::Broken, "the world is broken"),
     ];
     for (fault, text) in texts {
-        let told = format!(in rt.alloc(); "{fault}")?;
-        assert_eq!(rt; told.as_str(), text);
+        let reported = format!(in rt.alloc(); "{fault}")?;
+        assert_eq!(rt; reported.as_str(), text);
     }
     Ok(())
 }

@@ -9,8 +9,8 @@ fn each_open_error_has_its_text(rt: HostRuntime) -> Result<(), Fail> {
         (OpenError::Memory, "out of memory"),
     ];
     for (fault, text) in texts {
-        let told = format!(in rt.alloc(); "{fault}")?;
-        assert_eq!(rt; told.as_str(), text);
+        let reported = format!(in rt.alloc(); "{fault}")?;
+        assert_eq!(rt; reported.as_str(), text);
     }
     Ok(())
 }
@@ -22,8 +22,8 @@ fn each_feed_error_has_its_text(rt: HostRuntime) -> Result<(), Fail> {
         (FeedError::Memory, "out of memory"),
     ];
     for (fault, text) in texts {
-        let told = format!(in rt.alloc(); "{fault}")?;
-        assert_eq!(rt; told.as_str(), text);
+        let reported = format!(in rt.alloc(); "{fault}")?;
+        assert_eq!(rt; reported.as_str(), text);
     }
     Ok(())
 }

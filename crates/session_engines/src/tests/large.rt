@@ -97,8 +97,8 @@ fn retrieves(
     assert!(rt; matches!(synced, Ok(Event::Synced(Scheme::Simple, 1))));
     for index in asked {
         let ask = client.ask(*index)?;
-        let told = converse_over(alloc, &mut client, &ask, &mut wire, TURNS);
-        let Ok(Event::Retrieved { bytes, .. }) = told else {
+        let reported = converse_over(alloc, &mut client, &ask, &mut wire, TURNS);
+        let Ok(Event::Retrieved { bytes, .. }) = reported else {
             panic!(rt; "record {index} was not retrieved");
         };
         let first = (*index as usize).saturating_mul(usize::from(record_len));

@@ -76,7 +76,7 @@ fn what_can_not_be_read_closes(rt: HostRuntime) -> Result<(), Fail> {
 }
 
 #[test]
-fn nothing_is_read_behind_the_piece_that_closes(rt: HostRuntime) -> Result<(), Fail> {
+fn nothing_is_read_after_the_piece_that_closes(rt: HostRuntime) -> Result<(), Fail> {
     let mut server = server(&rt, rt.alloc())?;
     let mut reader = Input {
         bytes: BYE,

@@ -13,8 +13,8 @@ fn each_serve_fault_has_its_text(rt: HostRuntime) -> Result<(), Fail> {
         (ServeFault::TurnsUsedUp, "all turns are used up"),
     ];
     for (fault, text) in texts {
-        let told = format!(in rt.alloc(); "{fault}")?;
-        assert_eq!(rt; told.as_str(), text);
+        let reported = format!(in rt.alloc(); "{fault}")?;
+        assert_eq!(rt; reported.as_str(), text);
     }
     Ok(())
 }
@@ -32,8 +32,8 @@ fn each_converse_fault_has_its_text(rt: HostRuntime) -> Result<(), Fail> {
         (ConverseFault::Failed, "the client had failed"),
     ];
     for (fault, text) in texts {
-        let told = format!(in rt.alloc(); "{fault}")?;
-        assert_eq!(rt; told.as_str(), text);
+        let reported = format!(in rt.alloc(); "{fault}")?;
+        assert_eq!(rt; reported.as_str(), text);
     }
     Ok(())
 }

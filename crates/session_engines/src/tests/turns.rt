@@ -7,7 +7,7 @@ use connection_io::Connection;
 use engine_io::{ReadFailed, WriteFailed};
 
 // A peer that says its bytes in parts, up to each cut, the first part at once and each other only once it has
-// received all that is owed before it. It fails at a read before that, and at one behind its last part.
+// received all that is owed before it. It fails at a read before that, and at one after its last part.
 #[derive(Drop)]
 struct Peer<'a> {
     says: &'a [u8],
@@ -74,7 +74,7 @@ fn each_reply_is_written_before_the_next_read(rt: HostRuntime) -> Result<(), Fai
 }
 
 #[test]
-fn a_read_that_fails_is_told_as_such(rt: HostRuntime) -> Result<(), Fail> {
+fn a_read_that_fails_is_reported_as_such(rt: HostRuntime) -> Result<(), Fail> {
     let greeting = joined(rt.alloc(), &[GREETING, &ONES])?;
     let welcome = joined(rt.alloc(), &[WELCOME, &ZEROS])?;
     let mut server = server(&rt, rt.alloc())?;

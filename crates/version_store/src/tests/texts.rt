@@ -18,8 +18,8 @@ fn each_open_error_has_its_text(rt: HostRuntime) -> Result<(), Fail> {
         (OpenError::Memory, "out of memory"),
     ];
     for (fault, text) in texts {
-        let told = format!(in rt.alloc(); "{fault}")?;
-        assert_eq!(rt; told.as_str(), text);
+        let reported = format!(in rt.alloc(); "{fault}")?;
+        assert_eq!(rt; reported.as_str(), text);
     }
     Ok(())
 }
@@ -32,8 +32,8 @@ fn each_edit_error_has_its_text(rt: HostRuntime) -> Result<(), Fail> {
         (EditError::Memory, "out of memory"),
     ];
     for (fault, text) in texts {
-        let told = format!(in rt.alloc(); "{fault}")?;
-        assert_eq!(rt; told.as_str(), text);
+        let reported = format!(in rt.alloc(); "{fault}")?;
+        assert_eq!(rt; reported.as_str(), text);
     }
     Ok(())
 }
@@ -52,8 +52,8 @@ fn each_publish_error_has_its_text(rt: HostRuntime) -> Result<(), Fail> {
         (PublishError::Memory, "out of memory"),
     ];
     for (fault, text) in texts {
-        let told = format!(in rt.alloc(); "{fault}")?;
-        assert_eq!(rt; told.as_str(), text);
+        let reported = format!(in rt.alloc(); "{fault}")?;
+        assert_eq!(rt; reported.as_str(), text);
     }
     Ok(())
 }

@@ -47,9 +47,9 @@ returns-clause-words g c =
     let d : WordMatrix = g.S.DigitStore.digits c.args.digits.now in
     let h : WordMatrix = g.S.DigitStore.digits c.args.server_hint.now in
     let end : c.loop-d.d ≡ digits_per_record l = omega (arith, c.loop-d-test.false, c.digits_per_record-d-end.ensures.value) in
-    let front : c.part_of-front.result.now ≡ take (digit_cols l) words = c.part_of-front.ensures.value ∙ ap (λ n. take n words) c.cols-cols.ensures.value in
+    let prefix : c.part_of-prefix.result.now ≡ take (digit_cols l) words = c.part_of-prefix.ensures.value ∙ ap (λ n. take n words) c.cols-cols.ensures.value in
     let first : g.S.DigitStore.digits c.in_ok-first.first ≡ first_answer_of l.width d (take (digit_cols l) words) =
-    c.in_ok-first.ensures ∙ ap (λ w. first_answer_of w d c.part_of-front.result.now) c.width.ensures.value ∙ ap (λ (ws : List ℕ). first_answer_of l.width d ws) front in
+    c.in_ok-first.ensures ∙ ap (λ w. first_answer_of w d c.part_of-prefix.result.now) c.width.ensures.value ∙ ap (λ (ws : List ℕ). first_answer_of l.width d ws) prefix in
     c.loop-d.invariant
     ∙ ap (λ (m : WordMatrix). (product m c.args.a2.now).words ++ flat_map (λ d. part_answer_of h m (part_of_query l words d)) (range_with_len 0 c.loop-d.d)) first
     ∙ ap (λ n. (product (first_answer_of l.width d (take (digit_cols l) words)) c.args.a2.now).words ++ flat_map (λ k. part_answer_of h (first_answer_of l.width d (take (digit_cols l) words)) (part_of_query l words k)) (range_with_len 0 n)) end

@@ -21,11 +21,11 @@ turns-init g c = record {
   room = c.in-Ok.ensures;
 }
 
-pub turn-requires-clause-table : goal.turn-requires-clause-table
-turn-requires-clause-table g c = c.turns.invariant.table
+pub serve_chunk-requires-clause-table : goal.serve_chunk-requires-clause-table
+serve_chunk-requires-clause-table g c = c.turns.invariant.table
 
-pub turn-requires-clause-open : goal.turn-requires-clause-open
-turn-requires-clause-open g c = c.turns.invariant.going
+pub serve_chunk-requires-clause-open : goal.serve_chunk-requires-clause-open
+serve_chunk-requires-clause-open g c = c.turns.invariant.going
 
 pub returns : goal.returns
 returns g c =
@@ -70,8 +70,8 @@ returns-in-Err g c =
       work = record { stage = c.turns.stage; unfinished = i.unfinished };
       middle = c.turns.connection;
       go_on = i.go_on;
-      ends = piece_failed g.C.Connection.does c.args.turns (length i.before) (record { stage = c.turns.stage; unfinished = i.unfinished }) c.turns.connection c.in-Err.fault c.turn.new.connection (omega (arith, i.count, c.turns-test.true))
-          (record { piece = take c.in-Ok-receive.n buffer; output = t.0 }) c.turn.new.stage c.turn.new.codec c.in-Err.ensures.fault
+      ends = piece_failed g.C.Connection.does c.args.turns (length i.before) (record { stage = c.turns.stage; unfinished = i.unfinished }) c.turns.connection c.in-Err.fault c.serve_chunk.new.connection (omega (arith, i.count, c.turns-test.true))
+          (record { piece = take c.in-Ok-receive.n buffer; output = t.0 }) c.serve_chunk.new.stage c.serve_chunk.new.codec c.in-Err.ensures.fault
           (record {
             middle = c.receive.new.connection;
             reads = reads_piece g.C.Connection.does c.turns.connection c.receive.new.connection buffer c.in-Ok-receive.n did (ap length c.deref.ensures.value ∙ c.receive.ensures.room ∙ i.room) c.if-n-eq0.false within;
@@ -83,7 +83,7 @@ returns-in-Err g c =
 pub returns-then-not-goes_on : goal.returns-then-not-goes_on
 returns-then-not-goes_on g c =
     let i = c.turns.invariant in
-    let t = c.in_default-turn.ensures.turned i.unfinished i.codec_is in
+    let t = c.in_default-serve_chunk.ensures.turned i.unfinished i.codec_is in
     let buffer : List ℕ = c.deref.result.now in
     let did = subst (λ (x : List ℕ). g.C.Connection.does c.turns.connection (Read (length x) (take c.in-Ok-receive.n x)) c.receive.new.connection) (sym c.deref.ensures.value) c.in-Ok-receive.ensures.did in
     let within = subst (λ (x : List ℕ). c.in-Ok-receive.n ≤ length x) (sym c.deref.ensures.value) c.in-Ok-receive.ensures.within in
@@ -92,8 +92,8 @@ returns-then-not-goes_on g c =
       work = record { stage = c.turns.stage; unfinished = i.unfinished };
       middle = c.turns.connection;
       go_on = i.go_on;
-      ends = piece_ended g.C.Connection.does c.args.turns (length i.before) (record { stage = c.turns.stage; unfinished = i.unfinished }) c.turns.connection c.ended.result c.turn.new.connection (omega (arith, i.count, c.turns-test.true))
-          (record { piece = take c.in-Ok-receive.n buffer; output = t.0 }) c.turn.new.stage c.turn.new.codec c.ended.ensures.well c.ended.ensures.ill (sym c.goes_on.ensures ∙ c.if-not-goes_on.true)
+      ends = piece_ended g.C.Connection.does c.args.turns (length i.before) (record { stage = c.turns.stage; unfinished = i.unfinished }) c.turns.connection c.ended.result c.serve_chunk.new.connection (omega (arith, i.count, c.turns-test.true))
+          (record { piece = take c.in-Ok-receive.n buffer; output = t.0 }) c.serve_chunk.new.stage c.serve_chunk.new.codec c.ended.ensures.well c.ended.ensures.ill (sym c.goes_on.ensures ∙ c.if-not-goes_on.true)
           (record {
             middle = c.receive.new.connection;
             reads = reads_piece g.C.Connection.does c.turns.connection c.receive.new.connection buffer c.in-Ok-receive.n did (ap length c.deref.ensures.value ∙ c.receive.ensures.room ∙ i.room) c.if-n-eq0.false within;
@@ -105,31 +105,31 @@ returns-then-not-goes_on g c =
 pub turns-preserved : goal.turns-preserved
 turns-preserved g c =
     let i = c.turns.invariant in
-    let t = c.in_default-turn.ensures.turned i.unfinished i.codec_is in
+    let t = c.in_default-serve_chunk.ensures.turned i.unfinished i.codec_is in
     let buffer : List ℕ = c.deref.result.now in
     let did = subst (λ (x : List ℕ). g.C.Connection.does c.turns.connection (Read (length x) (take c.in-Ok-receive.n x)) c.receive.new.connection) (sym c.deref.ensures.value) c.in-Ok-receive.ensures.did in
     let within = subst (λ (x : List ℕ). c.in-Ok-receive.n ≤ length x) (sym c.deref.ensures.value) c.in-Ok-receive.ensures.within in
     let piece : List ℕ = take c.in-Ok-receive.n buffer in
-    let going : goes_on c.turn.new.stage ≡ true = sym c.goes_on.ensures ∙ c.if-not-goes_on.false in
-    let w = turned_on c.turns.stage c.turn.new.stage (i.unfinished ++ piece) t.0 c.turn.new.codec going t.2 in
-    let turn : Turn = record { piece = piece; output = t.0 } in
+    let going : goes_on c.serve_chunk.new.stage ≡ true = sym c.goes_on.ensures ∙ c.if-not-goes_on.false in
+    let w = turned_on c.turns.stage c.serve_chunk.new.stage (i.unfinished ++ piece) t.0 c.serve_chunk.new.codec going t.2 in
+    let serve_chunk : Turn = record { piece = piece; output = t.0 } in
     record {
-      before = i.before ++ turn ∷ [];
+      before = i.before ++ serve_chunk ∷ [];
       unfinished = w.rest;
       codec_is = w.codec_is;
-      go_on = one_more g.C.Connection.does c.args.connection.now i.before (record { stage = c.turns.stage; unfinished = i.unfinished }) c.turns.connection turn (record { stage = c.turn.new.stage; unfinished = w.rest }) c.turn.new.connection i.go_on
+      go_on = one_more g.C.Connection.does c.args.connection.now i.before (record { stage = c.turns.stage; unfinished = i.unfinished }) c.turns.connection serve_chunk (record { stage = c.serve_chunk.new.stage; unfinished = w.rest }) c.serve_chunk.new.connection i.go_on
           (record {
             takes = record {
               middle = c.receive.new.connection;
               reads = reads_piece g.C.Connection.does c.turns.connection c.receive.new.connection buffer c.in-Ok-receive.n did (ap length c.deref.ensures.value ∙ c.receive.ensures.room ∙ i.room) c.if-n-eq0.false within;
               writes = t.1;
-              turned = subst (λ (o : Option (List ℕ)). Turns (Ok tt) c.turns.stage (i.unfinished ++ piece) c.turn.new.stage o t.0) w.codec_is t.2;
+              turned = subst (λ (o : Option (List ℕ)). Turns (Ok tt) c.turns.stage (i.unfinished ++ piece) c.serve_chunk.new.stage o t.0) w.codec_is t.2;
             };
             going = going;
           });
-      count = omega (arith, length-append i.before (turn ∷ []), i.count);
+      count = omega (arith, length-append i.before (serve_chunk ∷ []), i.count);
       within = omega (arith, c.turns-test.true);
       going = going;
-      table = c.in_default-turn.ensures.table;
+      table = c.in_default-serve_chunk.ensures.table;
       room = c.receive.ensures.room ∙ i.room;
     }

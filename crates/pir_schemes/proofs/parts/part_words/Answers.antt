@@ -10,4 +10,4 @@ returns-clause-words c =
     let is : start ≡ 65536 * c.args.part = omega (arith, c.in_ok-start.ensures.1) in
     let rest : take (length words - start) (drop start words) ≡ drop start words =
     ap (λ n. take n (drop start words)) (sym (length-drop start words)) ∙ take-length (drop start words) in
-    c.front.ensures ∙ ap (take 65536) rest ∙ ap (λ n. take 65536 (drop n words)) is
+    c.prefix.ensures ∙ ap (take 65536) rest ∙ ap (λ n. take 65536 (drop n words)) is

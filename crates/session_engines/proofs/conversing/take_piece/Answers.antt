@@ -1,6 +1,6 @@
 use Rattle.std.proofs.Common.{arith, List, ℕ, take, subst}
 use Rattle.std.proofs.lemmas.Grind.{common_steps}
-use Rattle.session_engines.specs.Fronts.{IsCutOff}
+use Rattle.session_engines.specs.Prefixes.{IsCutOff}
 use Rattle.session_engines.proofs.Streams.{cut_taken}
 use Rattle.session_engines.proofs.Turns.{fault_answered}
 use Rattle.session_engines.proofs.conversing.take_piece.Goals as goal

@@ -1,6 +1,6 @@
 use Rattle.std.proofs.Common.{List, ℕ, take, subst}
 use Rattle.connection_io.specs.Calls.{Sends}
-use Rattle.session_engines.specs.Fronts.{IsCutOff}
+use Rattle.session_engines.specs.Prefixes.{IsCutOff}
 use Rattle.session_engines.proofs.Streams.{cut_taken}
 use Rattle.session_engines.proofs.Sessions.{core_served, core_whole, core_short}
 use Rattle.session_engines.proofs.serving.serve_piece.Goals as goal

@@ -6,13 +6,13 @@ use borrow.Rule.Slice.PartMut.{put_mid, post_of}
 use lib.Seq.{take-add, take-append-le}
 use Rattle.snapshot_file.proofs.reading.fill.Goals as goal
 
--- what stood in front, and what was read behind it
+-- what stood in prefix, and what was read after it
 filled : (a k n : ℕ) (xs ys : List ℕ) → a ≤ length xs → n ≤ length ys → take a xs ++ take n ys ≡ take (a + n) (put_mid a k xs ys)
 filled a k n xs ys within fits =
     let after = post_of a k xs in
     let kept = take-put_mid_below a k xs ys a (le_refl a) within in
-    let behind = ap (take n) (drop_at (take a xs) (ys ++ after) a (length-take-le a xs within)) ∙ take-append-le n ys after fits in
-    sym (take-add a n (put_mid a k xs ys) ∙ ap (λ (l : List ℕ). l ++ take n (drop a (put_mid a k xs ys))) kept ∙ ap (λ (l : List ℕ). take a xs ++ l) behind)
+    let beyond = ap (take n) (drop_at (take a xs) (ys ++ after) a (length-take-le a xs within)) ∙ take-append-le n ys after fits in
+    sym (take-add a n (put_mid a k xs ys) ∙ ap (λ (l : List ℕ). l ++ take n (drop a (put_mid a k xs ys))) kept ∙ ap (λ (l : List ℕ). take a xs ++ l) beyond)
 
 pub loop-at-preserved : goal.loop-at-preserved
 loop-at-preserved g c =

@@ -5,7 +5,7 @@ use Rattle.std.proofs.KnownBytes.{Consumes-trans}
 use Rattle.sha2.specs.Sha256.{sha256}
 use Rattle.snapshot_file.specs.Verdicts.{StopsAt}
 use Rattle.snapshot_file.specs.Snapshots.{header_bytes, hashed_bytes, records_len, IsSnapshot}
-use Rattle.snapshot_file.proofs.Readings.{stops_in_digest, stops_at_digest, stops_behind}
+use Rattle.snapshot_file.proofs.Readings.{stops_in_digest, stops_at_digest, stops_after}
 use Rattle.snapshot_file.proofs.reading.read_body.Goals as goal
 
 pub returns-in_err-digest-clause-err : goal.returns-in_err-digest-clause-err
@@ -40,7 +40,7 @@ returns-in_err-read_end-clause-err g c =
     × StopsAt c.in_err-read_end.field-0.0 (header_bytes c.args.header.now ++ read) (g.R.Read.remaining c.read_end.new.reader) = (
       (c.in_ok-records.records.items ++ c.in_ok-digest.digest) ++ e.0,
       Consumes-trans _ _ _ _ _ (Consumes-trans _ _ _ _ _ c.in_ok-records.ensures.ok.1 c.in_ok-digest.ensures.ok.1) e.1,
-      stops_behind _ c.args.header.now c.in_ok-records.records.items c.in_ok-digest.digest e.0 _ is (right ∙ same) e.2,
+      stops_after _ c.args.header.now c.in_ok-records.records.items c.in_ok-digest.digest e.0 _ is (right ∙ same) e.2,
     ) in
     search (rules, h)
 
@@ -51,9 +51,9 @@ returns-clause-ok g c =
     let is : IsSnapshot c.args.header.now c.in_ok-records.records.items = record { header = c.requires.header; accepted = c.requires.accepted; len = len } in
     let same : c.digest_of.result ≡ sha256 (hashed_bytes c.args.header.now c.in_ok-records.records.items) = cc (c.digest_of.ensures, c.deref.ensures.value, c.deref-2.ensures.value, c.in-Ok.ensures) in
     let right : c.in_ok-digest.digest ≡ c.digest_of.result = search rules in
-    let spelled : (c.in_ok-records.records.items ++ c.in_ok-digest.digest) ++ [] ≡ c.in_ok-records.records.items ++ sha256 (hashed_bytes c.args.header.now c.in_ok-records.records.items) =
+    let encoded : (c.in_ok-records.records.items ++ c.in_ok-digest.digest) ++ [] ≡ c.in_ok-records.records.items ++ sha256 (hashed_bytes c.args.header.now c.in_ok-records.records.items) =
     append-nil _ ∙ ap (λ (x : List ℕ). c.in_ok-records.records.items ++ x) (right ∙ same) in (
       is,
-      subst (Consumes _ _) spelled (Consumes-trans _ _ _ _ _ (Consumes-trans _ _ _ _ _ c.in_ok-records.ensures.ok.1 c.in_ok-digest.ensures.ok.1) e.0),
+      subst (Consumes _ _) encoded (Consumes-trans _ _ _ _ _ (Consumes-trans _ _ _ _ _ c.in_ok-records.ensures.ok.1 c.in_ok-digest.ensures.ok.1) e.0),
       e.1,
     )

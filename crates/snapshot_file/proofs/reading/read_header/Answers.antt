@@ -22,20 +22,20 @@ returns-then-not-is_accepted-clause-err g c =
     let is : c.in_ok-first.first ≡ magic = search rules in
     let h = c.header_in-header.result in
     let refused : ¬ IsAccepted c.header_in-header.result = search rules in
-    let spelled : c.in_ok-first.first ++ c.in_ok-fields.fields ≡ header_bytes c.header_in-header.result ++ [] =
+    let encoded : c.in_ok-first.first ++ c.in_ok-fields.fields ≡ header_bytes c.header_in-header.result ++ [] =
     ap (λ (x : List ℕ). x ++ c.in_ok-fields.fields) is ∙ sym (append-nil (header_bytes c.header_in-header.result) ∙ c.header_in-header.ensures.bytes) in (
       c.in_ok-first.first ++ c.in_ok-fields.fields,
       Consumes-trans _ _ _ _ _ c.in_ok-first.ensures.ok.1 c.in_ok-fields.ensures.ok.1,
-      (c.header_in-header.result, c.header_in-header.ensures.header, refused, spelled),
+      (c.header_in-header.result, c.header_in-header.ensures.header, refused, encoded),
     )
 
 pub returns-clause-ok : goal.returns-clause-ok
 returns-clause-ok g c =
     let is : c.in_ok-first.first ≡ magic = search rules in
     let taken : IsAccepted c.header_in-header.result = search rules in
-    let spelled : c.in_ok-first.first ++ c.in_ok-fields.fields ≡ header_bytes c.header_in-header.result =
+    let encoded : c.in_ok-first.first ++ c.in_ok-fields.fields ≡ header_bytes c.header_in-header.result =
     ap (λ (x : List ℕ). x ++ c.in_ok-fields.fields) is ∙ sym c.header_in-header.ensures.bytes in (
       c.header_in-header.ensures.header,
       taken,
-      subst (Consumes _ _) spelled (Consumes-trans _ _ _ _ _ c.in_ok-first.ensures.ok.1 c.in_ok-fields.ensures.ok.1),
+      subst (Consumes _ _) encoded (Consumes-trans _ _ _ _ _ c.in_ok-first.ensures.ok.1 c.in_ok-fields.ensures.ok.1),
     )

@@ -1,6 +1,6 @@
 use Rattle.std.proofs.Common.{sym, subst}
 use Rattle.frame_codec.specs.Streams.{IsPartial}
-use Rattle.frame_codec.proofs.Fronts.{nothing_partial}
+use Rattle.frame_codec.proofs.Prefixes.{nothing_partial}
 use Rattle.frame_codec.proofs.reader.Reader.new.Goals as goal
 
 pub invariant_of-result : goal.invariant_of-result

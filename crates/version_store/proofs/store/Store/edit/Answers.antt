@@ -5,7 +5,7 @@ use Rattle.digit_pack.specs.Layout.{record_at}
 use Rattle.pir_schemes.specs.Plans.{fits}
 use Rattle.version_store.specs.Drafts.{draft_of, is_some_change, bytes_or, change_at}
 use Rattle.version_store.specs.Editions.{Records}
-use Rattle.version_store.specs.Histories.{Held}
+use Rattle.version_store.specs.Histories.{StoreState}
 use Rattle.version_store.proofs.DraftLemmas.{draft-inserted, some_after_insert, fit-updated}
 use Rattle.version_store.proofs.HistoryLemmas.{edit_stands}
 use Rattle.version_store.proofs.store.Store.edit.Goals as goal
@@ -19,8 +19,8 @@ returns-in-Ok-insert-clause-accepted g c =
     let draft : draft_of e.records c.insert.new.self.entries ≡ slice_set (draft_of e.records c.self.inside.changes.entries) c.args.i c.args.bytes.now =
     draft-inserted e.records c.self.inside.changes c.insert.new.self c.args.i _ c.in-Ok-insert.ensures.updates inside
     ∙ ap (λ (b : List ℕ). slice_set (draft_of e.records c.self.inside.changes.entries) c.args.i b) c.in-Ok.ensures in
-    let made : List (List ℕ) → Bool → Held = λ d m. record { version = c.self.inside.version; edition = e; draft = d; marked = m; publisher = c.self.inside.publisher } in
-    let after : Held → Held = λ s. record s { draft = slice_set s.draft c.args.i c.args.bytes.now; marked = true } in
+    let made : List (List ℕ) → Bool → StoreState = λ d m. record { version = c.self.inside.version; edition = e; draft = d; marked = m; publisher = c.self.inside.publisher } in
+    let after : StoreState → StoreState = λ s. record s { draft = slice_set s.draft c.args.i c.args.bytes.now; marked = true } in
     ap (λ d. made d (is_some_change c.insert.new.self.entries)) draft
     ∙ ap (made (slice_set (draft_of e.records c.self.inside.changes.entries) c.args.i c.args.bytes.now)) (some_after_insert c.self.inside.changes c.insert.new.self c.args.i _ c.in-Ok-insert.ensures.updates)
     ∙ ap after c.self.view_is

@@ -5,7 +5,7 @@ use Rattle.snapshot_file.specs.Snapshots.{header_of, shape_of}
 use Rattle.pir_schemes.specs.Plans.{plan_of}
 use Rattle.version_store.specs.Drafts.{Changes, draft_of, is_some_change}
 use Rattle.version_store.specs.Editions.{Records}
-use Rattle.version_store.specs.Histories.{Held}
+use Rattle.version_store.specs.Histories.{StoreState}
 use Rattle.version_store.proofs.DraftLemmas.{draft-none}
 use Rattle.version_store.proofs.HistoryLemmas.{open_stands}
 use Rattle.version_store.proofs.store.Store.open.Goals as goal
@@ -18,7 +18,7 @@ returns-clause-held g c =
     let h : Header = header_of c.args.snapshot in
     let bytes : List ℕ = c.args.snapshot.records.items in
     let rs : List (List ℕ) = records_in (shape_of h) bytes in
-    let made : Records → Changes → Held = λ e cs. record {
+    let made : Records → Changes → StoreState = λ e cs. record {
       version = h.version;
       edition = e;
       draft = draft_of e.records cs;
@@ -26,7 +26,7 @@ returns-clause-held g c =
       publisher = h.publisher;
     } in
     let of : Shape → ℕ → Records = λ l n. record { plan = plan_of l n h.seed; records = records_in l bytes } in
-    let with : List (List ℕ) → Held = λ d. record { version = h.version; edition = of (shape_of h) h.dimension; draft = d; marked = false; publisher = h.publisher } in
+    let with : List (List ℕ) → StoreState = λ d. record { version = h.version; edition = of (shape_of h) h.dimension; draft = d; marked = false; publisher = h.publisher } in
     ap (λ e. made e c.new.result.entries) (c.in-Ok-open.ensures ∙ ap (λ l. of l c.from-dimension.result) c.in-Ok.ensures.sizes.0 ∙ ap (of (shape_of h)) c.from-dimension.ensures)
     ∙ ap (made (of (shape_of h) h.dimension)) c.new.ensures.empty
     ∙ ap with (draft-none rs)

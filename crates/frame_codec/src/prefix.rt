@@ -1,0 +1,88 @@
+//! The frames at the beginning of bytes.
+
+ghost use Rattle.std.specs.Prelude.{◌≡◌, ◌<◌, ℕ, List, ◌++◌, IfOk, IfErr, IfSome, IfNone, length};
+ghost use Rattle.frame_codec.specs.declared.frame.Frame.{Frame};
+ghost use Rattle.frame_codec.specs.Frames.{IsFrame, encoding};
+ghost use Rattle.frame_codec.specs.Streams.{Begins, HasFault, HasFrame, IsPartial, IsSound, Reads,
+    Stops, StopsAt, is_kind};
+
+use crate::frame::Frame;
+use crate::numbers::u32_at;
+use crate::payload::decode;
+use crate::reader::ReadFault;
+use std::alloc::Global;
+
+/// The most bytes that a payload may have.
+const PAYLOAD_LIMIT: usize = 16_777_216;
+
+/// The bytes before a payload: its length and the kind.
+pub const HEADER_LEN: usize = 5;
+
+fn is_known_kind(kind: u8) -> bool
+    ensures { result ≡ is_kind kind }
+{
+    matches!(kind, 0x01..=0x03 | 0x05..=0x08 | 0x82 | 0x83 | 0x85..=0x87 | 0x8f)
+}
+
+/// The whole length of the frame at the beginning, or of a header where that isn't whole.
+pub fn frame_len(bytes: &[u8]) -> Result<usize, ReadFault>
+    ensures ok { IfOk result (λ size. IsSound bytes.now size) }
+    ensures err { IfErr result (λ fault. HasFault fault bytes.now) }
+{
+    if bytes.len() < 4 {
+        return Ok(HEADER_LEN);
+    }
+    let len = u32_at(bytes) as usize;
+    if len > PAYLOAD_LIMIT {
+        return Err(ReadFault::TooLong);
+    }
+    if bytes.len() < HEADER_LEN {
+        return Ok(HEADER_LEN);
+    }
+    if !is_known_kind(bytes[4]) {
+        return Err(ReadFault::UnknownKind);
+    }
+    Ok(HEADER_LEN + len)
+}
+
+/// The frame at the beginning and the bytes after it, if it is whole. `Memory` comes only where a frame
+/// stands there.
+pub fn frame_at<'a>(alloc: Global, bytes: &'a [u8]) -> Result<Option<(Frame, &'a [u8])>, ReadFault>
+    ensures whole { IfOk result (λ o. IfSome o (λ found.
+        IsFrame found.0 × (bytes.now ≡ encoding found.0 ++ found.1.now) ×
+            (length found.1.now < length bytes.now))) }
+    ensures partial { IfOk result (λ o. IfNone o (IsPartial bytes.now)) }
+    ensures fault { IfErr result (λ fault. StopsAt fault bytes.now) }
+    ensures memory { IfErr result (λ fault. fault ≡ ReadFault.Memory → HasFrame bytes.now) }
+{
+    let size = frame_len(bytes)?;
+    if bytes.len() < size {
+        return Ok(None);
+    }
+    let (prefix, beyond) = bytes.split_at(size);
+    match decode(alloc, prefix[4], &prefix[HEADER_LEN..]) {
+        Err(_) => Err(ReadFault::Memory),
+        Ok(None) => Err(ReadFault::BadPayload),
+        Ok(Some(frame)) => Ok(Some((frame, beyond))),
+    }
+}
+
+/// Adds the frames at the beginning, up to the first that is not whole or is bad, and answers what has
+/// come of that one. `Memory` comes only where another frame stands after those.
+pub fn scan<'a>(alloc: Global, bytes: &'a [u8], out: &mut Vec<Frame>) -> Result<&'a [u8], ReadFault>
+    ensures ok { IfOk result (λ rest. (frames : List Frame) ×
+        (out.new.items ≡ out.old.items ++ frames) × Reads bytes.now frames rest.now) }
+    ensures err { IfErr result (λ fault. (frames : List Frame) ×
+        (out.new.items ≡ out.old.items ++ frames) × Stops bytes.now frames fault) }
+    ensures memory { IfErr result (λ fault. fault ≡ ReadFault.Memory →
+        (frames : List Frame) × (rest : List ℕ) × Begins bytes.now frames rest × HasFrame rest) }
+{
+    let mut rest = bytes;
+    while let Some((frame, beyond)) = frame_at(alloc, rest)? {
+        if out.push(frame).is_err() {
+            return Err(ReadFault::Memory);
+        }
+        rest = beyond;
+    }
+    Ok(rest)
+}
