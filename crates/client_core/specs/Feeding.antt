@@ -106,7 +106,7 @@ pub record FeedsOpen (old : Client) (piece : List ℕ) (out : List ℕ) (events 
   pub answer : Result (Unit {0}) ReadFault
   pub frames : List Frame
   pub reads : Feeds old.reader piece answer frames new.reader
-  pub reaction_to_reply : Follows (ends_with (takes_all old.state frames) answer) out events fault new.state ⊎ BreaksOff old.state frames out events fault new.state
+  pub takes : Follows (ends_with (takes_all old.state frames) answer) out events fault new.state ⊎ BreaksOff old.state frames out events fault new.state
 
 -- a piece fed to one that had: nothing comes of it
 pub record FeedsFailed (old : Client) (out : List ℕ) (events : List Event) (fault : Option ClientFault) (new : Client) : Type 0 where

@@ -146,7 +146,7 @@ fn take_frames<K: Kernel>(
     requires good { IsState state.old }
     requires none_written { out.old.items ≡ [] }
     requires none_reported { events.old.items ≡ [] }
-    ensures reaction_to_reply { Follows
+    ensures takes { Follows
         (takes_all state.old frames.now) out.new.items events.new.items result state.new
         ⊎ BreaksOff state.old frames.now out.new.items events.new.items result state.new }
     ensures keeps { IsState state.new }
@@ -189,7 +189,7 @@ pub(crate) fn take_piece<K: Kernel>(
     requires good { IsState state.old }
     requires none_written { out.old.items ≡ [] }
     requires none_reported { events.old.items ≡ [] }
-    ensures reaction_to_reply { Follows
+    ensures takes { Follows
         (ends_with (takes_all state.old frames.now) answer) out.new.items events.new.items result
         state.new
         ⊎ BreaksOff state.old frames.now out.new.items events.new.items result state.new }

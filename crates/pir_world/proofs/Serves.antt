@@ -95,7 +95,7 @@ asked_is x h y records seed r k p =
 
 module _ (x : Setting) (h : History) (seed : List ℕ) (i : ℕ) (s : Scheme) (v n : ℕ) (records : List (List ℕ)) (there : HasVersion h v records) where
   abbrev retrieval : Retrieval
-  retrieval = record { index = i; scheme = s; version = v; current_version = n }
+  retrieval = record { index = i; scheme = s; version = v; number = n }
 
   words_fit : (length (asked_words x.plan records seed retrieval) == words_asked x s records) ≡ true
   words_fit = eq-eqb _ _ (length_query s (shape_at x.plan (length records)) x.plan.dimension x.plan.seed seed n i)
@@ -207,7 +207,7 @@ module _ (x : Setting) (seeds : List (List ℕ)) (k : ℕ) (h : History) (seed :
   replied short (Ask j scheme v n) busy s known hint i =
       let y = known_is c.known i.k known i.known_is in
       let there = hint_version c.hint i.hint v hint i.hint_is i.version_is in
-      let r : Retrieval = record { index = j; scheme = scheme; version = v; current_version = n } in
+      let r : Retrieval = record { index = j; scheme = scheme; version = v; number = n } in
       let w : call_words c.known scheme c.seed n j ≡ asked_words x.plan there.0 seed r =
       ap (λ (o : Option ServerInfo). call_words o scheme c.seed n j) i.known_is
       ∙ asked_is x h i.k there.0 c.seed r y.1 (subst (λ (m : ℕ). HasVersion h m there.0) (sym i.asked) there.1)

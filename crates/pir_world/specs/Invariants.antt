@@ -72,7 +72,7 @@ abbrev pub CallIs : Setting → History → ClientState → Call → Type 0
 CallIs x h c Idle = Unit {0}
 CallIs x h c (Hello key) = key ≡ reader_key
 CallIs x h c (Sync scheme v p) = SyncIs x h scheme v p c.known c.parts
-CallIs x h c (Ask i scheme v current_version) = AskIs c i scheme v
+CallIs x h c (Ask i scheme v number) = AskIs c i scheme v
 CallIs x h c (Edit i bytes) = ⊥
 CallIs x h c Publish = ⊥
 
@@ -95,7 +95,7 @@ IsReply x h st seed (Sync s v p) r =
     IsReplyOf x h v r (λ records. frame.HintPart (scheme_byte s) v p (part_words x s records p))
 IsReply x h st seed (Ask i s v n) r =
     IsReplyOf x h v r (λ records. frame.Answer (scheme_byte s) v
-    (given_words x.plan records seed (record { index = i; scheme = s; version = v; current_version = n })))
+    (given_words x.plan records seed (record { index = i; scheme = s; version = v; number = n })))
 IsReply x h st seed _ r = ⊥
 
 -- the call's frame is on its way, or a reply to it is

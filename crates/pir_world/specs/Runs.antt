@@ -73,7 +73,7 @@ pub record Retrieval : Type 0 where
   pub index : ℕ
   pub scheme : Scheme
   pub version : ℕ
-  pub current_version : ℕ
+  pub number : ℕ
 
 -- A frame was served while `now` was the current version; a reply ended a retrieval with an event; any other outcome.
 pub data Entry : Type 0 where
@@ -145,7 +145,7 @@ link_reported most l =
 
 -- an event ends the outstanding call
 abbrev pub reports : ℕ → Call → Frame → Event → Entry
-reports k (call.Ask i s v n) reply e = Ended k (record { index = i; scheme = s; version = v; current_version = n }) reply e
+reports k (call.Ask i s v n) reply e = Ended k (record { index = i; scheme = s; version = v; number = n }) reply e
 reports k _ reply e = Plain (Reported k e)
 
 abbrev pub reacts : ℕ → Call → Frame → Reaction → List Entry

@@ -256,7 +256,7 @@ open_both old read out mid piece more events fault new a b = record {
   answer = b.answer;
   frames = a.frames ++ b.frames;
   reads = feeds_both old.reader read piece b.answer a.frames b.frames mid.reader new.reader a.reads b.reads;
-  reaction_to_reply = elim b.takes [
+  takes = elim b.takes [
     | inl f ↦ inl (followed_after old read out mid a b.frames b.answer more events fault new.state f)
     | inr f ↦ inr (broken_after old read out mid a b.frames more events fault new.state f)
   ];
