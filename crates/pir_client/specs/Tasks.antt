@@ -24,6 +24,7 @@ IsNumberGiven found name n = MatchOption (first_value found name) ⊥ (λ text. 
 abbrev pub AreBytesGiven : Found → List ℕ → List ℕ → Type 0
 AreBytesGiven found name bytes = MatchOption (first_value found name) ⊥ (λ text. decode_of text ≡ Ok bytes)
 
+-- the name of a scheme on a command line
 unfoldable pub scheme_text : Scheme → List ℕ
 scheme_text Simple = codes "simple"
 scheme_text Double = codes "double"

@@ -19,20 +19,24 @@ use Rattle.version_store.specs.declared.opening.OpenError.TheVariants as opening
 use Rattle.pir_world.specs.declared.steps.Outcome.{Outcome}
 use Rattle.pir_world.specs.declared.steps.Outcome.TheVariants.{Edited, EditRefused, Published, PublishRefused, Reported, CallRefused, Failed}
 
+-- the name of a scheme in a script
 unfoldable pub scheme_name : Scheme → List ℕ
 scheme_name Simple = codes "simple"
 scheme_name Double = codes "double"
 
+-- the name of a refused edit
 unfoldable pub edit_fault_name : EditError → List ℕ
 edit_fault_name edit.BadIndex = codes "BadIndex"
 edit_fault_name edit.BadLength = codes "BadLength"
 edit_fault_name edit.Memory = codes "Memory"
 
+-- the name of a refused publication
 unfoldable pub publish_fault_name : PublishError → List ℕ
 publish_fault_name publish.NothingToPublish = codes "NothingToPublish"
 publish_fault_name publish.VersionsUsedUp = codes "VersionsUsedUp"
 publish_fault_name publish.Memory = codes "Memory"
 
+-- the name of a refused call
 unfoldable pub call_fault_name : CallFault → List ℕ
 call_fault_name call.NotReady = codes "NotReady"
 call_fault_name call.Busy = codes "Busy"
@@ -42,12 +46,14 @@ call_fault_name call.Memory = codes "Memory"
 call_fault_name call.Failed = codes "Failed"
 call_fault_name call.AlreadyWelcome = codes "AlreadyWelcome"
 
+-- the name of a client's fault
 unfoldable pub client_fault_name : ClientFault → List ℕ
 client_fault_name fault.BadWelcome = codes "BadWelcome"
 client_fault_name fault.BadReply = codes "BadReply"
 client_fault_name fault.Memory = codes "Memory"
 client_fault_name fault.Failed = codes "Failed"
 
+-- the name of a refused world
 unfoldable pub open_fault_name : OpenError → List ℕ
 open_fault_name opening.BadLayout = codes "BadLayout"
 open_fault_name opening.BadVersion = codes "BadVersion"
@@ -62,10 +68,12 @@ shown_bytes bytes = cond (length bytes == 0) (codes "-") (encode_lower bytes)
 abbrev pub about_client : ℕ → List ℕ → List ℕ
 about_client client text = codes "client " ++ (decimal client ++ text)
 
+-- a retrieved record's line
 abbrev pub retrieved_text : ℕ → ℕ → ℕ → List ℕ → List ℕ
 retrieved_text client index version shown =
     about_client client (codes ": retrieved " ++ (decimal index ++ (codes " " ++ (decimal version ++ (codes " " ++ (shown ++ codes "\n"))))))
 
+-- an event's line
 abbrev pub event_text : ℕ → Event → List ℕ
 event_text client (event.Welcomed version) = about_client client (codes ": welcomed " ++ (decimal version ++ codes "\n"))
 event_text client (event.Synced scheme version) = about_client client (codes ": synced " ++ (scheme_name scheme ++ (codes " " ++ (decimal version ++ codes "\n"))))
@@ -75,9 +83,11 @@ event_text client (event.Stale version) = about_client client (codes ": stale " 
 event_text client (event.Done version) = about_client client (codes ": done " ++ (decimal version ++ codes "\n"))
 event_text client (event.Refused code) = about_client client (codes ": server refused " ++ (decimal code ++ codes "\n"))
 
+-- a refused call's line
 abbrev pub call_refused_text : ℕ → List ℕ → List ℕ
 call_refused_text client name = about_client client (codes ": call refused " ++ (name ++ codes "\n"))
 
+-- an outcome's line
 abbrev pub outcome_text : Outcome → List ℕ
 outcome_text (Edited index) = codes "edit " ++ (decimal index ++ codes ": accepted\n")
 outcome_text (EditRefused index e) = codes "edit " ++ (decimal index ++ (codes ": refused " ++ (edit_fault_name e ++ codes "\n")))

@@ -22,10 +22,10 @@ loop-i-preserved c =
     + a.h * slice_index a.r.now (at + k) % 2 ^ 32) % 2 ^ 32 + a.e * slice_index a.s.now (at + k) % 2 ^ 32) % 2 ^ 32 in
     let long = length-map-range_with_len lane 0 16 in
     rw (
-      c.as_chunks.ensures.prefix,
-      c.as_chunks-2.ensures.prefix,
-      c.as_chunks-3.ensures.prefix,
-      c.as_chunks-4.ensures.prefix,
+      c.as_chunks.ensures.front,
+      c.as_chunks-2.ensures.front,
+      c.as_chunks-3.ensures.front,
+      c.as_chunks-4.ensures.front,
       same_q,
       same_r,
       same_s,

@@ -10,7 +10,7 @@ pub loop-i-preserved : goal.loop-i-preserved
 loop-i-preserved c =
     let n = length c.args.x.now / 8 in
     let same : length c.args.y.now / 8 ≡ n = omega arith in
-    rw (c.as_chunks.ensures.prefix, c.as_chunks-2.ensures.prefix, same)
+    rw (c.as_chunks.ensures.front, c.as_chunks-2.ensures.front, same)
     (dot_more 8 c.loop-i.i n c.loop-i.sum c.args.x.now c.args.y.now (omega arith) (omega arith) (omega arith) (omega arith) c.loop-i.invariant)
 
 pub returns : goal.returns

@@ -13,11 +13,11 @@ loop-i-preserved c =
     let i = c.loop-i.i in
     let so_far = c.loop-i.invariant in
     rw (
-      c.as_chunks.ensures.prefix,
-      c.as_chunks-2.ensures.prefix,
-      c.as_chunks-3.ensures.prefix,
-      c.as_chunks-4.ensures.prefix,
-      c.as_chunks-5.ensures.prefix,
+      c.as_chunks.ensures.front,
+      c.as_chunks-2.ensures.front,
+      c.as_chunks-3.ensures.front,
+      c.as_chunks-4.ensures.front,
+      c.as_chunks-5.ensures.front,
       c.requires.first,
       c.requires.second,
       c.requires.third,

@@ -13,13 +13,13 @@ loop-i-preserved c =
     let i = c.loop-i.i in
     let so_far = c.loop-i.invariant in
     rw (
-      c.as_chunks.ensures.prefix,
-      c.as_chunks-2.ensures.prefix,
-      c.as_chunks-3.ensures.prefix,
-      c.as_chunks-4.ensures.prefix,
-      c.as_chunks-5.ensures.prefix,
-      c.as_chunks-6.ensures.prefix,
-      c.as_chunks-7.ensures.prefix,
+      c.as_chunks.ensures.front,
+      c.as_chunks-2.ensures.front,
+      c.as_chunks-3.ensures.front,
+      c.as_chunks-4.ensures.front,
+      c.as_chunks-5.ensures.front,
+      c.as_chunks-6.ensures.front,
+      c.as_chunks-7.ensures.front,
       c.requires.p,
       c.requires.q,
       c.requires.r,

@@ -30,7 +30,7 @@ loop-i-preserved c =
     let mask = (1 * 2 ^ w) % 2 ^ 32 - 1 in
     let digit_at : ℕ → ℕ = λ q. slice_index x q / 2 ^ shift % 2 ^ w in
     let lane : ℕ → ℕ = λ j. bit_and (slice_index x (at + j) / 2 ^ shift) mask in
-    rw (c.as_chunks.ensures.prefix, chunk_at 8 n c.loop-i.i x [] below, next, split_lanes 8 at shift mask x (omega arith))
+    rw (c.as_chunks.ensures.front, chunk_at 8 n c.loop-i.i x [] below, next, split_lanes 8 at shift mask x (omega arith))
     (put_done digit_at at 8 c.loop-i.out _ (length-map-range_with_len lane 0 8) (omega arith) c.loop-i.invariant
     (λ j h. get_or-map-range_with_len lane 0 8 j j 0 h (omega arith) ∙ digit_mask w (slice_index x (at + j) / 2 ^ shift) (omega arith)))
 
