@@ -76,6 +76,19 @@ fn a_whole_session(rt: HostRuntime) -> Result<(), Fail> {
     Ok(())
 }
 
+#[test]
+fn a_delivery_of_nothing_brings_nothing(rt: HostRuntime) -> Result<(), Fail> {
+    let sizes = Sizes { width: 8, len: 1, groups: 1, count: 2 };
+    let mut server = opened(rt.alloc(), sizes, [10u8, 200].to_vec(rt.alloc())?)?;
+    let mut client = ClientCore::new(rt.alloc(), Plain, [0x11; 32], 0);
+    let mut replies = Vec::new(rt.alloc());
+    server.feed(SESSION, &[], &mut replies)?;
+    assert!(rt; replies.is_empty());
+    let fed = client.feed(&[]);
+    assert!(rt; fed.out.is_empty() && fed.events.is_empty() && fed.fault.is_none());
+    Ok(())
+}
+
 /// The bytes of the records: each has others.
 fn made(alloc: Global, sizes: Sizes) -> Result<Vec<u8>, Fail> {
     let mut records = Vec::new(alloc);
