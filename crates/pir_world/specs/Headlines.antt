@@ -1,5 +1,5 @@
 -- What is right of a run.
-use Rattle.std.specs.Prelude.{◌≡◌, ◌≢◌, ◌≤◌, ◌<◌, ◌⊎◌, ℕ, List, [], length, All, ◌^◌, Option, Some, None, slice_get, slice_index_or}
+use Rattle.std.specs.Prelude.{◌≡◌, ◌≢◌, ◌≤◌, ◌<◌, ◌⊎◌, ℕ, List, [], ◌∷◌, ◌++◌, length, All, ◌^◌, Option, Some, None, slice_get, slice_index_or}
 use Rattle.std.specs.List.{AllByRecursion}
 use Rattle.digit_pack.specs.Layout.{record_at}
 use Rattle.pir_schemes.specs.declared.scheme.Scheme.{Scheme}
@@ -22,7 +22,9 @@ use Rattle.client_core.specs.Replies.{event_of}
 use Rattle.pir_world.specs.declared.steps.Step.{Step}
 use Rattle.pir_world.specs.declared.steps.Outcome.{Outcome}
 use Rattle.pir_world.specs.declared.steps.Outcome.TheVariants.{Edited, EditRefused, Published, PublishRefused, Reported, CallRefused, Failed}
-use Rattle.pir_world.specs.Runs.{State, Link, Retrieval, Entry, Served, Ended, Plain, Run, opening, setting_in}
+use Rattle.client_core.specs.Calls.{Ask}
+use Rattle.pir_world.specs.Runs.{State, Link, Retrieval, Entry, Called, Sent, Served, Ended, Plain, Run, opening, setting_in}
+use Rattle.pir_world.specs.Earlier.{AllWithEarlier, IsSentLast, IsServedLast, asks_of, hint_told}
 
 -- these are the records of a version
 abbrev pub HasVersion : History → ℕ → List (List ℕ) → Type 0
@@ -118,19 +120,53 @@ abbrev pub seed_of : List (List ℕ) → ℕ → List ℕ
 seed_of seeds k = slice_index_or seeds k []
 
 abbrev pub IsRight : Setting → List (List ℕ) → History → Entry → Type 0
+IsRight x seeds h (Called k want refusal) = Unit {0}
+IsRight x seeds h (Sent k f) = Unit {0}
 IsRight x seeds h (Served k f now reply) = IsServed x h now f reply
 IsRight x seeds h (Ended k r reply event) = IsRightEnd x h (seed_of seeds k) r reply event
 IsRight x seeds h (Plain o) = IsRightOutcome h o
+
+-- A retrieval was asked for last: its number is the count of the asks accepted before, its scheme and its version are those of the hint held then, and these are its query's words on the records of that version.
+pub record IsAsked (x : Setting) (h : History) (seed : List ℕ) (k : ℕ) (r : Retrieval) (query : Frame) (log : List Entry) : Type 0 where
+  pub before : List Entry
+  pub log_is : log ≡ before ++ Called k (Ask r.index) None ∷ []
+  pub number_is : r.number ≡ asks_of k before
+  pub hint_is : hint_told k before ≡ Some (r.scheme, r.version)
+  pub records : List (List ℕ)
+  pub version_is : HasVersion h r.version records
+  pub query_is : query ≡ frame.Query (scheme_byte r.scheme) r.version (asked_words x.plan records seed r)
+
+-- the ask of a retrieval that ended was accepted, then its query was sent, and then it was served with the reply
+pub record IsEndOfAsk (x : Setting) (h : History) (seed : List ℕ) (k : ℕ) (r : Retrieval) (reply : Frame) (log : List Entry) : Type 0 where
+  pub query : Frame
+  pub first : List Entry
+  pub asked : IsAsked x h seed k r query first
+  pub served : IsServedLast k query reply first log
+
+-- what came before an entry: each query sent is a retrieval's, each frame served was sent, and each retrieval that ended was asked for and served
+abbrev pub HasEarlier : Setting → List (List ℕ) → History → List Entry → Entry → Type 0
+HasEarlier x seeds h before (Sent k (frame.Query scheme version words)) =
+    (r : Retrieval) × IsAsked x h (seed_of seeds k) k r (frame.Query scheme version words) before
+HasEarlier x seeds h before (Served k f now reply) = (first : List Entry) × IsSentLast k f first before
+HasEarlier x seeds h before (Ended k r reply event) = IsEndOfAsk x h (seed_of seeds k) k r reply before
+HasEarlier x seeds h before e = Unit {0}
+
+-- the scheme and the version of a hint
+abbrev pub name_of : Option Hint → Option (Scheme × ℕ)
+name_of None = None
+name_of (Some hint) = Some (hint.scheme, hint.version)
 
 -- the hint that a client holds is its scheme's of a version, made from scratch
 abbrev pub HintIs : Setting → History → Option Hint → Type 0
 HintIs x h None = Unit {0}
 HintIs x h (Some hint) = (records : List (List ℕ)) × HasVersion h hint.version records × (hint.matrix ≡ hint_matrix hint.scheme x.plan records)
 
--- In a run from an opening: all that was written down is right, and so is every hint.
+-- In a run from an opening: all that was written down is right, by itself and by what came before it. Every hint is right, and it is the one that the log tells of.
 pub record Headline (x : Setting) (seeds : List (List ℕ)) (s : State) : Type 0 where
   pub entries : AllByRecursion (IsRight x seeds s.history) s.log
+  pub earlier : AllWithEarlier (HasEarlier x seeds s.history) s.log
   pub hints : (k : ℕ) (l : Link) → slice_get s.links k ≡ Some l → HintIs x s.history l.client.hint
+  pub told : (k : ℕ) (l : Link) → slice_get s.links k ≡ Some l → name_of l.client.hint ≡ hint_told k s.log
 
 -- a snapshot that a store accepts, with bytes for its records
 pub record IsOpening (h : Header) (records : List ℕ) : Type 0 where

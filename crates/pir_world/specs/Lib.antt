@@ -1,4 +1,5 @@
 pub mod Runs
+pub mod Earlier
 pub mod Headlines
 pub mod Invariants
 pub mod Sides

@@ -1,0 +1,57 @@
+-- What a log says of the entries before an entry.
+use Rattle.std.specs.Prelude.{◌≡◌, ◌≢◌, ℕ, List, ◌∷◌, ◌++◌, Bool, false, Option, Some, None, ◌==◌, cond, fold, count_by}
+use Rattle.std.specs.List.{AllByRecursion}
+use Rattle.pir_schemes.specs.declared.scheme.Scheme.{Scheme}
+use Rattle.frame_codec.specs.declared.frame.Frame.{Frame}
+use Rattle.client_core.specs.declared.state.Event.TheVariants.{Synced}
+use Rattle.client_core.specs.Calls.{Ask, Sync}
+use Rattle.pir_world.specs.declared.steps.Outcome.TheVariants.{Reported, Failed}
+use Rattle.pir_world.specs.Runs.{Entry, Called, Sent, Served, Ended, Plain}
+
+-- it is so of each entry and those before it
+abbrev pub AllWithEarlier : (List Entry → Entry → Type 0) → List Entry → Type 0
+AllWithEarlier P log = (before after : List Entry) (e : Entry) → log ≡ before ++ e ∷ after → P before e
+
+-- an accepted ask of client k
+abbrev pub is_ask : ℕ → Entry → Bool
+is_ask k (Called j (Ask i) None) = j == k
+is_ask k _ = false
+
+-- how many of its asks were accepted
+abbrev pub asks_of : ℕ → List Entry → ℕ
+asks_of k log = count_by (is_ask k) log
+
+-- The hint that client k is known to hold, by its scheme and version: an accepted sync drops it, and the sync's end names another.
+abbrev pub hint_after : ℕ → Option (Scheme × ℕ) → Entry → Option (Scheme × ℕ)
+hint_after k hint (Called j (Sync scheme) None) = cond (j == k) None hint
+hint_after k hint (Plain (Reported j (Synced scheme version))) = cond (j == k) (Some (scheme, version)) hint
+hint_after k hint _ = hint
+
+abbrev pub hint_told : ℕ → List Entry → Option (Scheme × ℕ)
+hint_told k log = fold (hint_after k) None log
+
+-- an entry of another, or a call of client k that was refused
+abbrev pub IsAside : ℕ → Entry → Type 0
+IsAside k (Called j want None) = j ≢ k
+IsAside k (Called j want (Some fault)) = Unit {0}
+IsAside k (Sent j f) = j ≢ k
+IsAside k (Served j f now reply) = j ≢ k
+IsAside k (Ended j r reply event) = j ≢ k
+IsAside k (Plain (Reported j event)) = j ≢ k
+IsAside k (Plain (Failed j fault)) = j ≢ k
+IsAside k (Plain _) = Unit {0}
+
+-- after the first entries client k sent this frame, and nothing of it followed but refused calls
+pub record IsSentLast (k : ℕ) (f : Frame) (first log : List Entry) : Type 0 where
+  pub since : List Entry
+  pub log_is : log ≡ first ++ Sent k f ∷ since
+  pub aside : AllByRecursion (IsAside k) since
+
+-- then the frame was served with this reply, and again nothing followed but refused calls
+pub record IsServedLast (k : ℕ) (f reply : Frame) (first log : List Entry) : Type 0 where
+  pub now : ℕ
+  pub before : List Entry
+  pub since : List Entry
+  pub log_is : log ≡ before ++ Served k f now (Some reply) ∷ since
+  pub sent : IsSentLast k f first before
+  pub aside : AllByRecursion (IsAside k) since
