@@ -12,7 +12,8 @@ use Rattle.client_core.specs.declared.state.Event.TheVariants.{Welcomed, Synced,
 use Rattle.client_core.specs.Replies.{event_of}
 use Rattle.pir_world.specs.declared.steps.Outcome.TheVariants.{Edited, EditRefused, Published, PublishRefused, Reported, CallRefused, Failed}
 use Rattle.pir_world.specs.Runs.{Turn, Entry, Called, Sent, Served, Ended, Plain, serves, arrived, beyond, opening, setting_in}
-use Rattle.pir_world.specs.Headlines.{IsRight, IsRightEvent, seed_of}
+use Rattle.pir_world.specs.Versions.{seed_of}
+use Rattle.pir_world.specs.Headlines.{IsRight, IsRightEvent}
 use Rattle.pir_world.specs.Freshness.{NamesUpTo, ReportedUpTo, IsFresh, AnswersAreFresh}
 use Rattle.pir_world.proofs.Wires.{IsFew, split_few}
 use Rattle.pir_world.proofs.Calls.{few_frames}

@@ -15,8 +15,9 @@ use Rattle.pir_world.specs.declared.steps.Step.TheVariants.{Edit, Publish, Hello
 use Rattle.pir_world.specs.declared.steps.Outcome.{Outcome}
 use Rattle.pir_world.specs.declared.steps.Outcome.TheVariants.{Edited, EditRefused, Published, PublishRefused, CallRefused}
 use Rattle.pir_world.specs.Runs.{State, Link, Entry, Called, Sent, Plain, after, called_at, served_at, reported_at, call_at, with_link, with_history, edit_after, publish_after, link_called, link_reported, link_served, turn_of, reported_by, arrived, reader_key, FitsStep, Steps, Run}
-use Rattle.pir_world.specs.Earlier.{IsAside}
-use Rattle.pir_world.specs.Headlines.{IsRight, IsRightOutcome, HasEarlier, seed_of}
+use Rattle.pir_world.specs.Earlier.{IsAside, HasEarlier}
+use Rattle.pir_world.specs.Versions.{seed_of}
+use Rattle.pir_world.specs.Headlines.{IsRight, IsRightOutcome}
 use Rattle.pir_world.specs.Invariants.{GoodHistory, LinkInv, LogInv, Inv}
 use Rattle.pir_world.proofs.Later.{IsLater, later_published, same_history, newest, good_published, good_edited, link_later, entries_later, get_same, get_other}
 use Rattle.pir_world.proofs.Calls.{called_hello, called_sync, called_ask, reported_inv, served_inv}

@@ -24,7 +24,8 @@ use Rattle.client_core.specs.declared.state.Event.TheVariants.{Welcomed, Synced,
 use Rattle.pir_world.specs.declared.steps.Outcome.{Outcome}
 use Rattle.pir_world.specs.declared.steps.Outcome.TheVariants.{Edited, EditRefused, Published, PublishRefused, Reported, CallRefused, Failed}
 use Rattle.pir_world.specs.Runs.{Link, Retrieval, Entry, Called, Sent, Served, Ended, Plain}
-use Rattle.pir_world.specs.Headlines.{HasVersion, IsVersion, HintIs, IsRightEnd, IsRightQuery, IsServed, IsRightEvent, IsRightOutcome, IsRight, seed_of}
+use Rattle.pir_world.specs.Versions.{HasVersion, IsVersion, HintIs, seed_of}
+use Rattle.pir_world.specs.Headlines.{IsRightEnd, IsRightQuery, IsServed, IsRightEvent, IsRightOutcome, IsRight}
 use Rattle.pir_world.specs.Invariants.{AreRecords, GoodHistory, IsKnownOf, KnownIs, CallIs, IsReplyOf, IsReply, InFlight, Phase, LinkInv}
 
 -- each version of one history is one of the other

@@ -23,8 +23,8 @@ use Rattle.client_core.specs.Feeding.{sends_of, fault_of}
 use Rattle.pir_world.specs.declared.steps.Outcome.{Outcome}
 use Rattle.pir_world.specs.declared.steps.Outcome.TheVariants.{Reported, Failed}
 use Rattle.pir_world.specs.Runs.{Link, Turn, Retrieval, Entry, Called, Sent, Served, Ended, Plain, turns, turn_more, reports, reacts, reported_by}
-use Rattle.pir_world.specs.Earlier.{AllWithEarlier, IsAside, IsSentLast, IsServedLast, is_ask, asks_of, hint_after, hint_told}
-use Rattle.pir_world.specs.Headlines.{IsAsked, IsEndOfAsk, HasEarlier, name_of, seed_of}
+use Rattle.pir_world.specs.Earlier.{AllWithEarlier, IsAside, IsSentLast, IsServedLast, is_ask, asks_of, hint_after, hint_told, IsAsked, IsEndOfAsk, HasEarlier}
+use Rattle.pir_world.specs.Versions.{name_of, seed_of}
 use Rattle.pir_world.specs.Invariants.{IsFrom, LogInv, EachAfter}
 use Rattle.pir_world.proofs.Later.{IsLater}
 
@@ -34,11 +34,14 @@ all_append P (x ∷ xs) ys a b = (a.0, all_append P xs ys a.1 b)
 
 -- ---- each entry, with those before it
 
-pub each_more : (P : List Entry → Entry → Type 0) (before es more : List Entry) → EachAfter P before es → EachAfter P (before ++ es) more → EachAfter P before (es ++ more)
+pub each_more : (P : List Entry → Entry → Type 0) (before es more : List Entry) → EachAfter P before es → EachAfter P (before ++ es) more
+    → EachAfter P before (es ++ more)
 each_more P before [] more p q = subst (λ (b : List Entry). EachAfter P b more) (append-nil before) q
-each_more P before (e ∷ es) more p q = (p.0, each_more P (before ++ e ∷ []) es more p.1 (subst (λ (b : List Entry). EachAfter P b more) (sym (append_assoc before (e ∷ []) es)) q))
+each_more P before (e ∷ es) more p q =
+    (p.0, each_more P (before ++ e ∷ []) es more p.1 (subst (λ (b : List Entry). EachAfter P b more) (sym (append_assoc before (e ∷ []) es)) q))
 
-earlier_of : (P : List Entry → Entry → Type 0) (start es : List Entry) → EachAfter P start es → (before after : List Entry) (e : Entry) → es ≡ before ++ e ∷ after → P (start ++ before) e
+earlier_of : (P : List Entry → Entry → Type 0) (start es : List Entry) → EachAfter P start es → (before after : List Entry) (e : Entry)
+    → es ≡ before ++ e ∷ after → P (start ++ before) e
 earlier_of P start [] p [] after e same = absurd cc
 earlier_of P start [] p (b ∷ bs) after e same = absurd cc
 earlier_of P start (y ∷ ys) p [] after e same =
@@ -103,7 +106,8 @@ sent_aside k f first log es s p = record {
   aside = all_append (IsAside k) s.since es s.aside p;
 }
 
-served_aside : (k : ℕ) (f r : Frame) (first log es : List Entry) → IsServedLast k f r first log → AllByRecursion (IsAside k) es → IsServedLast k f r first (log ++ es)
+served_aside : (k : ℕ) (f r : Frame) (first log es : List Entry) → IsServedLast k f r first log → AllByRecursion (IsAside k) es
+    → IsServedLast k f r first (log ++ es)
 served_aside k f r first log es s p = record {
   now = s.now;
   before = s.before;
@@ -114,7 +118,8 @@ served_aside k f r first log es s p = record {
 }
 
 -- what the log says of a client is so after entries beside its own
-pub log_aside : (x : Setting) (h : History) (seed : List ℕ) (k : ℕ) (l : Link) (log es : List Entry) → LogInv x h seed k l log → AllByRecursion (IsAside k) es → LogInv x h seed k l (log ++ es)
+pub log_aside : (x : Setting) (h : History) (seed : List ℕ) (k : ℕ) (l : Link) (log es : List Entry) → LogInv x h seed k l log
+    → AllByRecursion (IsAside k) es → LogInv x h seed k l (log ++ es)
 log_aside x h seed k l log es i p = record {
   number = same_number k l.client.number log es i.number (asides_ask k es p);
   hint = i.hint ∙ sym (hint_more k log es ∙ asides_hint k (hint_told k log) es p);
@@ -123,7 +128,8 @@ log_aside x h seed k l log es i p = record {
 }
 
 -- and where only the ends of the wires differ
-pub log_same : (x : Setting) (h : History) (seed : List ℕ) (k : ℕ) (l m : Link) (log : List Entry) → m.client ≡ l.client → m.up.frames ≡ l.up.frames → m.down.frames ≡ l.down.frames → LogInv x h seed k l log → LogInv x h seed k m log
+pub log_same : (x : Setting) (h : History) (seed : List ℕ) (k : ℕ) (l m : Link) (log : List Entry) → m.client ≡ l.client → m.up.frames ≡ l.up.frames
+    → m.down.frames ≡ l.down.frames → LogInv x h seed k l log → LogInv x h seed k m log
 log_same x h seed k l m log c u d i = record {
   number = ap (λ (y : ClientState). y.number) c ∙ i.number;
   hint = ap (λ (y : ClientState). name_of y.hint) c ∙ i.hint;
@@ -154,11 +160,13 @@ module _ (j k : ℕ) (ne : k ≢ j) where
       all_append (IsAside j) (reacts k c.call f t.reaction) _ (reacts_aside c.call f t.reaction)
       (cond_both (is_some (fault_of t.reaction)) [] (reported_by k t.state fs) (λ es. AllByRecursion (IsAside j) es) (λ e. tt) (λ e. reported_aside t.state fs))
 
-  pub served_asides : (x : Setting) (short : Bool) (t : Turn) (fs : List Frame) → AllByRecursion (IsAside j) t.log → AllByRecursion (IsAside j) (turns x short k t fs).log
+  pub served_asides : (x : Setting) (short : Bool) (t : Turn) (fs : List Frame) → AllByRecursion (IsAside j) t.log
+      → AllByRecursion (IsAside j) (turns x short k t fs).log
   served_asides x short t [] p = p
   served_asides x short t (f ∷ fs) p =
       served_asides x short (turn_more x short k t f) fs
-      (cond_both (is_closed t.standing) _ _ (λ (u : Turn). AllByRecursion (IsAside j) u.log) (λ e. p) (λ e. all_append (IsAside j) t.log (Served k f _ _ ∷ []) p (ne, tt)))
+      (cond_both (is_closed t.standing) _ _ (λ (u : Turn). AllByRecursion (IsAside j) u.log) (λ e. p)
+      (λ e. all_append (IsAside j) t.log (Served k f _ _ ∷ []) p (ne, tt)))
 
 -- ---- a later history
 
@@ -178,7 +186,8 @@ module _ (x : Setting) (h h2 : History) (later : IsLater h h2) where
   earlier_later seeds before (Sent k (Query scheme version words)) p = (p.0, asked_later (seed_of seeds k) k p.0 _ before p.1)
   earlier_later seeds before (Sent k f) p = tt
   earlier_later seeds before (Served k f now reply) p = p
-  earlier_later seeds before (Ended k r reply event) p = record { query = p.query; first = p.first; asked = asked_later (seed_of seeds k) k r p.query p.first p.asked; served = p.served }
+  earlier_later seeds before (Ended k r reply event) p =
+      record { query = p.query; first = p.first; asked = asked_later (seed_of seeds k) k r p.query p.first p.asked; served = p.served }
   earlier_later seeds before (Called k want refusal) p = tt
   earlier_later seeds before (Plain o) p = tt
 

@@ -13,7 +13,9 @@ use Rattle.snapshot_file.specs.declared.snapshot.Header.{Header}
 use Rattle.snapshot_file.specs.Snapshots.{shape_of}
 use Rattle.version_store.specs.Histories.{current_version}
 use Rattle.pir_world.specs.Runs.{Link, opening, setting_in, fresh_link}
-use Rattle.pir_world.specs.Headlines.{HasEarlier, IsOpening, EveryRunIsRight, seed_of}
+use Rattle.pir_world.specs.Versions.{seed_of}
+use Rattle.pir_world.specs.Earlier.{HasEarlier}
+use Rattle.pir_world.specs.Headlines.{IsOpening, EveryRunIsRight}
 use Rattle.pir_world.specs.Invariants.{AreRecords, LinkInv, LogInv, Inv}
 use Rattle.version_store.specs.Histories.{StoreState, StandsFor, opened}
 use Rattle.version_store.specs.Openings.{held_of}

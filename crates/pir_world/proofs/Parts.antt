@@ -28,7 +28,7 @@ use Rattle.pir_world.specs.declared.steps.Outcome.{Outcome}
 use Rattle.pir_world.specs.declared.steps.Outcome.TheVariants.{Reported, CallRefused}
 use Rattle.pir_world.specs.Runs.{State, Link, Turn, turns, turn_more, sent, with_history, Entry, Called, Sent, Plain, arrived, reported_by, reacts, reports, link_reported, link_served, link_called, turn_of, outcomes_of, outcome_of, called_at, served_at, reported_at}
 use Rattle.pir_schemes.specs.Laws.{RetrievalGivesTheRecord}
-use Rattle.pir_world.specs.Headlines.{seed_of}
+use Rattle.pir_world.specs.Versions.{seed_of}
 use Rattle.pir_world.specs.Invariants.{Inv, LinkInv}
 use Rattle.pir_world.specs.Sides.{Side, Carries, EndIs, TakesDelivery, ServesDelivery, MakesCall, Matched, IsParts, prefix}
 use Rattle.pir_world.proofs.Later.{get_same, get_other}

@@ -22,7 +22,8 @@ use Rattle.client_core.specs.declared.state.Hint.{Hint}
 use Rattle.client_core.specs.declared.state.Call.TheVariants.{Idle, Hello, Sync, Ask, Edit, Publish}
 use Rattle.client_core.specs.Calls.{call_frame, call_words}
 use Rattle.pir_world.specs.Runs.{Turn, Retrieval, served_or, serves, reader_key}
-use Rattle.pir_world.specs.Headlines.{HasVersion, IsVersion, IsRightReply, IsRightQuery, IsServed, IsRight, HintIs, asked_words}
+use Rattle.pir_world.specs.Versions.{HasVersion, IsVersion, HintIs, asked_words}
+use Rattle.pir_world.specs.Headlines.{IsRightReply, IsRightQuery, IsServed, IsRight}
 use Rattle.pir_world.specs.Invariants.{IsKnownOf, KnownIs, SyncIs, AskIs, CallIs, IsReply, InFlight, Phase}
 use Rattle.pir_world.proofs.Later.{newest, one_version}
 use Rattle.pir_world.proofs.Wires.{Split}

@@ -40,7 +40,8 @@ use Rattle.client_core.specs.Feeding.{sends_of, fault_of}
 use Rattle.client_core.proofs.Layouts.{layout_accepted}
 use Rattle.pir_world.specs.Runs.{Retrieval, reacts}
 use Rattle.pir_world.specs.Earlier.{hint_after}
-use Rattle.pir_world.specs.Headlines.{HasVersion, IsVersion, HintIs, IsRight, asked_words, given_words, name_of, record_read, seed_of, IsAnswered}
+use Rattle.pir_world.specs.Versions.{HasVersion, IsVersion, HintIs, asked_words, given_words, name_of, record_read, seed_of}
+use Rattle.pir_world.specs.Headlines.{IsRight, IsAnswered}
 use Rattle.pir_world.specs.Invariants.{GoodHistory, IsKnownOf, KnownIs, SyncIs, AskIs, CallIs, IsReply, Phase, welcome_frame}
 use Rattle.pir_world.proofs.Later.{version_positive, one_version}
 

@@ -25,8 +25,8 @@ use Rattle.client_core.specs.Calls.{Hello as want_hello, Sync as want_sync, Ask 
 use Rattle.client_core.specs.Replies.{reaction_to_reply}
 use Rattle.client_core.specs.Feeding.{takes_all, sends_of, fault_of}
 use Rattle.pir_world.specs.Runs.{Wire, Link, Retrieval, Entry, Called, Sent, Served, Plain, Turn, arrived, beyond, sent, serves, served_or, turn_of, link_called, link_served, link_reported, reports, reacts, reported_by, reader_key}
-use Rattle.pir_world.specs.Earlier.{IsSentLast, IsServedLast, is_ask, asks_of, hint_after, hint_told}
-use Rattle.pir_world.specs.Headlines.{IsAsked, IsEndOfAsk, HasEarlier, name_of, seed_of}
+use Rattle.pir_world.specs.Earlier.{IsSentLast, IsServedLast, is_ask, asks_of, hint_after, hint_told, IsAsked, IsEndOfAsk, HasEarlier}
+use Rattle.pir_world.specs.Versions.{name_of, seed_of}
 use Rattle.pir_world.specs.Invariants.{GoodHistory, AskIs, IsReply, InFlight, Phase, LinkInv, IsFrom, LogInv, EachAfter}
 use Rattle.pir_world.proofs.Wires.{none_arrives, one_arrives, Split, IsFew, split_few}
 use Rattle.pir_world.proofs.Serves.{ask_words}
@@ -51,11 +51,13 @@ pub record Logged (x : Setting) (seeds : List (List ℕ)) (h : History) (k : ℕ
 
 -- ---- which way a frame is on
 
-flight_up : (x : Setting) (h : History) (st : Standing) (seed : List ℕ) (c : ClientState) (call : Call) (up down : List Frame) (f : Frame) → up ≡ f ∷ [] → InFlight x h st seed c call up down → down ≡ []
+flight_up : (x : Setting) (h : History) (st : Standing) (seed : List ℕ) (c : ClientState) (call : Call) (up down : List Frame) (f : Frame) → up ≡ f ∷ []
+    → InFlight x h st seed c call up down → down ≡ []
 flight_up x h st seed c call up down f e (inl p) = p.1
 flight_up x h st seed c call up down f e (inr p) = absurd (none_one up f p.0 e)
 
-up_alone : (x : Setting) (h : History) (st : Standing) (seed : List ℕ) (c : ClientState) (call : Call) (up down : List Frame) (f : Frame) → up ≡ f ∷ [] → Phase x h st seed c call up down → down ≡ []
+up_alone : (x : Setting) (h : History) (st : Standing) (seed : List ℕ) (c : ClientState) (call : Call) (up down : List Frame) (f : Frame) → up ≡ f ∷ []
+    → Phase x h st seed c call up down → down ≡ []
 up_alone x h st seed c Idle up down f e p = p.1
 up_alone x h st seed c (Hello key) up down f e p = flight_up x h st seed c (Hello key) up down f e p
 up_alone x h st seed c (Sync scheme v q) up down f e p = flight_up x h st seed c (Sync scheme v q) up down f e p
@@ -67,11 +69,13 @@ up_alone x h st seed c Publish up down f e p = absurd p
 abbrev IsComing : Setting → History → Standing → List ℕ → Call → List Frame → Frame → Type 0
 IsComing x h st seed call up r = (up ≡ []) × IsReply x h st seed call r
 
-flight_down : (x : Setting) (h : History) (st : Standing) (seed : List ℕ) (c : ClientState) (call : Call) (up down : List Frame) (r : Frame) → down ≡ r ∷ [] → InFlight x h st seed c call up down → IsComing x h st seed call up r
+flight_down : (x : Setting) (h : History) (st : Standing) (seed : List ℕ) (c : ClientState) (call : Call) (up down : List Frame) (r : Frame) → down ≡ r ∷ []
+    → InFlight x h st seed c call up down → IsComing x h st seed call up r
 flight_down x h st seed c call up down r e (inl p) = absurd (none_one down r p.1 e)
 flight_down x h st seed c call up down r e (inr p) = (p.0, subst (λ (y : Frame). IsReply x h st seed call y) (one_alike p.1.0 r (sym p.1.1 ∙ e)) p.1.2)
 
-down_alone : (x : Setting) (h : History) (st : Standing) (seed : List ℕ) (c : ClientState) (call : Call) (up down : List Frame) (r : Frame) → down ≡ r ∷ [] → Phase x h st seed c call up down → IsComing x h st seed call up r
+down_alone : (x : Setting) (h : History) (st : Standing) (seed : List ℕ) (c : ClientState) (call : Call) (up down : List Frame) (r : Frame) → down ≡ r ∷ []
+    → Phase x h st seed c call up down → IsComing x h st seed call up r
 down_alone x h st seed c Idle up down r e p = absurd (none_one down r p.1 e)
 down_alone x h st seed c (Hello key) up down r e p = flight_down x h st seed c (Hello key) up down r e p
 down_alone x h st seed c (Sync scheme v q) up down r e p = flight_down x h st seed c (Sync scheme v q) up down r e p
@@ -138,17 +142,22 @@ module _ (x : Setting) (seeds : List (List ℕ)) (h : History) (k : ℕ) (l : Li
   sent_called w = record { since = []; log_is = sym (append_assoc log (Called k w None ∷ []) (Sent k (called_frame w) ∷ [])); aside = tt }
 
   -- its frame alone is on its way
-  called_up : (w : Want) (f : Frame) → InFlight x h l.standing (seed_of seeds k) (called_state w) (called_state w).call (l.up.frames ++ called_frame w ∷ []) l.down.frames → l.up.frames ++ called_frame w ∷ [] ≡ f ∷ [] → called_frame w ≡ f
+  called_up : (w : Want) (f : Frame)
+      → InFlight x h l.standing (seed_of seeds k) (called_state w) (called_state w).call (l.up.frames ++ called_frame w ∷ []) l.down.frames
+      → l.up.frames ++ called_frame w ∷ [] ≡ f ∷ [] → called_frame w ≡ f
   called_up w f (inl p) e = one_alike (called_frame w) f (sym p.0 ∙ e)
   called_up w f (inr p) e = absurd (none_one _ f p.0 e)
 
-  called_down : (w : Want) (r : Frame) → InFlight x h l.standing (seed_of seeds k) (called_state w) (called_state w).call (l.up.frames ++ called_frame w ∷ []) l.down.frames → l.down.frames ≡ r ∷ [] → ⊥
+  called_down : (w : Want) (r : Frame)
+      → InFlight x h l.standing (seed_of seeds k) (called_state w) (called_state w).call (l.up.frames ++ called_frame w ∷ []) l.down.frames
+      → l.down.frames ≡ r ∷ [] → ⊥
   called_down w r (inl p) e = none_one l.down.frames r p.1 e
   called_down w r (inr p) e = one_more l.up.frames (called_frame w) p.0
 
   called_log : (w : Want) → InFlight x h l.standing (seed_of seeds k) (called_state w) (called_state w).call (l.up.frames ++ called_frame w ∷ []) l.down.frames
       → (called_state w).number ≡ asks_of k (log ++ called_entries w) → name_of (called_state w).hint ≡ hint_told k (log ++ called_entries w)
-      → IsFrom x h (seed_of seeds k) k (called_state w).call (called_frame w) (log ++ Called k w None ∷ []) → LogInv x h (seed_of seeds k) k (link_called w l) (log ++ called_entries w)
+      → IsFrom x h (seed_of seeds k) k (called_state w).call (called_frame w) (log ++ Called k w None ∷ [])
+      → LogInv x h (seed_of seeds k) k (link_called w l) (log ++ called_entries w)
   called_log w flight number hint from = record {
     number = number;
     hint = hint;
@@ -160,22 +169,31 @@ module _ (x : Setting) (seeds : List (List ℕ)) (h : History) (k : ℕ) (l : Li
     served = λ r e. absurd (called_down w r flight e);
   }
 
-  pub logged_hello : LinkInv x h (seed_of seeds k) (link_called (want_hello reader_key) l) → Logged x seeds h k (link_called (want_hello reader_key) l) log (called_entries (want_hello reader_key))
-  logged_hello n = record {
-    kept = called_log (want_hello reader_key) n.phase (same_number k l.client.number log (called_entries (want_hello reader_key)) g.number (refl, (refl, tt))) (g.hint ∙ sym (hint_more k log (called_entries (want_hello reader_key)))) tt;
-    earlier = (tt, (tt, tt));
-  }
-
-  pub logged_sync : (s : Scheme) → LinkInv x h (seed_of seeds k) (link_called (want_sync s) l) → Logged x seeds h k (link_called (want_sync s) l) log (called_entries (want_sync s))
-  logged_sync s n =
-      let dropped : fold (hint_after k) (hint_told k log) (called_entries (want_sync s)) ≡ None = rw (eq-eqb k k refl) refl in
+  pub logged_hello : LinkInv x h (seed_of seeds k) (link_called (want_hello reader_key) l)
+      → Logged x seeds h k (link_called (want_hello reader_key) l) log (called_entries (want_hello reader_key))
+  logged_hello n =
+      let es = called_entries (want_hello reader_key) in
+      let number = same_number k l.client.number log es g.number (refl, (refl, tt)) in
       record {
-        kept = called_log (want_sync s) n.phase (same_number k l.client.number log (called_entries (want_sync s)) g.number (refl, (refl, tt))) (sym (hint_more k log (called_entries (want_sync s)) ∙ dropped)) tt;
+        kept = called_log (want_hello reader_key) n.phase number (g.hint ∙ sym (hint_more k log es)) tt;
         earlier = (tt, (tt, tt));
       }
 
+  pub logged_sync : (s : Scheme) → LinkInv x h (seed_of seeds k) (link_called (want_sync s) l)
+      → Logged x seeds h k (link_called (want_sync s) l) log (called_entries (want_sync s))
+  logged_sync s n =
+      let es = called_entries (want_sync s) in
+      let dropped : fold (hint_after k) (hint_told k log) es ≡ None = rw (eq-eqb k k refl) refl in
+      record {
+        kept = called_log (want_sync s) n.phase (same_number k l.client.number log es g.number (refl, (refl, tt))) (sym (hint_more k log es ∙ dropped)) tt;
+        earlier = (tt, (tt, tt));
+      }
+
+  abbrev retrieval : ℕ → Retrieval
+  retrieval j = record { index = j; scheme = scheme_held l.client.hint; version = known_version l.client.known; number = l.client.number }
+
   asked : (j : ℕ) → LinkInv x h (seed_of seeds k) (link_called (want_ask j) l)
-      → IsAsked x h (seed_of seeds k) k (record { index = j; scheme = scheme_held l.client.hint; version = known_version l.client.known; number = l.client.number }) (called_frame (want_ask j)) (log ++ Called k (want_ask j) None ∷ [])
+      → IsAsked x h (seed_of seeds k) k (retrieval j) (called_frame (want_ask j)) (log ++ Called k (want_ask j) None ∷ [])
   asked j n =
       let s = scheme_held l.client.hint in
       let v = known_version l.client.known in
@@ -191,7 +209,8 @@ module _ (x : Setting) (seeds : List (List ℕ)) (h : History) (k : ℕ) (l : Li
         query_is = ap (λ (ws : List ℕ). frame.Query (scheme_byte s) v ws) w.2;
       }
 
-  pub logged_ask : (j : ℕ) → LinkInv x h (seed_of seeds k) (link_called (want_ask j) l) → Logged x seeds h k (link_called (want_ask j) l) log (called_entries (want_ask j))
+  pub logged_ask : (j : ℕ) → LinkInv x h (seed_of seeds k) (link_called (want_ask j) l)
+      → Logged x seeds h k (link_called (want_ask j) l) log (called_entries (want_ask j))
   logged_ask j n =
       let es = called_entries (want_ask j) in
       let spent : asks_of k (log ++ es) ≡ asks_of k log + 1 + 0 = fold-append (λ a e. a + cond (is_ask k e) 1 0) 0 log es ∙ rw (eq-eqb k k refl) refl in
@@ -234,18 +253,25 @@ module _ (x : Setting) (seeds : List (List ℕ)) (h : History) (k : ℕ) (l : Li
       let t = serves x short k h l.standing fs in
       record { client = l.client; standing = t.standing; up = b; down = sent l.down t.replies }
 
-  served_one : (short : Bool) (f : Frame) (fs : List Frame) (b : Wire) → fs ≡ f ∷ [] → is_closed l.standing ≡ false → l.up.frames ≡ f ∷ [] → l.down.frames ≡ [] → b.frames ≡ []
+  served_one : (short : Bool) (f : Frame) (fs : List Frame) (b : Wire) → fs ≡ f ∷ [] → is_closed l.standing ≡ false → l.up.frames ≡ f ∷ []
+      → l.down.frames ≡ [] → b.frames ≡ []
       → Logged x seeds h k (served_link short fs b) log (serves x short k h l.standing fs).log
-  served_one short f fs b e o at d u = rw (e, o) (served_entry f _ _ b _ at u (ap (λ (z : List Frame). z ++ option_to_list (served_or short x h l.standing f).reply) d))
+  served_one short f fs b e o at d u =
+      rw (e, o) (served_entry f _ _ b _ at u (ap (λ (z : List Frame). z ++ option_to_list (served_or short x h l.standing f).reply) d))
 
   -- nothing arrives
   log_nothing : (m : Link) → m.client ≡ l.client → m.up.frames ≡ l.up.frames → m.down.frames ≡ l.down.frames → Logged x seeds h k m log []
-  log_nothing m c u d = record { kept = subst (λ (es : List Entry). LogInv x h (seed_of seeds k) k m es) (sym (append-nil log)) (log_same x h (seed_of seeds k) k l m log c u d g); earlier = tt }
+  log_nothing m c u d = record {
+    kept = subst (λ (es : List Entry). LogInv x h (seed_of seeds k) k m es) (sym (append-nil log)) (log_same x h (seed_of seeds k) k l m log c u d g);
+    earlier = tt;
+  }
 
-  served_none : (short : Bool) (fs : List Frame) (b : Wire) → fs ≡ [] → b.frames ≡ l.up.frames → Logged x seeds h k (served_link short fs b) log (serves x short k h l.standing fs).log
+  served_none : (short : Bool) (fs : List Frame) (b : Wire) → fs ≡ [] → b.frames ≡ l.up.frames
+      → Logged x seeds h k (served_link short fs b) log (serves x short k h l.standing fs).log
   served_none short fs b e u = rw e (log_nothing _ refl u (append-nil l.down.frames))
 
-  pub logged_served : (short : Bool) (most : ℕ) → LinkInv x h (seed_of seeds k) l → Logged x seeds h k (link_served x short k most h l) log (turn_of x short k most h l).log
+  pub logged_served : (short : Bool) (most : ℕ) → LinkInv x h (seed_of seeds k) l
+      → Logged x seeds h k (link_served x short k most h l) log (turn_of x short k most h l).log
   logged_served short most i =
       let few = (few_frames x h l.standing (seed_of seeds k) l.client l.client.call l.up.frames l.down.frames i.phase).0 in
       elim few [
@@ -259,8 +285,10 @@ module _ (x : Setting) (seeds : List (List ℕ)) (h : History) (k : ℕ) (l : Li
 
   -- ---- a delivery to the client
 
-  replied : (r : Frame) (m : Link) (es : List Entry) → m.client ≡ (reaction_to_reply l.client r).state → m.up.frames ≡ sends_of (reaction_to_reply l.client r).reaction → m.down.frames ≡ [] → l.down.frames ≡ r ∷ []
-      → IsTaken x seeds k h l.standing l.client l.client.call r (reaction_to_reply l.client r) → es ≡ reacts k l.client.call r (reaction_to_reply l.client r).reaction → Logged x seeds h k m log es
+  replied : (r : Frame) (m : Link) (es : List Entry) → m.client ≡ (reaction_to_reply l.client r).state
+      → m.up.frames ≡ sends_of (reaction_to_reply l.client r).reaction → m.down.frames ≡ [] → l.down.frames ≡ r ∷ []
+      → IsTaken x seeds k h l.standing l.client l.client.call r (reaction_to_reply l.client r)
+      → es ≡ reacts k l.client.call r (reaction_to_reply l.client r).reaction → Logged x seeds h k m log es
   replied r m es c u d at t is =
       let reaction = (reaction_to_reply l.client r).reaction in
       let s = g.served r at in
@@ -280,28 +308,34 @@ module _ (x : Setting) (seeds : List (List ℕ)) (h : History) (k : ℕ) (l : Li
           );
           served = λ r2 e. absurd (none_one m.down.frames r2 d e);
         };
-        earlier = subst (λ (z : List Entry). EachAfter (HasEarlier x seeds h) log z) (sym is) (reacts_earlier x seeds h k log s.1 r s.0 s.2 reaction l.client.call s.3);
+        earlier = subst (λ (z : List Entry). EachAfter (HasEarlier x seeds h) log z) (sym is)
+            (reacts_earlier x seeds h k log s.1 r s.0 s.2 reaction l.client.call s.3);
       }
 
   -- what is reported and sent at one reply without a fault
-  reported_is : (r : Frame) → fault_of (reaction_to_reply l.client r).reaction ≡ None → reported_by k l.client (r ∷ []) ≡ reacts k l.client.call r (reaction_to_reply l.client r).reaction
+  reported_is : (r : Frame) → fault_of (reaction_to_reply l.client r).reaction ≡ None
+      → reported_by k l.client (r ∷ []) ≡ reacts k l.client.call r (reaction_to_reply l.client r).reaction
   reported_is r e = ap (λ (b : Bool). reacts k l.client.call r (reaction_to_reply l.client r).reaction ++ cond b [] []) (ap is_some e) ∙ append-nil _
 
   abbrev reported_link : List Frame → Wire → Link
   reported_link fs b = record { client = (takes_all l.client fs).state; standing = l.standing; up = sent l.up (takes_all l.client fs).sends; down = b }
 
-  reported_one : (r : Frame) (fs : List Frame) (b : Wire) → fs ≡ r ∷ [] → b.frames ≡ [] → l.up.frames ≡ [] → l.down.frames ≡ r ∷ [] → IsTaken x seeds k h l.standing l.client l.client.call r (reaction_to_reply l.client r)
+  reported_one : (r : Frame) (fs : List Frame) (b : Wire) → fs ≡ r ∷ [] → b.frames ≡ [] → l.up.frames ≡ [] → l.down.frames ≡ r ∷ []
+      → IsTaken x seeds k h l.standing l.client l.client.call r (reaction_to_reply l.client r)
       → Logged x seeds h k (reported_link fs b) log (reported_by k l.client fs)
   reported_one r fs b e d u at t =
-      rw e (replied r (reported_link (r ∷ []) b) (reported_by k l.client (r ∷ [])) refl (ap (λ (z : List Frame). z ++ sends_of (reaction_to_reply l.client r).reaction) u) d at t (reported_is r t.no_fault))
+      rw e (replied r (reported_link (r ∷ []) b) (reported_by k l.client (r ∷ [])) refl
+      (ap (λ (z : List Frame). z ++ sends_of (reaction_to_reply l.client r).reaction) u) d at t (reported_is r t.no_fault))
 
   reported_none : (fs : List Frame) (b : Wire) → fs ≡ [] → b.frames ≡ l.down.frames → Logged x seeds h k (reported_link fs b) log (reported_by k l.client fs)
   reported_none fs b e d = rw e (log_nothing (reported_link [] b) refl (append-nil l.up.frames) d)
 
-  pub logged_reported : RetrievalGivesTheRecord → GoodHistory x h → (most : ℕ) → LinkInv x h (seed_of seeds k) l → Logged x seeds h k (link_reported most l) log (reported_by k l.client (arrived l.down most))
+  pub logged_reported : RetrievalGivesTheRecord → GoodHistory x h → (most : ℕ) → LinkInv x h (seed_of seeds k) l
+      → Logged x seeds h k (link_reported most l) log (reported_by k l.client (arrived l.down most))
   logged_reported law good most i =
       let few = (few_frames x h l.standing (seed_of seeds k) l.client l.client.call l.up.frames l.down.frames i.phase).1 in
-      let inv : ClientInv x h (seed_of seeds k) l.standing l.client = record { seed_is = i.seed_is; alive = i.alive; known = i.known; hint = i.hint; call = i.call } in
+      let inv : ClientInv x h (seed_of seeds k) l.standing l.client =
+      record { seed_is = i.seed_is; alive = i.alive; known = i.known; hint = i.hint; call = i.call } in
       elim few [
         | inl e ↦ let a = none_arrives l.down most e in reported_none (arrived l.down most) (beyond l.down most) a.0 (a.1 ∙ sym e)
         | inr p ↦ elim (one_arrives l.down most p.0 p.1) [

@@ -20,8 +20,9 @@ use Rattle.client_core.specs.declared.state.Call.{Call}
 use Rattle.client_core.specs.declared.state.Call.TheVariants.{Idle, Hello, Sync, Ask, Edit, Publish}
 use Rattle.client_core.specs.Calls.{call_frame}
 use Rattle.pir_world.specs.Runs.{State, Link, Entry, reader_key}
-use Rattle.pir_world.specs.Earlier.{IsSentLast, IsServedLast, asks_of, hint_told}
-use Rattle.pir_world.specs.Headlines.{HasVersion, IsVersion, HintIs, IsAsked, HasEarlier, IsRight, given_words, name_of, seed_of}
+use Rattle.pir_world.specs.Earlier.{IsSentLast, IsServedLast, asks_of, hint_told, IsAsked, HasEarlier}
+use Rattle.pir_world.specs.Versions.{HasVersion, IsVersion, HintIs, given_words, name_of, seed_of}
+use Rattle.pir_world.specs.Headlines.{IsRight}
 
 -- records within the limits of a plan, each of its bytes
 pub record AreRecords (p : Plan) (records : List (List ℕ)) : Type 0 where

@@ -1,4 +1,5 @@
 pub mod Runs
+pub mod Versions
 pub mod Earlier
 pub mod Headlines
 pub mod Invariants

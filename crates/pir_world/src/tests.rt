@@ -178,49 +178,71 @@ fn reported(rt: &impl AllocGlobal, world: &World<Plain>) -> Result<String, Fail>
     Ok(text)
 }
 
-/// Client 0's query in one scheme is cut by a publication, and client 1's in the other is not.
-fn cut_query(
-    rt: &impl AllocGlobal,
+fn greet_and_sync(world: &mut World<Plain>, client: usize, scheme: Scheme) -> Result<(), Fail> {
+    greet(world, client)?;
+    sync(world, client, scheme, 1)
+}
+
+fn retrieve(
     world: &mut World<Plain>,
-    cut: Scheme,
-    whole: Scheme,
+    client: usize,
+    scheme: Scheme,
+    index: u32,
 ) -> Result<(), Fail> {
-    greet(world, 0)?;
-    greet(world, 1)?;
-    sync(world, 0, cut, 1)?;
-    sync(world, 1, whole, 1)?;
+    sync(world, client, scheme, 1)?;
+    ask(world, client, index)?;
+    exchange(world, client)
+}
+
+/// Client 0's query is cut by a publication, and client 1's comes before it.
+fn cut_query(rt: &impl AllocGlobal, world: &mut World<Plain>) -> Result<(), Fail> {
     ask(world, 0, 1)?;
     to_server(world, 0, 11)?;
     ask(world, 1, 1)?;
     to_server(world, 1, ALL)?;
     publish(rt, world, 1, 0x64)?;
     exchange(world, 0)?;
-    to_client(world, 1, ALL)?;
-    sync(world, 0, cut, 1)?;
-    ask(world, 0, 1)?;
-    exchange(world, 0)
+    to_client(world, 1, ALL)
+}
+
+/// Both clients, each with a scheme of its own.
+fn cut_and_whole(
+    rt: &(impl Abort + AllocGlobal),
+    world: &mut World<Plain>,
+    cut: Scheme,
+    whole: Scheme,
+    text: &str,
+) -> Result<(), Fail> {
+    greet_and_sync(world, 0, cut)?;
+    greet_and_sync(world, 1, whole)?;
+    cut_query(rt, world)?;
+    retrieve(world, 0, cut, 1)?;
+    assert_eq!(rt; reported(rt, world)?.as_str(), text);
+    Ok(())
 }
 
 #[test]
 fn a_query_of_simple_pir_cut_by_a_publication(rt: HostRuntime) -> Result<(), Fail> {
     let mut world = world(&rt, TWO)?;
-    cut_query(&rt, &mut world, Scheme::Simple, Scheme::Double)?;
-    assert_eq!(rt;
-        reported(&rt, &world)?.as_str(),
-        "0 welcomed 1;1 welcomed 1;0 simple 1;1 double 1;edited 1;version 2;0 stale 2;1 retrieved 1 1 c8;0 simple 2;0 retrieved 1 2 64;"
-    );
-    Ok(())
+    cut_and_whole(
+        &rt,
+        &mut world,
+        Scheme::Simple,
+        Scheme::Double,
+        "0 welcomed 1;0 simple 1;1 welcomed 1;1 double 1;edited 1;version 2;0 stale 2;1 retrieved 1 1 c8;0 simple 2;0 retrieved 1 2 64;",
+    )
 }
 
 #[test]
 fn a_query_of_double_pir_cut_by_a_publication(rt: HostRuntime) -> Result<(), Fail> {
     let mut world = world(&rt, TWO)?;
-    cut_query(&rt, &mut world, Scheme::Double, Scheme::Simple)?;
-    assert_eq!(rt;
-        reported(&rt, &world)?.as_str(),
-        "0 welcomed 1;1 welcomed 1;0 double 1;1 simple 1;edited 1;version 2;0 stale 2;1 retrieved 1 1 c8;0 double 2;0 retrieved 1 2 64;"
-    );
-    Ok(())
+    cut_and_whole(
+        &rt,
+        &mut world,
+        Scheme::Double,
+        Scheme::Simple,
+        "0 welcomed 1;0 double 1;1 welcomed 1;1 simple 1;edited 1;version 2;0 stale 2;1 retrieved 1 1 c8;0 double 2;0 retrieved 1 2 64;",
+    )
 }
 
 fn single_bytes(rt: &(impl Abort + AllocGlobal), world: &mut World<Plain>) -> Result<(), Fail> {

@@ -28,15 +28,11 @@ fn all_greet(world: &mut World<Plain>) -> Result<(), Fail> {
     Ok(())
 }
 
-fn retrieve(
-    world: &mut World<Plain>,
-    client: usize,
-    scheme: Scheme,
-    index: u32,
-) -> Result<(), Fail> {
-    sync(world, client, scheme, 1)?;
-    ask(world, client, index)?;
-    exchange(world, client)
+/// The first, the last and one between retrieve, in both schemes.
+fn some_retrieve(world: &mut World<Plain>) -> Result<(), Fail> {
+    retrieve(world, 299, Scheme::Simple, 1)?;
+    retrieve(world, 0, Scheme::Double, 1)?;
+    retrieve(world, 150, Scheme::Simple, 0)
 }
 
 /// The welcomes of all, from the last client on.
@@ -49,16 +45,22 @@ fn welcomes(rt: &impl AllocGlobal) -> Result<String, Fail> {
     Ok(text)
 }
 
+fn greet_and_retrieve(
+    rt: &(impl Abort + AllocGlobal),
+    world: &mut World<Plain>,
+) -> Result<(), Fail> {
+    all_greet(world)?;
+    some_retrieve(world)?;
+    let mut text = welcomes(rt)?;
+    text.push_str(
+        "299 simple 1;299 retrieved 1 1 c8;0 double 1;0 retrieved 1 1 c8;150 simple 1;150 retrieved 0 1 a;",
+    )?;
+    assert_eq!(rt; reported(rt, world)?.as_str(), text.as_str());
+    Ok(())
+}
+
 #[test]
 fn three_hundred_clients(rt: HostRuntime) -> Result<(), Fail> {
     let mut world = crowd(&rt)?;
-    all_greet(&mut world)?;
-    retrieve(&mut world, 299, Scheme::Simple, 1)?;
-    retrieve(&mut world, 0, Scheme::Double, 1)?;
-    retrieve(&mut world, 150, Scheme::Simple, 0)?;
-    let mut text = welcomes(&rt)?;
-    text.push_str("299 simple 1;299 retrieved 1 1 c8;0 double 1;0 retrieved 1 1 c8;")?;
-    text.push_str("150 simple 1;150 retrieved 0 1 a;")?;
-    assert_eq!(rt; reported(&rt, &world)?.as_str(), text.as_str());
-    Ok(())
+    greet_and_retrieve(&rt, &mut world)
 }
