@@ -19,7 +19,7 @@ use Rattle.client_core.specs.declared.state.Event.{Event}
 use Rattle.client_core.specs.Feeding.{Client, Course, takes_all, FeedsOpen, FeedsFailed, Follows, Gives, ends_with, failing}
 use Rattle.pir_world.specs.Runs.{Link, serves, arrived, beyond, sent, link_reported, turn_of, link_served}
 use Rattle.pir_schemes.specs.Laws.{RetrievalGivesTheRecord}
-use Rattle.pir_world.specs.Headlines.{seed_of}
+use Rattle.pir_world.specs.Versions.{seed_of}
 use Rattle.pir_world.specs.Invariants.{GoodHistory, LinkInv}
 use Rattle.pir_world.specs.Sides.{Side, Carries, EndIs, TakesDelivery, prefix, rest}
 use Rattle.pir_world.proofs.Bytes.{delivered, memory_alone, prefix_read, carries_more}

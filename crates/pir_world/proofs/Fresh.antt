@@ -11,8 +11,9 @@ use Rattle.client_core.specs.declared.state.Event.{Event}
 use Rattle.client_core.specs.declared.state.Event.TheVariants.{Welcomed, Synced, Retrieved, Unreadable, Stale, Done, Refused}
 use Rattle.client_core.specs.Replies.{event_of}
 use Rattle.pir_world.specs.declared.steps.Outcome.TheVariants.{Edited, EditRefused, Published, PublishRefused, Reported, CallRefused, Failed}
-use Rattle.pir_world.specs.Runs.{Turn, Entry, Served, Ended, Plain, serves, arrived, beyond, opening, setting_in}
-use Rattle.pir_world.specs.Headlines.{IsRight, IsRightEvent, seed_of}
+use Rattle.pir_world.specs.Runs.{Turn, Entry, Called, Sent, Served, Ended, Plain, serves, arrived, beyond, opening, setting_in}
+use Rattle.pir_world.specs.Versions.{seed_of}
+use Rattle.pir_world.specs.Headlines.{IsRight, IsRightEvent}
 use Rattle.pir_world.specs.Freshness.{NamesUpTo, ReportedUpTo, IsFresh, AnswersAreFresh}
 use Rattle.pir_world.proofs.Wires.{IsFew, split_few}
 use Rattle.pir_world.proofs.Calls.{few_frames}
@@ -35,6 +36,8 @@ event_up_to h (Refused code) p = tt
 
 module _ (x : Setting) (seeds : List (List ℕ)) (h : History) where
   entry_up_to : (e : Entry) → IsRight x seeds h e → ReportedUpTo (current_version h) e
+  entry_up_to (Called k want refusal) p = tt
+  entry_up_to (Sent k f) p = tt
   entry_up_to (Served k f now reply) p = tt
   entry_up_to (Ended k r reply event) (inl a) = rw a.event_is (record_up_to r.index r.version (current_version h) _ a.version_is.0)
   entry_up_to (Ended k r reply event) (inr (inl s)) = rw s.event_is s.version_is.0

@@ -23,8 +23,9 @@ use Rattle.client_core.specs.declared.state.Event.{Event}
 use Rattle.client_core.specs.declared.state.Event.TheVariants.{Welcomed, Synced, Retrieved, Unreadable, Stale, Done, Refused}
 use Rattle.pir_world.specs.declared.steps.Outcome.{Outcome}
 use Rattle.pir_world.specs.declared.steps.Outcome.TheVariants.{Edited, EditRefused, Published, PublishRefused, Reported, CallRefused, Failed}
-use Rattle.pir_world.specs.Runs.{Link, Retrieval, Entry, Served, Ended, Plain}
-use Rattle.pir_world.specs.Headlines.{HasVersion, IsVersion, HintIs, IsRightEnd, IsRightQuery, IsServed, IsRightEvent, IsRightOutcome, IsRight, seed_of}
+use Rattle.pir_world.specs.Runs.{Link, Retrieval, Entry, Called, Sent, Served, Ended, Plain}
+use Rattle.pir_world.specs.Versions.{HasVersion, IsVersion, HintIs, seed_of}
+use Rattle.pir_world.specs.Headlines.{IsRightEnd, IsRightQuery, IsServed, IsRightEvent, IsRightOutcome, IsRight}
 use Rattle.pir_world.specs.Invariants.{AreRecords, GoodHistory, IsKnownOf, KnownIs, CallIs, IsReplyOf, IsReply, InFlight, Phase, LinkInv}
 
 -- each version of one history is one of the other
@@ -202,6 +203,8 @@ module _ (x : Setting) (h h2 : History) (later : IsLater h h2) where
   served_later now _ reply p = tt
 
   entry_later : (seeds : List (List ℕ)) (e : Entry) → IsRight x seeds h e → IsRight x seeds h2 e
+  entry_later seeds (Called k want refusal) p = tt
+  entry_later seeds (Sent k f) p = tt
   entry_later seeds (Served k f now reply) p = served_later now f reply p
   entry_later seeds (Ended k r reply event) p = end_later (seed_of seeds k) r reply event p
   entry_later seeds (Plain o) p = outcome_later o p

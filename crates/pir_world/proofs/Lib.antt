@@ -3,6 +3,8 @@ pub mod Wires
 pub mod Serves
 pub mod Takes
 pub mod Calls
+pub mod Logs
+pub mod Told
 pub mod Keeping
 pub mod Opening
 pub mod Bytes

@@ -8,12 +8,15 @@ use Rattle.matrix_u32.proofs.Products.{at-list_of_any, length-list_of}
 use Rattle.digit_pack.specs.Layout.{IsRecord, records_in, record_at}
 use Rattle.pir_schemes.specs.Plans.{plan_of, shape_at, IsPlan}
 use Rattle.pir_schemes.specs.Laws.{RetrievalGivesTheRecord}
+use Rattle.frame_codec.specs.declared.frame.Frame.{Frame}
 use Rattle.snapshot_file.specs.declared.snapshot.Header.{Header}
 use Rattle.snapshot_file.specs.Snapshots.{shape_of}
 use Rattle.version_store.specs.Histories.{current_version}
 use Rattle.pir_world.specs.Runs.{Link, opening, setting_in, fresh_link}
-use Rattle.pir_world.specs.Headlines.{IsOpening, EveryRunIsRight, seed_of}
-use Rattle.pir_world.specs.Invariants.{AreRecords, LinkInv, Inv}
+use Rattle.pir_world.specs.Versions.{seed_of}
+use Rattle.pir_world.specs.Earlier.{HasEarlier}
+use Rattle.pir_world.specs.Headlines.{IsOpening, EveryRunIsRight}
+use Rattle.pir_world.specs.Invariants.{AreRecords, LinkInv, LogInv, Inv}
 use Rattle.version_store.specs.Histories.{StoreState, StandsFor, opened}
 use Rattle.version_store.specs.Openings.{held_of}
 use Rattle.server_core.specs.Cores.{Core, session_of}
@@ -25,6 +28,7 @@ use Rattle.pir_world.specs.Sides.{Side, Carries, EndIs, Matched, IsParts, fresh_
 use Rattle.pir_world.specs.Worlds.{Kept, IsRunOf}
 use Rattle.pir_world.proofs.Keeping.{run_inv}
 use Rattle.pir_world.proofs.Later.{records_at}
+use Rattle.pir_world.proofs.Logs.{all_with_earlier}
 
 only_one : {X : Type 0} (r s : X) (i : ℕ) → slice_get (r ∷ []) i ≡ Some s → r ≡ s
 only_one r s zero e = cc
@@ -60,13 +64,21 @@ opening_inv h bytes seeds o =
       };
       links = λ k l e. subst (λ (m : Link). LinkInv (setting_in h) (opening h bytes seeds).history (seed_of seeds k) m) (link_of seeds k l e)
           (record { seed_is = refl; alive = refl; unclosed = refl; known = tt; hint = tt; call = tt; phase = (refl, refl) });
+      logs = λ k l e. subst (λ (m : Link). LogInv (setting_in h) (opening h bytes seeds).history (seed_of seeds k) k m []) (link_of seeds k l e)
+          (record { number = refl; hint = refl; sent = λ f z. absurd (let y : ◌≡◌ {A = List Frame} [] (f ∷ []) = z in cc); served = λ r z. absurd (let y : ◌≡◌ {A = List Frame} [] (r ∷ []) = z in cc) });
       entries = tt;
+      earlier = tt;
     }
 
 pub headline : RetrievalGivesTheRecord → EveryRunIsRight
 headline law h bytes seeds steps last o r =
     let inv = run_inv law (setting_in h) seeds (opening h bytes seeds) steps last r (opening_inv h bytes seeds o) in
-    record { entries = inv.entries; hints = λ k l e. (inv.links k l e).hint }
+    record {
+      entries = inv.entries;
+      earlier = all_with_earlier (HasEarlier (setting_in h) seeds last.history) last.log inv.earlier;
+      hints = λ k l e. (inv.links k l e).hint;
+      told = λ k l e. (inv.logs k l e).hint;
+    }
 
 -- ---- its parts
 

@@ -26,9 +26,9 @@ use Rattle.client_core.specs.Feeding.{takes_all, events_of, fault_of}
 use Rattle.frame_codec.specs.Frames.{IsFrame, encoding}
 use Rattle.pir_world.specs.declared.steps.Outcome.{Outcome}
 use Rattle.pir_world.specs.declared.steps.Outcome.TheVariants.{Reported, CallRefused}
-use Rattle.pir_world.specs.Runs.{State, Link, Turn, turns, turn_more, sent, with_history, Entry, Plain, arrived, reported_by, reacts, reports, link_reported, link_served, link_called, turn_of, outcomes_of, outcome_of, called_at, served_at, reported_at}
+use Rattle.pir_world.specs.Runs.{State, Link, Turn, turns, turn_more, sent, with_history, Entry, Called, Sent, Plain, arrived, reported_by, reacts, reports, link_reported, link_served, link_called, turn_of, outcomes_of, outcome_of, called_at, served_at, reported_at}
 use Rattle.pir_schemes.specs.Laws.{RetrievalGivesTheRecord}
-use Rattle.pir_world.specs.Headlines.{seed_of}
+use Rattle.pir_world.specs.Versions.{seed_of}
 use Rattle.pir_world.specs.Invariants.{Inv, LinkInv}
 use Rattle.pir_world.specs.Sides.{Side, Carries, EndIs, TakesDelivery, ServesDelivery, MakesCall, Matched, IsParts, prefix}
 use Rattle.pir_world.proofs.Later.{get_same, get_other}
@@ -179,7 +179,7 @@ module _ (x : Setting) (core : Core) (ends : List Side) (os : List Outcome) (s :
         setting_is = p.setting_is;
         store_is = p.store_is;
         ends_are = one_replaced x core core ends os s k e e2 m.link (link_called w m.link) m.session p at m.link_is m.session_is (λ j ne. refl) t.1;
-        outcomes_are = outcomes_more s.log [] os [] p.outcomes_are refl;
+        outcomes_are = outcomes_more s.log (Called k w None ∷ Sent k (call_frame (link_called w m.link).client (link_called w m.link).client.call) ∷ []) os [] p.outcomes_are refl;
       })
   parts_called w (Some fault) c =
       let m = met x core ends os s k e p at in
@@ -189,7 +189,7 @@ module _ (x : Setting) (core : Core) (ends : List Side) (os : List Outcome) (s :
         setting_is = p.setting_is;
         store_is = p.store_is;
         ends_are = one_replaced x core core ends os s k e e2 m.link m.link m.session p at m.link_is m.session_is (λ j ne. refl) same;
-        outcomes_are = outcomes_more s.log (Plain (CallRefused k fault) ∷ []) os (CallRefused k fault ∷ []) p.outcomes_are refl;
+        outcomes_are = outcomes_more s.log (Called k w (Some fault) ∷ []) os (CallRefused k fault ∷ []) p.outcomes_are refl;
       })
 
 -- ---- the publisher's steps

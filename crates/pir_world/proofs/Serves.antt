@@ -22,8 +22,9 @@ use Rattle.client_core.specs.declared.state.Hint.{Hint}
 use Rattle.client_core.specs.declared.state.Call.TheVariants.{Idle, Hello, Sync, Ask, Edit, Publish}
 use Rattle.client_core.specs.Calls.{call_frame, call_words}
 use Rattle.pir_world.specs.Runs.{Turn, Retrieval, served_or, serves, reader_key}
-use Rattle.pir_world.specs.Headlines.{HasVersion, IsVersion, IsRightReply, IsRightQuery, IsServed, IsRight, HintIs, asked_words}
-use Rattle.pir_world.specs.Invariants.{IsKnownOf, KnownIs, SyncIs, CallIs, IsReply, InFlight, Phase}
+use Rattle.pir_world.specs.Versions.{HasVersion, IsVersion, HintIs, asked_words}
+use Rattle.pir_world.specs.Headlines.{IsRightReply, IsRightQuery, IsServed, IsRight}
+use Rattle.pir_world.specs.Invariants.{IsKnownOf, KnownIs, SyncIs, AskIs, CallIs, IsReply, InFlight, Phase}
 use Rattle.pir_world.proofs.Later.{newest, one_version}
 use Rattle.pir_world.proofs.Wires.{Split}
 
@@ -197,6 +198,19 @@ module _ (x : Setting) (seeds : List (List ℕ)) (k : ℕ) (h : History) (seed :
   known_is : (o : Option ServerInfo) (y : ServerInfo) → KnownIs x h st o → o ≡ Some y → (st ≡ Reader) × IsKnownOf x h y
   known_is o y k e = let P : Option ServerInfo → Type 0 = λ z. KnownIs x h st z in subst P e k
 
+  -- the words of an ask are those of its retrieval's query
+  pub ask_words : (j : ℕ) (scheme : Scheme) (v n : ℕ) → c.seed ≡ seed → KnownIs x h st c.known → HintIs x h c.hint → AskIs c j scheme v
+      → (records : List (List ℕ)) × HasVersion h v records × (call_words c.known scheme c.seed n j ≡ asked_words x.plan records seed (record { index = j; scheme = scheme; version = v; number = n }))
+  ask_words j scheme v n s known hint i =
+      let y = known_is c.known i.k known i.known_is in
+      let there = hint_version c.hint i.hint v hint i.hint_is i.version_is in
+      let r : Retrieval = record { index = j; scheme = scheme; version = v; number = n } in
+      let w : call_words c.known scheme c.seed n j ≡ asked_words x.plan there.0 seed r =
+      ap (λ (o : Option ServerInfo). call_words o scheme c.seed n j) i.known_is
+      ∙ asked_is x h i.k there.0 c.seed r y.1 (subst (λ (m : ℕ). HasVersion h m there.0) (sym i.asked) there.1)
+      ∙ ap (λ (z : List ℕ). asked_words x.plan there.0 z r) s in
+      (there.0, there.1, w)
+
   -- the outstanding call's frame is served
   replied : (short : Bool) (call : Call) → (call ≡ Idle → ⊥) → c.seed ≡ seed → KnownIs x h st c.known → HintIs x h c.hint → CallIs x h c call → Replied x h seed st call (call_frame c call) (served_or short x h st (call_frame c call))
   replied short Idle busy s known hint i = absurd (busy refl)
@@ -206,14 +220,9 @@ module _ (x : Setting) (seeds : List (List ℕ)) (k : ℕ) (h : History) (seed :
       (sym (known_is c.known i.k known i.known_is).0) (replied_sync x h seed scheme v p short c.known c.parts i)
   replied short (Ask j scheme v n) busy s known hint i =
       let y = known_is c.known i.k known i.known_is in
-      let there = hint_version c.hint i.hint v hint i.hint_is i.version_is in
-      let r : Retrieval = record { index = j; scheme = scheme; version = v; number = n } in
-      let w : call_words c.known scheme c.seed n j ≡ asked_words x.plan there.0 seed r =
-      ap (λ (o : Option ServerInfo). call_words o scheme c.seed n j) i.known_is
-      ∙ asked_is x h i.k there.0 c.seed r y.1 (subst (λ (m : ℕ). HasVersion h m there.0) (sym i.asked) there.1)
-      ∙ ap (λ (z : List ℕ). asked_words x.plan there.0 z r) s in
+      let w = ask_words j scheme v n s known hint i in
       subst (λ (z : Standing). Replied x h seed z (Ask j scheme v n) (frame.Query (scheme_byte scheme) v (call_words c.known scheme c.seed n j)) (served_or short x h z (frame.Query (scheme_byte scheme) v (call_words c.known scheme c.seed n j))))
-      (sym y.0) (replied_ask x h seed j scheme v n there.0 there.1 short (call_words c.known scheme c.seed n j) w)
+      (sym y.0) (replied_ask x h seed j scheme v n w.0 w.1 short (call_words c.known scheme c.seed n j) w.2)
   replied short (Edit j bytes) busy s known hint i = absurd i
   replied short Publish busy s known hint i = absurd i
 

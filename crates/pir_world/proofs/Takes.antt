@@ -1,6 +1,6 @@
 -- What a client makes of a reply.
 use Rattle.std.proofs.Common.{◌≡◌, ℕ, ◌+◌, ◌*◌, ◌<◌, ◌≤◌, ◌⊎◌, Bool, true, false, not, cond, List, [], ◌++◌, length, take, drop, min, Option, Some, None, refl, sym, ap, subst, ◌∙◌, arith, inl, inr}
-use Rattle.std.specs.Prelude.{nat_lt, nat_le, ◌==◌, ◌&&◌, is_some}
+use Rattle.std.specs.Prelude.{nat_lt, nat_le, ◌==◌, ◌&&◌, is_some, fold}
 use Rattle.std.specs.List.{AllByRecursion}
 use Rattle.std.proofs.lemmas.List.{length-take, length-drop, take_all}
 use Rattle.std.proofs.Math.Seq.{take-add}
@@ -39,7 +39,9 @@ use Rattle.client_core.specs.Replies.{Taken, reaction_to_reply, takes_welcome, t
 use Rattle.client_core.specs.Feeding.{sends_of, fault_of}
 use Rattle.client_core.proofs.Layouts.{layout_accepted}
 use Rattle.pir_world.specs.Runs.{Retrieval, reacts}
-use Rattle.pir_world.specs.Headlines.{HasVersion, IsVersion, HintIs, IsRight, asked_words, given_words, record_read, seed_of, IsAnswered}
+use Rattle.pir_world.specs.Earlier.{hint_after}
+use Rattle.pir_world.specs.Versions.{HasVersion, IsVersion, HintIs, asked_words, given_words, name_of, record_read, seed_of}
+use Rattle.pir_world.specs.Headlines.{IsRight, IsAnswered}
 use Rattle.pir_world.specs.Invariants.{GoodHistory, IsKnownOf, KnownIs, SyncIs, AskIs, CallIs, IsReply, Phase, welcome_frame}
 use Rattle.pir_world.proofs.Later.{version_positive, one_version}
 
@@ -51,12 +53,20 @@ pub record ClientInv (x : Setting) (h : History) (seed : List ℕ) (st : Standin
   pub hint : HintIs x h c.hint
   pub call : CallIs x h c c.call
 
+-- a call that asks for no record
+abbrev pub IsNoAsk : Call → Type 0
+IsNoAsk (Ask i s v n) = ⊥
+IsNoAsk _ = Unit {0}
+
 -- what a good reply leads to
-pub record IsTaken (x : Setting) (seeds : List (List ℕ)) (k : ℕ) (h : History) (st : Standing) (call : Call) (reply : Frame) (t : Taken) : Type 0 where
+pub record IsTaken (x : Setting) (seeds : List (List ℕ)) (k : ℕ) (h : History) (st : Standing) (c : ClientState) (call : Call) (reply : Frame) (t : Taken) : Type 0 where
   pub client : ClientInv x h (seed_of seeds k) st t.state
   pub no_fault : fault_of t.reaction ≡ None
   pub phase : Phase x h st (seed_of seeds k) t.state t.state.call (sends_of t.reaction) []
   pub right : AllByRecursion (IsRight x seeds h) (reacts k call reply t.reaction)
+  pub number : t.state.number ≡ c.number
+  pub told : name_of t.state.hint ≡ fold (hint_after k) (name_of c.hint) (reacts k call reply t.reaction)
+  pub no_ask : IsNoAsk t.state.call
 
 -- ---- sizes
 
@@ -110,7 +120,7 @@ module _ (law : RetrievalGivesTheRecord) (x : Setting) (seeds : List (List ℕ))
   plan_ok : (v : ℕ) (records : List (List ℕ)) → HasVersion h v records → IsPlan x.plan (length records)
   plan_ok v records p = (g.versions v records p).plan
 
-  welcomed : (key : List ℕ) (v : ℕ) (records : List (List ℕ)) → HasVersion h v records → st ≡ Reader → IsTaken x seeds k h st (Hello key) (welcome_frame x v records)
+  welcomed : (key : List ℕ) (v : ℕ) (records : List (List ℕ)) → HasVersion h v records → st ≡ Reader → IsTaken x seeds k h st c (Hello key) (welcome_frame x v records)
       (takes_welcome (Hello key) c (profile_of x.plan) (shape x.plan.width x.plan.record_len x.plan.groups (length records)) x.plan.dimension v x.plan.seed)
   welcomed key v records p reader = rw (welcome_good x.plan (length records) v (plan_ok v records p) (version_positive x h v records g p)) (record {
     client = record {
@@ -123,22 +133,31 @@ module _ (law : RetrievalGivesTheRecord) (x : Setting) (seeds : List (List ℕ))
     no_fault = refl;
     phase = (refl, refl);
     right = ((records, p), tt);
+    number = refl;
+    told = refl;
+    no_ask = tt;
   })
 
-  refused_sync : (s : Scheme) (v q code : ℕ) → IsTaken x seeds k h st (Sync s v q) (frame.Refused code) (takes_refused (Sync s v q) c code)
+  refused_sync : (s : Scheme) (v q code : ℕ) → IsTaken x seeds k h st c (Sync s v q) (frame.Refused code) (takes_refused (Sync s v q) c code)
   refused_sync s v q code = record {
     client = record { seed_is = i.seed_is; alive = i.alive; known = i.known; hint = i.hint; call = tt };
     no_fault = refl;
     phase = (refl, refl);
     right = (tt, tt);
+    number = refl;
+    told = refl;
+    no_ask = tt;
   }
 
-  refused_ask : (j : ℕ) (s : Scheme) (v n : ℕ) → IsTaken x seeds k h st (Ask j s v n) (refused refusal.Memory) (takes_refused (Ask j s v n) c (code_of refusal.Memory))
+  refused_ask : (j : ℕ) (s : Scheme) (v n : ℕ) → IsTaken x seeds k h st c (Ask j s v n) (refused refusal.Memory) (takes_refused (Ask j s v n) c (code_of refusal.Memory))
   refused_ask j s v n = record {
     client = record { seed_is = i.seed_is; alive = i.alive; known = i.known; hint = i.hint; call = tt };
     no_fault = refl;
     phase = (refl, refl);
     right = (inr (inr (refl, refl)), tt);
+    number = refl;
+    told = refl;
+    no_ask = tt;
   }
 
   module _ (y : ServerInfo) (at : c.known ≡ Some y) (known : (st ≡ Reader) × IsKnownOf x h y) where
@@ -160,21 +179,27 @@ module _ (law : RetrievalGivesTheRecord) (x : Setting) (seeds : List (List ℕ))
     }
 
     stale_sync : (s : Scheme) (v q now : ℕ) (records : List (List ℕ)) → HasVersion h now records → v < now
-        → IsTaken x seeds k h st (Sync s v q) (frame.Stale now (length records)) (takes_stale (Sync s v q) c now (length records))
+        → IsTaken x seeds k h st c (Sync s v q) (frame.Stale now (length records)) (takes_stale (Sync s v q) c now (length records))
     stale_sync s v q now records p lt = rw (at, stale_good v now records p lt) (record {
       client = record { seed_is = i.seed_is; alive = i.alive; known = (known.0, reported_of now records p); hint = i.hint; call = tt };
       no_fault = refl;
       phase = (refl, refl);
       right = ((records, p), tt);
+      number = refl;
+      told = refl;
+      no_ask = tt;
     })
 
     stale_ask : (j : ℕ) (s : Scheme) (v n now : ℕ) (records : List (List ℕ)) → HasVersion h now records → v < now
-        → IsTaken x seeds k h st (Ask j s v n) (frame.Stale now (length records)) (takes_stale (Ask j s v n) c now (length records))
+        → IsTaken x seeds k h st c (Ask j s v n) (frame.Stale now (length records)) (takes_stale (Ask j s v n) c now (length records))
     stale_ask j s v n now records p lt = rw (at, stale_good v now records p lt) (record {
       client = record { seed_is = i.seed_is; alive = i.alive; known = (known.0, reported_of now records p); hint = i.hint; call = tt };
       no_fault = refl;
       phase = (refl, refl);
       right = (inr (inl (record { now = now; records = records; version_is = p; later = lt; reply_is = refl; event_is = refl })), tt);
+      number = refl;
+      told = refl;
+      no_ask = tt;
     })
 
     -- the layout is that of the version asked
@@ -209,7 +234,7 @@ module _ (law : RetrievalGivesTheRecord) (x : Setting) (seeds : List (List ℕ))
 
       more : (words : List ℕ) → words ≡ take (65536 * (p + 1)) (hint_words x s r.records)
           → ((length words == total) ≡ true) ⊎ ((length words == total) ≡ false)
-          → IsTaken x seeds k h st (Sync s v p) (frame.HintPart (scheme_byte s) v p (part_words x s r.records p)) (more_parts s y c v p words)
+          → IsTaken x seeds k h st c (Sync s v p) (frame.HintPart (scheme_byte s) v p (part_words x s r.records p)) (more_parts s y c v p words)
       more words all (inl t) =
           let size : length words ≡ length (hint_words x s r.records) = eqb-true _ _ t ∙ total_is in
           let same : length (take (65536 * (p + 1)) (hint_words x s r.records)) ≡ length (hint_words x s r.records) = sym (ap length all) ∙ size in
@@ -219,6 +244,9 @@ module _ (law : RetrievalGivesTheRecord) (x : Setting) (seeds : List (List ℕ))
             no_fault = refl;
             phase = (refl, refl);
             right = ((r.records, r.version_is), tt);
+            number = refl;
+            told = rw (eq-eqb k k refl) refl;
+            no_ask = tt;
           })
       more words all (inr t) =
           let ne : length words ≡ length (hint_words x s r.records) → ⊥ = λ q. eqb-false _ _ t (q ∙ sym total_is) in
@@ -233,7 +261,10 @@ module _ (law : RetrievalGivesTheRecord) (x : Setting) (seeds : List (List ℕ))
             };
             no_fault = refl;
             phase = inl (refl, refl);
-            right = tt;
+            right = (tt, tt);
+            number = refl;
+            told = refl;
+            no_ask = tt;
           })
 
       part_step : takes_part (Sync s v p) c (scheme_byte s) v p (part_words x s r.records p) ≡ more_parts s y c v p (c.parts ++ part_words x s r.records p)
@@ -241,9 +272,9 @@ module _ (law : RetrievalGivesTheRecord) (x : Setting) (seeds : List (List ℕ))
           ap (λ (o : Option ServerInfo). takes_asked_part o s c v p (scheme_byte s) v p (part_words x s r.records p)) at
           ∙ ap (λ (b : Bool). cond b (more_parts s y c v p (c.parts ++ part_words x s r.records p)) (faulty c BadReply)) part_good
 
-      part_came : IsTaken x seeds k h st (Sync s v p) (frame.HintPart (scheme_byte s) v p (part_words x s r.records p)) (takes_part (Sync s v p) c (scheme_byte s) v p (part_words x s r.records p))
+      part_came : IsTaken x seeds k h st c (Sync s v p) (frame.HintPart (scheme_byte s) v p (part_words x s r.records p)) (takes_part (Sync s v p) c (scheme_byte s) v p (part_words x s r.records p))
       part_came =
-          subst (λ (t : Taken). IsTaken x seeds k h st (Sync s v p) (frame.HintPart (scheme_byte s) v p (part_words x s r.records p)) t) (sym part_step)
+          subst (λ (t : Taken). IsTaken x seeds k h st c (Sync s v p) (frame.HintPart (scheme_byte s) v p (part_words x s r.records p)) t) (sym part_step)
           (more (c.parts ++ part_words x s r.records p) (ap (λ (w : List ℕ). w ++ part_words x s r.records p) r.parts_are ∙ parts_more x s r.records p) (cases_Bool (length (c.parts ++ part_words x s r.records p) == total)))
 
     module _ (j : ℕ) (s : Scheme) (v n : ℕ) (records : List (List ℕ)) (p : HasVersion h v records) (lt : j < y.layout.count) (e : y.version ≡ v) (hint : Hint) (held : c.hint ≡ Some hint) (se : hint.scheme ≡ s) (ve : hint.version ≡ v) where
@@ -291,18 +322,21 @@ module _ (law : RetrievalGivesTheRecord) (x : Setting) (seeds : List (List ℕ))
           ∙ ap (λ (o : Option Hint). answered (Some y) o c j v n (scheme_byte s) v answer) held
           ∙ ap (λ (b : Bool). cond b (ended c (event_of j v (record_of y.layout (reading hint.scheme y.layout hint.matrix c.seed n j answer)))) (faulty c BadReply)) words_good
 
-      answer_came : IsTaken x seeds k h st (Ask j s v n) (frame.Answer (scheme_byte s) v answer) (takes_answer (Ask j s v n) c (scheme_byte s) v answer)
-      answer_came = subst (λ (t : Taken). IsTaken x seeds k h st (Ask j s v n) (frame.Answer (scheme_byte s) v answer) t) (sym answer_step) (record {
+      answer_came : IsTaken x seeds k h st c (Ask j s v n) (frame.Answer (scheme_byte s) v answer) (takes_answer (Ask j s v n) c (scheme_byte s) v answer)
+      answer_came = subst (λ (t : Taken). IsTaken x seeds k h st c (Ask j s v n) (frame.Answer (scheme_byte s) v answer) t) (sym answer_step) (record {
         client = record { seed_is = i.seed_is; alive = i.alive; known = i.known; hint = i.hint; call = tt };
         no_fault = refl;
         phase = (refl, refl);
         right = (inl answer_right, tt);
+        number = refl;
+        told = refl;
+        no_ask = tt;
       })
 
-  by_call : (f : Call → Taken) (call : Call) (r : Frame) → c.call ≡ call → IsTaken x seeds k h st call r (f call) → IsTaken x seeds k h st call r (f c.call)
-  by_call f call r e t = subst (λ (a : Call). IsTaken x seeds k h st call r (f a)) (sym e) t
+  by_call : (f : Call → Taken) (call : Call) (r : Frame) → c.call ≡ call → IsTaken x seeds k h st c call r (f call) → IsTaken x seeds k h st c call r (f c.call)
+  by_call f call r e t = subst (λ (a : Call). IsTaken x seeds k h st c call r (f a)) (sym e) t
 
-  reply_taken : (call : Call) (r : Frame) → c.call ≡ call → CallIs x h c call → IsReply x h st (seed_of seeds k) call r → IsTaken x seeds k h st call r (reaction_to_reply c r)
+  reply_taken : (call : Call) (r : Frame) → c.call ≡ call → CallIs x h c call → IsReply x h st (seed_of seeds k) call r → IsTaken x seeds k h st c call r (reaction_to_reply c r)
   reply_taken Idle r e a p = absurd p
   reply_taken (Hello key) r e a p =
       rw p.1.3 (by_call (λ (q : Call). takes_welcome q c (profile_of x.plan) (shape x.plan.width x.plan.record_len x.plan.groups (length p.1.1)) x.plan.dimension p.1.0 x.plan.seed) (Hello key) (welcome_frame x p.1.0 p.1.1) e (welcomed key p.1.0 p.1.1 p.1.2 p.0))
@@ -328,5 +362,5 @@ module _ (law : RetrievalGivesTheRecord) (x : Setting) (seeds : List (List ℕ))
   reply_taken (Edit j bytes) r e a p = absurd p
   reply_taken Publish r e a p = absurd p
 
-  pub taken : (r : Frame) → IsReply x h st (seed_of seeds k) c.call r → IsTaken x seeds k h st c.call r (reaction_to_reply c r)
+  pub taken : (r : Frame) → IsReply x h st (seed_of seeds k) c.call r → IsTaken x seeds k h st c c.call r (reaction_to_reply c r)
   taken r p = reply_taken c.call r refl i.call p

@@ -1,55 +1,29 @@
 -- What is right of a run.
-use Rattle.std.specs.Prelude.{◌≡◌, ◌≢◌, ◌≤◌, ◌<◌, ◌⊎◌, ℕ, List, [], length, All, ◌^◌, Option, Some, None, slice_get, slice_index_or}
+use Rattle.std.specs.Prelude.{◌≡◌, ◌≢◌, ◌<◌, ◌⊎◌, ℕ, List, length, All, ◌^◌, Option, Some, None, slice_get}
 use Rattle.std.specs.List.{AllByRecursion}
 use Rattle.digit_pack.specs.Layout.{record_at}
 use Rattle.pir_schemes.specs.declared.scheme.Scheme.{Scheme}
 use Rattle.pir_schemes.specs.Schemes.{scheme_byte, scheme_of_byte}
-use Rattle.pir_schemes.specs.Plans.{Plan, shape_at, record_of}
+use Rattle.pir_schemes.specs.Plans.{shape_at}
 use Rattle.pir_schemes.specs.Laws.{IsCertainOf}
-use Rattle.pir_schemes.specs.Retrievals.{hint_matrix, query_words, answer_words, reading, IsQuietOf}
+use Rattle.pir_schemes.specs.Retrievals.{answer_words}
 use Rattle.frame_codec.specs.declared.frame.Frame.{Frame}
 use Rattle.frame_codec.specs.declared.frame.Frame.TheVariants as frame
 use Rattle.frame_codec.specs.declared.refusal.Refusal.TheVariants as refusal
 use Rattle.frame_codec.specs.Refusals.{code_of, refused}
 use Rattle.snapshot_file.specs.declared.snapshot.Header.{Header}
 use Rattle.version_store.specs.Openings.{IsSound}
-use Rattle.version_store.specs.Histories.{History, current_version, records_of}
+use Rattle.version_store.specs.Histories.{History}
 use Rattle.server_core.specs.Serving.{Setting}
-use Rattle.client_core.specs.declared.state.Hint.{Hint}
 use Rattle.client_core.specs.declared.state.Event.{Event}
 use Rattle.client_core.specs.declared.state.Event.TheVariants.{Welcomed, Synced, Retrieved, Unreadable, Stale, Done, Refused}
 use Rattle.client_core.specs.Replies.{event_of}
 use Rattle.pir_world.specs.declared.steps.Step.{Step}
 use Rattle.pir_world.specs.declared.steps.Outcome.{Outcome}
-use Rattle.pir_world.specs.declared.steps.Outcome.TheVariants.{Edited, EditRefused, Published, PublishRefused, Reported, CallRefused, Failed}
-use Rattle.pir_world.specs.Runs.{State, Link, Retrieval, Entry, Served, Ended, Plain, Run, opening, setting_in}
-
--- these are the records of a version
-abbrev pub HasVersion : History → ℕ → List (List ℕ) → Type 0
-HasVersion h v records = (v ≤ current_version h) × (records_of h v ≡ Some records)
-
--- a version that there is
-abbrev pub IsVersion : History → ℕ → Type 0
-IsVersion h v = (records : List (List ℕ)) × HasVersion h v records
-
--- the words of a retrieval's query on some records, for the client's seed
-abbrev pub asked_words : Plan → List (List ℕ) → List ℕ → Retrieval → List ℕ
-asked_words p records seed r =
-    query_words r.scheme (shape_at p (length records)) p.dimension p.seed seed r.number r.index
-
--- the words of its answer on some records
-abbrev pub given_words : Plan → List (List ℕ) → List ℕ → Retrieval → List ℕ
-given_words p records seed r = answer_words r.scheme p records (asked_words p records seed r)
-
--- the record that its answer gives under their hint, if any
-abbrev pub record_read : Plan → List (List ℕ) → List ℕ → Retrieval → Option (List ℕ)
-record_read p records seed r =
-    let l = shape_at p (length records) in
-    record_of l (reading r.scheme l (hint_matrix r.scheme p records) seed r.number r.index (given_words p records seed r))
-
--- the noise sums of a retrieval on some records stay below half of delta
-abbrev pub IsQuietOn : Plan → List (List ℕ) → List ℕ → Retrieval → Type 0
-IsQuietOn p records seed r = IsQuietOf r.scheme p records seed r.number r.index
+use Rattle.pir_world.specs.declared.steps.Outcome.TheVariants.{Published, Reported, Failed}
+use Rattle.pir_world.specs.Runs.{State, Link, Retrieval, Entry, Called, Sent, Served, Ended, Plain, Run, opening, setting_in}
+use Rattle.pir_world.specs.Versions.{HasVersion, IsVersion, given_words, record_read, IsQuietOn, seed_of, HintIs, name_of}
+use Rattle.pir_world.specs.Earlier.{AllWithEarlier, HasEarlier, hint_told}
 
 -- An answered retrieval: the answer is that of the version named, and the event is what it says. Where the retrieval is quiet, and on a certain shape always, that is the record's bytes in this version.
 pub record IsAnswered (x : Setting) (h : History) (seed : List ℕ) (r : Retrieval) (reply : Frame) (event : Event) : Type 0 where
@@ -113,24 +87,20 @@ IsRightOutcome h (Failed k fault) = ⊥
 IsRightOutcome h (Published v) = IsVersion h v
 IsRightOutcome h _ = Unit {0}
 
--- the seed of client k
-abbrev pub seed_of : List (List ℕ) → ℕ → List ℕ
-seed_of seeds k = slice_index_or seeds k []
-
+-- what is right of an entry by itself
 abbrev pub IsRight : Setting → List (List ℕ) → History → Entry → Type 0
+IsRight x seeds h (Called k want refusal) = Unit {0}
+IsRight x seeds h (Sent k f) = Unit {0}
 IsRight x seeds h (Served k f now reply) = IsServed x h now f reply
 IsRight x seeds h (Ended k r reply event) = IsRightEnd x h (seed_of seeds k) r reply event
 IsRight x seeds h (Plain o) = IsRightOutcome h o
 
--- the hint that a client holds is its scheme's of a version, made from scratch
-abbrev pub HintIs : Setting → History → Option Hint → Type 0
-HintIs x h None = Unit {0}
-HintIs x h (Some hint) = (records : List (List ℕ)) × HasVersion h hint.version records × (hint.matrix ≡ hint_matrix hint.scheme x.plan records)
-
--- In a run from an opening: all that was written down is right, and so is every hint.
+-- In a run from an opening: all that was written down is right, by itself and by what came before it. Every hint is right, and it is the one that the log tells of.
 pub record Headline (x : Setting) (seeds : List (List ℕ)) (s : State) : Type 0 where
   pub entries : AllByRecursion (IsRight x seeds s.history) s.log
+  pub earlier : AllWithEarlier (HasEarlier x seeds s.history) s.log
   pub hints : (k : ℕ) (l : Link) → slice_get s.links k ≡ Some l → HintIs x s.history l.client.hint
+  pub told : (k : ℕ) (l : Link) → slice_get s.links k ≡ Some l → name_of l.client.hint ≡ hint_told k s.log
 
 -- a snapshot that a store accepts, with bytes for its records
 pub record IsOpening (h : Header) (records : List ℕ) : Type 0 where

@@ -1,5 +1,5 @@
 -- What each step of a run keeps.
-use Rattle.std.specs.Prelude.{◌≡◌, ◌≤◌, ◌<◌, ◌*◌, ◌⊎◌, ℕ, List, [], ◌∷◌, length, take, true, false, Option, Some, None, slice_get, is_some}
+use Rattle.std.specs.Prelude.{◌≡◌, ◌≤◌, ◌<◌, ◌*◌, ◌⊎◌, ℕ, List, [], ◌∷◌, length, take, ◌++◌, true, false, Option, Some, None, slice_get, is_some}
 use Rattle.std.specs.List.{AllByRecursion}
 use Rattle.digit_pack.specs.Layout.{IsRecord, record_at}
 use Rattle.pir_schemes.specs.declared.scheme.Scheme.{Scheme}
@@ -19,8 +19,10 @@ use Rattle.client_core.specs.declared.state.Hint.{Hint}
 use Rattle.client_core.specs.declared.state.Call.{Call}
 use Rattle.client_core.specs.declared.state.Call.TheVariants.{Idle, Hello, Sync, Ask, Edit, Publish}
 use Rattle.client_core.specs.Calls.{call_frame}
-use Rattle.pir_world.specs.Runs.{State, Link, reader_key}
-use Rattle.pir_world.specs.Headlines.{HasVersion, IsVersion, HintIs, IsRight, given_words, seed_of}
+use Rattle.pir_world.specs.Runs.{State, Link, Entry, reader_key}
+use Rattle.pir_world.specs.Earlier.{IsSentLast, IsServedLast, asks_of, hint_told, IsAsked, HasEarlier}
+use Rattle.pir_world.specs.Versions.{HasVersion, IsVersion, HintIs, given_words, name_of, seed_of}
+use Rattle.pir_world.specs.Headlines.{IsRight}
 
 -- records within the limits of a plan, each of its bytes
 pub record AreRecords (p : Plan) (records : List (List ℕ)) : Type 0 where
@@ -123,8 +125,30 @@ pub record LinkInv (x : Setting) (h : History) (seed : List ℕ) (l : Link) : Ty
   pub call : CallIs x h l.client l.client.call
   pub phase : Phase x h l.standing seed l.client l.client.call l.up.frames l.down.frames
 
+-- an ask's frame is the query of its retrieval, which was asked for last
+abbrev pub IsFrom : Setting → History → List ℕ → ℕ → Call → Frame → List Entry → Type 0
+IsFrom x h seed k (Ask i s v n) f first =
+    IsAsked x h seed k (record { index = i; scheme = s; version = v; number = n }) f first
+IsFrom x h seed k _ f first = Unit {0}
+
+-- what the log says of a client: its next number, the hint that it holds, the frame on its way, or the reply
+pub record LogInv (x : Setting) (h : History) (seed : List ℕ) (k : ℕ) (l : Link) (log : List Entry) : Type 0 where
+  pub number : l.client.number ≡ asks_of k log
+  pub hint : name_of l.client.hint ≡ hint_told k log
+  pub sent : (f : Frame) → l.up.frames ≡ f ∷ [] →
+      (first : List Entry) × IsSentLast k f first log × IsFrom x h seed k l.client.call f first
+  pub served : (r : Frame) → l.down.frames ≡ r ∷ [] →
+      (f : Frame) × (first : List Entry) × IsServedLast k f r first log × IsFrom x h seed k l.client.call f first
+
+-- it is so of each entry and those before it, where these came before all
+abbrev pub EachAfter : (List Entry → Entry → Type 0) → List Entry → List Entry → Type 0
+EachAfter P before [] = Unit {0}
+EachAfter P before (e ∷ es) = P before e × EachAfter P (before ++ e ∷ []) es
+
 -- all of a state
 pub record Inv (x : Setting) (seeds : List (List ℕ)) (s : State) : Type 0 where
   pub history : GoodHistory x s.history
   pub links : (k : ℕ) (l : Link) → slice_get s.links k ≡ Some l → LinkInv x s.history (seed_of seeds k) l
+  pub logs : (k : ℕ) (l : Link) → slice_get s.links k ≡ Some l → LogInv x s.history (seed_of seeds k) k l s.log
   pub entries : AllByRecursion (IsRight x seeds s.history) s.log
+  pub earlier : EachAfter (HasEarlier x seeds s.history) [] s.log

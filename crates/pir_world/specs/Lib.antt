@@ -1,4 +1,6 @@
 pub mod Runs
+pub mod Versions
+pub mod Earlier
 pub mod Headlines
 pub mod Invariants
 pub mod Sides

@@ -3,8 +3,10 @@ use Rattle.std.specs.Prelude.{◌≡◌, ◌<◌, ◌+◌, ◌-◌, ◌^◌, ◌
 use Rattle.std.specs.List.{flat_map}
 use Rattle.digit_pack.specs.Layout.{records_in}
 use Rattle.pir_schemes.specs.declared.scheme.Scheme.{Scheme}
+use Rattle.pir_schemes.specs.Schemes.{scheme_byte}
 use Rattle.pir_schemes.specs.Plans.{plan_of, fits}
 use Rattle.frame_codec.specs.declared.frame.Frame.{Frame}
+use Rattle.frame_codec.specs.declared.frame.Frame.TheVariants as frame
 use Rattle.frame_codec.specs.declared.refusal.Refusal.TheVariants as refusal
 use Rattle.frame_codec.specs.Frames.{encoding}
 use Rattle.snapshot_file.specs.declared.snapshot.Header.{Header}
@@ -75,15 +77,20 @@ pub record Retrieval : Type 0 where
   pub version : ℕ
   pub number : ℕ
 
--- A frame was served while `now` was the current version; a reply ended a retrieval with an event; any other outcome.
+-- A client was called, and why the call was refused, if it was; it sent a frame; a frame was served while `now` was the current version; a reply ended a retrieval with an event; any other outcome.
 pub data Entry : Type 0 where
+  Called : (client : ℕ) (want : Want) (refusal : Option CallFault) → Entry
+  Sent : (client : ℕ) (frame : Frame) → Entry
   Served : (client : ℕ) (frame : Frame) (now : ℕ) (reply : Option Frame) → Entry
   Ended : (client : ℕ) (retrieval : Retrieval) (reply : Frame) (event : Event) → Entry
   Plain : (outcome : Outcome) → Entry
 
 -- what the publisher and the clients are told of it
 abbrev pub outcome_of : Entry → List Outcome
-outcome_of (Served k frame now reply) = []
+outcome_of (Called k want None) = []
+outcome_of (Called k want (Some fault)) = CallRefused k fault ∷ []
+outcome_of (Sent k f) = []
+outcome_of (Served k f now reply) = []
 outcome_of (Ended k r reply event) = Reported k event ∷ []
 outcome_of (Plain o) = o ∷ []
 
@@ -143,17 +150,17 @@ link_reported most l =
     let t = takes_all l.client (arrived l.down most) in
     record { client = t.state; standing = l.standing; up = sent l.up t.sends; down = beyond l.down most }
 
--- an event ends the outstanding call
+-- an event ends the outstanding call; the next part of a hint may be asked for in its place
 abbrev pub reports : ℕ → Call → Frame → Event → Entry
 reports k (call.Ask i s v n) reply e = Ended k (record { index = i; scheme = s; version = v; number = n }) reply e
 reports k _ reply e = Plain (Reported k e)
 
 abbrev pub reacts : ℕ → Call → Frame → Reaction → List Entry
-reacts k c reply (Asks scheme version part) = []
+reacts k c reply (Asks scheme version part) = Sent k (frame.HintAsk (scheme_byte scheme) version part) ∷ []
 reacts k c reply (Reports e) = reports k c reply e ∷ []
 reacts k c reply (Fails fault) = Plain (Failed k fault) ∷ []
 
--- what client k tells of replies, one after another, up to a fault
+-- what client k reports and sends at replies, one after another, up to a fault
 abbrev pub reported_by : ℕ → ClientState → List Frame → List Entry
 reported_by k c [] = []
 reported_by k c (f ∷ fs) = reacts k c.call f (reaction_to_reply c f).reaction ++ cond (is_some (fault_of (reaction_to_reply c f).reaction)) [] (reported_by k (reaction_to_reply c f).state fs)
@@ -179,8 +186,10 @@ abbrev pub with_history : State → History → Outcome → State
 with_history s h o = record { history = h; links = s.links; log = s.log ++ Plain o ∷ [] }
 
 abbrev pub call_at : State → ℕ → Want → Link → Option CallFault → State
-call_at s k w l (Some fault) = with_link s s.history k l (Plain (CallRefused k fault) ∷ [])
-call_at s k w l None = with_link s s.history k (link_called w l) []
+call_at s k w l (Some fault) = with_link s s.history k l (Called k w (Some fault) ∷ [])
+call_at s k w l None =
+    let m = link_called w l in
+    with_link s s.history k m (Called k w None ∷ Sent k (call_frame m.client m.client.call) ∷ [])
 
 -- a call at client k, and the two deliveries; nothing where there is no such client
 abbrev pub called_at : State → Want → ℕ → Option Link → State

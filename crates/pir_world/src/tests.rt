@@ -11,6 +11,7 @@ use std::test::Fail;
 use version_store::{OpenError, Snapshot, Store};
 
 mod by_hand;
+mod crowd;
 mod texts;
 
 /// A store of records of one byte.
@@ -152,22 +153,24 @@ fn reported(rt: &impl AllocGlobal, world: &World<Plain>) -> Result<String, Fail>
     for outcome in world.outcomes() {
         match outcome {
             Outcome::Edited { index } => text.push_str(&format!(in rt.alloc(); "edited {index}")?)?,
-            Outcome::EditRefused { index, .. } => {
-                text.push_str(&format!(in rt.alloc(); "edit {index} refused")?)?
+            Outcome::EditRefused { index, fault } => {
+                text.push_str(&format!(in rt.alloc(); "edit {index} {fault:?}")?)?
             }
             Outcome::Published { version } => {
                 text.push_str(&format!(in rt.alloc(); "version {version}")?)?
             }
-            Outcome::PublishRefused { .. } => text.push_str("not published")?,
+            Outcome::PublishRefused { fault } => {
+                text.push_str(&format!(in rt.alloc(); "publish {fault:?}")?)?
+            }
             Outcome::Reported { client, event } => {
                 text.push_str(&format!(in rt.alloc(); "{client} ")?)?;
                 add_event(rt, &mut text, event)?;
             }
-            Outcome::CallRefused { client, .. } => {
-                text.push_str(&format!(in rt.alloc(); "{client} call refused")?)?
+            Outcome::CallRefused { client, fault } => {
+                text.push_str(&format!(in rt.alloc(); "{client} {fault:?}")?)?
             }
-            Outcome::Failed { client, .. } => {
-                text.push_str(&format!(in rt.alloc(); "{client} failed")?)?
+            Outcome::Failed { client, fault } => {
+                text.push_str(&format!(in rt.alloc(); "{client} failed {fault:?}")?)?
             }
         }
         text.push(';')?;
@@ -175,32 +178,71 @@ fn reported(rt: &impl AllocGlobal, world: &World<Plain>) -> Result<String, Fail>
     Ok(text)
 }
 
-fn cut_query(rt: &(impl Abort + AllocGlobal), world: &mut World<Plain>) -> Result<(), Fail> {
-    greet(world, 0)?;
-    greet(world, 1)?;
-    sync(world, 0, Scheme::Simple, 1)?;
-    sync(world, 1, Scheme::Double, 1)?;
+fn greet_and_sync(world: &mut World<Plain>, client: usize, scheme: Scheme) -> Result<(), Fail> {
+    greet(world, client)?;
+    sync(world, client, scheme, 1)
+}
+
+fn retrieve(
+    world: &mut World<Plain>,
+    client: usize,
+    scheme: Scheme,
+    index: u32,
+) -> Result<(), Fail> {
+    sync(world, client, scheme, 1)?;
+    ask(world, client, index)?;
+    exchange(world, client)
+}
+
+/// Client 0's query is cut by a publication, and client 1's comes before it.
+fn cut_query(rt: &impl AllocGlobal, world: &mut World<Plain>) -> Result<(), Fail> {
     ask(world, 0, 1)?;
     to_server(world, 0, 11)?;
     ask(world, 1, 1)?;
     to_server(world, 1, ALL)?;
     publish(rt, world, 1, 0x64)?;
     exchange(world, 0)?;
-    to_client(world, 1, ALL)?;
-    sync(world, 0, Scheme::Simple, 1)?;
-    ask(world, 0, 1)?;
-    exchange(world, 0)?;
-    assert_eq!(rt;
-        reported(rt, world)?.as_str(),
-        "0 welcomed 1;1 welcomed 1;0 simple 1;1 double 1;edited 1;version 2;0 stale 2;1 retrieved 1 1 c8;0 simple 2;0 retrieved 1 2 64;"
-    );
+    to_client(world, 1, ALL)
+}
+
+/// Both clients, each with a scheme of its own.
+fn cut_and_whole(
+    rt: &(impl Abort + AllocGlobal),
+    world: &mut World<Plain>,
+    cut: Scheme,
+    whole: Scheme,
+    text: &str,
+) -> Result<(), Fail> {
+    greet_and_sync(world, 0, cut)?;
+    greet_and_sync(world, 1, whole)?;
+    cut_query(rt, world)?;
+    retrieve(world, 0, cut, 1)?;
+    assert_eq!(rt; reported(rt, world)?.as_str(), text);
     Ok(())
 }
 
 #[test]
-fn a_query_cut_by_a_publication(rt: HostRuntime) -> Result<(), Fail> {
+fn a_query_of_simple_pir_cut_by_a_publication(rt: HostRuntime) -> Result<(), Fail> {
     let mut world = world(&rt, TWO)?;
-    cut_query(&rt, &mut world)
+    cut_and_whole(
+        &rt,
+        &mut world,
+        Scheme::Simple,
+        Scheme::Double,
+        "0 welcomed 1;0 simple 1;1 welcomed 1;1 double 1;edited 1;version 2;0 stale 2;1 retrieved 1 1 c8;0 simple 2;0 retrieved 1 2 64;",
+    )
+}
+
+#[test]
+fn a_query_of_double_pir_cut_by_a_publication(rt: HostRuntime) -> Result<(), Fail> {
+    let mut world = world(&rt, TWO)?;
+    cut_and_whole(
+        &rt,
+        &mut world,
+        Scheme::Double,
+        Scheme::Simple,
+        "0 welcomed 1;0 double 1;1 welcomed 1;1 simple 1;edited 1;version 2;0 stale 2;1 retrieved 1 1 c8;0 double 2;0 retrieved 1 2 64;",
+    )
 }
 
 fn single_bytes(rt: &(impl Abort + AllocGlobal), world: &mut World<Plain>) -> Result<(), Fail> {
@@ -251,7 +293,7 @@ fn two_parts(rt: &(impl Abort + AllocGlobal), world: &mut World<Plain>) -> Resul
     exchange(world, 0)?;
     assert_eq!(rt;
         reported(rt, world)?.as_str(),
-        "0 welcomed 1;edited 3;version 2;0 stale 2;0 call refused;0 simple 2;edited 5;version 3;edited 7;version 4;0 stale 4;0 simple 4;0 retrieved 7 4 33;"
+        "0 welcomed 1;edited 3;version 2;0 stale 2;0 NotReady;0 simple 2;edited 5;version 3;edited 7;version 4;0 stale 4;0 simple 4;0 retrieved 7 4 33;"
     );
     Ok(())
 }
@@ -287,7 +329,7 @@ fn refusals(rt: &(impl Abort + AllocGlobal), world: &mut World<Plain>) -> Result
     sync(world, 1, Scheme::Double, 1)?;
     assert_eq!(rt;
         reported(rt, world)?.as_str(),
-        "not published;edit 2 refused;edit 0 refused;1 call refused;1 welcomed 1;1 double 1;"
+        "publish NothingToPublish;edit 2 BadIndex;edit 0 BadLength;1 NotReady;1 welcomed 1;1 double 1;"
     );
     assert_eq!(rt; steps(world), 10);
     Ok(())

@@ -72,10 +72,16 @@ fn opened_hand(rt: &impl AllocGlobal) -> Result<Hand, Fail> {
 }
 
 /// What a call gives is on its way, or the call is refused.
-fn call(hand: &mut Hand, called: Result<Vec<u8>, CallFault>) -> Result<(), Fail> {
+fn call(
+    rt: &impl AllocGlobal,
+    hand: &mut Hand,
+    called: Result<Vec<u8>, CallFault>,
+) -> Result<(), Fail> {
     match called {
         Ok(bytes) => hand.up.extend_from_slice(bytes.as_slice())?,
-        Err(_) => hand.text.push_str("0 call refused;")?,
+        Err(fault) => hand
+            .text
+            .push_str(&format!(in rt.alloc(); "0 {fault:?};")?)?,
     }
     Ok(())
 }
@@ -112,7 +118,9 @@ fn published(rt: &impl AllocGlobal, hand: &mut Hand) -> Result<(), Fail> {
         Ok(version) => hand
             .text
             .push_str(&format!(in rt.alloc(); "version {version};")?)?,
-        Err(_) => hand.text.push_str("not published;")?,
+        Err(fault) => hand
+            .text
+            .push_str(&format!(in rt.alloc(); "publish {fault:?};")?)?,
     }
     Ok(())
 }
@@ -120,7 +128,7 @@ fn published(rt: &impl AllocGlobal, hand: &mut Hand) -> Result<(), Fail> {
 fn edited(rt: &impl AllocGlobal, hand: &mut Hand, index: u32, byte: u8) -> Result<(), Fail> {
     let line = match hand.server.edit(index as usize, &[byte]) {
         Ok(()) => format!(in rt.alloc(); "edited {index};")?,
-        Err(_) => format!(in rt.alloc(); "edit {index} refused;")?,
+        Err(fault) => format!(in rt.alloc(); "edit {index} {fault:?};")?,
     };
     hand.text.push_str(&line)?;
     Ok(())
@@ -130,15 +138,15 @@ fn move_hand(rt: &impl AllocGlobal, hand: &mut Hand, one: Move) -> Result<(), Fa
     match one {
         Move::Hello => {
             let called = hand.client.hello([0; 32]);
-            call(hand, called)
+            call(rt, hand, called)
         }
         Move::Sync => {
             let called = hand.client.sync(Scheme::Simple);
-            call(hand, called)
+            call(rt, hand, called)
         }
         Move::Ask(index) => {
             let called = hand.client.ask(index);
-            call(hand, called)
+            call(rt, hand, called)
         }
         Move::Up(most) => up(rt, hand, most),
         Move::Down(most) => down(rt, hand, most),
@@ -195,7 +203,7 @@ fn a_world_is_its_cores_driven_by_hand(rt: HostRuntime) -> Result<(), Fail> {
     each_move(&rt, &mut world, &mut hand)?;
     assert_eq!(rt;
         hand.text.as_str(),
-        "0 call refused;0 call refused;0 welcomed 1;0 call refused;0 simple 1;0 call refused;0 call refused;not published;edited 1;edit 2 refused;version 2;0 stale 2;0 call refused;0 simple 2;0 retrieved 1 2 64;"
+        "0 NotReady;0 NotReady;0 welcomed 1;0 AlreadyWelcome;0 simple 1;0 BadIndex;0 Busy;publish NothingToPublish;edited 1;edit 2 BadIndex;version 2;0 stale 2;0 NotReady;0 simple 2;0 retrieved 1 2 64;"
     );
     Ok(())
 }

@@ -1,0 +1,347 @@
+-- What a client's own steps add to the log.
+use Rattle.std.proofs.Common.{◌≡◌, ℕ, ◌+◌, Bool, true, false, List, [], ◌∷◌, ◌++◌, Option, Some, None, refl, sym, ap, subst, ◌∙◌, append_assoc, arith, inl, inr}
+use Rattle.std.specs.Prelude.{◌==◌, cond, fold, option_to_list, is_some}
+use Rattle.std.specs.List.{AllByRecursion}
+use Rattle.std.proofs.lemmas.List.{append-nil}
+use Rattle.std.proofs.lemmas.List.Sums.{fold-append}
+use Rattle.std.proofs.lemmas.Bool.{eq-eqb}
+use Rattle.pir_schemes.specs.declared.scheme.Scheme.{Scheme}
+use Rattle.pir_schemes.specs.Schemes.{scheme_byte}
+use Rattle.pir_schemes.specs.Laws.{RetrievalGivesTheRecord}
+use Rattle.frame_codec.specs.declared.frame.Frame.{Frame}
+use Rattle.frame_codec.specs.declared.frame.Frame.TheVariants as frame
+use Rattle.version_store.specs.Histories.{History, current_version}
+use Rattle.server_core.specs.declared.standing.Standing.{Standing}
+use Rattle.server_core.specs.Serving.{Setting, is_closed}
+use Rattle.client_core.specs.declared.state.ClientState.{ClientState}
+use Rattle.client_core.specs.declared.state.Call.{Call}
+use Rattle.client_core.specs.declared.state.Call.TheVariants.{Idle, Hello, Sync, Ask, Edit, Publish}
+use Rattle.client_core.specs.declared.state.Event.{Event}
+use Rattle.client_core.specs.declared.state.Reaction.{Reaction}
+use Rattle.client_core.specs.declared.state.Reaction.TheVariants.{Asks, Reports, Fails}
+use Rattle.client_core.specs.States.{known_version, scheme_held}
+use Rattle.client_core.specs.Calls.{Want, state_after_call, call_frame}
+use Rattle.client_core.specs.Calls.{Hello as want_hello, Sync as want_sync, Ask as want_ask}
+use Rattle.client_core.specs.Replies.{reaction_to_reply}
+use Rattle.client_core.specs.Feeding.{takes_all, sends_of, fault_of}
+use Rattle.pir_world.specs.Runs.{Wire, Link, Retrieval, Entry, Called, Sent, Served, Plain, Turn, arrived, beyond, sent, serves, served_or, turn_of, link_called, link_served, link_reported, reports, reacts, reported_by, reader_key}
+use Rattle.pir_world.specs.Earlier.{IsSentLast, IsServedLast, is_ask, asks_of, hint_after, hint_told, IsAsked, IsEndOfAsk, HasEarlier}
+use Rattle.pir_world.specs.Versions.{name_of, seed_of}
+use Rattle.pir_world.specs.Invariants.{GoodHistory, AskIs, IsReply, InFlight, Phase, LinkInv, IsFrom, LogInv, EachAfter}
+use Rattle.pir_world.proofs.Wires.{none_arrives, one_arrives, Split, IsFew, split_few}
+use Rattle.pir_world.proofs.Serves.{ask_words}
+use Rattle.pir_world.proofs.Takes.{ClientInv, IsTaken, IsNoAsk, taken}
+use Rattle.pir_world.proofs.Calls.{few_frames}
+use Rattle.pir_world.proofs.Logs.{no_asks, same_number, hint_more, log_same}
+
+one_alike : {X : Type 0} (x y : X) → ◌≡◌ {A = List X} (x ∷ []) (y ∷ []) → x ≡ y
+one_alike x y e = cc
+
+one_more : {X : Type 0} (xs : List X) (x : X) → xs ++ x ∷ [] ≡ [] → ⊥
+one_more [] x e = cc
+one_more (y ∷ ys) x e = cc
+
+none_one : {X : Type 0} (xs : List X) (x : X) → xs ≡ [] → xs ≡ x ∷ [] → ⊥
+none_one {X = X} xs x a b = let e : ◌≡◌ {A = List X} [] (x ∷ []) = sym a ∙ b in cc
+
+-- what a step of client k leaves: what is said of it, and what came before each entry
+pub record Logged (x : Setting) (seeds : List (List ℕ)) (h : History) (k : ℕ) (l : Link) (log es : List Entry) : Type 0 where
+  pub kept : LogInv x h (seed_of seeds k) k l (log ++ es)
+  pub earlier : EachAfter (HasEarlier x seeds h) log es
+
+-- ---- which way a frame is on
+
+flight_up : (x : Setting) (h : History) (st : Standing) (seed : List ℕ) (c : ClientState) (call : Call) (up down : List Frame) (f : Frame) → up ≡ f ∷ []
+    → InFlight x h st seed c call up down → down ≡ []
+flight_up x h st seed c call up down f e (inl p) = p.1
+flight_up x h st seed c call up down f e (inr p) = absurd (none_one up f p.0 e)
+
+up_alone : (x : Setting) (h : History) (st : Standing) (seed : List ℕ) (c : ClientState) (call : Call) (up down : List Frame) (f : Frame) → up ≡ f ∷ []
+    → Phase x h st seed c call up down → down ≡ []
+up_alone x h st seed c Idle up down f e p = p.1
+up_alone x h st seed c (Hello key) up down f e p = flight_up x h st seed c (Hello key) up down f e p
+up_alone x h st seed c (Sync scheme v q) up down f e p = flight_up x h st seed c (Sync scheme v q) up down f e p
+up_alone x h st seed c (Ask j z v m) up down f e p = flight_up x h st seed c (Ask j z v m) up down f e p
+up_alone x h st seed c (Edit j bytes) up down f e p = absurd p
+up_alone x h st seed c Publish up down f e p = absurd p
+
+-- a reply is on its way, and nothing else
+abbrev IsComing : Setting → History → Standing → List ℕ → Call → List Frame → Frame → Type 0
+IsComing x h st seed call up r = (up ≡ []) × IsReply x h st seed call r
+
+flight_down : (x : Setting) (h : History) (st : Standing) (seed : List ℕ) (c : ClientState) (call : Call) (up down : List Frame) (r : Frame) → down ≡ r ∷ []
+    → InFlight x h st seed c call up down → IsComing x h st seed call up r
+flight_down x h st seed c call up down r e (inl p) = absurd (none_one down r p.1 e)
+flight_down x h st seed c call up down r e (inr p) = (p.0, subst (λ (y : Frame). IsReply x h st seed call y) (one_alike p.1.0 r (sym p.1.1 ∙ e)) p.1.2)
+
+down_alone : (x : Setting) (h : History) (st : Standing) (seed : List ℕ) (c : ClientState) (call : Call) (up down : List Frame) (r : Frame) → down ≡ r ∷ []
+    → Phase x h st seed c call up down → IsComing x h st seed call up r
+down_alone x h st seed c Idle up down r e p = absurd (none_one down r p.1 e)
+down_alone x h st seed c (Hello key) up down r e p = flight_down x h st seed c (Hello key) up down r e p
+down_alone x h st seed c (Sync scheme v q) up down r e p = flight_down x h st seed c (Sync scheme v q) up down r e p
+down_alone x h st seed c (Ask j z v m) up down r e p = flight_down x h st seed c (Ask j z v m) up down r e p
+down_alone x h st seed c (Edit j bytes) up down r e p = absurd p
+down_alone x h st seed c Publish up down r e p = absurd p
+
+one_reply : (reply : Option Frame) (r : Frame) → option_to_list reply ≡ r ∷ [] → reply ≡ Some r
+one_reply None r e = absurd cc
+one_reply (Some y) r e = ap (λ (z : Frame). Some z) (one_alike y r e)
+
+no_ask_from : (x : Setting) (h : History) (seed : List ℕ) (k : ℕ) (call : Call) (f : Frame) (first : List Entry) → IsNoAsk call → IsFrom x h seed k call f first
+no_ask_from x h seed k Idle f first p = tt
+no_ask_from x h seed k (Hello key) f first p = tt
+no_ask_from x h seed k (Sync scheme v q) f first p = tt
+no_ask_from x h seed k (Ask j z v m) f first p = absurd p
+no_ask_from x h seed k (Edit j bytes) f first p = tt
+no_ask_from x h seed k Publish f first p = tt
+
+-- ---- the entries of a reaction
+
+reports_no_ask : (k : ℕ) (call : Call) (reply : Frame) (e : Event) → is_ask k (reports k call reply e) ≡ false
+reports_no_ask k Idle reply e = refl
+reports_no_ask k (Hello key) reply e = refl
+reports_no_ask k (Sync scheme v q) reply e = refl
+reports_no_ask k (Ask j z v m) reply e = refl
+reports_no_ask k (Edit j bytes) reply e = refl
+reports_no_ask k Publish reply e = refl
+
+reacts_no_ask : (k : ℕ) (call : Call) (reply : Frame) (t : Reaction) → AllByRecursion (λ e. is_ask k e ≡ false) (reacts k call reply t)
+reacts_no_ask k call reply (Asks scheme version part) = (refl, tt)
+reacts_no_ask k call reply (Reports e) = (reports_no_ask k call reply e, tt)
+reacts_no_ask k call reply (Fails fault) = (refl, tt)
+
+reacts_sends : (k : ℕ) (call : Call) (reply : Frame) (t : Reaction) (f : Frame) → sends_of t ≡ f ∷ [] → reacts k call reply t ≡ Sent k f ∷ []
+reacts_sends k call reply (Asks scheme version part) f e = ap (λ (y : Frame). Sent k y ∷ []) (one_alike _ f e)
+reacts_sends k call reply (Reports event) f e = absurd cc
+reacts_sends k call reply (Fails fault) f e = absurd cc
+
+reacts_earlier : (x : Setting) (seeds : List (List ℕ)) (h : History) (k : ℕ) (log first : List Entry) (reply f : Frame) → IsServedLast k f reply first log
+    → (t : Reaction) (call : Call) → IsFrom x h (seed_of seeds k) k call f first → EachAfter (HasEarlier x seeds h) log (reacts k call reply t)
+reacts_earlier x seeds h k log first reply f s (Asks scheme version part) call from = (tt, tt)
+reacts_earlier x seeds h k log first reply f s (Fails fault) call from = (tt, tt)
+reacts_earlier x seeds h k log first reply f s (Reports event) (Ask j z v m) from = (record { query = f; first = first; asked = from; served = s }, tt)
+reacts_earlier x seeds h k log first reply f s (Reports event) Idle from = (tt, tt)
+reacts_earlier x seeds h k log first reply f s (Reports event) (Hello key) from = (tt, tt)
+reacts_earlier x seeds h k log first reply f s (Reports event) (Sync scheme v q) from = (tt, tt)
+reacts_earlier x seeds h k log first reply f s (Reports event) (Edit j bytes) from = (tt, tt)
+reacts_earlier x seeds h k log first reply f s (Reports event) Publish from = (tt, tt)
+
+module _ (x : Setting) (seeds : List (List ℕ)) (h : History) (k : ℕ) (l : Link) (log : List Entry) (g : LogInv x h (seed_of seeds k) k l log) where
+  -- ---- an accepted call
+
+  abbrev called_state : Want → ClientState
+  called_state w = state_after_call w l.client
+
+  abbrev called_frame : Want → Frame
+  called_frame w = call_frame (called_state w) (called_state w).call
+
+  abbrev called_entries : Want → List Entry
+  called_entries w = Called k w None ∷ Sent k (called_frame w) ∷ []
+
+  sent_called : (w : Want) → IsSentLast k (called_frame w) (log ++ Called k w None ∷ []) (log ++ called_entries w)
+  sent_called w = record { since = []; log_is = sym (append_assoc log (Called k w None ∷ []) (Sent k (called_frame w) ∷ [])); aside = tt }
+
+  -- its frame alone is on its way
+  called_up : (w : Want) (f : Frame)
+      → InFlight x h l.standing (seed_of seeds k) (called_state w) (called_state w).call (l.up.frames ++ called_frame w ∷ []) l.down.frames
+      → l.up.frames ++ called_frame w ∷ [] ≡ f ∷ [] → called_frame w ≡ f
+  called_up w f (inl p) e = one_alike (called_frame w) f (sym p.0 ∙ e)
+  called_up w f (inr p) e = absurd (none_one _ f p.0 e)
+
+  called_down : (w : Want) (r : Frame)
+      → InFlight x h l.standing (seed_of seeds k) (called_state w) (called_state w).call (l.up.frames ++ called_frame w ∷ []) l.down.frames
+      → l.down.frames ≡ r ∷ [] → ⊥
+  called_down w r (inl p) e = none_one l.down.frames r p.1 e
+  called_down w r (inr p) e = one_more l.up.frames (called_frame w) p.0
+
+  called_log : (w : Want) → InFlight x h l.standing (seed_of seeds k) (called_state w) (called_state w).call (l.up.frames ++ called_frame w ∷ []) l.down.frames
+      → (called_state w).number ≡ asks_of k (log ++ called_entries w) → name_of (called_state w).hint ≡ hint_told k (log ++ called_entries w)
+      → IsFrom x h (seed_of seeds k) k (called_state w).call (called_frame w) (log ++ Called k w None ∷ [])
+      → LogInv x h (seed_of seeds k) k (link_called w l) (log ++ called_entries w)
+  called_log w flight number hint from = record {
+    number = number;
+    hint = hint;
+    sent = λ f e. (
+      log ++ Called k w None ∷ [],
+      subst (λ (y : Frame). IsSentLast k y (log ++ Called k w None ∷ []) (log ++ called_entries w)) (called_up w f flight e) (sent_called w),
+      subst (λ (y : Frame). IsFrom x h (seed_of seeds k) k (called_state w).call y (log ++ Called k w None ∷ [])) (called_up w f flight e) from,
+    );
+    served = λ r e. absurd (called_down w r flight e);
+  }
+
+  pub logged_hello : LinkInv x h (seed_of seeds k) (link_called (want_hello reader_key) l)
+      → Logged x seeds h k (link_called (want_hello reader_key) l) log (called_entries (want_hello reader_key))
+  logged_hello n =
+      let es = called_entries (want_hello reader_key) in
+      let number = same_number k l.client.number log es g.number (refl, (refl, tt)) in
+      record {
+        kept = called_log (want_hello reader_key) n.phase number (g.hint ∙ sym (hint_more k log es)) tt;
+        earlier = (tt, (tt, tt));
+      }
+
+  pub logged_sync : (s : Scheme) → LinkInv x h (seed_of seeds k) (link_called (want_sync s) l)
+      → Logged x seeds h k (link_called (want_sync s) l) log (called_entries (want_sync s))
+  logged_sync s n =
+      let es = called_entries (want_sync s) in
+      let dropped : fold (hint_after k) (hint_told k log) es ≡ None = rw (eq-eqb k k refl) refl in
+      record {
+        kept = called_log (want_sync s) n.phase (same_number k l.client.number log es g.number (refl, (refl, tt))) (sym (hint_more k log es ∙ dropped)) tt;
+        earlier = (tt, (tt, tt));
+      }
+
+  abbrev retrieval : ℕ → Retrieval
+  retrieval j = record { index = j; scheme = scheme_held l.client.hint; version = known_version l.client.known; number = l.client.number }
+
+  asked : (j : ℕ) → LinkInv x h (seed_of seeds k) (link_called (want_ask j) l)
+      → IsAsked x h (seed_of seeds k) k (retrieval j) (called_frame (want_ask j)) (log ++ Called k (want_ask j) None ∷ [])
+  asked j n =
+      let s = scheme_held l.client.hint in
+      let v = known_version l.client.known in
+      let w = ask_words x seeds k h (seed_of seeds k) l.standing (called_state (want_ask j)) j s v l.client.number n.seed_is n.known n.hint n.call in
+      let named : Some (n.call.hint.scheme, n.call.hint.version) ≡ Some (s, v) = rw (n.call.scheme_is, n.call.version_is) refl in
+      record {
+        before = log;
+        log_is = refl;
+        number_is = g.number;
+        hint_is = sym g.hint ∙ ap name_of n.call.hint_is ∙ named;
+        records = w.0;
+        version_is = w.1;
+        query_is = ap (λ (ws : List ℕ). frame.Query (scheme_byte s) v ws) w.2;
+      }
+
+  pub logged_ask : (j : ℕ) → LinkInv x h (seed_of seeds k) (link_called (want_ask j) l)
+      → Logged x seeds h k (link_called (want_ask j) l) log (called_entries (want_ask j))
+  logged_ask j n =
+      let es = called_entries (want_ask j) in
+      let spent : asks_of k (log ++ es) ≡ asks_of k log + 1 + 0 = fold-append (λ a e. a + cond (is_ask k e) 1 0) 0 log es ∙ rw (eq-eqb k k refl) refl in
+      let a = asked j n in
+      record {
+        kept = called_log (want_ask j) n.phase (omega (arith, spent, g.number)) (g.hint ∙ sym (hint_more k log es)) a;
+        earlier = (tt, ((_, a), tt));
+      }
+
+  -- ---- a delivery to the server
+
+  served_entry : (f : Frame) (reply : Option Frame) (st : Standing) (b d : Wire) → l.up.frames ≡ f ∷ [] → b.frames ≡ [] → d.frames ≡ option_to_list reply
+      → Logged x seeds h k (record { client = l.client; standing = st; up = b; down = d }) log (Served k f (current_version h) reply ∷ [])
+  served_entry f reply st b d at u e =
+      let s = g.sent f at in
+      record {
+        kept = record {
+          number = same_number k l.client.number log (Served k f (current_version h) reply ∷ []) g.number (refl, tt);
+          hint = g.hint ∙ sym (hint_more k log (Served k f (current_version h) reply ∷ []));
+          sent = λ f2 e2. absurd (none_one b.frames f2 u e2);
+          served = λ r e2. (
+            f,
+            s.0,
+            record {
+              now = current_version h;
+              before = log;
+              since = [];
+              log_is = ap (λ (o : Option Frame). log ++ Served k f (current_version h) o ∷ []) (one_reply reply r (sym e ∙ e2));
+              sent = s.1;
+              aside = tt;
+            },
+            s.2,
+          );
+        };
+        earlier = ((s.0, s.1), tt);
+      }
+
+  abbrev served_link : Bool → List Frame → Wire → Link
+  served_link short fs b =
+      let t = serves x short k h l.standing fs in
+      record { client = l.client; standing = t.standing; up = b; down = sent l.down t.replies }
+
+  served_one : (short : Bool) (f : Frame) (fs : List Frame) (b : Wire) → fs ≡ f ∷ [] → is_closed l.standing ≡ false → l.up.frames ≡ f ∷ []
+      → l.down.frames ≡ [] → b.frames ≡ []
+      → Logged x seeds h k (served_link short fs b) log (serves x short k h l.standing fs).log
+  served_one short f fs b e o at d u =
+      rw (e, o) (served_entry f _ _ b _ at u (ap (λ (z : List Frame). z ++ option_to_list (served_or short x h l.standing f).reply) d))
+
+  -- nothing arrives
+  log_nothing : (m : Link) → m.client ≡ l.client → m.up.frames ≡ l.up.frames → m.down.frames ≡ l.down.frames → Logged x seeds h k m log []
+  log_nothing m c u d = record {
+    kept = subst (λ (es : List Entry). LogInv x h (seed_of seeds k) k m es) (sym (append-nil log)) (log_same x h (seed_of seeds k) k l m log c u d g);
+    earlier = tt;
+  }
+
+  served_none : (short : Bool) (fs : List Frame) (b : Wire) → fs ≡ [] → b.frames ≡ l.up.frames
+      → Logged x seeds h k (served_link short fs b) log (serves x short k h l.standing fs).log
+  served_none short fs b e u = rw e (log_nothing _ refl u (append-nil l.down.frames))
+
+  pub logged_served : (short : Bool) (most : ℕ) → LinkInv x h (seed_of seeds k) l
+      → Logged x seeds h k (link_served x short k most h l) log (turn_of x short k most h l).log
+  logged_served short most i =
+      let few = (few_frames x h l.standing (seed_of seeds k) l.client l.client.call l.up.frames l.down.frames i.phase).0 in
+      elim few [
+        | inl e ↦ let a = none_arrives l.up most e in served_none short (arrived l.up most) (beyond l.up most) a.0 (a.1 ∙ sym e)
+        | inr p ↦ elim (one_arrives l.up most p.0 p.1) [
+          | inl a ↦ served_none short (arrived l.up most) (beyond l.up most) a.0 (a.1 ∙ sym p.1)
+          | inr a ↦ served_one short p.0 (arrived l.up most) (beyond l.up most) a.0 i.unclosed p.1
+              (up_alone x h l.standing (seed_of seeds k) l.client l.client.call l.up.frames l.down.frames p.0 p.1 i.phase) a.1
+        ]
+      ]
+
+  -- ---- a delivery to the client
+
+  replied : (r : Frame) (m : Link) (es : List Entry) → m.client ≡ (reaction_to_reply l.client r).state
+      → m.up.frames ≡ sends_of (reaction_to_reply l.client r).reaction → m.down.frames ≡ [] → l.down.frames ≡ r ∷ []
+      → IsTaken x seeds k h l.standing l.client l.client.call r (reaction_to_reply l.client r)
+      → es ≡ reacts k l.client.call r (reaction_to_reply l.client r).reaction → Logged x seeds h k m log es
+  replied r m es c u d at t is =
+      let reaction = (reaction_to_reply l.client r).reaction in
+      let s = g.served r at in
+      record {
+        kept = record {
+          number = same_number k m.client.number log es (ap (λ (y : ClientState). y.number) c ∙ t.number ∙ g.number)
+              (subst (λ (z : List Entry). AllByRecursion (λ e. is_ask k e ≡ false) z) (sym is) (reacts_no_ask k l.client.call r reaction));
+          hint =
+              ap (λ (y : ClientState). name_of y.hint) c ∙ t.told
+              ∙ ap (λ (n : Option (Scheme × ℕ)). fold (hint_after k) n (reacts k l.client.call r reaction)) g.hint
+              ∙ ap (λ (z : List Entry). fold (hint_after k) (hint_told k log) z) (sym is)
+              ∙ sym (hint_more k log es);
+          sent = λ f e. (
+            log,
+            record { since = []; log_is = ap (λ (z : List Entry). log ++ z) (is ∙ reacts_sends k l.client.call r reaction f (sym u ∙ e)); aside = tt },
+            subst (λ (y : ClientState). IsFrom x h (seed_of seeds k) k y.call f log) (sym c) (no_ask_from x h (seed_of seeds k) k _ f log t.no_ask),
+          );
+          served = λ r2 e. absurd (none_one m.down.frames r2 d e);
+        };
+        earlier = subst (λ (z : List Entry). EachAfter (HasEarlier x seeds h) log z) (sym is)
+            (reacts_earlier x seeds h k log s.1 r s.0 s.2 reaction l.client.call s.3);
+      }
+
+  -- what is reported and sent at one reply without a fault
+  reported_is : (r : Frame) → fault_of (reaction_to_reply l.client r).reaction ≡ None
+      → reported_by k l.client (r ∷ []) ≡ reacts k l.client.call r (reaction_to_reply l.client r).reaction
+  reported_is r e = ap (λ (b : Bool). reacts k l.client.call r (reaction_to_reply l.client r).reaction ++ cond b [] []) (ap is_some e) ∙ append-nil _
+
+  abbrev reported_link : List Frame → Wire → Link
+  reported_link fs b = record { client = (takes_all l.client fs).state; standing = l.standing; up = sent l.up (takes_all l.client fs).sends; down = b }
+
+  reported_one : (r : Frame) (fs : List Frame) (b : Wire) → fs ≡ r ∷ [] → b.frames ≡ [] → l.up.frames ≡ [] → l.down.frames ≡ r ∷ []
+      → IsTaken x seeds k h l.standing l.client l.client.call r (reaction_to_reply l.client r)
+      → Logged x seeds h k (reported_link fs b) log (reported_by k l.client fs)
+  reported_one r fs b e d u at t =
+      rw e (replied r (reported_link (r ∷ []) b) (reported_by k l.client (r ∷ [])) refl
+      (ap (λ (z : List Frame). z ++ sends_of (reaction_to_reply l.client r).reaction) u) d at t (reported_is r t.no_fault))
+
+  reported_none : (fs : List Frame) (b : Wire) → fs ≡ [] → b.frames ≡ l.down.frames → Logged x seeds h k (reported_link fs b) log (reported_by k l.client fs)
+  reported_none fs b e d = rw e (log_nothing (reported_link [] b) refl (append-nil l.up.frames) d)
+
+  pub logged_reported : RetrievalGivesTheRecord → GoodHistory x h → (most : ℕ) → LinkInv x h (seed_of seeds k) l
+      → Logged x seeds h k (link_reported most l) log (reported_by k l.client (arrived l.down most))
+  logged_reported law good most i =
+      let few = (few_frames x h l.standing (seed_of seeds k) l.client l.client.call l.up.frames l.down.frames i.phase).1 in
+      let inv : ClientInv x h (seed_of seeds k) l.standing l.client =
+      record { seed_is = i.seed_is; alive = i.alive; known = i.known; hint = i.hint; call = i.call } in
+      elim few [
+        | inl e ↦ let a = none_arrives l.down most e in reported_none (arrived l.down most) (beyond l.down most) a.0 (a.1 ∙ sym e)
+        | inr p ↦ elim (one_arrives l.down most p.0 p.1) [
+          | inl a ↦ reported_none (arrived l.down most) (beyond l.down most) a.0 (a.1 ∙ sym p.1)
+          | inr a ↦
+              let comes = down_alone x h l.standing (seed_of seeds k) l.client l.client.call l.up.frames l.down.frames p.0 p.1 i.phase in
+              reported_one p.0 (arrived l.down most) (beyond l.down most) a.0 a.1 comes.0 p.1 (taken law x seeds k h l.standing l.client good inv p.0 comes.1)
+        ]
+      ]

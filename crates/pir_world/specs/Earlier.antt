@@ -1,0 +1,88 @@
+-- What a log says of the entries before an entry.
+use Rattle.std.specs.Prelude.{◌≡◌, ◌≢◌, ℕ, List, [], ◌∷◌, ◌++◌, Bool, false, Option, Some, None, ◌==◌, cond, fold, count_by}
+use Rattle.std.specs.List.{AllByRecursion}
+use Rattle.pir_schemes.specs.declared.scheme.Scheme.{Scheme}
+use Rattle.frame_codec.specs.declared.frame.Frame.{Frame}
+use Rattle.client_core.specs.declared.state.Event.TheVariants.{Synced}
+use Rattle.client_core.specs.Calls.{Ask, Sync}
+use Rattle.pir_world.specs.declared.steps.Outcome.TheVariants.{Reported, Failed}
+use Rattle.pir_world.specs.Runs.{Entry, Called, Sent, Served, Ended, Plain, Retrieval}
+use Rattle.pir_schemes.specs.Schemes.{scheme_byte}
+use Rattle.frame_codec.specs.declared.frame.Frame.TheVariants as frame
+use Rattle.version_store.specs.Histories.{History}
+use Rattle.server_core.specs.Serving.{Setting}
+use Rattle.pir_world.specs.Versions.{HasVersion, asked_words, seed_of}
+
+-- P is so of each entry, with those before it
+abbrev pub AllWithEarlier : (List Entry → Entry → Type 0) → List Entry → Type 0
+AllWithEarlier P log = (before after : List Entry) (e : Entry) → log ≡ before ++ e ∷ after → P before e
+
+-- an accepted ask of client k
+abbrev pub is_ask : ℕ → Entry → Bool
+is_ask k (Called j (Ask i) None) = j == k
+is_ask k _ = false
+
+-- how many asks of client k were accepted
+abbrev pub asks_of : ℕ → List Entry → ℕ
+asks_of k log = count_by (is_ask k) log
+
+-- what an entry says of the hint of client k, by its scheme and its version: an accepted sync drops it, and the sync's end names another
+abbrev pub hint_after : ℕ → Option (Scheme × ℕ) → Entry → Option (Scheme × ℕ)
+hint_after k hint (Called j (Sync scheme) None) = cond (j == k) None hint
+hint_after k hint (Plain (Reported j (Synced scheme version))) = cond (j == k) (Some (scheme, version)) hint
+hint_after k hint _ = hint
+
+-- the scheme and the version of the hint that client k holds, by the log
+abbrev pub hint_told : ℕ → List Entry → Option (Scheme × ℕ)
+hint_told k log = fold (hint_after k) None log
+
+-- an entry of another, or a call of client k that was refused
+abbrev pub IsAside : ℕ → Entry → Type 0
+IsAside k (Called j want None) = j ≢ k
+IsAside k (Called j want (Some fault)) = Unit {0}
+IsAside k (Sent j f) = j ≢ k
+IsAside k (Served j f now reply) = j ≢ k
+IsAside k (Ended j r reply event) = j ≢ k
+IsAside k (Plain (Reported j event)) = j ≢ k
+IsAside k (Plain (Failed j fault)) = j ≢ k
+IsAside k (Plain _) = Unit {0}
+
+-- after the first entries client k sent this frame, and nothing of it followed but refused calls
+pub record IsSentLast (k : ℕ) (f : Frame) (first log : List Entry) : Type 0 where
+  pub since : List Entry
+  pub log_is : log ≡ first ++ Sent k f ∷ since
+  pub aside : AllByRecursion (IsAside k) since
+
+-- then the frame was served with this reply, and again nothing followed but refused calls
+pub record IsServedLast (k : ℕ) (f reply : Frame) (first log : List Entry) : Type 0 where
+  pub now : ℕ
+  pub before : List Entry
+  pub since : List Entry
+  pub log_is : log ≡ before ++ Served k f now (Some reply) ∷ since
+  pub sent : IsSentLast k f first before
+  pub aside : AllByRecursion (IsAside k) since
+
+-- A retrieval was asked for last: its number is the count of the asks accepted before, its scheme and its version are those of the hint held then, and these are its query's words on the records of that version.
+pub record IsAsked (x : Setting) (h : History) (seed : List ℕ) (k : ℕ) (r : Retrieval) (query : Frame) (log : List Entry) : Type 0 where
+  pub before : List Entry
+  pub log_is : log ≡ before ++ Called k (Ask r.index) None ∷ []
+  pub number_is : r.number ≡ asks_of k before
+  pub hint_is : hint_told k before ≡ Some (r.scheme, r.version)
+  pub records : List (List ℕ)
+  pub version_is : HasVersion h r.version records
+  pub query_is : query ≡ frame.Query (scheme_byte r.scheme) r.version (asked_words x.plan records seed r)
+
+-- the ask of a retrieval that ended was accepted, then its query was sent, and then it was served with the reply
+pub record IsEndOfAsk (x : Setting) (h : History) (seed : List ℕ) (k : ℕ) (r : Retrieval) (reply : Frame) (log : List Entry) : Type 0 where
+  pub query : Frame
+  pub first : List Entry
+  pub asked : IsAsked x h seed k r query first
+  pub served : IsServedLast k query reply first log
+
+-- what came before an entry: each query sent is a retrieval's, each frame served was sent, and each retrieval that ended was asked for and served
+abbrev pub HasEarlier : Setting → List (List ℕ) → History → List Entry → Entry → Type 0
+HasEarlier x seeds h before (Sent k (frame.Query scheme version words)) =
+    (r : Retrieval) × IsAsked x h (seed_of seeds k) k r (frame.Query scheme version words) before
+HasEarlier x seeds h before (Served k f now reply) = (first : List Entry) × IsSentLast k f first before
+HasEarlier x seeds h before (Ended k r reply event) = IsEndOfAsk x h (seed_of seeds k) k r reply before
+HasEarlier x seeds h before e = Unit {0}
