@@ -5,3 +5,4 @@ pub mod Courses
 pub mod NumberLaws
 pub mod HintLaws
 pub mod EndingLaws
+pub mod ShapeLaws

@@ -4,6 +4,7 @@
 ghost use Rattle.client_core.specs.Endings.{FirstEventEndsTheCall, FeedingSpendsNoNumber};
 ghost use Rattle.client_core.specs.Laws.{NoNumberTwice, SyncedHintIsMadeOfParts,
     PartsOfAHintMakeIt};
+ghost use Rattle.client_core.specs.Shapes.{EqualShapes};
 
 /// The numbers of the queries that a client sends grow, whatever calls and replies come: no number is used
 /// twice, and none below the first.
@@ -30,4 +31,11 @@ pub fn first_event_ends_the_call()
 /// What a client is fed spends none of its numbers.
 pub fn feeding_spends_no_number()
     ensures { FeedingSpendsNoNumber }
+{}
+
+/// The frames that a client sends have the kinds and lengths that its calls without their indices, and the
+/// replies without their words, give. So no index changes the lengths or the order of its frames; and
+/// whether a call is refused doesn't depend on its index, where that is below the count known.
+pub fn shapes_hold_no_index()
+    ensures { EqualShapes }
 {}
