@@ -4,7 +4,8 @@ ghost use Rattle.std.specs.Prelude.{◌≡◌, List, false};
 ghost use Rattle.frame_codec.specs.declared.frame.Frame.{Frame};
 ghost use Rattle.version_store.specs.Histories.{History};
 ghost use Rattle.server_core.specs.declared.standing.Standing.{Standing};
-ghost use Rattle.server_core.specs.Laws.{PiecesDecide, PiecesAgree, SessionsNeverMeet};
+ghost use Rattle.server_core.specs.Laws.{PiecesDecide, PiecesAgree, SessionsNeverMeet,
+    FeedsAreAlike, RepliesHoldNoIndex};
 ghost use Rattle.server_core.specs.Courses.{course_of, lacks_memory};
 ghost use Rattle.server_core.specs.Serving.{Setting, ServesAll};
 
@@ -33,3 +34,18 @@ pub fn sessions_never_meet()
 {
     pieces_decide();
 }
+
+/// Where memory isn't refused, what a feed writes, and the session's standing and unfinished bytes after it, are
+/// decided by the piece, by that session's standing and unfinished bytes before it, by the history and by the
+/// setting. `ServerCore::feed` itself says that every other session stays.
+pub fn feeds_are_alike()
+    ensures { FeedsAreAlike }
+{
+    pieces_decide();
+}
+
+/// The kind, the version, the count and the length of the reply to a query are decided by the setting, the
+/// history, the standing, and the query's scheme, version and word count.
+pub fn replies_hold_no_index()
+    ensures { RepliesHoldNoIndex }
+{}
