@@ -6,3 +6,4 @@ pub mod NumberLaws
 pub mod HintLaws
 pub mod EndingLaws
 pub mod ShapeLaws
+pub mod HappeningLaws

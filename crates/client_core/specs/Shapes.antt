@@ -1,9 +1,9 @@
 -- The kinds and lengths of the frames that a client sends, as a function of what holds no index and no word.
-use Rattle.std.specs.Prelude.{◌≡◌, ◌<◌, ◌+◌, ◌*◌, ℕ, List, [], ◌∷◌, ◌++◌, length, map, Bool, true, not, ◌&&◌, Option, Some, None, ◌==◌, nat_lt, if◌then◌else◌}
-use Rattle.std.specs.List.{AllByRecursion}
+use Rattle.std.specs.Prelude.{◌≡◌, ◌≢◌, ◌⊎◌, ◌<◌, ◌+◌, ◌*◌, ℕ, List, [], ◌∷◌, ◌++◌, length, map, Bool, true, not, ◌&&◌, Option, Some, None, ◌==◌, nat_lt, if◌then◌else◌}
+use Rattle.std.specs.List.{flat_map, AllByRecursion}
 use Rattle.frame_codec.specs.declared.frame.Frame.{Frame}
 use Rattle.frame_codec.specs.declared.frame.Frame.TheVariants as frame
-use Rattle.frame_codec.specs.Frames.{kind_of, payload_of}
+use Rattle.frame_codec.specs.Frames.{kind_of, payload_of, encoding}
 use Rattle.digit_pack.specs.Layout.{Shape, shape}
 use Rattle.pir_schemes.specs.declared.scheme.Scheme.{Scheme}
 use Rattle.pir_schemes.specs.declared.scheme.Scheme.TheVariants.{Simple}
@@ -16,9 +16,13 @@ use Rattle.client_core.specs.declared.state.Hint.{Hint}
 use Rattle.client_core.specs.declared.state.Call.{Call}
 use Rattle.client_core.specs.declared.state.Call.TheVariants as call
 use Rattle.client_core.specs.States.{is_layout, known_version, known_count}
-use Rattle.client_core.specs.Calls.{Want, Hello, Sync, Ask, Edit, Publish, state_after_call, call_frame, refusal}
+use Rattle.client_core.specs.declared.state.CallFault.{CallFault}
+use Rattle.client_core.specs.declared.state.ClientFault.{ClientFault}
+use Rattle.client_core.specs.declared.state.ClientFault.TheVariants.{Memory}
+use Rattle.client_core.specs.declared.state.Event.{Event}
+use Rattle.client_core.specs.Calls.{Want, Hello, Sync, Ask, Edit, Publish, state_after_call, call_frame, refusal, Accepts, Refuses}
 use Rattle.client_core.specs.Replies.{reaction_to_reply, is_welcome, with_count}
-use Rattle.client_core.specs.Feeding.{sends_of}
+use Rattle.client_core.specs.Feeding.{Client, sends_of, takes_all, FeedsClient}
 use Rattle.client_core.specs.Laws.{Happening, Accepted, TurnedDown, Lacking, Taken, Failing, after}
 
 -- ---- the frames that a client sends, and their shapes
@@ -275,11 +279,6 @@ shapes x (h ∷ hs) = shapes_at x h ++ shapes (outline_after x h) hs
 
 -- ---- the laws
 
--- the client's state after so much
-abbrev pub after_all : ClientState → List Happening → ClientState
-after_all c [] = c
-after_all c (h ∷ hs) = after_all (after c h) hs
-
 -- a key has 32 bytes
 abbrev pub HasWholeKey : Want → Type 0
 HasWholeKey (Hello key) = length key ≡ 32
@@ -305,3 +304,35 @@ pub record EqualShapes : Type 0 where
       outline c ≡ outline d → map blank hs ≡ map blank gs → map shape_of (frames c hs) ≡ map shape_of (frames d gs)
   pub same_refusal : (c d : ClientState) (want other : Want) → IndexIsBelow want c → IndexIsBelow other d →
       outline c ≡ outline d → blank_call want ≡ blank_call other → refusal want c ≡ refusal other d
+
+-- ---- what a client does is happenings
+
+-- the client's state after so much
+abbrev pub after_all : ClientState → List Happening → ClientState
+after_all c [] = c
+after_all c (h ∷ hs) = after_all (after c h) hs
+
+-- a reply, or a failure
+abbrev pub IsFed : Happening → Type 0
+IsFed (Taken reply) = Unit {0}
+IsFed Failing = Unit {0}
+IsFed _ = ⊥
+
+-- such happenings led from one state to another, and their frames were written
+pub record Happened (old : ClientState) (out : List ℕ) (new : ClientState) : Type 0 where
+  pub happenings : List Happening
+  pub fed : AllByRecursion IsFed happenings
+  pub written : out ≡ flat_map encoding (frames old happenings)
+  pub state : new ≡ after_all old happenings
+
+-- All that a client writes are the frames of happenings: of an accepted call; of none where a call is refused; and of
+-- the replies that it is fed, taken one after another, up to its failure, where no memory is refused.
+pub record ClientsHappen : Type 0 where
+  pub accepted : (old new : ClientState) (want : Want) (bytes : List ℕ) → Accepts old want new bytes →
+      (bytes ≡ flat_map encoding (frames_at old (Accepted want))) × (new ≡ after old (Accepted want))
+  pub refused : (old new : ClientState) (want : Want) (fault : CallFault) → Refuses old want fault new →
+      (new ≡ after old (TurnedDown want)) ⊎ (new ≡ after old (Lacking want))
+  pub fed : (old new : Client) (piece out : List ℕ) (events : List Event) (fault : Option ClientFault) →
+      FeedsClient old piece out events fault new → fault ≢ Some Memory → Happened old.state out new.state
+  pub replies : (c : ClientState) (fs : List Frame) → (takes_all c fs).fault ≡ None →
+      ((takes_all c fs).sends ≡ frames c (map Taken fs)) × ((takes_all c fs).state ≡ after_all c (map Taken fs))

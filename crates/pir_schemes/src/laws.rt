@@ -1,9 +1,14 @@
 //! Laws of both schemes, over the definitions alone. A caller that calls one of these functions has its law at
 //! hand in its proof; the call costs nothing.
 
-ghost use Rattle.pir_schemes.specs.Laws.{HintsHaveTheirSizes, QueriesHaveTheirLength,
-    AnswersHaveTheirLength, RetrievalGivesTheRecord, CertainShapeIsQuiet,
-    QueriesDifferAtTheirPlaces};
+ghost use Rattle.pir_schemes.specs.Laws.{
+  HintsHaveTheirSizes,
+  QueriesHaveTheirLength,
+  AnswersHaveTheirLength,
+  RetrievalGivesTheRecord,
+  CertainShapeIsQuiet,
+  QueriesDifferAtTheirPlaces,
+};
 
 /// A hint made from scratch has the rows and columns that its scheme wants, and a word for each place.
 pub fn hints_have_their_sizes()

@@ -4,8 +4,13 @@ ghost use Rattle.std.specs.Prelude.{◌≡◌, List, false};
 ghost use Rattle.frame_codec.specs.declared.frame.Frame.{Frame};
 ghost use Rattle.version_store.specs.Histories.{History};
 ghost use Rattle.server_core.specs.declared.standing.Standing.{Standing};
-ghost use Rattle.server_core.specs.Laws.{PiecesDecide, PiecesAgree, SessionsNeverMeet,
-    FeedsAreAlike, RepliesHoldNoIndex};
+ghost use Rattle.server_core.specs.Laws.{
+  PiecesDecide,
+  PiecesAgree,
+  SessionsNeverMeet,
+  FeedsAreAlike,
+  RepliesHoldNoIndex,
+};
 ghost use Rattle.server_core.specs.Courses.{course_of, lacks_memory};
 ghost use Rattle.server_core.specs.Serving.{Setting, ServesAll};
 
@@ -15,7 +20,7 @@ pub fn frames_decide()
     ensures { (x : Setting) (h : History) (st : Standing) (frames : List Frame) (h2 : History)
         (st2 : Standing) (replies : List Frame) →
         ServesAll x h st frames h2 st2 replies → lacks_memory replies ≡ false →
-            record { history = h2; standing = st2; replies = replies } ≡ course_of x h st frames }
+        record { history = h2; standing = st2; replies = replies } ≡ course_of x h st frames }
 {}
 
 /// What a feed leads to is decided by the setting, the history, this session and the piece, where memory isn't refused: the frames that the
