@@ -5,3 +5,5 @@ pub mod Courses
 pub mod NumberLaws
 pub mod HintLaws
 pub mod EndingLaws
+pub mod ShapeLaws
+pub mod HappeningLaws

@@ -12,7 +12,7 @@ use Rattle.client_core.specs.declared.state.Call.{Call}
 use Rattle.client_core.specs.declared.state.Call.TheVariants as call
 use Rattle.client_core.specs.Calls.{Want, Hello, Sync, Ask, Edit, Publish}
 use Rattle.client_core.specs.Replies.{Taken, reaction_to_reply, takes_welcome, more_parts, takes_asked_part, takes_part, answered, takes_answer, staled, takes_stale, takes_done, takes_refused}
-use Rattle.client_core.specs.Laws.{Happening, Accepted, Lacking, Taken as Reply, Failing, after, numbers, NoNumberTwice}
+use Rattle.client_core.specs.Laws.{Happening, Accepted, TurnedDown, Lacking, Taken as Reply, Failing, after, numbers, NoNumberTwice}
 
 -- ---- no reply changes the number
 
@@ -128,6 +128,7 @@ all_above c (Accepted (Ask i) ∷ hs) =
     record { from = from_more c.number (numbers (after c (Accepted (Ask i))) hs) a; grow = grow_more c.number (numbers (after c (Accepted (Ask i))) hs) a }
 all_above c (Accepted (Edit i bytes) ∷ hs) = all_above (after c (Accepted (Edit i bytes))) hs
 all_above c (Accepted Publish ∷ hs) = all_above (after c (Accepted Publish)) hs
+all_above c (TurnedDown want ∷ hs) = all_above c hs
 all_above c (Lacking want ∷ hs) = lower c.number (after c (Lacking want)).number (numbers (after c (Lacking want)) hs) (calmly c want) (all_above (after c (Lacking want)) hs)
 all_above c (Reply f ∷ hs) = lower c.number (after c (Reply f)).number (numbers (after c (Reply f)) hs) (omega (arith, takes_number c f)) (all_above (after c (Reply f)) hs)
 all_above c (Failing ∷ hs) = all_above (after c Failing) hs

@@ -16,9 +16,10 @@ use Rattle.client_core.specs.Calls.{Want, Hello, Sync as sync, Ask, Edit, Publis
 use Rattle.client_core.specs.Replies.{reaction_to_reply, hint_made}
 use Rattle.client_core.specs.Feeding.{takes_all}
 
--- what happens to a client: a call is accepted, a call is refused memory, a reply is taken, the client fails
+-- what happens to a client: a call is accepted, a call is refused by a check, a call is refused memory, a reply is taken, the client fails
 pub data Happening : Type 0 where
   Accepted : (want : Want) → Happening
+  TurnedDown : (want : Want) → Happening
   Lacking : (want : Want) → Happening
   Taken : (reply : Frame) → Happening
   Failing : Happening
@@ -26,6 +27,7 @@ pub data Happening : Type 0 where
 -- the state after it
 abbrev pub after : ClientState → Happening → ClientState
 after c (Accepted want) = state_after_call want c
+after c (TurnedDown want) = c
 after c (Lacking want) = spent want c
 after c (Taken reply) = (reaction_to_reply c reply).state
 after c Failing = record c { failed = true }

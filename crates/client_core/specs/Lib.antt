@@ -4,3 +4,4 @@ pub mod Replies
 pub mod Feeding
 pub mod Laws
 pub mod Endings
+pub mod Shapes

@@ -2,8 +2,12 @@
 //! hand in its proof; the call costs nothing.
 
 ghost use Rattle.client_core.specs.Endings.{FirstEventEndsTheCall, FeedingSpendsNoNumber};
-ghost use Rattle.client_core.specs.Laws.{NoNumberTwice, SyncedHintIsMadeOfParts,
-    PartsOfAHintMakeIt};
+ghost use Rattle.client_core.specs.Laws.{
+  NoNumberTwice,
+  SyncedHintIsMadeOfParts,
+  PartsOfAHintMakeIt,
+};
+ghost use Rattle.client_core.specs.Shapes.{EqualShapes, ClientsHappen};
 
 /// The numbers of the queries that a client sends grow, whatever calls and replies come: no number is used
 /// twice, and none below the first.
@@ -30,4 +34,17 @@ pub fn first_event_ends_the_call()
 /// What a client is fed spends none of its numbers.
 pub fn feeding_spends_no_number()
     ensures { FeedingSpendsNoNumber }
+{}
+
+/// The frames that a client sends have the kinds and lengths that its calls without their indices, and the
+/// replies without their words, give. So no index changes the lengths or the order of its frames; and
+/// whether a call is refused doesn't depend on its index, where that is below the count known.
+pub fn shapes_hold_no_index()
+    ensures { EqualShapes }
+{}
+
+/// All that a client writes are the frames of what happens to it: of accepted calls, and of the replies that it
+/// is fed, one after another. So the law of equal shapes speaks of each byte that calls and `feed` give.
+pub fn clients_happen()
+    ensures { ClientsHappen }
 {}

@@ -1,3 +1,4 @@
 pub mod Lengths
 pub mod Quiet
 pub mod Sizes
+pub mod Places

@@ -1,12 +1,12 @@
 -- Laws of both schemes.
-use Rattle.std.specs.Prelude.{◌≡◌, ◌≢◌, ◌<◌, ◌⊎◌, ℕ, List, length, Some, None, Result, MatchResult}
+use Rattle.std.specs.Prelude.{◌≡◌, ◌≢◌, ◌<◌, ◌⊎◌, ℕ, ◌+◌, ◌-◌, ◌/◌, ◌%◌, ◌^◌, ◌==◌, nat_lt, List, length, slice_index, Bool, true, false, Some, None, Result, MatchResult, if◌then◌else◌}
 use Rattle.std.specs.declared.vec.Vec.{Vec}
 use Rattle.std.specs.declared.alloc.Global.{Global}
 use Rattle.simple_scheme.specs.declared.records.RecoverError.{RecoverError}
 use Rattle.simple_scheme.specs.declared.records.RecoverError.TheVariants.{BadLength, BadDigits, Memory}
 use Rattle.matrix_u32.specs.Matrix.{WordMatrix, IsWhole}
-use Rattle.noise_table.specs.Margin.{IsCertain}
-use Rattle.digit_pack.specs.Layout.{Shape, IsShape, IsRecord, digit_rows, digit_cols, record_at}
+use Rattle.noise_table.specs.Margin.{delta, IsCertain}
+use Rattle.digit_pack.specs.Layout.{Shape, IsShape, IsRecord, digit_rows, digit_cols, column_of, first_row, record_at}
 use Rattle.pir_schemes.specs.declared.scheme.Scheme.{Scheme}
 use Rattle.pir_schemes.specs.declared.scheme.Scheme.TheVariants.{Simple, Double}
 use Rattle.pir_schemes.specs.Plans.{Plan, shape_at, record_of}
@@ -72,3 +72,25 @@ abbrev pub CertainShapeIsQuiet : Type 0
 CertainShapeIsQuiet = (s : Scheme) (p : Plan) (records : List (List ℕ)) (seed : List ℕ) (number i : ℕ) →
     IsShape (shape_at p (length records)) → IsCertainOf s (shape_at p (length records)) →
     IsQuietOf s p records seed number i
+
+-- whether word k of a query for record i is at one of the record's places: its column; and in part d of a second
+-- layer, of as many words as there are rows, the row of its digit d
+abbrev pub is_place : Scheme → Shape → ℕ → ℕ → Bool
+is_place Simple l i k = k == column_of l i
+is_place Double l i k =
+    if nat_lt k (digit_cols l) then k == column_of l i
+    else (k - digit_cols l) % digit_rows l == first_row l i + (k - digit_cols l) / digit_rows l
+
+-- two queries of one seed and number, for records i and j: word k is the same in both where it is at a place of
+-- both records or of neither; at a place of record i alone it is more by delta
+pub record DifferAtTheirPlaces (s : Scheme) (l : Shape) (n : ℕ) (public seed : List ℕ) (number i j k : ℕ) : Type 0 where
+  pub same : is_place s l i k ≡ is_place s l j k →
+      slice_index (query_words s l n public seed number i) k ≡ slice_index (query_words s l n public seed number j) k
+  pub more : is_place s l i k ≡ true → is_place s l j k ≡ false →
+      slice_index (query_words s l n public seed number i) k
+      ≡ (slice_index (query_words s l n public seed number j) k + delta l.width) % 2 ^ 32
+
+-- so queries of one seed and number differ at their records' places alone, by delta
+abbrev pub QueriesDifferAtTheirPlaces : Type 0
+QueriesDifferAtTheirPlaces = (s : Scheme) (l : Shape) (n : ℕ) (public seed : List ℕ) (number i j k : ℕ) →
+    k < query_count s l → DifferAtTheirPlaces s l n public seed number i j k

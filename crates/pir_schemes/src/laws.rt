@@ -1,8 +1,14 @@
 //! Laws of both schemes, over the definitions alone. A caller that calls one of these functions has its law at
 //! hand in its proof; the call costs nothing.
 
-ghost use Rattle.pir_schemes.specs.Laws.{HintsHaveTheirSizes, QueriesHaveTheirLength,
-    AnswersHaveTheirLength, RetrievalGivesTheRecord, CertainShapeIsQuiet};
+ghost use Rattle.pir_schemes.specs.Laws.{
+  HintsHaveTheirSizes,
+  QueriesHaveTheirLength,
+  AnswersHaveTheirLength,
+  RetrievalGivesTheRecord,
+  CertainShapeIsQuiet,
+  QueriesDifferAtTheirPlaces,
+};
 
 /// A hint made from scratch has the rows and columns that its scheme wants, and a word for each place.
 pub fn hints_have_their_sizes()
@@ -12,6 +18,12 @@ pub fn hints_have_their_sizes()
 /// A query has as many words as its scheme wants.
 pub fn queries_have_their_length()
     ensures { QueriesHaveTheirLength }
+{}
+
+/// Two queries of one seed and number, on one layout and one public seed, differ at the places of their records
+/// alone, in words that differ by delta.
+pub fn queries_differ_at_their_places()
+    ensures { QueriesDifferAtTheirPlaces }
 {}
 
 /// An answer has as many words as its scheme wants.

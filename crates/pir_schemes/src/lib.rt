@@ -7,12 +7,14 @@
 //! `specs/Retrievals`), once for both schemes.
 #![tactic(auto)]
 
+mod certainty;
 mod counts;
 pub mod laws;
 mod parts;
 mod retrievals;
 mod scheme;
 
+pub use certainty::is_certain;
 pub use counts::{answer_count, hint_len, hint_rows, query_count};
 pub use parts::{PART_WORDS, part_len, part_words};
 pub use retrievals::{query, recover};

@@ -3,3 +3,4 @@ pub mod Courses
 pub mod Hints
 pub mod Pieces
 pub mod Runs
+pub mod Alike

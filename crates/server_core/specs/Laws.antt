@@ -1,13 +1,16 @@
 -- Laws of sessions.
-use Rattle.std.specs.Prelude.{◌≡◌, ◌≢◌, ℕ, List, [], ◌∷◌, false, Option, Result, Ok, Err}
+use Rattle.std.specs.Prelude.{◌≡◌, ◌≢◌, ℕ, List, [], ◌∷◌, ◌++◌, length, false, Option, Result, Ok, Err}
 use Rattle.frame_codec.specs.declared.frame.Frame.{Frame}
+use Rattle.frame_codec.specs.declared.frame.Frame.TheVariants.{Query, Answer}
+use Rattle.frame_codec.specs.Frames.{kind_of, payload_of}
 use Rattle.frame_codec.specs.declared.reader.ReadFault.{ReadFault}
 use Rattle.frame_codec.specs.declared.reader.ReadFault.TheVariants.{Memory}
 use Rattle.frame_codec.specs.Streams.{Feeds}
-use Rattle.version_store.specs.Histories.{History}
+use Rattle.version_store.specs.Histories.{StoreState, History}
+use Rattle.server_core.specs.declared.standing.Standing.{Standing}
 use Rattle.server_core.specs.Courses.{course_of_piece, lacks_memory}
-use Rattle.server_core.specs.Serving.{Setting, is_closed}
-use Rattle.server_core.specs.Sessions.{Session, FeedsSession}
+use Rattle.server_core.specs.Serving.{Setting, is_closed, outcome_of_frame, replies_with}
+use Rattle.server_core.specs.Sessions.{Session, FeedsSession, Fed}
 
 -- Sessions that nobody can tell apart: the same standing and the same unfinished bytes, of which a closed session reads no more.
 abbrev pub IsAlike : Session → Session → Type 0
@@ -36,3 +39,37 @@ FeedsInTurn x old (fed ∷ later) outcomes new =
 abbrev pub SessionsNeverMeet : Type 0
 SessionsNeverMeet = (x : Setting) (pieces : List (History × List ℕ)) (old old2 : Session) (outcomes outcomes2 : List (History × List Frame)) (new new2 : Session)
     → IsAlike old old2 → FeedsInTurn x old pieces outcomes new → FeedsInTurn x old2 pieces outcomes2 new2 → (outcomes ≡ outcomes2) × IsAlike new new2
+
+-- What two feeds have in common: what they wrote, the session then, and the history after them.
+pub record SameFeed (before after before2 after2 : List ℕ) (new new2 : Session) (end end2 : History) : Type 0 where
+  pub written : List ℕ
+  pub first : after ≡ before ++ written
+  pub second : after2 ≡ before2 ++ written
+  pub session : IsAlike new new2
+  pub history : end ≡ end2
+
+-- Where memory is refused to none of them, what a feed writes, the session after it and the history after it are decided by the piece, by that session's standing and unfinished bytes before it, by the history and by the setting, whatever other sessions there are.
+abbrev pub FeedsAreAlike : Type 0
+FeedsAreAlike = (x : Setting) (h : History) (old old2 : Session) (piece : List ℕ) (done done2 : Unit {0}) (store store2 : StoreState) (new new2 : Session) (before after before2 after2 : List ℕ)
+    → (f : Fed x h old piece (Ok done) store new before after) → (g : Fed x h old2 piece (Ok done2) store2 new2 before2 after2) → IsAlike old old2 → lacks_memory f.replies ≡ false → lacks_memory g.replies ≡ false
+    → SameFeed before after before2 after2 new new2 f.history g.history
+
+-- replies alike: the same, but for the words of an answer, of which there are as many
+abbrev pub AreAlikeReplies : Frame → Frame → Type 0
+AreAlikeReplies (Answer scheme version words) other = (others : List ℕ) × (other ≡ Answer scheme version others) × (length others ≡ length words)
+AreAlikeReplies reply other = other ≡ reply
+
+-- two queries are answered alike: nothing but the reply comes of either, and these have one kind, one version, one count and one length
+pub record AnsweredAlike (x : Setting) (h : History) (st : Standing) (query other : Frame) : Type 0 where
+  pub reply : Frame
+  pub reply2 : Frame
+  pub first : outcome_of_frame x h st query ≡ replies_with reply st h
+  pub second : outcome_of_frame x h st other ≡ replies_with reply2 st h
+  pub alike : AreAlikeReplies reply reply2
+  pub kind : kind_of reply ≡ kind_of reply2
+  pub len : length (payload_of reply) ≡ length (payload_of reply2)
+
+-- The reply to a query is, but for an answer's words, a function of the setting, the history, the standing, and the query's scheme, version and word count: the words decide nothing else.
+abbrev pub RepliesHoldNoIndex : Type 0
+RepliesHoldNoIndex = (x : Setting) (h : History) (st : Standing) (scheme version : ℕ) (words others : List ℕ) → length words ≡ length others
+    → AnsweredAlike x h st (Query scheme version words) (Query scheme version others)

@@ -4,7 +4,13 @@ ghost use Rattle.std.specs.Prelude.{◌≡◌, List, false};
 ghost use Rattle.frame_codec.specs.declared.frame.Frame.{Frame};
 ghost use Rattle.version_store.specs.Histories.{History};
 ghost use Rattle.server_core.specs.declared.standing.Standing.{Standing};
-ghost use Rattle.server_core.specs.Laws.{PiecesDecide, PiecesAgree, SessionsNeverMeet};
+ghost use Rattle.server_core.specs.Laws.{
+  PiecesDecide,
+  PiecesAgree,
+  SessionsNeverMeet,
+  FeedsAreAlike,
+  RepliesHoldNoIndex,
+};
 ghost use Rattle.server_core.specs.Courses.{course_of, lacks_memory};
 ghost use Rattle.server_core.specs.Serving.{Setting, ServesAll};
 
@@ -14,7 +20,7 @@ pub fn frames_decide()
     ensures { (x : Setting) (h : History) (st : Standing) (frames : List Frame) (h2 : History)
         (st2 : Standing) (replies : List Frame) →
         ServesAll x h st frames h2 st2 replies → lacks_memory replies ≡ false →
-            record { history = h2; standing = st2; replies = replies } ≡ course_of x h st frames }
+        record { history = h2; standing = st2; replies = replies } ≡ course_of x h st frames }
 {}
 
 /// What a feed leads to is decided by the setting, the history, this session and the piece, where memory isn't refused: the frames that the
@@ -33,3 +39,18 @@ pub fn sessions_never_meet()
 {
     pieces_decide();
 }
+
+/// Where memory isn't refused, what a feed writes, and the session's standing and unfinished bytes after it, are
+/// decided by the piece, by that session's standing and unfinished bytes before it, by the history and by the
+/// setting. `ServerCore::feed` itself says that every other session stays.
+pub fn feeds_are_alike()
+    ensures { FeedsAreAlike }
+{
+    pieces_decide();
+}
+
+/// The kind, the version, the count and the length of the reply to a query are decided by the setting, the
+/// history, the standing, and the query's scheme, version and word count.
+pub fn replies_hold_no_index()
+    ensures { RepliesHoldNoIndex }
+{}

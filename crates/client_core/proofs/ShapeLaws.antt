@@ -1,0 +1,291 @@
+-- A client's frames have the shapes that its happenings without their indices give.
+use Rattle.std.proofs.Common.{◌≡◌, ℕ, ◌+◌, ◌*◌, ◌<◌, ◌^◌, Bool, true, false, cond, List, [], ◌∷◌, ◌++◌, length, Option, Some, None, refl, sym, ap, ◌∙◌}
+use Rattle.std.specs.Prelude.{map, ◌==◌, ◌&&◌, nat_lt, not, is_some, if◌then◌else◌}
+use Rattle.std.specs.List.{AllByRecursion}
+use Rattle.std.proofs.lemmas.Bool.{lt-ltb}
+use Rattle.std.proofs.lemmas.List.{length-append, map-append}
+use Rattle.frame_codec.specs.declared.frame.Frame.{Frame}
+use Rattle.frame_codec.specs.declared.frame.Frame.TheVariants as frame
+use Rattle.frame_codec.specs.Frames.{kind_of, payload_of, payload_size}
+use Rattle.frame_codec.proofs.Payloads.{payload_sized}
+use Rattle.digit_pack.specs.Layout.{Shape, shape}
+use Rattle.pir_schemes.specs.declared.scheme.Scheme.{Scheme}
+use Rattle.pir_schemes.specs.Schemes.{scheme_byte}
+use Rattle.pir_schemes.specs.Parts.{part_len}
+use Rattle.pir_schemes.specs.Retrievals.{hint_len, query_words}
+use Rattle.pir_schemes.proofs.Lengths.{length_query}
+use Rattle.client_core.specs.declared.state.ClientState.{ClientState}
+use Rattle.client_core.specs.declared.state.ServerInfo.{ServerInfo}
+use Rattle.client_core.specs.declared.state.Hint.{Hint}
+use Rattle.client_core.specs.declared.state.Call.{Call}
+use Rattle.client_core.specs.declared.state.Call.TheVariants as call
+use Rattle.client_core.specs.declared.state.CallFault.{CallFault}
+use Rattle.client_core.specs.declared.state.CallFault.TheVariants.{NotReady, Busy, BadIndex, SeedUsedUp, Failed, AlreadyWelcome}
+use Rattle.client_core.specs.declared.state.Reaction.TheVariants.{Asks}
+use Rattle.client_core.specs.States.{is_layout, is_idle, is_ready, known_version, known_count, scheme_held}
+use Rattle.client_core.specs.Calls.{Want, Hello, Sync, Ask, Edit, Publish, state_after_call, call_frame, call_words, refusal, spent}
+use Rattle.client_core.specs.Replies.{Taken, reaction_to_reply, faulty, ended, is_welcome, takes_welcome, is_part, more_parts, takes_asked_part, takes_part, is_answer, answered, takes_answer, with_count, staled, takes_stale, takes_done, takes_refused}
+use Rattle.client_core.specs.Feeding.{sends_of}
+use Rattle.client_core.specs.Laws.{Happening, Accepted, TurnedDown, Lacking, Taken as Reply, Failing, after}
+use Rattle.client_core.specs.Shapes.{
+  frames_at,
+  frames,
+  FrameShape,
+  shape_of,
+  frame_shape,
+  BlankCall,
+  BlankHello,
+  BlankSync,
+  BlankAsk,
+  BlankEdit,
+  BlankPublish,
+  blank_call,
+  blank_reply,
+  BlankHappening,
+  blank,
+  Awaited,
+  NoReply,
+  AWelcome,
+  APart,
+  AnAnswer,
+  ADone,
+  awaited,
+  HintName,
+  hint_name,
+  Outline,
+  outline,
+  asked_count,
+  call_shape,
+  outline_after_call,
+  outline_spent,
+  Reacted,
+  fails,
+  ends,
+  after_welcome,
+  after_good_part,
+  after_asked_part,
+  after_part,
+  after_asked_answer,
+  after_answer,
+  after_asked_stale,
+  after_stale,
+  after_done,
+  after_refused,
+  after_reply,
+  outline_after,
+  shapes_at,
+  shapes,
+  HasWholeKey,
+  KeyIsWhole,
+  IndexIsBelow,
+  EqualShapes,
+}
+
+-- a frame's shape by the size of its fields
+sized : (f : Frame) → shape_of f ≡ frame_shape (kind_of f) (payload_size f)
+sized f = ap (λ (x : ℕ). frame_shape (kind_of f) x) (payload_sized f)
+
+-- ---- calls
+
+asked_length : (known : Option ServerInfo) (hint : Option Hint) (seed : List ℕ) (number i : ℕ) → length (call_words known (scheme_held hint) seed number i) ≡ asked_count known (hint_name hint)
+asked_length None hint seed number i = refl
+asked_length (Some k) None seed number i = length_query _ k.layout k.dimension k.seed seed number i
+asked_length (Some k) (Some h) seed number i = length_query h.scheme k.layout k.dimension k.seed seed number i
+
+call_shaped : (c : ClientState) (want : Want) → HasWholeKey want → shape_of (call_frame (state_after_call want c) (state_after_call want c).call) ≡ call_shape (outline c) (blank_call want)
+call_shaped c (Hello key) whole = sized (call_frame (state_after_call (Hello key) c) (call.Hello key)) ∙ ap (λ (x : ℕ). frame_shape 2 (2 + x)) whole
+call_shaped c (Sync scheme) whole = sized (call_frame (state_after_call (Sync scheme) c) (state_after_call (Sync scheme) c).call)
+call_shaped c (Ask i) whole =
+    sized (call_frame (state_after_call (Ask i) c) (state_after_call (Ask i) c).call)
+    ∙ ap (λ (x : ℕ). frame_shape 5 (9 + 4 * x)) (asked_length c.known c.hint c.seed c.number i)
+call_shaped c (Edit i bytes) whole = sized (frame.Edit i bytes)
+call_shaped c Publish whole = sized frame.Publish
+
+call_outlined : (c : ClientState) (want : Want) → outline (state_after_call want c) ≡ outline_after_call (blank_call want) (outline c)
+call_outlined c (Hello key) = refl
+call_outlined c (Sync scheme) = refl
+call_outlined c (Ask i) = refl
+call_outlined c (Edit i bytes) = refl
+call_outlined c Publish = refl
+
+spent_outlined : (c : ClientState) (want : Want) → outline (spent want c) ≡ outline_spent (blank_call want) (outline c)
+spent_outlined c (Hello key) = refl
+spent_outlined c (Sync scheme) = refl
+spent_outlined c (Ask i) = refl
+spent_outlined c (Edit i bytes) = refl
+spent_outlined c Publish = refl
+
+-- ---- replies
+
+abbrev reacted : Taken → Reacted
+reacted t = record { outline = outline t.state; sends = map shape_of (sends_of t.reaction) }
+
+either : (b : Bool) (x y : Taken) (v w : Reacted) → reacted x ≡ v → reacted y ≡ w → reacted (cond b x y) ≡ cond b v w
+either true x y v w p q = p
+either false x y v w p q = q
+
+welcome_reacts : (k : Call) (c : ClientState) (profile : ℕ) (l : Shape) (n version : ℕ) (seed : List ℕ) → reacted (takes_welcome k c profile l n version seed) ≡ after_welcome (awaited k) (outline c) profile l n version seed
+welcome_reacts call.Idle c profile l n version seed = refl
+welcome_reacts (call.Hello key) c profile l n version seed = either (is_welcome profile l n version) _ _ _ _ refl refl
+welcome_reacts (call.Sync s v p) c profile l n version seed = refl
+welcome_reacts (call.Ask i s v m) c profile l n version seed = refl
+welcome_reacts (call.Edit i b) c profile l n version seed = refl
+welcome_reacts call.Publish c profile l n version seed = refl
+
+next_asked : (s : Scheme) (k : ServerInfo) (c : ClientState) (v p : ℕ) (words : List ℕ) → reacted (more_parts s k c v p words) ≡ after_good_part s k (outline c) v p (length words)
+next_asked s k c v p words =
+    either (length words == hint_len s k.layout k.dimension) _ _ _ _ refl
+    (ap (λ (x : FrameShape). more x) (sized (frame.HintAsk (scheme_byte s) v (p + 1))))
+  where
+    more : FrameShape → Reacted
+    more x = record { outline = record (outline c) { call = APart s v (p + 1); words = length words }; sends = x ∷ [] }
+
+asked_part_reacts : (known : Option ServerInfo) (s : Scheme) (c : ClientState) (v p scheme version part : ℕ) (words : List ℕ)
+    → reacted (takes_asked_part known s c v p scheme version part words) ≡ after_asked_part known s (outline c) v p scheme version part (length words)
+asked_part_reacts None s c v p scheme version part words = refl
+asked_part_reacts (Some k) s c v p scheme version part words =
+    either (is_part s (hint_len s k.layout k.dimension) v p scheme version part words) (more_parts s k c v p (c.parts ++ words)) _ _ _
+    (next_asked s k c v p (c.parts ++ words) ∙ ap (λ (x : ℕ). after_good_part s k (outline c) v p x) (length-append c.parts words))
+    refl
+
+part_reacts : (k : Call) (c : ClientState) (scheme version part : ℕ) (words : List ℕ) → reacted (takes_part k c scheme version part words) ≡ after_part (awaited k) (outline c) scheme version part (length words)
+part_reacts call.Idle c scheme version part words = refl
+part_reacts (call.Hello key) c scheme version part words = refl
+part_reacts (call.Sync s v p) c scheme version part words = asked_part_reacts c.known s c v p scheme version part words
+part_reacts (call.Ask i s v m) c scheme version part words = refl
+part_reacts (call.Edit i b) c scheme version part words = refl
+part_reacts call.Publish c scheme version part words = refl
+
+answered_reacts : (known : Option ServerInfo) (hint : Option Hint) (c : ClientState) (i v m scheme version : ℕ) (words : List ℕ)
+    → reacted (answered known hint c i v m scheme version words) ≡ after_asked_answer known (hint_name hint) (outline c) v scheme version (length words)
+answered_reacts None hint c i v m scheme version words = refl
+answered_reacts (Some k) None c i v m scheme version words = refl
+answered_reacts (Some k) (Some h) c i v m scheme version words = either (is_answer h.scheme k v scheme version words) _ _ _ _ refl refl
+
+answer_reacts : (k : Call) (c : ClientState) (scheme version : ℕ) (words : List ℕ) → reacted (takes_answer k c scheme version words) ≡ after_answer (awaited k) (outline c) scheme version (length words)
+answer_reacts call.Idle c scheme version words = refl
+answer_reacts (call.Hello key) c scheme version words = refl
+answer_reacts (call.Sync s v p) c scheme version words = refl
+answer_reacts (call.Ask i s v m) c scheme version words = answered_reacts c.known c.hint c i v m scheme version words
+answer_reacts (call.Edit i b) c scheme version words = refl
+answer_reacts call.Publish c scheme version words = refl
+
+staled_reacts : (known : Option ServerInfo) (dropped c : ClientState) (asked version count : ℕ) → reacted (staled known dropped c asked version count) ≡ after_asked_stale known (outline dropped) (outline c) asked version count
+staled_reacts None dropped c asked version count = refl
+staled_reacts (Some k) dropped c asked version count = either (not (version == asked) && (nat_lt 0 version && is_layout (with_count k.layout count))) _ _ _ _ refl refl
+
+stale_reacts : (k : Call) (c : ClientState) (version count : ℕ) → reacted (takes_stale k c version count) ≡ after_stale (awaited k) (outline c) version count
+stale_reacts call.Idle c version count = refl
+stale_reacts (call.Hello key) c version count = refl
+stale_reacts (call.Sync s v p) c version count = staled_reacts c.known (record c { parts = [] }) c v version count
+stale_reacts (call.Ask i s v m) c version count = staled_reacts c.known c c v version count
+stale_reacts (call.Edit i b) c version count = refl
+stale_reacts call.Publish c version count = refl
+
+done_reacts : (k : Call) (c : ClientState) (version : ℕ) → reacted (takes_done k c version) ≡ after_done (awaited k) (outline c)
+done_reacts call.Idle c version = refl
+done_reacts (call.Hello key) c version = refl
+done_reacts (call.Sync s v p) c version = refl
+done_reacts (call.Ask i s v m) c version = refl
+done_reacts (call.Edit i b) c version = refl
+done_reacts call.Publish c version = refl
+
+refused_reacts : (k : Call) (c : ClientState) (code : ℕ) → reacted (takes_refused k c code) ≡ after_refused (awaited k) (outline c)
+refused_reacts call.Idle c code = refl
+refused_reacts (call.Hello key) c code = refl
+refused_reacts (call.Sync s v p) c code = refl
+refused_reacts (call.Ask i s v m) c code = refl
+refused_reacts (call.Edit i b) c code = refl
+refused_reacts call.Publish c code = refl
+
+reply_reacts : (c : ClientState) (f : Frame) → reacted (reaction_to_reply c f) ≡ after_reply (outline c) (blank_reply f)
+reply_reacts c (frame.Welcome profile width record_len groups count version dimension seed) = welcome_reacts c.call c profile (shape width record_len groups count) dimension version seed
+reply_reacts c (frame.HintPart scheme version part words) = part_reacts c.call c scheme version part words
+reply_reacts c (frame.Answer scheme version words) = answer_reacts c.call c scheme version words
+reply_reacts c (frame.Stale version count) = stale_reacts c.call c version count
+reply_reacts c (frame.Done version) = done_reacts c.call c version
+reply_reacts c (frame.Refused code) = refused_reacts c.call c code
+reply_reacts c _ = refl
+
+-- ---- any happening
+
+outline_is : (c : ClientState) (h : Happening) → outline (after c h) ≡ outline_after (outline c) (blank h)
+outline_is c (Accepted want) = call_outlined c want
+outline_is c (TurnedDown want) = refl
+outline_is c (Lacking want) = spent_outlined c want
+outline_is c (Reply f) = ap (λ (x : Reacted). x.outline) (reply_reacts c f)
+outline_is c Failing = refl
+
+shapes_here : (c : ClientState) (h : Happening) → KeyIsWhole h → map shape_of (frames_at c h) ≡ shapes_at (outline c) (blank h)
+shapes_here c (Accepted want) whole = ap (λ (x : FrameShape). x ∷ []) (call_shaped c want whole)
+shapes_here c (TurnedDown want) whole = refl
+shapes_here c (Lacking want) whole = refl
+shapes_here c (Reply f) whole = ap (λ (x : Reacted). x.sends) (reply_reacts c f)
+shapes_here c Failing whole = refl
+
+shapes_are : (c : ClientState) (hs : List Happening) → AllByRecursion KeyIsWhole hs → map shape_of (frames c hs) ≡ shapes (outline c) (map blank hs)
+shapes_are c [] whole = refl
+shapes_are c (h ∷ hs) whole =
+    map-append shape_of (frames_at c h) (frames (after c h) hs)
+    ∙ ap (λ (x : List FrameShape). x ++ map shape_of (frames (after c h) hs)) (shapes_here c h whole.0)
+    ∙ ap (λ (x : List FrameShape). shapes_at (outline c) (blank h) ++ x) (shapes_are (after c h) hs whole.1)
+    ∙ ap (λ (x : Outline). shapes_at (outline c) (blank h) ++ shapes x (map blank hs)) (outline_is c h)
+
+same_shapes : (c d : ClientState) (hs gs : List Happening) → AllByRecursion KeyIsWhole hs → AllByRecursion KeyIsWhole gs → outline c ≡ outline d → map blank hs ≡ map blank gs
+    → map shape_of (frames c hs) ≡ map shape_of (frames d gs)
+same_shapes c d hs gs whole whole2 alike same =
+    shapes_are c hs whole
+    ∙ ap (λ (x : Outline). shapes x (map blank hs)) alike
+    ∙ ap (λ (x : List BlankHappening). shapes (outline d) x) same
+    ∙ sym (shapes_are d gs whole2)
+
+-- ---- refusals
+
+no_reply : Awaited → Bool
+no_reply NoReply = true
+no_reply _ = false
+
+ready : Option ServerInfo → Option HintName → Bool
+ready None hint = false
+ready (Some k) None = false
+ready (Some k) (Some h) = h.version == k.version
+
+-- why a call is refused, where its record is below the count known
+refused : BlankCall → Outline → Option CallFault
+refused BlankHello x = if x.failed then Some Failed else (if is_some x.known then Some AlreadyWelcome else (if no_reply x.call then None else Some Busy))
+refused BlankAsk x =
+    if x.failed then Some Failed else (if ready x.known x.hint then (if no_reply x.call then (if nat_lt x.number (2 ^ 62) then None else Some SeedUsedUp) else Some Busy) else Some NotReady)
+refused _ x = if x.failed then Some Failed else (if is_some x.known then (if no_reply x.call then None else Some Busy) else Some NotReady)
+
+idle_same : (k : Call) → is_idle k ≡ no_reply (awaited k)
+unfolding no_reply
+idle_same call.Idle = refl
+idle_same (call.Hello key) = refl
+idle_same (call.Sync s v p) = refl
+idle_same (call.Ask i s v m) = refl
+idle_same (call.Edit i b) = refl
+idle_same call.Publish = refl
+
+ready_same : (known : Option ServerInfo) (hint : Option Hint) → is_ready known hint ≡ ready known (hint_name hint)
+unfolding ready
+ready_same None hint = refl
+ready_same (Some k) None = refl
+ready_same (Some k) (Some h) = refl
+
+refused_same : (c : ClientState) (want : Want) → IndexIsBelow want c → refusal want c ≡ refused (blank_call want) (outline c)
+unfolding refused
+refused_same c (Hello key) below = rw (idle_same c.call) refl
+refused_same c (Sync scheme) below = rw (idle_same c.call) refl
+refused_same c (Ask i) below = rw (lt-ltb i (known_count c.known) below, idle_same c.call, ready_same c.known c.hint) refl
+refused_same c (Edit i bytes) below = rw (idle_same c.call) refl
+refused_same c Publish below = rw (idle_same c.call) refl
+
+same_refusal : (c d : ClientState) (want other : Want) → IndexIsBelow want c → IndexIsBelow other d → outline c ≡ outline d → blank_call want ≡ blank_call other → refusal want c ≡ refusal other d
+same_refusal c d want other below below2 alike same =
+    refused_same c want below
+    ∙ ap (λ (x : Outline). refused (blank_call want) x) alike
+    ∙ ap (λ (x : BlankCall). refused x (outline d)) same
+    ∙ sym (refused_same d other below2)
+
+pub no_index : EqualShapes
+no_index = record { shapes_are = shapes_are; outline_is = outline_is; same_shapes = same_shapes; same_refusal = same_refusal }

@@ -1,0 +1,338 @@
+-- The kinds and lengths of the frames that a client sends, as a function of what holds no index and no word.
+use Rattle.std.specs.Prelude.{◌≡◌, ◌≢◌, ◌⊎◌, ◌<◌, ◌+◌, ◌*◌, ℕ, List, [], ◌∷◌, ◌++◌, length, map, Bool, true, not, ◌&&◌, Option, Some, None, ◌==◌, nat_lt, if◌then◌else◌}
+use Rattle.std.specs.List.{flat_map, AllByRecursion}
+use Rattle.frame_codec.specs.declared.frame.Frame.{Frame}
+use Rattle.frame_codec.specs.declared.frame.Frame.TheVariants as frame
+use Rattle.frame_codec.specs.Frames.{kind_of, payload_of, encoding}
+use Rattle.digit_pack.specs.Layout.{Shape, shape}
+use Rattle.pir_schemes.specs.declared.scheme.Scheme.{Scheme}
+use Rattle.pir_schemes.specs.declared.scheme.Scheme.TheVariants.{Simple}
+use Rattle.pir_schemes.specs.Schemes.{scheme_byte}
+use Rattle.pir_schemes.specs.Parts.{part_len}
+use Rattle.pir_schemes.specs.Retrievals.{hint_len, query_count, answer_count}
+use Rattle.client_core.specs.declared.state.ClientState.{ClientState}
+use Rattle.client_core.specs.declared.state.ServerInfo.{ServerInfo}
+use Rattle.client_core.specs.declared.state.Hint.{Hint}
+use Rattle.client_core.specs.declared.state.Call.{Call}
+use Rattle.client_core.specs.declared.state.Call.TheVariants as call
+use Rattle.client_core.specs.States.{is_layout, known_version, known_count}
+use Rattle.client_core.specs.declared.state.CallFault.{CallFault}
+use Rattle.client_core.specs.declared.state.ClientFault.{ClientFault}
+use Rattle.client_core.specs.declared.state.ClientFault.TheVariants.{Memory}
+use Rattle.client_core.specs.declared.state.Event.{Event}
+use Rattle.client_core.specs.Calls.{Want, Hello, Sync, Ask, Edit, Publish, state_after_call, call_frame, refusal, Accepts, Refuses}
+use Rattle.client_core.specs.Replies.{reaction_to_reply, is_welcome, with_count}
+use Rattle.client_core.specs.Feeding.{Client, sends_of, takes_all, FeedsClient}
+use Rattle.client_core.specs.Laws.{Happening, Accepted, TurnedDown, Lacking, Taken, Failing, after}
+
+-- ---- the frames that a client sends, and their shapes
+
+-- the frames sent then: a call's own, or the next HintAsk of a sync
+abbrev pub frames_at : ClientState → Happening → List Frame
+frames_at c (Accepted want) = call_frame (state_after_call want c) (state_after_call want c).call ∷ []
+frames_at c (TurnedDown want) = []
+frames_at c (Lacking want) = []
+frames_at c (Taken reply) = sends_of (reaction_to_reply c reply).reaction
+frames_at c Failing = []
+
+-- the frames that a client sends, in order
+abbrev pub frames : ClientState → List Happening → List Frame
+frames c [] = []
+frames c (h ∷ hs) = frames_at c h ++ frames (after c h) hs
+
+-- a frame's kind, and how many bytes its payload has
+pub record FrameShape : Type 0 where
+  pub kind : ℕ
+  pub len : ℕ
+
+abbrev pub shape_of : Frame → FrameShape
+shape_of f = record { kind = kind_of f; len = length (payload_of f) }
+
+abbrev pub frame_shape : ℕ → ℕ → FrameShape
+frame_shape kind len = record { kind = kind; len = len }
+
+-- ---- calls, replies and clients, without indices, keys, seeds and words
+
+-- a call: of the bytes of an edit only their count
+pub data BlankCall : Type 0 where
+  BlankHello : BlankCall
+  BlankSync : (scheme : Scheme) → BlankCall
+  BlankAsk : BlankCall
+  BlankEdit : (count : ℕ) → BlankCall
+  BlankPublish : BlankCall
+
+abbrev pub blank_call : Want → BlankCall
+blank_call (Hello key) = BlankHello
+blank_call (Sync scheme) = BlankSync scheme
+blank_call (Ask i) = BlankAsk
+blank_call (Edit i bytes) = BlankEdit (length bytes)
+blank_call Publish = BlankPublish
+
+-- a reply: its kind, its version and its counts; and a Welcome whole
+pub data BlankReply : Type 0 where
+  BlankWelcome : (profile : ℕ) (layout : Shape) (dimension version : ℕ) (seed : List ℕ) → BlankReply
+  BlankPart : (scheme version part count : ℕ) → BlankReply
+  BlankAnswer : (scheme version count : ℕ) → BlankReply
+  BlankStale : (version count : ℕ) → BlankReply
+  BlankDone : BlankReply
+  BlankRefused : BlankReply
+  BlankOther : BlankReply
+
+abbrev pub blank_reply : Frame → BlankReply
+blank_reply (frame.Welcome profile width record_len groups count version dimension seed) = BlankWelcome profile (shape width record_len groups count) dimension version seed
+blank_reply (frame.HintPart scheme version part words) = BlankPart scheme version part (length words)
+blank_reply (frame.Answer scheme version words) = BlankAnswer scheme version (length words)
+blank_reply (frame.Stale version count) = BlankStale version count
+blank_reply (frame.Done version) = BlankDone
+blank_reply (frame.Refused code) = BlankRefused
+blank_reply _ = BlankOther
+
+-- what happens to a client: a call accepted, refused, or refused memory; a reply; its failure
+pub data BlankHappening : Type 0 where
+  BlankAccepted : (call : BlankCall) → BlankHappening
+  BlankTurnedDown : (call : BlankCall) → BlankHappening
+  BlankLacking : (call : BlankCall) → BlankHappening
+  BlankTaken : (reply : BlankReply) → BlankHappening
+  BlankFailing : BlankHappening
+
+abbrev pub blank : Happening → BlankHappening
+blank (Accepted want) = BlankAccepted (blank_call want)
+blank (TurnedDown want) = BlankTurnedDown (blank_call want)
+blank (Lacking want) = BlankLacking (blank_call want)
+blank (Taken reply) = BlankTaken (blank_reply reply)
+blank Failing = BlankFailing
+
+-- what the client waits for: nothing; a Welcome; a part of a version's hint; an answer of a version; a Done
+pub data Awaited : Type 0 where
+  NoReply : Awaited
+  AWelcome : Awaited
+  APart : (scheme : Scheme) (version part : ℕ) → Awaited
+  AnAnswer : (version : ℕ) → Awaited
+  ADone : Awaited
+
+abbrev pub awaited : Call → Awaited
+awaited call.Idle = NoReply
+awaited (call.Hello key) = AWelcome
+awaited (call.Sync scheme version part) = APart scheme version part
+awaited (call.Ask i scheme version number) = AnAnswer version
+awaited (call.Edit i bytes) = ADone
+awaited call.Publish = ADone
+
+-- a hint's scheme and version
+pub record HintName : Type 0 where
+  pub scheme : Scheme
+  pub version : ℕ
+
+abbrev pub hint_name : Option Hint → Option HintName
+hint_name None = None
+hint_name (Some h) = Some (record { scheme = h.scheme; version = h.version })
+
+-- all of a client but for its seed and what its indices and words are: `words` of an unfinished hint have come
+pub record Outline : Type 0 where
+  pub number : ℕ
+  pub known : Option ServerInfo
+  pub hint : Option HintName
+  pub words : ℕ
+  pub call : Awaited
+  pub failed : Bool
+
+abbrev pub outline : ClientState → Outline
+outline c = record { number = c.number; known = c.known; hint = hint_name c.hint; words = length c.parts; call = awaited c.call; failed = c.failed }
+
+-- ---- calls
+
+-- how many words a query has: as many as the scheme of the hint held wants for the count known
+abbrev pub asked_count : Option ServerInfo → Option HintName → ℕ
+asked_count None hint = 0
+asked_count (Some k) None = query_count Simple k.layout
+asked_count (Some k) (Some h) = query_count h.scheme k.layout
+
+-- the shape of a call's frame
+abbrev pub call_shape : Outline → BlankCall → FrameShape
+call_shape x BlankHello = frame_shape 2 34
+call_shape x (BlankSync scheme) = frame_shape 3 13
+call_shape x BlankAsk = frame_shape 5 (9 + 4 * asked_count x.known x.hint)
+call_shape x (BlankEdit count) = frame_shape 6 (4 + count)
+call_shape x BlankPublish = frame_shape 7 0
+
+-- the outline after an accepted call
+abbrev pub outline_after_call : BlankCall → Outline → Outline
+outline_after_call BlankHello x = record x { call = AWelcome }
+outline_after_call (BlankSync scheme) x = record x { call = APart scheme (known_version x.known) 0; hint = None; words = 0 }
+outline_after_call BlankAsk x = record x { call = AnAnswer (known_version x.known); number = x.number + 1 }
+outline_after_call (BlankEdit count) x = record x { call = ADone }
+outline_after_call BlankPublish x = record x { call = ADone }
+
+-- and after one that was refused memory: only the number of a retrieval is spent
+abbrev pub outline_spent : BlankCall → Outline → Outline
+outline_spent BlankAsk x = record x { number = x.number + 1 }
+outline_spent _ x = x
+
+-- ---- replies
+
+-- the outline after a reply, and the shapes of the frames sent then
+pub record Reacted : Type 0 where
+  pub outline : Outline
+  pub sends : List FrameShape
+
+-- the reply was bad
+abbrev pub fails : Outline → Reacted
+fails x = record { outline = record x { failed = true }; sends = [] }
+
+-- the call has ended
+abbrev pub ends : Outline → Reacted
+ends x = record { outline = record x { call = NoReply }; sends = [] }
+
+-- a Welcome answers hello alone
+abbrev pub after_welcome : Awaited → Outline → ℕ → Shape → ℕ → ℕ → List ℕ → Reacted
+after_welcome AWelcome x profile l dimension version seed =
+    if is_welcome profile l dimension version
+    then ends (record x { known = Some (record { version = version; layout = l; dimension = dimension; seed = seed }) }) else fails x
+after_welcome _ x profile l dimension version seed = fails x
+
+-- the last part ends a sync, and after another the next part is asked for
+abbrev pub after_good_part : Scheme → ServerInfo → Outline → ℕ → ℕ → ℕ → Reacted
+after_good_part s k x version part words =
+    if words == hint_len s k.layout k.dimension
+    then ends (record x { hint = Some (record { scheme = s; version = version }); words = 0 })
+    else record { outline = record x { call = APart s version (part + 1); words = words }; sends = frame_shape 3 13 ∷ [] }
+
+-- a part is good that was asked for, with all its words
+abbrev pub after_asked_part : Option ServerInfo → Scheme → Outline → ℕ → ℕ → ℕ → ℕ → ℕ → ℕ → Reacted
+after_asked_part None s x asked next scheme version part count = fails x
+after_asked_part (Some k) s x asked next scheme version part count =
+    if (scheme == scheme_byte s) && ((version == asked) && ((part == next) && (count == part_len (hint_len s k.layout k.dimension) next)))
+    then after_good_part s k x asked next (x.words + count) else fails x
+
+-- it answers sync alone
+abbrev pub after_part : Awaited → Outline → ℕ → ℕ → ℕ → ℕ → Reacted
+after_part (APart s v p) x scheme version part count = after_asked_part x.known s x v p scheme version part count
+after_part _ x scheme version part count = fails x
+
+-- an answer has the scheme of the hint, the version asked and as many words as these want
+abbrev pub after_asked_answer : Option ServerInfo → Option HintName → Outline → ℕ → ℕ → ℕ → ℕ → Reacted
+after_asked_answer None hint x asked scheme version count = fails x
+after_asked_answer (Some k) None x asked scheme version count = fails x
+after_asked_answer (Some k) (Some h) x asked scheme version count =
+    if (scheme == scheme_byte h.scheme) && ((version == asked) && (count == answer_count h.scheme k.layout k.dimension))
+    then ends x else fails x
+
+-- it answers ask alone
+abbrev pub after_answer : Awaited → Outline → ℕ → ℕ → ℕ → Reacted
+after_answer (AnAnswer v) x scheme version count = after_asked_answer x.known x.hint x v scheme version count
+after_answer _ x scheme version count = fails x
+
+-- the version and the count are the last known, where these are another version than asked and a count within the limits
+abbrev pub after_asked_stale : Option ServerInfo → Outline → Outline → ℕ → ℕ → ℕ → Reacted
+after_asked_stale None dropped x asked version count = fails x
+after_asked_stale (Some k) dropped x asked version count =
+    if not (version == asked) && (nat_lt 0 version && is_layout (with_count k.layout count))
+    then ends (record dropped { known = Some (record k { version = version; layout = with_count k.layout count }) }) else fails x
+
+-- Stale answers sync, whose unfinished hint is dropped, and ask
+abbrev pub after_stale : Awaited → Outline → ℕ → ℕ → Reacted
+after_stale (APart s v p) x version count = after_asked_stale x.known (record x { words = 0 }) x v version count
+after_stale (AnAnswer v) x version count = after_asked_stale x.known x x v version count
+after_stale _ x version count = fails x
+
+-- Done answers edit and publish
+abbrev pub after_done : Awaited → Outline → Reacted
+after_done ADone x = ends x
+after_done _ x = fails x
+
+-- Refused answers every call, and drops an unfinished hint
+abbrev pub after_refused : Awaited → Outline → Reacted
+after_refused NoReply x = fails x
+after_refused (APart s v p) x = ends (record x { words = 0 })
+after_refused _ x = ends x
+
+abbrev pub after_reply : Outline → BlankReply → Reacted
+after_reply x (BlankWelcome profile layout dimension version seed) = after_welcome x.call x profile layout dimension version seed
+after_reply x (BlankPart scheme version part count) = after_part x.call x scheme version part count
+after_reply x (BlankAnswer scheme version count) = after_answer x.call x scheme version count
+after_reply x (BlankStale version count) = after_stale x.call x version count
+after_reply x BlankDone = after_done x.call x
+after_reply x BlankRefused = after_refused x.call x
+after_reply x BlankOther = fails x
+
+-- ---- any happenings
+
+abbrev pub outline_after : Outline → BlankHappening → Outline
+outline_after x (BlankAccepted call) = outline_after_call call x
+outline_after x (BlankTurnedDown call) = x
+outline_after x (BlankLacking call) = outline_spent call x
+outline_after x (BlankTaken reply) = (after_reply x reply).outline
+outline_after x BlankFailing = record x { failed = true }
+
+-- a refused call sends nothing
+abbrev pub shapes_at : Outline → BlankHappening → List FrameShape
+shapes_at x (BlankAccepted call) = call_shape x call ∷ []
+shapes_at x (BlankTurnedDown call) = []
+shapes_at x (BlankLacking call) = []
+shapes_at x (BlankTaken reply) = (after_reply x reply).sends
+shapes_at x BlankFailing = []
+
+-- the shapes of the frames that a client sends: no index is among what they come from
+abbrev pub shapes : Outline → List BlankHappening → List FrameShape
+shapes x [] = []
+shapes x (h ∷ hs) = shapes_at x h ++ shapes (outline_after x h) hs
+
+-- ---- the laws
+
+-- a key has 32 bytes
+abbrev pub HasWholeKey : Want → Type 0
+HasWholeKey (Hello key) = length key ≡ 32
+HasWholeKey _ = Unit {0}
+
+abbrev pub KeyIsWhole : Happening → Type 0
+KeyIsWhole (Accepted want) = HasWholeKey want
+KeyIsWhole _ = Unit {0}
+
+-- an ask is of a record below the count known
+abbrev pub IndexIsBelow : Want → ClientState → Type 0
+IndexIsBelow (Ask i) c = i < known_count c.known
+IndexIsBelow _ c = Unit {0}
+
+-- Whatever happens to a client, its frames have the shapes that the happenings without their indices give. So no
+-- index changes how many frames there are, their order, their kinds or their lengths, nor whether and why a call
+-- of a record below the count known is refused.
+pub record EqualShapes : Type 0 where
+  pub shapes_are : (c : ClientState) (hs : List Happening) → AllByRecursion KeyIsWhole hs →
+      map shape_of (frames c hs) ≡ shapes (outline c) (map blank hs)
+  pub outline_is : (c : ClientState) (h : Happening) → outline (after c h) ≡ outline_after (outline c) (blank h)
+  pub same_shapes : (c d : ClientState) (hs gs : List Happening) → AllByRecursion KeyIsWhole hs → AllByRecursion KeyIsWhole gs →
+      outline c ≡ outline d → map blank hs ≡ map blank gs → map shape_of (frames c hs) ≡ map shape_of (frames d gs)
+  pub same_refusal : (c d : ClientState) (want other : Want) → IndexIsBelow want c → IndexIsBelow other d →
+      outline c ≡ outline d → blank_call want ≡ blank_call other → refusal want c ≡ refusal other d
+
+-- ---- what a client does is happenings
+
+-- the client's state after so much
+abbrev pub after_all : ClientState → List Happening → ClientState
+after_all c [] = c
+after_all c (h ∷ hs) = after_all (after c h) hs
+
+-- a reply, or a failure
+abbrev pub IsFed : Happening → Type 0
+IsFed (Taken reply) = Unit {0}
+IsFed Failing = Unit {0}
+IsFed _ = ⊥
+
+-- such happenings led from one state to another, and their frames were written
+pub record Happened (old : ClientState) (out : List ℕ) (new : ClientState) : Type 0 where
+  pub happenings : List Happening
+  pub fed : AllByRecursion IsFed happenings
+  pub written : out ≡ flat_map encoding (frames old happenings)
+  pub state : new ≡ after_all old happenings
+
+-- All that a client writes are the frames of happenings: of an accepted call; of none where a call is refused; and of
+-- the replies that it is fed, taken one after another, up to its failure, where no memory is refused.
+pub record ClientsHappen : Type 0 where
+  pub accepted : (old new : ClientState) (want : Want) (bytes : List ℕ) → Accepts old want new bytes →
+      (bytes ≡ flat_map encoding (frames_at old (Accepted want))) × (new ≡ after old (Accepted want))
+  pub refused : (old new : ClientState) (want : Want) (fault : CallFault) → Refuses old want fault new →
+      (new ≡ after old (TurnedDown want)) ⊎ (new ≡ after old (Lacking want))
+  pub fed : (old new : Client) (piece out : List ℕ) (events : List Event) (fault : Option ClientFault) →
+      FeedsClient old piece out events fault new → fault ≢ Some Memory → Happened old.state out new.state
+  pub replies : (c : ClientState) (fs : List Frame) → (takes_all c fs).fault ≡ None →
+      ((takes_all c fs).sends ≡ frames c (map Taken fs)) × ((takes_all c fs).state ≡ after_all c (map Taken fs))
