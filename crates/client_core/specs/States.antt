@@ -1,6 +1,7 @@
 -- What a client holds, and what is true of it as long as it lives.
-use Rattle.std.specs.Prelude.{◌≡◌, ◌≤◌, ◌<◌, ◌*◌, ◌^◌, ℕ, List, [], length, Bool, true, false, ◌&&◌, Option, Some, None, nat_le, ◌==◌}
+use Rattle.std.specs.Prelude.{◌≡◌, ◌≤◌, ◌<◌, ◌*◌, ◌^◌, ℕ, List, [], length, Bool, true, false, Option, Some, None, ◌==◌}
 use Rattle.digit_pack.specs.Layout.{Shape, IsLayout, digit_rows, digit_cols}
+unfoldable pub use Rattle.digit_pack.specs.Layout.{is_layout}
 use Rattle.pir_schemes.specs.declared.scheme.Scheme.{Scheme}
 use Rattle.pir_schemes.specs.declared.scheme.Scheme.TheVariants.{Simple}
 use Rattle.pir_schemes.specs.Retrievals.{hint_rows, hint_len}
@@ -35,14 +36,6 @@ is_ready (Some k) (Some h) = h.version == k.version
 abbrev pub scheme_held : Option Hint → Scheme
 scheme_held None = Simple
 scheme_held (Some h) = h.scheme
-
--- whether a layout is within all limits
-unfoldable pub is_layout : Shape → Bool
-is_layout l =
-    (nat_le 6 l.width && nat_le l.width 10)
-    && ((nat_le 1 l.record_len && nat_le l.record_len 256)
-    && ((nat_le 1 l.groups && nat_le (digit_rows l) 4096)
-    && (nat_le 1 l.count && nat_le (digit_cols l) 4096)))
 
 -- a client that holds nothing yet
 abbrev pub fresh : List ℕ → ℕ → ClientState

@@ -6,3 +6,4 @@ pub mod Changes
 pub mod ColumnLemmas
 pub mod RecordLemmas
 pub mod Triples
+pub mod Layouts

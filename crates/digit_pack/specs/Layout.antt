@@ -1,5 +1,5 @@
 -- Where the digits of records stand.
-use Rattle.std.specs.Prelude.{◌≡◌, ℕ, ◌+◌, ◌-◌, ◌*◌, ◌/◌, ◌%◌, ◌^◌, ◌<◌, ◌≤◌, List, [], length, take, drop, slice_index_or, All}
+use Rattle.std.specs.Prelude.{◌≡◌, ℕ, ◌+◌, ◌-◌, ◌*◌, ◌/◌, ◌%◌, ◌^◌, ◌<◌, ◌≤◌, List, [], length, take, drop, slice_index_or, All, Bool, nat_le, ◌&&◌}
 use Rattle.digit_pack.specs.declared.layout.LayoutError.{LayoutError}
 use Rattle.digit_pack.specs.declared.layout.LayoutError.TheVariants.{BadWidth, BadRecord, BadGroups, BadCount}
 use Rattle.matrix_u32.specs.Sum.{list_of}
@@ -95,6 +95,14 @@ pub record IsLayout (l : Shape) : Type 0 where
   pub record_len : HasRecord l
   pub groups : HasGroups l
   pub count : HasCount l
+
+-- whether it is within every limit
+unfoldable pub is_layout : Shape → Bool
+is_layout l =
+    (nat_le 6 l.width && nat_le l.width 10)
+    && ((nat_le 1 l.record_len && nat_le l.record_len 256)
+    && ((nat_le 1 l.groups && nat_le (digit_rows l) 4096)
+    && (nat_le 1 l.count && nat_le (digit_cols l) 4096)))
 
 -- the first limit that a shape breaks
 abbrev pub IsLayoutFault : Shape → LayoutError → Type 0

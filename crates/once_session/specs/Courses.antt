@@ -1,20 +1,14 @@
 -- What the frames of one stream lead to: a Load, then Queries, then a Bye.
-use Rattle.std.specs.Prelude.{ℕ, ◌*◌, ◌/◌, ◌≤◌, ◌==◌, ◌&&◌, List, [], ◌∷◌, ◌++◌, length, Bool, Option, Some, None, nat_le, if◌then◌else◌, option_to_list, unwrap_or, ◌≡◌}
+use Rattle.std.specs.Prelude.{ℕ, ◌*◌, ◌/◌, ◌≤◌, ◌==◌, ◌&&◌, List, [], ◌∷◌, ◌++◌, length, Bool, Option, Some, None, if◌then◌else◌, option_to_list, unwrap_or, ◌≡◌}
 use Rattle.std.specs.List.{flat_map}
 use Rattle.frame_codec.specs.declared.frame.Frame.{Frame}
 use Rattle.frame_codec.specs.declared.frame.Frame.TheVariants.{Load, Query, Bye, Answer, Stale, Refused}
 use Rattle.frame_codec.specs.Frames.{payload_size, payload_limit, encoding}
-use Rattle.digit_pack.specs.Layout.{Shape, shape, IsLayout, digit_rows, digit_cols, digit_matrix, records_in}
+use Rattle.digit_pack.specs.Layout.{Shape, shape, IsLayout, is_layout, digit_rows, digit_cols, digit_matrix, records_in}
 use Rattle.simple_scheme.specs.Simple.{answer_of}
 use Rattle.once_session.specs.declared.stage.Table.{Table}
 use Rattle.once_session.specs.declared.stage.Stage.{Stage}
 use Rattle.once_session.specs.declared.stage.Stage.TheVariants.{Fresh, Loaded, Done, Bad}
-
--- whether a shape is within the limits of every layout
-abbrev pub is_layout : Shape → Bool
-is_layout l =
-    (nat_le 6 l.width && nat_le l.width 10) && (nat_le 1 l.record_len && nat_le l.record_len 256)
-    && (nat_le 1 l.groups && nat_le (digit_rows l) 4096) && (nat_le 1 l.count && nat_le (digit_cols l) 4096)
 
 -- the shape of the records that a Load brings: as many as its bytes make
 abbrev pub loaded_shape : ℕ → ℕ → ℕ → List ℕ → Shape

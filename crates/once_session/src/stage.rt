@@ -1,15 +1,47 @@
 //! What a frame does.
 
-ghost use Rattle.std.specs.Prelude.{◌≡◌, ◌≤◌, ◌<◌, ◌+◌, ◌*◌, ◌/◌, ◌⊎◌, ℕ, length, take, true,
-    false, IfOk, IfErr, IfSome, IfNone, OnOk, OnErr, Some, IsErrOf, option_to_list, [], ◌++◌};
+ghost use Rattle.std.specs.Prelude.{
+  ◌≡◌,
+  ◌≤◌,
+  ◌<◌,
+  ◌+◌,
+  ◌*◌,
+  ◌/◌,
+  ◌⊎◌,
+  ℕ,
+  length,
+  take,
+  true,
+  false,
+  IfOk,
+  IfErr,
+  IfSome,
+  IfNone,
+  OnOk,
+  OnErr,
+  Some,
+  IsErrOf,
+  option_to_list,
+  [],
+  ◌++◌,
+};
 ghost use Rattle.std.specs.Io.KnownBytes.{Appends};
 ghost use Rattle.std.specs.List.{flat_map};
 ghost use Rattle.frame_codec.specs.Frames.{IsFrame, encoding, payload_size, payload_limit};
 ghost use Rattle.frame_codec.specs.declared.frame.Frame.TheVariants.{Load, Refused};
 ghost use Rattle.once_session.specs.declared.stage.Stage.TheVariants.{Fresh, Bad};
 ghost use Rattle.digit_pack.specs.Layout.{IsLayout};
-ghost use Rattle.once_session.specs.Courses.{next, reply, query_reply, is_load, table_of,
-    loaded_shape, is_layout, Steps, IsTable, HasTable};
+ghost use Rattle.once_session.specs.Courses.{
+  next,
+  reply,
+  query_reply,
+  is_load,
+  table_of,
+  loaded_shape,
+  Steps,
+  IsTable,
+  HasTable,
+};
 
 use digit_pack::{DigitStore, Flat, Layout, digits_of_records};
 use engine_io::write_out;
@@ -42,6 +74,7 @@ pub enum Stage {
 }
 
 // The layout of a Load's records, where its fields are accepted and its bytes are whole records.
+#[tactic(auto, unfolding(digit_pack::specs::Layout::is_layout))]
 fn load_layout(record_len: u16, groups: u16, width: u8, bytes: &[u8]) -> Option<Layout>
     ensures none { IfNone result (is_load record_len groups width bytes.now ≡ false) }
     ensures some { IfSome result (λ l. (is_load record_len groups width bytes.now ≡ true)

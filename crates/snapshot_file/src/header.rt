@@ -1,8 +1,8 @@
 //! A header's bytes, and the digest of a header and its records.
 
-ghost use Rattle.std.specs.Prelude.{◌≡◌, ◌≤◌, ◌++◌, length, take, IfOk, OnOk};
+ghost use Rattle.std.specs.Prelude.{◌≡◌, ◌≤◌, ◌++◌, length, take, IfOk};
 ghost use Rattle.sha2.specs.Sha256.{sha256};
-ghost use Rattle.snapshot_file.specs.Snapshots.{magic, number_bytes, header_bytes, IsHeader};
+ghost use Rattle.snapshot_file.specs.Snapshots.{magic, header_bytes, IsHeader};
 
 use crate::snapshot::Header;
 use byteorder::{ByteOrder, LittleEndian};
@@ -26,46 +26,19 @@ pub fn magic_bytes() -> [u8; MAGIC_LEN]
     *b"PIRSNAP1"
 }
 
-#[tactic(auto, unfolding(crate::specs::Snapshots::number_bytes))]
-fn put_u16(out: &mut Vec<u8>, number: u16) -> Result<(), AllocError>
-    ensures { OnOk result (out.new.items ≡ out.old.items ++ number_bytes 2 number) }
-{
-    let mut bytes = [0u8; 2];
-    LittleEndian::write_u16(&mut bytes, number);
-    out.extend_from_slice(&bytes)
-}
-
-#[tactic(auto, unfolding(crate::specs::Snapshots::number_bytes))]
-fn put_u32(out: &mut Vec<u8>, number: u32) -> Result<(), AllocError>
-    ensures { OnOk result (out.new.items ≡ out.old.items ++ number_bytes 4 number) }
-{
-    let mut bytes = [0u8; 4];
-    LittleEndian::write_u32(&mut bytes, number);
-    out.extend_from_slice(&bytes)
-}
-
-#[tactic(auto, unfolding(crate::specs::Snapshots::number_bytes))]
-fn put_u64(out: &mut Vec<u8>, number: u64) -> Result<(), AllocError>
-    ensures { OnOk result (out.new.items ≡ out.old.items ++ number_bytes 8 number) }
-{
-    let mut bytes = [0u8; 8];
-    LittleEndian::write_u64(&mut bytes, number);
-    out.extend_from_slice(&bytes)
-}
-
 /// The bytes of a header.
-#[tactic(auto, unfolding(crate::specs::Snapshots::header_bytes))]
+#[tactic(auto, unfolding(crate::specs::Snapshots::header_bytes, crate::specs::Snapshots::number_bytes))]
 pub fn header_bytes(alloc: Global, header: &Header) -> Result<Vec<u8>, AllocError>
     ensures { IfOk result (λ bytes. bytes.items ≡ header_bytes header.now) }
 {
     let mut bytes = Vec::with_capacity(alloc, MAGIC_LEN + FIELDS_LEN)?;
     bytes.extend_from_slice(&magic_bytes())?;
     bytes.extend_from_slice(&[header.width])?;
-    put_u16(&mut bytes, header.record_len)?;
-    put_u16(&mut bytes, header.groups)?;
-    put_u32(&mut bytes, header.count)?;
-    put_u16(&mut bytes, header.dimension)?;
-    put_u64(&mut bytes, header.version)?;
+    bytes.extend_from_slice(&header.record_len.to_le_bytes())?;
+    bytes.extend_from_slice(&header.groups.to_le_bytes())?;
+    bytes.extend_from_slice(&header.count.to_le_bytes())?;
+    bytes.extend_from_slice(&header.dimension.to_le_bytes())?;
+    bytes.extend_from_slice(&header.version.to_le_bytes())?;
     bytes.extend_from_slice(&header.seed)?;
     bytes.extend_from_slice(&header.publisher)?;
     Ok(bytes)

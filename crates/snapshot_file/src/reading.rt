@@ -1,11 +1,38 @@
 //! A snapshot read from a reader.
 
-ghost use Rattle.std.specs.Prelude.{◌≡◌, ◌≤◌, ◌<◌, ◌*◌, ◌++◌, ◌∷◌, [], ℕ, List, length, min,
-    vec_len, vec_capacity, IfOk, IfErr, OnOk, OnErr, IfSome};
+ghost use Rattle.std.specs.Prelude.{
+  ◌≡◌,
+  ◌≤◌,
+  ◌<◌,
+  ◌*◌,
+  ◌++◌,
+  ◌∷◌,
+  [],
+  ℕ,
+  List,
+  length,
+  min,
+  vec_len,
+  vec_capacity,
+  IfOk,
+  IfErr,
+  OnOk,
+  OnErr,
+  IfSome,
+};
 ghost use Rattle.std.specs.Io.KnownBytes.{Consumes, IsAtEnd};
 ghost use Rattle.sha2.specs.Sha256.{sha256};
-ghost use Rattle.snapshot_file.specs.Snapshots.{magic, header_of, header_bytes, hashed_bytes,
-    snapshot_bytes, records_len, IsHeader, IsAccepted, IsSnapshot};
+ghost use Rattle.snapshot_file.specs.Snapshots.{
+  magic,
+  header_of,
+  header_bytes,
+  hashed_bytes,
+  snapshot_bytes,
+  records_len,
+  IsHeader,
+  IsAccepted,
+  IsSnapshot,
+};
 ghost use Rattle.snapshot_file.specs.Verdicts.{EndsBelow, EndsKept, EndsAfter, StopsAt, MayRefuse};
 
 use crate::header::{
@@ -85,7 +112,7 @@ fn read_piece<R: Read>(
     ensures ok { OnOk result ((part : List ℕ) × (0 < length part) ×
         (length part ≤ length buffer.old)
         × Consumes (R.remaining reader.old) (R.remaining reader.new) part ×
-            (records.new.items ≡ records.old.items ++ part)) }
+        (records.new.items ≡ records.old.items ++ part)) }
     ensures err { IfErr result (λ fault. (part : List ℕ) ×
         Consumes (R.remaining reader.old) (R.remaining reader.new) part
         × EndsKept 1 fault part (R.remaining reader.new)) }
@@ -169,7 +196,7 @@ fn read_body<R: Read>(
     requires accepted { IsAccepted header.now }
     ensures ok { IfOk result (λ records. IsSnapshot header.now records.items
         × Consumes (R.remaining reader.old) (R.remaining reader.new)
-            (records.items ++ sha256 (hashed_bytes header.now records.items))
+        (records.items ++ sha256 (hashed_bytes header.now records.items))
         × IsAtEnd (R.remaining reader.new)) }
     ensures err { IfErr result (λ fault. (read : List ℕ) ×
         Consumes (R.remaining reader.old) (R.remaining reader.new) read

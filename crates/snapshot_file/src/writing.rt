@@ -24,7 +24,7 @@ pub fn write_snapshot_bytes<W: Write>(
     ensures part { IfErr result (λ fault. (n : ℕ) ×
         (n < length (snapshot_bytes header.now records.now))
         × Appends (W.contents writer.old) (W.contents writer.new)
-            (take n (snapshot_bytes header.now records.now))
+        (take n (snapshot_bytes header.now records.now))
         × (fault ≡ WriteFault.Memory → n ≡ 0)) }
 {
     let Ok(prefix) = header_bytes(alloc, header) else {
