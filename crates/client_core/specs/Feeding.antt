@@ -43,9 +43,11 @@ pub record Course : Type 0 where
   pub events : List Event
   pub fault : Option ClientFault
 
+-- before any reply
 abbrev pub start : ClientState → Course
 start c = record { state = c; sends = []; events = []; fault = None }
 
+-- after one more reply
 abbrev pub goes_on : Course → Taken → Course
 goes_on k t = record { state = t.state; sends = k.sends ++ sends_of t.reaction; events = k.events ++ events_of t.reaction; fault = fault_of t.reaction }
 
@@ -53,6 +55,7 @@ goes_on k t = record { state = t.state; sends = k.sends ++ sends_of t.reaction; 
 abbrev pub course_more : Course → Frame → Course
 course_more k f = if is_some k.fault then k else goes_on k (reaction_to_reply k.state f)
 
+-- frame after frame, up to a fault
 abbrev pub runs : Course → List Frame → Course
 runs k [] = k
 runs k (f ∷ fs) = runs (course_more k f) fs
@@ -115,6 +118,7 @@ pub record FeedsFailed (old : Client) (out : List ℕ) (events : List Event) (fa
   pub none : out ≡ []
   pub silent : events ≡ []
 
+-- what a client does with a chunk of the stream: nothing once it has failed, else what its frames bring
 abbrev pub FeedsClient : Client → List ℕ → List ℕ → List Event → Option ClientFault → Client → Type 0
 FeedsClient old piece out events fault new =
     MatchBool old.state.failed (FeedsFailed old out events fault new) (FeedsOpen old piece out events fault new)

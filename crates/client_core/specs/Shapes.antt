@@ -45,9 +45,11 @@ pub record FrameShape : Type 0 where
   pub kind : ℕ
   pub len : ℕ
 
+-- a frame's shape
 abbrev pub shape_of : Frame → FrameShape
 shape_of f = record { kind = kind_of f; len = length (payload_of f) }
 
+-- the shape of this kind and length
 abbrev pub frame_shape : ℕ → ℕ → FrameShape
 frame_shape kind len = record { kind = kind; len = len }
 
@@ -61,6 +63,7 @@ pub data BlankCall : Type 0 where
   BlankEdit : (count : ℕ) → BlankCall
   BlankPublish : BlankCall
 
+-- a call without its index
 abbrev pub blank_call : Want → BlankCall
 blank_call (Hello key) = BlankHello
 blank_call (Sync scheme) = BlankSync scheme
@@ -78,6 +81,7 @@ pub data BlankReply : Type 0 where
   BlankRefused : BlankReply
   BlankOther : BlankReply
 
+-- a reply without its words
 abbrev pub blank_reply : Frame → BlankReply
 blank_reply (frame.Welcome profile width record_len groups count version dimension seed) = BlankWelcome profile (shape width record_len groups count) dimension version seed
 blank_reply (frame.HintPart scheme version part words) = BlankPart scheme version part (length words)
@@ -95,6 +99,7 @@ pub data BlankHappening : Type 0 where
   BlankTaken : (reply : BlankReply) → BlankHappening
   BlankFailing : BlankHappening
 
+-- what happened, without indices and words
 abbrev pub blank : Happening → BlankHappening
 blank (Accepted want) = BlankAccepted (blank_call want)
 blank (TurnedDown want) = BlankTurnedDown (blank_call want)
@@ -110,6 +115,7 @@ pub data Awaited : Type 0 where
   AnAnswer : (version : ℕ) → Awaited
   ADone : Awaited
 
+-- what a client with this call outstanding waits for
 abbrev pub awaited : Call → Awaited
 awaited call.Idle = NoReply
 awaited (call.Hello key) = AWelcome
@@ -123,6 +129,7 @@ pub record HintName : Type 0 where
   pub scheme : Scheme
   pub version : ℕ
 
+-- the name of the hint held, if any
 abbrev pub hint_name : Option Hint → Option HintName
 hint_name None = None
 hint_name (Some h) = Some (record { scheme = h.scheme; version = h.version })
@@ -136,6 +143,7 @@ pub record Outline : Type 0 where
   pub call : Awaited
   pub failed : Bool
 
+-- a client's outline
 abbrev pub outline : ClientState → Outline
 outline c = record { number = c.number; known = c.known; hint = hint_name c.hint; words = length c.parts; call = awaited c.call; failed = c.failed }
 
@@ -246,6 +254,7 @@ after_refused NoReply x = fails x
 after_refused (APart s v p) x = ends (record x { words = 0 })
 after_refused _ x = ends x
 
+-- what a reply leads to, by its kind
 abbrev pub after_reply : Outline → BlankReply → Reacted
 after_reply x (BlankWelcome profile layout dimension version seed) = after_welcome x.call x profile layout dimension version seed
 after_reply x (BlankPart scheme version part count) = after_part x.call x scheme version part count
@@ -257,6 +266,7 @@ after_reply x BlankOther = fails x
 
 -- ---- any happenings
 
+-- the outline after what happened
 abbrev pub outline_after : Outline → BlankHappening → Outline
 outline_after x (BlankAccepted call) = outline_after_call call x
 outline_after x (BlankTurnedDown call) = x
@@ -284,6 +294,7 @@ abbrev pub HasWholeKey : Want → Type 0
 HasWholeKey (Hello key) = length key ≡ 32
 HasWholeKey _ = Unit {0}
 
+-- the key of a greeting has 32 bytes
 abbrev pub KeyIsWhole : Happening → Type 0
 KeyIsWhole (Accepted want) = HasWholeKey want
 KeyIsWhole _ = Unit {0}

@@ -26,6 +26,7 @@ pub record PacksAndUnpacks (l : Shape) (bytes : List ℕ) : Type 0 where
   pub accepted : FitsRecord l (record_digits l bytes)
   pub same : record_bytes l (record_digits l bytes) ≡ bytes
 
+-- a record's digits are accepted, and give its bytes back
 abbrev pub PackUnpacks : Type 0
 PackUnpacks = (l : Shape) (bytes : List ℕ) → 0 < l.width → IsRecord l bytes → PacksAndUnpacks l bytes
 
@@ -55,6 +56,7 @@ pub record RecordChange (l : Shape) (records : List (List ℕ)) (i : ℕ) (bytes
   pub elsewhere : (r j : ℕ) → r < digit_rows l → j < digit_cols l → ¬ IsPlaceOf l i r j →
       entry (digit_matrix l (slice_set records i bytes)) r j ≡ entry (digit_matrix l records) r j
 
+-- a digit matrix with one record replaced differs at the places of this record alone
 abbrev pub ReplacedRecordChangesItsPlace : Type 0
 ReplacedRecordChangesItsPlace = (l : Shape) (records : List (List ℕ)) (i : ℕ) (bytes : List ℕ) →
     IsShape l → i < l.count → i < length records → RecordChange l records i bytes

@@ -14,6 +14,7 @@ pub record Shape : Type 0 where
   pub groups : ℕ
   pub count : ℕ
 
+-- the shape of these four sizes
 abbrev pub shape : ℕ → ℕ → ℕ → ℕ → Shape
 shape width record_len groups count = record { width = width; record_len = record_len; groups = groups; count = count }
 
@@ -33,6 +34,7 @@ digit_cols l = (l.count + l.groups - 1) / l.groups
 abbrev pub column_of : Shape → ℕ → ℕ
 column_of l i = i / l.groups
 
+-- the row in which record i begins
 abbrev pub first_row : Shape → ℕ → ℕ
 first_row l i = i % l.groups * digits_per_record l
 

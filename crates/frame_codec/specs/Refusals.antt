@@ -5,6 +5,7 @@ use Rattle.frame_codec.specs.declared.frame.Frame.TheVariants.{Refused}
 use Rattle.frame_codec.specs.declared.refusal.Refusal.{Refusal}
 use Rattle.frame_codec.specs.declared.refusal.Refusal.TheVariants as refusal
 
+-- the code of a refusal in a frame
 abbrev pub code_of : Refusal → ℕ
 code_of refusal.BadFrame = 1
 code_of refusal.NotWelcome = 2

@@ -16,6 +16,7 @@ pub record RowChange (d a : WordMatrix) (i j word : ℕ) : Type 0 where
       entry (product (with_entry d i j word) a) i k ≡ (entry (product d a) i k + (word + (2 ^ 32 - entry d i j)) * entry a j k) % 2 ^ 32
   pub other_rows : (r k : ℕ) → r < d.rows → r ≢ i → k < a.cols → entry (product (with_entry d i j word) a) r k ≡ entry (product d a) r k
 
+-- a product whose left factor changes in one word changes in that row alone
 abbrev pub ChangedWordChangesItsRow : Type 0
 ChangedWordChangesItsRow = (d a : WordMatrix) (i j word : ℕ) →
     IsWhole d → a.rows ≡ d.cols → i < d.rows → j < d.cols → entry d i j < 2 ^ 32 → RowChange d a i j word

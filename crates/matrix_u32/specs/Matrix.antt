@@ -24,12 +24,15 @@ matrix_of rows cols f = record { rows = rows; cols = cols; words = list_of (rows
 abbrev pub IsWhole : WordMatrix → Type 0
 IsWhole a = length a.words ≡ a.rows * a.cols
 
+-- the words of row i
 abbrev pub row : WordMatrix → ℕ → List ℕ
 row a i = list_of a.cols (λ j. entry a i j)
 
+-- the words of column j
 abbrev pub column : WordMatrix → ℕ → List ℕ
 column a j = list_of a.rows (λ i. entry a i j)
 
+-- the matrix with rows and columns exchanged
 abbrev pub transpose : WordMatrix → WordMatrix
 transpose a = matrix_of a.cols a.rows (λ i j. entry a j i)
 

@@ -37,6 +37,7 @@ pub record HasHintSizes (s : Scheme) (p : Plan) (records : List (List ℕ)) : Ty
   pub cols : (hint_matrix s p records).cols ≡ p.dimension
   pub whole : IsWhole (hint_matrix s p records)
 
+-- every hint has the rows and columns of its scheme
 abbrev pub HintsHaveTheirSizes : Type 0
 HintsHaveTheirSizes = (s : Scheme) (p : Plan) (records : List (List ℕ)) → HasHintSizes s p records
 

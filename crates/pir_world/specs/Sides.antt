@@ -50,6 +50,7 @@ has_client (step.ToClient k most) n = nat_lt k n
 abbrev pub prefix : ℕ → List ℕ → List ℕ
 prefix most bytes = take (min most (length bytes)) bytes
 
+-- the bytes that a delivery leaves
 abbrev pub rest : ℕ → List ℕ → List ℕ
 rest most bytes = drop (min most (length bytes)) bytes
 

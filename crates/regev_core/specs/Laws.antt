@@ -28,6 +28,7 @@ pub record DifferAtPlaces (w place other : ℕ) (c d : List ℕ) : Type 0 where
   pub there : slice_index d other ≡ (slice_index c other + delta w) % 2 ^ 32
   pub elsewhere : (k : ℕ) → k < length c → k ≢ place → k ≢ other → slice_index c k ≡ slice_index d k
 
+-- two ciphers of the same secret and noise, for two places, differ there alone, by delta
 abbrev pub CiphersDifferAtTheirPlaces : Type 0
 CiphersDifferAtTheirPlaces = (w : ℕ) (a : WordMatrix) (s : List ℕ) (e : List ℤ) (place other : ℕ) →
     place < a.rows → other < a.rows → place ≢ other → DifferAtPlaces w place other (cipher w a s e place) (cipher w a s e other)

@@ -88,6 +88,7 @@ abbrev pub is_publisher : Standing → Bool
 is_publisher Publisher = true
 is_publisher _ = false
 
+-- whether a session is closed
 abbrev pub is_closed : Standing → Bool
 is_closed Closed = true
 is_closed _ = false
@@ -151,6 +152,7 @@ abbrev pub has_asked_part : Setting → History → Option Scheme → ℕ → �
 has_asked_part x h None version part = false
 has_asked_part x h (Some scheme) version part = if version == current_version h then has_part x scheme h.current part else false
 
+-- whether a query of these words is one to be answered
 abbrev pub has_asked_query : Setting → History → Option Scheme → ℕ → List ℕ → Bool
 has_asked_query x h None version words = false
 has_asked_query x h (Some scheme) version words =

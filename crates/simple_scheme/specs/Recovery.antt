@@ -22,6 +22,7 @@ RecordFrom l count answer digits outcome =
     ⊎ ((e ≡ BadDigits) × (length answer ≡ count) × (¬ FitsRecord l digits))
     ⊎ ((e ≡ Memory) × (length answer ≡ count)))
 
+-- what comes of an answer to the query for record i, read under a hint
 abbrev pub ReadsRecord : Shape → WordMatrix → List ℕ → ℕ → ℕ → List ℕ → Result (Vec ℕ Global) RecoverError → Type 0
 ReadsRecord l hint seed number i answer outcome = RecordFrom l (digit_rows l) answer (reading l hint seed number i answer) outcome
 
