@@ -15,16 +15,17 @@ use Rattle.client_core.specs.Endings.{Ends}
 use Rattle.client_core.proofs.EndingLaws.{first_event_ends_the_call, feeding_spends_no_number}
 use Rattle.session_engines.specs.declared.conversing.ConverseFault.{ConverseFault}
 use Rattle.session_engines.specs.declared.conversing.ConverseFault.TheVariants.{Ended, Read, Write, BadWelcome, BadReply, Memory, TurnsUsedUp, Failed}
-use Rattle.session_engines.specs.Conversing.{Waits, Receives, NeverReceives, Converses}
+use Rattle.session_engines.specs.Conversing.{WaitsForReply, Receives, NeverReceives, Converses}
 
 same_number : (old new : Client) → new ≡ old → new.state.number ≡ old.state.number
 same_number old new e = ap (λ (c : Client). c.state.number) e
 
-waits_number : (old : Client) (read out : List ℕ) (new : Client) → Waits old read out new → new.state.number ≡ old.state.number
+waits_number : (old : Client) (read out : List ℕ) (new : Client) → WaitsForReply old read out new → new.state.number ≡ old.state.number
 waits_number old read out new (inl none) = same_number old new none.2
 waits_number old read out new (inr fed) = feeding_spends_no_number old new read out [] _ fed
 
-receives_number : (old : Client) (turns : ℕ) (result : Result Event ConverseFault) (read out : List ℕ) (left : Option (List ℕ)) (new : Client) → Receives old turns result read out left new → new.state.number ≡ old.state.number
+receives_number : (old : Client) (turns : ℕ) (result : Result Event ConverseFault) (read out : List ℕ) (left : Option (List ℕ)) (new : Client) →
+    Receives old turns result read out left new → new.state.number ≡ old.state.number
 receives_number old turns (Ok event) read out left new h = feeding_spends_no_number old new read out _ _ h.2
 receives_number old turns (Err Ended) read out left new h = waits_number old read out new h.0
 receives_number old turns (Err Read) read out left new h = waits_number old read out new h
@@ -35,7 +36,8 @@ receives_number old turns (Err Memory) read out left new h = feeding_spends_no_n
 receives_number old turns (Err TurnsUsedUp) read out left new h = waits_number old read out new h.0
 receives_number old turns (Err Failed) read out left new h = feeding_spends_no_number old new read out _ _ h
 
-never_number : (old : Client) (first : List ℕ) (result : Result Event ConverseFault) (read out : List ℕ) (new : Client) → NeverReceives old first result read out new → new.state.number ≡ old.state.number
+never_number : (old : Client) (first : List ℕ) (result : Result Event ConverseFault) (read out : List ℕ) (new : Client) →
+    NeverReceives old first result read out new → new.state.number ≡ old.state.number
 never_number old first (Err Write) read out new h = same_number old new h.2
 never_number old first (Err Memory) read out new h = same_number old new h.2
 never_number old first (Ok event) read out new h = absurd h
@@ -47,7 +49,8 @@ never_number old first (Err TurnsUsedUp) read out new h = absurd h
 never_number old first (Err Failed) read out new h = absurd h
 
 -- no conversation spends a number
-pub conversing_spends_no_number : (old : Client) (first : List ℕ) (turns : ℕ) (result : Result Event ConverseFault) (read out : List ℕ) (left : Option (List ℕ)) (new : Client)
+pub conversing_spends_no_number : (old : Client) (first : List ℕ) (turns : ℕ) (result : Result Event ConverseFault) (read out : List ℕ)
+    (left : Option (List ℕ)) (new : Client)
     → Converses old first turns result read out left new → new.state.number ≡ old.state.number
 conversing_spends_no_number old first turns result read out left new (inl h) = never_number old first result read out new h
 conversing_spends_no_number old first turns result read out left new (inr h) = receives_number old turns result read h.0 left new h.2
@@ -56,7 +59,8 @@ conversing_spends_no_number old first turns result read out left new (inr h) = r
 pub event_ends_the_call : (old : Client) (first : List ℕ) (turns : ℕ) (event : Event) (read out : List ℕ) (left : Option (List ℕ)) (new : Client)
     → Converses old first turns (Ok event) read out left new → Ends old.state.call event
 event_ends_the_call old first turns event read out left new (inl h) = absurd h
-event_ends_the_call old first turns event read out left new (inr h) = let receives = h.2 in first_event_ends_the_call old new read h.0 event receives.0 receives.1 receives.2
+event_ends_the_call old first turns event read out left new (inr h) = let receives =
+    h.2 in first_event_ends_the_call old new read h.0 event receives.0 receives.1 receives.2
 
 -- ---- calls
 
@@ -93,13 +97,18 @@ calling_spends_no_number items want old new (Ok v) calm a r = accepted_number wa
 calling_spends_no_number items want old new (Err e) calm a r = refused_number want old new e calm r
 
 -- the record that an ask ends with is the one asked for
-pub asked_and_retrieved : {V : Type 0} → (items : V → List ℕ) (i : ℕ) (old mid : ClientState) (new : Client) (result : Result V CallFault) (e : Event) (index version : ℕ) (bytes : List ℕ) → IsOk result
-    → IfOk result (λ v. Accepts old (Ask i) mid (items v)) → e ≡ Retrieved index version bytes → Ends mid.call e → EndedWith mid.call e new → (index ≡ i) × Asked i (Retrieved index version bytes) new
+pub asked_and_retrieved : {V : Type 0} →
+    (items : V → List ℕ) (i : ℕ) (old mid : ClientState) (new : Client) (result : Result V CallFault) (e : Event) (index version : ℕ) (bytes : List ℕ) →
+    IsOk result
+    → IfOk result (λ v. Accepts old (Ask i) mid (items v)) → e ≡ Retrieved index version bytes → Ends mid.call e → EndedWith mid.call e new → (index ≡ i)
+        × Asked i (Retrieved index version bytes) new
 asked_and_retrieved items i old mid new (Err fault) e index version bytes ok a is ends came = absurd cc
 asked_and_retrieved items i old mid new (Ok v) e index version bytes ok a is ends came =
     let asked : mid.call ≡ call.Ask i (scheme_held old.hint) (known_version old.known) old.number = ap (λ (c : ClientState). c.call) a.state in
     let here : Ends mid.call (Retrieved index version bytes) = let P : Event → Type 0 = λ x. Ends mid.call x in subst P is ends in
-    let own : Ends (call.Ask i (scheme_held old.hint) (known_version old.known) old.number) (Retrieved index version bytes) = let P : Call → Type 0 = λ x. Ends x (Retrieved index version bytes) in subst P asked here in
+    let own : Ends (call.Ask i (scheme_held old.hint) (known_version old.known) old.number) (Retrieved index version bytes) = let P : Call →
+        Type 0 = λ x. Ends x (Retrieved index version bytes) in subst P asked here in
     let left : EndedWith mid.call (Retrieved index version bytes) new = let P : Event → Type 0 = λ x. EndedWith mid.call x new in subst P is came in
-    let ended : EndedWith (call.Ask i (scheme_held old.hint) (known_version old.known) old.number) (Retrieved index version bytes) new = let P : Call → Type 0 = λ x. EndedWith x (Retrieved index version bytes) new in subst P asked left in
+    let ended : EndedWith (call.Ask i (scheme_held old.hint) (known_version old.known) old.number) (Retrieved index version bytes) new = let P : Call →
+        Type 0 = λ x. EndedWith x (Retrieved index version bytes) new in subst P asked left in
     (own.0, (scheme_held old.hint, known_version old.known, old.number, ended))

@@ -11,7 +11,7 @@ use Rattle.client_core.specs.declared.state.Event.{Event}
 use Rattle.client_core.specs.Feeding.{Client}
 use Rattle.session_engines.specs.Conversing.{Converses}
 use Rattle.client_core.specs.Calls.{Want, call_frame, state_after_call, Accepts}
-use Rattle.client_commands.specs.Sent.{Sends}
+use Rattle.client_commands.specs.Sent.{SendsCommand}
 
 -- the frame of an accepted call
 abbrev pub frame_of : Want → ClientState → Frame
@@ -25,19 +25,21 @@ abbrev pub Went : Option (List ℕ) → Option (List ℕ) → Frame → Type 0
 Went old new frame = (said : List ℕ) × Appends old new (encoding frame ++ said)
 
 -- a call that was made sent its frame
-pub call_went : {V : Type 0} → (items : V → List ℕ) (want : Want) (old new : ClientState) (result : Result V CallFault) (before after : Option (List ℕ)) → IsOk result
-    → IfOk result (λ v. Accepts old want new (items v)) → IfOk result (λ v. (said : List ℕ) × Appends before after (items v ++ said)) → Went before after (frame_of want old)
+pub call_went : {V : Type 0} → (items : V → List ℕ) (want : Want) (old new : ClientState) (result : Result V CallFault) (before after : Option (List ℕ)) →
+    IsOk result
+    → IfOk result (λ v. Accepts old want new (items v)) → IfOk result (λ v. (said : List ℕ) × Appends before after (items v ++ said)) →
+        Went before after (frame_of want old)
 call_went items want old new (Err fault) before after ok a s = absurd cc
 call_went items want old new (Ok v) before after ok a s =
     (s.0, subst (λ (x : List ℕ). Appends before after (x ++ s.0)) (accepted_bytes want old new (items v) a) s.1)
 
 -- two frames, one after the other
-pub both_went : (first second : Frame) (a b c : Option (List ℕ)) → Went a b first → Went b c second → Sends a c first second
+pub both_went : (first second : Frame) (a b c : Option (List ℕ)) → Went a b first → Went b c second → SendsCommand a c first second
 both_went first second a b c p q =
     (p.0, q.0, subst (Appends a c) (append_assoc (encoding first) p.0 (encoding second ++ q.0)) (Appends-trans a b c _ _ p.1 q.1))
 
 -- and more after them
-pub more_went : (first second third : Frame) (a b c : Option (List ℕ)) → Sends a b first second → Went b c third → Sends a c first second
+pub more_went : (first second third : Frame) (a b c : Option (List ℕ)) → SendsCommand a b first second → Went b c third → SendsCommand a c first second
 more_went first second third a b c p q =
     let beyond : List ℕ = encoding third ++ q.0 in
     let sent = Appends-trans a b c _ _ p.2 q.1 in (
@@ -45,7 +47,8 @@ more_went first second third a b c p q =
       p.1 ++ beyond,
       subst (Appends a c)
           (append_assoc (encoding first) (p.0 ++ (encoding second ++ p.1)) beyond
-          ∙ ap (λ (x : List ℕ). encoding first ++ x) (append_assoc p.0 (encoding second ++ p.1) beyond ∙ ap (λ (x : List ℕ). p.0 ++ x) (append_assoc (encoding second) p.1 beyond)))
+          ∙ ap (λ (x : List ℕ). encoding first ++ x) (append_assoc p.0 (encoding second ++ p.1) beyond
+              ∙ ap (λ (x : List ℕ). p.0 ++ x) (append_assoc (encoding second) p.1 beyond)))
           sent,
     )
 

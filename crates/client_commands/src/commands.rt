@@ -8,7 +8,7 @@ ghost use Rattle.pir_schemes.specs.Schemes.{scheme_byte};
 ghost use Rattle.pir_schemes.specs.Plans.{client_profile};
 ghost use Rattle.frame_codec.specs.declared.frame.Frame.TheVariants as frame;
 ghost use Rattle.client_commands.specs.Done.{EndedWith, Asked, IsSaid, IsTrueOf};
-ghost use Rattle.client_commands.specs.Sent.{Sends};
+ghost use Rattle.client_commands.specs.Sent.{SendsCommand};
 
 use crate::connection::exchange;
 use client_core::{ClientCore, Event, Scheme};
@@ -53,7 +53,7 @@ pub fn get<K: Kernel, R: Read, W: Write>(
     index: u32,
 ) -> Result<Retrieved, Failure>
     ensures sends { OnOk result ((version : ℕ) ×
-        Sends (W.contents writer.old) (W.contents writer.new)
+        SendsCommand (W.contents writer.old) (W.contents writer.new)
         (frame.Hello client_profile (replicate 32 0))
         (frame.HintAsk (scheme_byte scheme) version 0)) }
     ensures record { IfOk result (λ r. (r.index ≡ index) ×
@@ -100,7 +100,7 @@ pub fn put<K: Kernel, R: Read, W: Write>(
     bytes: &[u8],
 ) -> Result<u64, Failure>
     requires { length bytes.now ≤ 65535 }
-    ensures sends { OnOk result (Sends (W.contents writer.old) (W.contents writer.new)
+    ensures sends { OnOk result (SendsCommand (W.contents writer.old) (W.contents writer.new)
         (frame.Hello client_profile key) (frame.Edit index bytes.now)) }
     ensures version { IfOk result (λ version. EndedWith (Call.Edit index bytes.now)
         (Done version) client.new) }
@@ -127,7 +127,7 @@ pub fn publish<K: Kernel, R: Read, W: Write>(
     writer: &mut W,
     key: [u8; 32],
 ) -> Result<u64, Failure>
-    ensures sends { OnOk result (Sends (W.contents writer.old) (W.contents writer.new)
+    ensures sends { OnOk result (SendsCommand (W.contents writer.old) (W.contents writer.new)
         (frame.Hello client_profile key) frame.Publish) }
     ensures version { IfOk result (λ version. EndedWith Call.Publish (Done version) client.new) }
     ensures said { IfErr result (λ failure. IsTrueOf failure client.new) }

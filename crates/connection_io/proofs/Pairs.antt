@@ -8,7 +8,8 @@ use Rattle.connection_io.specs.Calls.{Read, ReadFails, Write, Sends, SendsUntilF
 use Rattle.connection_io.specs.Pairs.{PairDoes}
 
 -- from one state of a pair to another: these bytes were read and those written
-pub record Moved {R W : Type 0} (remaining : R → Option (List ℕ)) (contents : W → Option (List ℕ)) (a : Pair R W) (read out : List ℕ) (b : Pair R W) : Type 0 where
+pub record Moved {R W : Type 0} (remaining : R → Option (List ℕ)) (contents : W → Option (List ℕ)) (a : Pair R W) (read out : List ℕ)
+    (b : Pair R W) : Type 0 where
   pub taken : Consumes (remaining a.reader.now) (remaining b.reader.now) read
   pub given : Appends (contents a.writer.now) (contents b.writer.now) out
   pub same_reader : b.reader.ghost_name ≡ a.reader.ghost_name
@@ -21,7 +22,8 @@ record Wrote {R W : Type 0} (remaining : R → Option (List ℕ)) (contents : W 
   same_reader : b.reader.ghost_name ≡ a.reader.ghost_name
   same_writer : b.writer.ghost_name ≡ a.writer.ghost_name
 
-wrote_parts : {R W : Type 0} (remaining : R → Option (List ℕ)) (contents : W → Option (List ℕ)) (a : Pair R W) (parts : List (List ℕ)) (b : Pair R W) → FoldsTo (PairDoes remaining contents) a (map Write parts) b → Wrote remaining contents a (concat parts) b
+wrote_parts : {R W : Type 0} (remaining : R → Option (List ℕ)) (contents : W → Option (List ℕ)) (a : Pair R W) (parts : List (List ℕ)) (b : Pair R W) →
+    FoldsTo (PairDoes remaining contents) a (map Write parts) b → Wrote remaining contents a (concat parts) b
 wrote_parts remaining contents a [] b e =
     subst (λ (q : Pair _ _). Wrote remaining contents a [] q) e
     (record { left = refl; held = Appends-nil (contents a.writer.now); same_reader = refl; same_writer = refl })
@@ -35,14 +37,17 @@ wrote_parts remaining contents a (p ∷ ps) b f =
       same_writer = rest.same_writer ∙ one.same_writer;
     }
 
-wrote : {R W : Type 0} (remaining : R → Option (List ℕ)) (contents : W → Option (List ℕ)) (a : Pair R W) (bytes : List ℕ) (b : Pair R W) → Sends (PairDoes remaining contents) a bytes b → Wrote remaining contents a bytes b
+wrote : {R W : Type 0} (remaining : R → Option (List ℕ)) (contents : W → Option (List ℕ)) (a : Pair R W) (bytes : List ℕ) (b : Pair R W) →
+    Sends (PairDoes remaining contents) a bytes b → Wrote remaining contents a bytes b
 wrote remaining contents a bytes b s = subst (λ (x : List ℕ). Wrote remaining contents a x b) s.1 (wrote_parts remaining contents a s.0 b s.2)
 
 pub moved_none : {R W : Type 0} (remaining : R → Option (List ℕ)) (contents : W → Option (List ℕ)) (a : Pair R W) → Moved remaining contents a [] [] a
-moved_none remaining contents a = record { taken = Consumes-nil (remaining a.reader.now); given = Appends-nil (contents a.writer.now); same_reader = refl; same_writer = refl }
+moved_none remaining contents a = record { taken = Consumes-nil (remaining a.reader.now); given = Appends-nil (contents a.writer.now); same_reader = refl;
+    same_writer = refl }
 
 -- a read of some bytes, or of none
-pub moved_read : {R W : Type 0} (remaining : R → Option (List ℕ)) (contents : W → Option (List ℕ)) (a b c : Pair R W) (read out piece : List ℕ) (room : ℕ) → Moved remaining contents a read out b → PairDoes remaining contents b (Read room piece) c
+pub moved_read : {R W : Type 0} (remaining : R → Option (List ℕ)) (contents : W → Option (List ℕ)) (a b c : Pair R W) (read out piece : List ℕ) (room : ℕ) →
+    Moved remaining contents a read out b → PairDoes remaining contents b (Read room piece) c
     → Moved remaining contents a (read ++ piece) out c
 moved_read remaining contents a b c read out piece room i d = record {
   taken = Consumes-trans (remaining a.reader.now) (remaining b.reader.now) (remaining c.reader.now) read piece i.taken d.moves.0;
@@ -51,15 +56,18 @@ moved_read remaining contents a b c read out piece room i d = record {
   same_writer = d.same_writer ∙ i.same_writer;
 }
 
-pub moved_end : {R W : Type 0} (remaining : R → Option (List ℕ)) (contents : W → Option (List ℕ)) (a b c : Pair R W) (read out : List ℕ) (room : ℕ) → Moved remaining contents a read out b → PairDoes remaining contents b (Read room []) c
+pub moved_end : {R W : Type 0} (remaining : R → Option (List ℕ)) (contents : W → Option (List ℕ)) (a b c : Pair R W) (read out : List ℕ) (room : ℕ) →
+    Moved remaining contents a read out b → PairDoes remaining contents b (Read room []) c
     → Moved remaining contents a read out c
 moved_end remaining contents a b c read out room i d =
     subst (λ (x : List ℕ). Moved remaining contents a x out c) (append-nil read) (moved_read remaining contents a b c read out [] room i d)
 
-pub at_end : {R W : Type 0} (remaining : R → Option (List ℕ)) (contents : W → Option (List ℕ)) (b c : Pair R W) (room : ℕ) → PairDoes remaining contents b (Read room []) c → 0 < room → IsAtEnd (remaining c.reader.now)
+pub at_end : {R W : Type 0} (remaining : R → Option (List ℕ)) (contents : W → Option (List ℕ)) (b c : Pair R W) (room : ℕ) →
+    PairDoes remaining contents b (Read room []) c → 0 < room → IsAtEnd (remaining c.reader.now)
 at_end remaining contents b c room d some = d.moves.1 refl some
 
-pub moved_unread : {R W : Type 0} (remaining : R → Option (List ℕ)) (contents : W → Option (List ℕ)) (a b c : Pair R W) (read out : List ℕ) → Moved remaining contents a read out b → PairDoes remaining contents b ReadFails c
+pub moved_unread : {R W : Type 0} (remaining : R → Option (List ℕ)) (contents : W → Option (List ℕ)) (a b c : Pair R W) (read out : List ℕ) →
+    Moved remaining contents a read out b → PairDoes remaining contents b ReadFails c
     → Moved remaining contents a read out c
 moved_unread remaining contents a b c read out i d = record {
   taken = Consumes-kept (remaining a.reader.now) (remaining b.reader.now) (remaining c.reader.now) read i.taken d.moves.0;
@@ -68,7 +76,8 @@ moved_unread remaining contents a b c read out i d = record {
   same_writer = d.same_writer ∙ i.same_writer;
 }
 
-pub moved_sent : {R W : Type 0} (remaining : R → Option (List ℕ)) (contents : W → Option (List ℕ)) (a b c : Pair R W) (read out bytes : List ℕ) → Moved remaining contents a read out b → Sends (PairDoes remaining contents) b bytes c
+pub moved_sent : {R W : Type 0} (remaining : R → Option (List ℕ)) (contents : W → Option (List ℕ)) (a b c : Pair R W) (read out bytes : List ℕ) →
+    Moved remaining contents a read out b → Sends (PairDoes remaining contents) b bytes c
     → Moved remaining contents a read (out ++ bytes) c
 moved_sent remaining contents a b c read out bytes i s =
     let w = wrote remaining contents b bytes c s in
@@ -80,13 +89,16 @@ moved_sent remaining contents a b c read out bytes i s =
     }
 
 -- writes leave what the reader has
-pub sent_left : {R W : Type 0} (remaining : R → Option (List ℕ)) (contents : W → Option (List ℕ)) (b c : Pair R W) (bytes : List ℕ) → Sends (PairDoes remaining contents) b bytes c → remaining c.reader.now ≡ remaining b.reader.now
+pub sent_left : {R W : Type 0} (remaining : R → Option (List ℕ)) (contents : W → Option (List ℕ)) (b c : Pair R W) (bytes : List ℕ) →
+    Sends (PairDoes remaining contents) b bytes c → remaining c.reader.now ≡ remaining b.reader.now
 sent_left remaining contents b c bytes s = (wrote remaining contents b bytes c s).left
 
-pub faulty_left : {R W : Type 0} (remaining : R → Option (List ℕ)) (contents : W → Option (List ℕ)) (b c : Pair R W) (bytes : List ℕ) → SendsUntilFault (PairDoes remaining contents) b bytes c → remaining c.reader.now ≡ remaining b.reader.now
+pub faulty_left : {R W : Type 0} (remaining : R → Option (List ℕ)) (contents : W → Option (List ℕ)) (b c : Pair R W) (bytes : List ℕ) →
+    SendsUntilFault (PairDoes remaining contents) b bytes c → remaining c.reader.now ≡ remaining b.reader.now
 faulty_left remaining contents b c bytes s = s.2.moves.0 ∙ sent_left remaining contents b s.0 bytes s.1
 
-pub moved_faulty : {R W : Type 0} (remaining : R → Option (List ℕ)) (contents : W → Option (List ℕ)) (a b c : Pair R W) (read out bytes : List ℕ) → Moved remaining contents a read out b → SendsUntilFault (PairDoes remaining contents) b bytes c
+pub moved_faulty : {R W : Type 0} (remaining : R → Option (List ℕ)) (contents : W → Option (List ℕ)) (a b c : Pair R W) (read out bytes : List ℕ) →
+    Moved remaining contents a read out b → SendsUntilFault (PairDoes remaining contents) b bytes c
     → Moved remaining contents a read (out ++ bytes) c
 moved_faulty remaining contents a b c read out bytes i s =
     let j = moved_sent remaining contents a b s.0 read out bytes i s.1 in
@@ -99,12 +111,16 @@ moved_faulty remaining contents a b c read out bytes i s =
     }
 
 -- what a caller knows of the reader and the writer that it joined, once the pair is gone
-pub finally_taken : {R W : Type 0} (remaining : R → Option (List ℕ)) (contents : W → Option (List ℕ)) (a b : Pair R W) (read out : List ℕ) (old new : R) → Moved remaining contents a read out b → a.reader.now ≡ old → (a.reader.ghost_name ≡ b.reader.ghost_name → new ≡ b.reader.now)
+pub finally_taken : {R W : Type 0} (remaining : R → Option (List ℕ)) (contents : W → Option (List ℕ)) (a b : Pair R W) (read out : List ℕ) (old new : R) →
+    Moved remaining contents a read out b → a.reader.now ≡ old → (a.reader.ghost_name ≡ b.reader.ghost_name → new ≡ b.reader.now)
     → Consumes (remaining old) (remaining new) read
 finally_taken remaining contents a b read out old new i is e =
-    subst (λ r. Consumes (remaining r) (remaining new) read) is (subst (λ r. Consumes (remaining a.reader.now) (remaining r) read) (sym (e (sym i.same_reader))) i.taken)
+    subst (λ r. Consumes (remaining r) (remaining new) read) is
+        (subst (λ r. Consumes (remaining a.reader.now) (remaining r) read) (sym (e (sym i.same_reader))) i.taken)
 
-pub finally_given : {R W : Type 0} (remaining : R → Option (List ℕ)) (contents : W → Option (List ℕ)) (a b : Pair R W) (read out : List ℕ) (old new : W) → Moved remaining contents a read out b → a.writer.now ≡ old → (a.writer.ghost_name ≡ b.writer.ghost_name → new ≡ b.writer.now)
+pub finally_given : {R W : Type 0} (remaining : R → Option (List ℕ)) (contents : W → Option (List ℕ)) (a b : Pair R W) (read out : List ℕ) (old new : W) →
+    Moved remaining contents a read out b → a.writer.now ≡ old → (a.writer.ghost_name ≡ b.writer.ghost_name → new ≡ b.writer.now)
     → Appends (contents old) (contents new) out
 finally_given remaining contents a b read out old new i is e =
-    subst (λ w. Appends (contents w) (contents new) out) is (subst (λ w. Appends (contents a.writer.now) (contents w) out) (sym (e (sym i.same_writer))) i.given)
+    subst (λ w. Appends (contents w) (contents new) out) is
+        (subst (λ w. Appends (contents a.writer.now) (contents w) out) (sym (e (sym i.same_writer))) i.given)

@@ -3,7 +3,7 @@ use Rattle.std.specs.Prelude.{◌<◌, ◌≤◌, ℕ, List, length}
 use Rattle.connection_io.specs.Calls.{Call, Read}
 
 -- the piece that was read, and the bytes that were written for it before the next read
-pub record Turn : Type 0 where
+pub record CallTurn : Type 0 where
   pub piece : List ℕ
   pub output : List ℕ
 

@@ -46,7 +46,8 @@ some_digits l s =
     let bytes : 0 < l.record_len = s.record_len in
     le-div 1 (8 * l.record_len + l.width - 1) l.width wide (omega arith)
 
-pub record_change : (l : Shape) (records : List (List ℕ)) (i : ℕ) (bytes : List ℕ) → IsShape l → i < l.count → i < length records → RecordChange l records i bytes
+pub record_change : (l : Shape) (records : List (List ℕ)) (i : ℕ) (bytes : List ℕ) → IsShape l → i < l.count → i < length records →
+    RecordChange l records i bytes
 record_change l records i bytes s p q = record {
   here = λ d h.
       entry-record l (slice_set records i bytes) i d s p h

@@ -90,7 +90,8 @@ pub small_digits : (l : Shape) (bytes : List ℕ) → IsLayout l → All (λ d. 
 small_digits l bytes h =
     All-from_get_or (λ d. d < 1024) (record_digits l bytes) 0 (λ k p.
     let inside : k < digits_per_record l = omega (arith, p, length-record_digits l bytes) in
-    let is : slice_index (record_digits l bytes) k ≡ digit l.width (number_of 8 bytes) k = at-list_of (digits_per_record l) (λ t. digit l.width (number_of 8 bytes) t) k inside in
+    let is : slice_index (record_digits l bytes) k ≡ digit l.width (number_of 8 bytes) k =
+        at-list_of (digits_per_record l) (λ t. digit l.width (number_of 8 bytes) t) k inside in
     let ten : l.width ≤ 10 = omega arith in
     let fits : 2 ^ l.width ≤ 2 ^ 10 = pow-le-pow_right (lit< tt) ten in
     omega (arith, is, digit-lt l.width (number_of 8 bytes) k, fits))
@@ -99,7 +100,8 @@ small_digits l bytes h =
 pub set-list_of : {X : Type 0} (n i : ℕ) (f g : ℕ → X) (v d : X) → i < n → g i ≡ v → ((k : ℕ) → k < n → k ≢ i → g k ≡ f k) → list_of n g ≡ set (list_of n f) i v
 set-list_of n i f g v d h e others =
     sym (fill_by_all g (set (list_of n f) i v) n d (length-set (list_of n f) i v ∙ length-list_of n f) (λ k l. elim (cases_eq k i) [
-      | inl same ↦ ap (λ k. get_or (set (list_of n f) i v) k d) same ∙ get_or-set_same (list_of n f) i v d (omega (arith, h, length-list_of n f)) ∙ sym e ∙ ap g (sym same)
+      | inl same ↦ ap (λ k. get_or (set (list_of n f) i v) k d) same ∙ get_or-set_same (list_of n f) i v d (omega (arith, h, length-list_of n f)) ∙ sym e
+          ∙ ap g (sym same)
       | inr apart ↦ get_or-set_other (list_of n f) i k v d apart ∙ at-list_of_any n f k d l ∙ sym (others k l apart)
     ]))
 
@@ -110,7 +112,8 @@ part_is bytes a n room =
     ap (λ m. take m (drop a bytes)) (sym cut) ∙ piece-list_of bytes a n room
 
 -- a record that is written over changes no other
-pub written_record : (l : Shape) (bytes ys : List ℕ) (i len n : ℕ) → len ≡ l.record_len → n ≡ len → length bytes ≡ l.count * l.record_len → i < l.count → length ys ≡ len →
+pub written_record : (l : Shape) (bytes ys : List ℕ) (i len n : ℕ) → len ≡ l.record_len → n ≡ len → length bytes ≡ l.count * l.record_len → i < l.count →
+    length ys ≡ len →
     records_in l (put_mid (i * len) n bytes ys) ≡ set (records_in l bytes) i ys
 written_record l bytes ys i len n el en count inside long =
     let size : ℕ = l.record_len in

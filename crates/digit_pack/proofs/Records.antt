@@ -58,19 +58,22 @@ pub entry-record : (l : Shape) (records : List (List ℕ)) (i d : ℕ) → IsSha
     entry (digit_matrix l records) (first_row l i + d) (column_of l i) ≡ digit l.width (number_of 8 (record_at records i)) d
 entry-record l records i d s p q =
     entry-matrix_of (digit_rows l) (digit_cols l) (digit_at l records) _ _ (row_inside l i d s.groups q) (column_inside l i s.groups p)
-    ∙ ap (λ k. digit l.width (number_of 8 (record_at records (i / l.groups * l.groups + k))) ((i % l.groups * digits_per_record l + d) % digits_per_record l)) (div-mul-add (i % l.groups) (digits_per_record l) d q)
+    ∙ ap (λ k. digit l.width (number_of 8 (record_at records (i / l.groups * l.groups + k))) ((i % l.groups * digits_per_record l + d) % digits_per_record l))
+        (div-mul-add (i % l.groups) (digits_per_record l) d q)
     ∙ ap (λ k. digit l.width (number_of 8 (record_at records k)) ((i % l.groups * digits_per_record l + d) % digits_per_record l)) (div-add-mod' i l.groups)
     ∙ ap (λ k. digit l.width (number_of 8 (record_at records i)) k) (mod-mul-add (i % l.groups) (digits_per_record l) d q)
 
 -- the digits of a word stand below one another
-pub entry-decomposed : (w : ℕ) (a : WordMatrix) (k t j : ℕ) → t < split_count w → k < a.rows → j < a.cols → entry (decomposed w a) (k * split_count w + t) j ≡ digit w (entry a k j) t
+pub entry-decomposed : (w : ℕ) (a : WordMatrix) (k t j : ℕ) → t < split_count w → k < a.rows → j < a.cols →
+    entry (decomposed w a) (k * split_count w + t) j ≡ digit w (entry a k j) t
 entry-decomposed w a k t j p q r =
     let row_in : k * split_count w + t < a.rows * split_count w = omega (arith, mul-add-lt k (split_count w) t a.rows q p) in
     entry-matrix_of (a.rows * split_count w) a.cols (decomposed_at w a) _ j row_in r
     ∙ ap (λ m. digit w (entry a m j) ((k * split_count w + t) % split_count w)) (div-mul-add k (split_count w) t p)
     ∙ ap (λ m. digit w (entry a k j) m) (mod-mul-add k (split_count w) t p)
 
-recomposed_at-decomposed : (w : ℕ) (a : WordMatrix) (k j : ℕ) → 0 < w → k < a.rows → j < a.cols → entry a k j < 2 ^ 32 → recomposed_at w (decomposed w a) k j ≡ entry a k j
+recomposed_at-decomposed : (w : ℕ) (a : WordMatrix) (k j : ℕ) → 0 < w → k < a.rows → j < a.cols → entry a k j < 2 ^ 32 →
+    recomposed_at w (decomposed w a) k j ≡ entry a k j
 recomposed_at-decomposed w a k j h q r b =
     ap (joined w) (same-list_of (split_count w) _ (λ t. digit w (entry a k j) t) (λ t p. entry-decomposed w a k t j p q r))
     ∙ join_split w (entry a k j) h b
@@ -79,7 +82,8 @@ some_columns : (i rows cols : ℕ) → i < rows * cols → 0 < cols
 some_columns i rows zero l = absurd (omega arith)
 some_columns i rows (suc cols) l = omega arith
 
-pub recompose_decompose : (w : ℕ) (a : WordMatrix) → 0 < w → length a.words ≡ a.rows * a.cols → All (λ word. word < 2 ^ 32) a.words → recomposed w (decomposed w a) ≡ a
+pub recompose_decompose : (w : ℕ) (a : WordMatrix) → 0 < w → length a.words ≡ a.rows * a.cols → All (λ word. word < 2 ^ 32) a.words →
+    recomposed w (decomposed w a) ≡ a
 recompose_decompose w a h e small =
     let some : 0 < split_count w = split_some w h in
     let rows : a.rows * split_count w / split_count w ≡ a.rows = mul-div_cancel a.rows some in

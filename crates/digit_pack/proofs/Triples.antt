@@ -82,7 +82,8 @@ unpack_packed m whole s =
 pub small_unpacked : (rows cols : ℕ) (words : List ℕ) → IsSmall (unpacked rows cols words)
 small_unpacked rows cols words = record {
   each = λ i j p q.
-      omega (arith, entry-matrix_of rows cols (λ i j. digit 10 (slice_index words (i * packed_cols cols + j / 3)) (j % 3)) i j p q, digit-lt 10 (slice_index words (i * packed_cols cols + j / 3)) (j % 3));
+      omega (arith, entry-matrix_of rows cols (λ i j. digit 10 (slice_index words (i * packed_cols cols + j / 3)) (j % 3)) i j p q,
+          digit-lt 10 (slice_index words (i * packed_cols cols + j / 3)) (j % 3));
 }
 
 pub whole_unpacked : (rows cols : ℕ) (words : List ℕ) → IsWhole (unpacked rows cols words)
@@ -124,7 +125,8 @@ word_kept m i j v r u q d =
       zero_kept m i j v r (3 * u + 2) q (λ x. d (x.0, omega (arith, x.1))),
     )
 
-word_replaced : (m : WordMatrix) (i j v w : ℕ) → IsWhole m → IsSmall m → i < m.rows → j < m.cols → IsReplaced (packed_word m i (j / 3)) (j % 3) v w → w ≡ packed_word (with_entry m i j v) i (j / 3)
+word_replaced : (m : WordMatrix) (i j v w : ℕ) → IsWhole m → IsSmall m → i < m.rows → j < m.cols → IsReplaced (packed_word m i (j / 3)) (j % 3) v w →
+    w ≡ packed_word (with_entry m i j v) i (j / 3)
 word_replaced m i j v w whole s p q h =
     let u : ℕ = j / 3 in
     let a : ℕ = entry_or_zero m i (3 * u) in
@@ -180,7 +182,8 @@ set_packed m words i j v k w whole s same p q ke h =
     let wide : 0 < n = omega (arith, in_row j m.cols q) in
     let count : length words ≡ m.rows * n = ap length same ∙ length-list_of (m.rows * n) (λ k. packed_word m (k / n) (k % n)) in
     let inside : k < length words = omega (arith, count, place_inside m.rows m.cols i j p q) in
-    let was : slice_index words k ≡ packed_word m i (j / 3) = ap (slice_index words) ke ∙ ap (λ ws. slice_index ws (i * n + j / 3)) same ∙ at-packed m i j p q in
+    let was : slice_index words k ≡ packed_word m i (j / 3) = ap (slice_index words) ke ∙ ap (λ ws. slice_index ws (i * n + j / 3)) same
+        ∙ at-packed m i j p q in
     let new : w ≡ packed_word (with_entry m i j v) i (j / 3) = word_replaced m i j v w whole s p q (subst (λ y. IsReplaced y (j % 3) v w) was h) in
     words_are (slice_set words k w) (m.rows * n) (λ t. packed_word (with_entry m i j v) (t / n) (t % n)) (length-set words k w ∙ count) (λ t l.
     let low : t % n < n = mod_below t n wide in
@@ -199,12 +202,15 @@ set_packed m words i j v k w whole s same p q ke h =
 zero_at : (n k : ℕ) → slice_index (replicate n 0) k ≡ 0
 zero_at n k = ⊎_elim (λ l. get_or-replicate n k 0 0 l) (λ g. get_or_past (replicate n 0) k 0 (omega (arith, length-replicate {A = ℕ} n 0))) (cases_lt k n)
 
-pub zeros_packed : (rows cols n : ℕ) → n ≡ packed_cols cols → replicate (rows * n) 0 ≡ packed (record { rows = rows; cols = cols; words = replicate (rows * cols) 0 })
+pub zeros_packed : (rows cols n : ℕ) → n ≡ packed_cols cols →
+    replicate (rows * n) 0 ≡ packed (record { rows = rows; cols = cols; words = replicate (rows * cols) 0 })
 zeros_packed rows cols n e =
     let m : WordMatrix = record { rows = rows; cols = cols; words = replicate (rows * cols) 0 } in
-    let none : (i j : ℕ) → entry_or_zero m i j ≡ 0 = λ i j. ⊎_elim (λ l. within m i j l ∙ zero_at (rows * cols) (i * cols + j)) (λ g. past m i j g) (cases_lt j cols) in
+    let none : (i j : ℕ) → entry_or_zero m i j ≡ 0 =
+        λ i j. ⊎_elim (λ l. within m i j l ∙ zero_at (rows * cols) (i * cols + j)) (λ g. past m i j g) (cases_lt j cols) in
     ap (λ n. replicate (rows * n) 0) e
-    ∙ words_are (replicate (rows * packed_cols cols) 0) (rows * packed_cols cols) (λ t. packed_word m (t / packed_cols cols) (t % packed_cols cols)) (length-replicate (rows * packed_cols cols) 0) (λ t l.
+    ∙ words_are (replicate (rows * packed_cols cols) 0) (rows * packed_cols cols) (λ t. packed_word m (t / packed_cols cols) (t % packed_cols cols))
+        (length-replicate (rows * packed_cols cols) 0) (λ t l.
     let i : ℕ = t / packed_cols cols in
     let u : ℕ = t % packed_cols cols in
     omega (arith, zero_at (rows * packed_cols cols) t, none i (3 * u), none i (3 * u + 1), none i (3 * u + 2)))
@@ -213,9 +219,11 @@ pub small_zeros : (rows cols : ℕ) → IsSmall (record { rows = rows; cols = co
 small_zeros rows cols = record { each = λ i j _ _. omega (arith, zero_at (rows * cols) (i * cols + j)) }
 
 pub count_packed : (rows cols : ℕ) (words : List ℕ) → IsPacked rows cols words → length words ≡ rows * packed_cols cols
-count_packed rows cols words h = ap length h.same ∙ length-list_of (rows * packed_cols cols) (λ k. packed_word (unpacked rows cols words) (k / packed_cols cols) (k % packed_cols cols))
+count_packed rows cols words h = ap length h.same
+    ∙ length-list_of (rows * packed_cols cols) (λ k. packed_word (unpacked rows cols words) (k / packed_cols cols) (k % packed_cols cols))
 
-pub word_small : (rows cols : ℕ) (words : List ℕ) (i j k : ℕ) → IsPacked rows cols words → i < rows → j < cols → k ≡ i * packed_cols cols + j / 3 → slice_index words k < 2 ^ 30
+pub word_small : (rows cols : ℕ) (words : List ℕ) (i j k : ℕ) → IsPacked rows cols words → i < rows → j < cols → k ≡ i * packed_cols cols + j / 3 →
+    slice_index words k < 2 ^ 30
 word_small rows cols words i j k h p q e =
     let was : slice_index words k ≡ packed_word (unpacked rows cols words) i (j / 3) =
     ap (slice_index words) e ∙ ap (λ ws. slice_index ws (i * packed_cols cols + j / 3)) h.same ∙ at-packed (unpacked rows cols words) i j p q in

@@ -10,7 +10,8 @@ use Rattle.matrix_u32.proofs.Changes.{entry_kept, entry_set, matrix_by_entries}
 pub none_filled : (rows cols : ℕ) (f : ℕ → ℕ → ℕ) (m : WordMatrix) → m.rows ≡ rows → m.cols ≡ cols → IsWhole m → IsFilled rows cols (0 * cols + 0) f m
 none_filled rows cols f m r c w = record { rows_are = r; cols_are = c; whole = w; done = λ i j _ _ l. absurd (omega arith) }
 
-pub one_filled : (rows cols i j v : ℕ) (f : ℕ → ℕ → ℕ) (m : WordMatrix) → i < rows → j < cols → v ≡ f i j → IsFilled rows cols (i * cols + j) f m → IsFilled rows cols (i * cols + (j + 1)) f (with_entry m i j v)
+pub one_filled : (rows cols i j v : ℕ) (f : ℕ → ℕ → ℕ) (m : WordMatrix) → i < rows → j < cols → v ≡ f i j → IsFilled rows cols (i * cols + j) f m →
+    IsFilled rows cols (i * cols + (j + 1)) f (with_entry m i j v)
 one_filled rows cols i j v f m p q e h = record {
   rows_are = h.rows_are;
   cols_are = h.cols_are;
@@ -21,7 +22,8 @@ one_filled rows cols i j v f m p q e h = record {
       ⊎_elim
       (λ same.
       let both : (r ≡ i) × (c ≡ j) = same_from_place r c i j cols b q same in
-      ap (λ r. entry (with_entry m i j v) r c) both.0 ∙ ap (entry (with_entry m i j v) i) both.1 ∙ entry_set m i j v h.whole (omega (arith, h.rows_are)) inside ∙ e
+      ap (λ r. entry (with_entry m i j v) r c) both.0 ∙ ap (entry (with_entry m i j v) i) both.1
+          ∙ entry_set m i j v h.whole (omega (arith, h.rows_are)) inside ∙ e
       ∙ ap (λ r. f r j) (sym both.0) ∙ ap (f r) (sym both.1))
       (λ apart.
       entry_kept m i j v r c inside here (λ x. apart (ap (λ r. r * cols + c) x.0 ∙ ap (λ c. i * cols + c) x.1))

@@ -7,7 +7,7 @@ use Rattle.matrix_u32.specs.Matrix.{WordMatrix, product, times_vector}
 use Rattle.matrix_u32.proofs.Products.{length-list_of}
 use Rattle.lane_kernels.specs.Digit.{split_count}
 use Rattle.digit_pack.specs.Layout.{Shape, digit_rows, digit_cols, digits_per_record}
-use Rattle.double_scheme.specs.Double.{first_query_of, part_query_of, query_of, query_words, first_answer_of, part_answer_of, part_of_query, answer_of, answer_words, words_of_part}
+use Rattle.double_scheme.specs.Double.{first_query_of, part_query_of, query_of, query_count, first_answer_of, part_answer_of, part_of_query, answer_of, answer_count, words_of_part}
 use Rattle.double_scheme.proofs.Blocks.{length-blocks}
 
 -- blocks of one length after a prefix
@@ -19,7 +19,7 @@ after_prefix prefix f n b count l e =
     ∙ ap (λ k. n + k) (length-blocks f b 0 count e)
 
 pub length-query_of : (l : Shape) (a1 a2 : WordMatrix) (seed : List ℕ) (number i : ℕ) → a1.rows ≡ digit_cols l → a2.rows ≡ digit_rows l →
-    length (query_of l a1 a2 seed number i) ≡ query_words l
+    length (query_of l a1 a2 seed number i) ≡ query_count l
 unfolding query_of
 length-query_of l a1 a2 seed number i rows1 rows2 =
     after_prefix (first_query_of l a1 seed number i) (part_query_of l a2 seed number i) (digit_cols l) (digit_rows l) (digits_per_record l)
@@ -36,12 +36,13 @@ length-hint : (w : ℕ) (first a2 : WordMatrix) → first.rows ≡ split_count w
 length-hint w first a2 e = length-list_of (first.rows * a2.cols) _ ∙ ap (λ k. k * a2.cols) e ∙ mul_comm (split_count w) a2.cols
 
 pub length-answer_of : (l : Shape) (digits hint a2 : WordMatrix) (words : List ℕ) → hint.rows ≡ a2.cols * split_count l.width →
-    length (answer_of l digits hint a2 words) ≡ answer_words l a2.cols
+    length (answer_of l digits hint a2 words) ≡ answer_count l a2.cols
 unfolding answer_of
 length-answer_of l digits hint a2 words e =
     let first = first_answer_of l.width digits (take (digit_cols l) words) in
     let one : first.rows ≡ split_count l.width = mul_one (split_count l.width) in
-    after_prefix (product first a2).words (λ d. part_answer_of hint first (part_of_query l words d)) (a2.cols * split_count l.width) (words_of_part l.width a2.cols) (digits_per_record l)
+    after_prefix (product first a2).words (λ d. part_answer_of hint first (part_of_query l words d)) (a2.cols * split_count l.width)
+        (words_of_part l.width a2.cols) (digits_per_record l)
     (length-hint l.width first a2 one) (λ k. length-part l.width a2.cols hint first (part_of_query l words k) e one)
   where
     mul_one : (n : ℕ) → 1 * n ≡ n

@@ -11,13 +11,16 @@ use Rattle.lane_kernels.specs.Digit.{split_count}
 use Rattle.simple_scheme.specs.Simple.{secret}
 use Rattle.double_scheme.specs.Double.{part_secret, words_of_part, answer_hint, answer_part, part_read, digit_read, reading}
 
-pub small_reading : (l : Shape) (hint : WordMatrix) (seed : List ℕ) (number : ℕ) (answer : List ℕ) → IsLayout l → All (λ d. d < 2 ^ l.width) (reading l hint seed number answer)
+pub small_reading : (l : Shape) (hint : WordMatrix) (seed : List ℕ) (number : ℕ) (answer : List ℕ) → IsLayout l →
+    All (λ d. d < 2 ^ l.width) (reading l hint seed number answer)
 unfolding reading
 small_reading l hint seed number answer ok =
     All-from_get_or (λ d. d < 2 ^ l.width) (reading l hint seed number answer) 0 (λ k _.
-    each-list_of (λ d. d < 2 ^ l.width) (digits_per_record l) (digit_read l hint seed number answer) 0 (pow_pos l.width) (λ k. nearest-lt l.width _ (omega (arith, ok.width.1))) k)
+    each-list_of (λ d. d < 2 ^ l.width) (digits_per_record l) (digit_read l hint seed number answer) 0 (pow_pos l.width)
+        (λ k. nearest-lt l.width _ (omega (arith, ok.width.1))) k)
 
-pub length-reading : (l : Shape) (hint : WordMatrix) (seed : List ℕ) (number : ℕ) (answer : List ℕ) → length (reading l hint seed number answer) ≡ digits_per_record l
+pub length-reading : (l : Shape) (hint : WordMatrix) (seed : List ℕ) (number : ℕ) (answer : List ℕ) →
+    length (reading l hint seed number answer) ≡ digits_per_record l
 unfolding reading
 length-reading l hint seed number answer = length-list_of (digits_per_record l) (digit_read l hint seed number answer)
 

@@ -12,7 +12,7 @@ use Rattle.regev_core.specs.Laws.{QuietMatrixRowGivesItsEntry}
 use Rattle.lane_kernels.specs.Digit.{digit, split_count}
 use Rattle.digit_pack.specs.Digits.{decomposed, decomposed_at, joined}
 use Rattle.digit_pack.specs.Laws.{SplitJoins, DigitsAreSmall, DecomposedStandsBelow}
-use Rattle.double_scheme.specs.Double.{second_digit, second_word, hint_words, first_words, server_hint_of, first_answer_of, one_row, row_read, word_read, part_answer_of}
+use Rattle.double_scheme.specs.Double.{second_digit, second_word, hint_part_words, first_words, server_hint_of, first_answer_of, one_row, row_read, word_read, part_answer_of}
 
 -- a digit of a matrix of words, read through a quiet layer
 pub second_digit_of : QuietMatrixRowGivesItsEntry → DigitsAreSmall → (w : ℕ) (b a hint : WordMatrix) (s words : List ℕ) (e : List ℤ) (place r : ℕ) →
@@ -29,7 +29,8 @@ second_digit_of quiet_law small w b a hint s words e place r h cols p inside qui
     ∙ quiet_law w (decomposed w b) a s e r place h inside cols p (omega (arith, at, small w (entry b (r / split_count w) place) (r % split_count w))) quiet
 
 -- a word of a matrix, read from its digits
-pub second_word_of : QuietMatrixRowGivesItsEntry → SplitJoins → DigitsAreSmall → DecomposedStandsBelow → (w : ℕ) (b a hint : WordMatrix) (s words : List ℕ) (e : List ℤ) (place k : ℕ) →
+pub second_word_of : QuietMatrixRowGivesItsEntry → SplitJoins → DigitsAreSmall → DecomposedStandsBelow →
+    (w : ℕ) (b a hint : WordMatrix) (s words : List ℕ) (e : List ℤ) (place k : ℕ) →
     0 < w → w < 32 → b.cols ≡ a.rows → place < a.rows → k < b.rows → entry b k place < 2 ^ 32 →
     ((r : ℕ) → r < b.rows * split_count w → IsQuiet w (row (decomposed w b) r) e) →
     ((r : ℕ) → r < b.rows * split_count w → row hint r ≡ row (product (decomposed w b) a) r) →
@@ -62,7 +63,8 @@ entry-first d c r e p =
 pub hint_digit_of : QuietMatrixRowGivesItsEntry → DigitsAreSmall → (w : ℕ) (d a1 a2 : WordMatrix) (c s2 : List ℕ) (e : List ℤ) (r k : ℕ) →
     w < 32 → a2.rows ≡ d.rows → r < d.rows → k < a1.cols * split_count w →
     IsQuiet w (row (server_hint_of w d a1) k) e →
-    second_digit w (product (server_hint_of w d a1) a2) s2 (hint_words w a1.cols (part_answer_of (server_hint_of w d a1) (first_answer_of w d c) (cipher w a2 s2 e r))) k
+    second_digit w (product (server_hint_of w d a1) a2) s2
+        (hint_part_words w a1.cols (part_answer_of (server_hint_of w d a1) (first_answer_of w d c) (cipher w a2 s2 e r))) k
     ≡ entry (server_hint_of w d a1) k r
 hint_digit_of quiet_law small w d a1 a2 c s2 e r k low rows2 p inside quiet =
     let hint = server_hint_of w d a1 in
@@ -88,7 +90,8 @@ first_digit_of quiet_law small w d a1 a2 h c s2 e r k low rows2 p inside quiet r
     (drop_at one two (a1.cols * split_count w) size)
 
 -- the rows of the client's hint give the words of the digit's row of the first hint
-pub row_read_of : QuietMatrixRowGivesItsEntry → SplitJoins → DigitsAreSmall → DecomposedStandsBelow → (w : ℕ) (d a1 a2 : WordMatrix) (c s2 : List ℕ) (e : List ℤ) (r : ℕ) →
+pub row_read_of : QuietMatrixRowGivesItsEntry → SplitJoins → DigitsAreSmall → DecomposedStandsBelow →
+    (w : ℕ) (d a1 a2 : WordMatrix) (c s2 : List ℕ) (e : List ℤ) (r : ℕ) →
     0 < w → w < 32 → a1.rows ≡ d.cols → a2.rows ≡ d.rows → r < d.rows →
     ((k : ℕ) → k < a1.cols * split_count w → IsQuiet w (row (server_hint_of w d a1) k) e) →
     row_read w a1.cols (product (server_hint_of w d a1) a2) s2 (part_answer_of (server_hint_of w d a1) (first_answer_of w d c) (cipher w a2 s2 e r))
@@ -100,14 +103,16 @@ row_read_of quiet_law join_law small stands w d a1 a2 c s2 e r pos low rows1 row
     let size : length one ≡ a1.cols * split_count w = length-list_of hint.rows (λ k. dot (row hint k) (cipher w a2 s2 e r)) in
     ap (λ y. list_of a1.cols (second_word w (product hint a2) s2 y)) (take_at one two (a1.cols * split_count w) size)
     ∙ same-list_of a1.cols _ (λ k. dot (row d r) (column a1 k)) (λ k l.
-    second_word_of quiet_law join_law small stands w (product (transpose a1) (transpose d)) a2 (product hint a2) s2 one e r k pos low (sym rows2) (omega arith) l
+    second_word_of quiet_law join_law small stands w (product (transpose a1) (transpose d)) a2 (product hint a2) s2 one e r k pos low (sym rows2)
+        (omega arith) l
     (rw (entry-product_transposed a1 d k r rows1 l p) (dot-lt (row d r) (column a1 k)))
     (λ j m. quiet j m) (λ j m. refl) refl
     ∙ entry-product_transposed a1 d k r rows1 l p)
     ∙ sym (row-product d a1 r p)
 
 -- the first answer's hint gives the word of the digit's row of the first answer
-pub word_read_of : QuietMatrixRowGivesItsEntry → SplitJoins → DigitsAreSmall → DecomposedStandsBelow → (w : ℕ) (d a1 a2 h : WordMatrix) (c s2 : List ℕ) (e : List ℤ) (r : ℕ) →
+pub word_read_of : QuietMatrixRowGivesItsEntry → SplitJoins → DigitsAreSmall → DecomposedStandsBelow →
+    (w : ℕ) (d a1 a2 h : WordMatrix) (c s2 : List ℕ) (e : List ℤ) (r : ℕ) →
     0 < w → w < 32 → a2.rows ≡ d.rows → length c ≡ d.cols → r < d.rows →
     ((k : ℕ) → k < split_count w → IsQuiet w (row (first_answer_of w d c) k) e) →
     ((k : ℕ) → k < split_count w → row h k ≡ row (product (first_answer_of w d c) a2) k) →

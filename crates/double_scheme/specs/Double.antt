@@ -37,8 +37,8 @@ abbrev pub first_answer_of : ℕ → WordMatrix → List ℕ → WordMatrix
 first_answer_of w digits c = decomposed w (product (one_row c) (transpose digits))
 
 -- how many words a query has: one for each column, and for each digit of a record one for each row
-abbrev pub query_words : Shape → ℕ
-query_words l = digit_cols l + digits_per_record l * digit_rows l
+abbrev pub query_count : Shape → ℕ
+query_count l = digit_cols l + digits_per_record l * digit_rows l
 
 -- the prefix of the query for record i: the encryption of its column
 abbrev pub first_query_of : Shape → WordMatrix → List ℕ → ℕ → ℕ → List ℕ
@@ -75,8 +75,8 @@ abbrev pub words_of_part : ℕ → ℕ → ℕ
 words_of_part w n = n * split_count w + split_count w
 
 -- how many words an answer has, where the public matrices have n columns
-abbrev pub answer_words : Shape → ℕ → ℕ
-answer_words l n = n * split_count l.width + digits_per_record l * words_of_part l.width n
+abbrev pub answer_count : Shape → ℕ → ℕ
+answer_count l n = n * split_count l.width + digits_per_record l * words_of_part l.width n
 
 -- the hint of the first answer, row t of it for digit t
 abbrev pub answer_hint : ℕ → ℕ → List ℕ → WordMatrix
@@ -95,8 +95,8 @@ abbrev pub second_word : ℕ → WordMatrix → List ℕ → List ℕ → ℕ �
 second_word w hint s words k = joined w (list_of (split_count w) (λ t. second_digit w hint s words (k * split_count w + t)))
 
 -- the words of a part that are the server's hint times its query
-abbrev pub hint_words : ℕ → ℕ → List ℕ → List ℕ
-hint_words w n part = take (n * split_count w) part
+abbrev pub hint_part_words : ℕ → ℕ → List ℕ → List ℕ
+hint_part_words w n part = take (n * split_count w) part
 
 -- the words of a part that are the first answer times its query
 abbrev pub first_words : ℕ → ℕ → List ℕ → List ℕ
@@ -104,7 +104,7 @@ first_words w n part = drop (n * split_count w) part
 
 -- the words that the former give: of the digit's row of D A1
 abbrev pub row_read : ℕ → ℕ → WordMatrix → List ℕ → List ℕ → List ℕ
-row_read w n client_hint s2 part = list_of n (second_word w client_hint s2 (hint_words w n part))
+row_read w n client_hint s2 part = list_of n (second_word w client_hint s2 (hint_part_words w n part))
 
 -- the word that the latter give: of D c1, in the digit's row
 abbrev pub word_read : ℕ → ℕ → WordMatrix → List ℕ → List ℕ → ℕ

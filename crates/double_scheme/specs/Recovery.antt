@@ -7,12 +7,12 @@ use Rattle.digit_pack.specs.Layout.{Shape, digit_matrix, digit_rows, digit_cols,
 use Rattle.simple_scheme.specs.declared.records.RecoverError.{RecoverError}
 use Rattle.simple_scheme.specs.declared.records.RecoverError.TheVariants.{Memory}
 use Rattle.simple_scheme.specs.Recovery.{RecordFrom}
-use Rattle.double_scheme.specs.Double.{server_hint_of, client_hint_of, query_of, answer_of, answer_words, reading, IsQuietDouble}
+use Rattle.double_scheme.specs.Double.{server_hint_of, client_hint_of, query_of, answer_of, answer_count, reading, IsQuietDouble}
 
 -- the record that the answer's reading writes, or why there is none
 abbrev pub ReadsRecord : Shape → WordMatrix → List ℕ → ℕ → List ℕ → Result (Vec ℕ Global) RecoverError → Type 0
 ReadsRecord l client_hint seed number answer outcome =
-    RecordFrom l (answer_words l client_hint.cols) answer (reading l client_hint seed number answer) outcome
+    RecordFrom l (answer_count l client_hint.cols) answer (reading l client_hint seed number answer) outcome
 
 -- a quiet answer to the query under the records' hints gives the record, or no memory
 abbrev pub GivesQuietRecord : Shape → WordMatrix → List ℕ → ℕ → ℕ → List ℕ → Result (Vec ℕ Global) RecoverError → Type 0

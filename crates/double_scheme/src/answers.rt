@@ -3,8 +3,8 @@
 ghost use Rattle.std.specs.Prelude.{◌≡◌, ◌+◌, ◌*◌, ◌≤◌, IfOk, length, take, drop};
 ghost use Rattle.lane_kernels.specs.Digit.{split_count};
 ghost use Rattle.digit_pack.specs.Layout.{digit_rows, digit_cols};
-ghost use Rattle.double_scheme.specs.Double.{first_answer_of, part_answer_of, query_words,
-    answer_words, answer_of};
+ghost use Rattle.double_scheme.specs.Double.{first_answer_of, part_answer_of, query_count,
+    answer_count, answer_of};
 
 use crate::hints::decompose;
 use crate::queries::append;
@@ -80,7 +80,7 @@ pub fn answer<K: Kernel, S: DigitStore + Drop>(
     a2: &Matrix,
     words: &[u32],
 ) -> Result<Vec<u32>, AllocError>
-    requires words { length words.now ≡ query_words layout.now }
+    requires words { length words.now ≡ query_count layout.now }
     requires rows { (S.digits digits.now).rows ≡ digit_rows layout.now }
     requires cols { (S.digits digits.now).cols ≡ digit_cols layout.now }
     requires server_rows { (S.digits server_hint.now).rows ≡
@@ -90,7 +90,7 @@ pub fn answer<K: Kernel, S: DigitStore + Drop>(
     requires second_cols { a2.now.cols ≤ 1024 }
     ensures words { IfOk result (λ v. v.items ≡
         answer_of layout.now (S.digits digits.now) (S.digits server_hint.now) a2.now words.now) }
-    ensures count { IfOk result (λ v. length v.items ≡ answer_words layout.now a2.now.cols) }
+    ensures count { IfOk result (λ v. length v.items ≡ answer_count layout.now a2.now.cols) }
 {
     let cols = layout.cols();
     let rows = layout.rows();

@@ -5,7 +5,7 @@ ghost use Rattle.std.specs.Prelude.{◌≡◌, ◌+◌, ◌*◌, ◌^◌, ◌<�
 ghost use Rattle.matrix_u32.specs.Sum.{list_of};
 ghost use Rattle.lane_kernels.specs.Digit.{split_count};
 ghost use Rattle.digit_pack.specs.Layout.{digits_per_record};
-ghost use Rattle.double_scheme.specs.Double.{words_of_part, answer_words, answer_hint, second_word,
+ghost use Rattle.double_scheme.specs.Double.{words_of_part, answer_count, answer_hint, second_word,
     part_read, digit_read, reading};
 ghost use Rattle.double_scheme.specs.Recovery.{ReadsRecord, GivesQuietRecord};
 
@@ -141,7 +141,7 @@ fn read_parts<K: Kernel>(
     requires number { number < 2 ^ 62 }
     requires rows { client_hint.now.rows ≡ client_hint.now.cols * split_count layout.now.width }
     requires cols { client_hint.now.cols ≤ 1024 }
-    requires words { length answer.now ≡ answer_words layout.now client_hint.now.cols }
+    requires words { length answer.now ≡ answer_count layout.now client_hint.now.cols }
     requires room { length out.old ≡ digits_per_record layout.now }
     ensures { IfOk result (λ _. out.new ≡
         reading layout.now client_hint.now seed.now number answer.now) }
@@ -173,7 +173,7 @@ fn read_all<K: Kernel>(
     requires number { number < 2 ^ 62 }
     requires rows { client_hint.now.rows ≡ client_hint.now.cols * split_count layout.now.width }
     requires cols { client_hint.now.cols ≤ 1024 }
-    requires words { length answer.now ≡ answer_words layout.now client_hint.now.cols }
+    requires words { length answer.now ≡ answer_count layout.now client_hint.now.cols }
     ensures { IfOk result (λ digits.
         (digits.items ≡ reading layout.now client_hint.now seed.now number answer.now)
         × All (λ d. d < 2 ^ layout.now.width) digits.items
@@ -198,7 +198,7 @@ fn read_all<K: Kernel>(
 fn is_whole(layout: &Layout, client_hint: &Matrix, answer: &[u32]) -> bool
     requires rows { client_hint.now.rows ≡ client_hint.now.cols * split_count layout.now.width }
     requires cols { client_hint.now.cols ≤ 1024 }
-    ensures { IsTrue result ↔ (length answer.now ≡ answer_words layout.now client_hint.now.cols) }
+    ensures { IsTrue result ↔ (length answer.now ≡ answer_count layout.now client_hint.now.cols) }
 {
     let prefix = client_hint.rows();
     let part = prefix + split_count(layout.width());

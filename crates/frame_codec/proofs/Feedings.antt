@@ -48,12 +48,14 @@ fault_stands Failed bytes clear h = h
 -- ---- where memory isn't refused
 
 -- what is left where a piece's frames end has no frame at its prefix
-ends_without : (old : List ℕ) (piece : List ℕ) (answer : Result (Unit {0}) ReadFault) (frames : List Frame) (new : Option (List ℕ)) → Feeds (Some old) piece answer frames new → answer ≢ Err Memory
+ends_without : (old : List ℕ) (piece : List ℕ) (answer : Result (Unit {0}) ReadFault) (frames : List Frame) (new : Option (List ℕ)) →
+    Feeds (Some old) piece answer frames new → answer ≢ Err Memory
     → (rest : List ℕ) × Begins (old ++ piece) frames rest × (HasFrame rest → ⊥)
 ends_without old piece (Ok done) frames new f clear = (f.0, f.1.begins, f.1.partial.no_frame)
 ends_without old piece (Err fault) frames new f clear = (f.0.0, f.0.1, fault_of_frame fault f.0.0 (fault_stands fault f.0.0 clear f.0.2))
 
-failed_alike : (a b : Result (Unit {0}) ReadFault) (fs gs : List Frame) (u v : Option (List ℕ)) → (a ≡ Err Failed) × (fs ≡ []) × (u ≡ None) → (b ≡ Err Failed) × (gs ≡ []) × (v ≡ None) → (a ≡ b) × (fs ≡ gs) × (u ≡ v)
+failed_alike : (a b : Result (Unit {0}) ReadFault) (fs gs : List Frame) (u v : Option (List ℕ)) → (a ≡ Err Failed) × (fs ≡ []) × (u ≡ None) →
+    (b ≡ Err Failed) × (gs ≡ []) × (v ≡ None) → (a ≡ b) × (fs ≡ gs) × (u ≡ v)
 failed_alike a b fs gs u v f g = (f.0 ∙ sym g.0, f.1 ∙ sym g.1, f.2 ∙ sym g.2)
 
 pub feeds_decide : FeedsDecide
@@ -79,7 +81,8 @@ feeds_decide (Some old) piece (Err fault) (Err other) frames others new end f g 
 -- ---- where it may be refused
 
 -- what stands before the end of a piece
-some_begin : (old piece : List ℕ) (answer : Result (Unit {0}) ReadFault) (frames : List Frame) (new : Option (List ℕ)) → Feeds (Some old) piece answer frames new → (rest : List ℕ) × Begins (old ++ piece) frames rest
+some_begin : (old piece : List ℕ) (answer : Result (Unit {0}) ReadFault) (frames : List Frame) (new : Option (List ℕ)) →
+    Feeds (Some old) piece answer frames new → (rest : List ℕ) × Begins (old ++ piece) frames rest
 some_begin old piece (Ok done) frames new f = (f.0, f.1.begins)
 some_begin old piece (Err fault) frames new f = (f.0.0, f.0.1)
 
@@ -92,7 +95,8 @@ feeds_begin (Some old) piece answer other frames others new end f g clear =
     (m.0, m.1)
 
 -- of two beginnings of one stream the shorter begins the other
-either_prefix : (fs gs : List Frame) (r s : List ℕ) → AllByRecursion IsFrame fs → AllByRecursion IsFrame gs → flat_map encoding fs ++ r ≡ flat_map encoding gs ++ s
+either_prefix : (fs gs : List Frame) (r s : List ℕ) → AllByRecursion IsFrame fs → AllByRecursion IsFrame gs →
+    flat_map encoding fs ++ r ≡ flat_map encoding gs ++ s
     → ((more : List Frame) × (fs ≡ gs ++ more)) ⊎ ((more : List Frame) × (gs ≡ fs ++ more))
 either_prefix [] gs r s ff gg e = inr (gs, refl)
 either_prefix (f ∷ fs) [] r s ff gg e = inl (f ∷ fs, refl)

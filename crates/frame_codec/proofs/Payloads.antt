@@ -32,17 +32,23 @@ scheme_words_length scheme version words = omega (arith, length-append (number_b
 
 pub payload_sized : (f : Frame) → length (payload_of f) ≡ payload_size f
 unfolding payload_of
-payload_sized (Load record_len groups width records) = omega (arith, length-append (number_bytes 2 record_len) (number_bytes 2 groups ++ (width ∷ records)), length-append (number_bytes 2 groups) (width ∷ records), length-number 2 record_len, length-number 2 groups)
+payload_sized (Load record_len groups width records) =
+    omega (arith, length-append (number_bytes 2 record_len) (number_bytes 2 groups ++ (width ∷ records)),
+    length-append (number_bytes 2 groups) (width ∷ records), length-number 2 record_len, length-number 2 groups)
 payload_sized (Hello profile key) = omega (arith, length-append (number_bytes 2 profile) key, length-number 2 profile)
-payload_sized (HintAsk scheme version part) = omega (arith, length-append (number_bytes 8 version) (number_bytes 4 part), length-number 8 version, length-number 4 part)
+payload_sized (HintAsk scheme version part) =
+    omega (arith, length-append (number_bytes 8 version) (number_bytes 4 part), length-number 8 version, length-number 4 part)
 payload_sized (Query scheme version words) = scheme_words_length scheme version words
 payload_sized (Edit index bytes) = omega (arith, length-append (number_bytes 4 index) bytes, length-number 4 index)
 payload_sized Publish = refl
 payload_sized Bye = refl
 payload_sized (Welcome profile width record_len groups count version dimension seed) = omega (arith, length-append {A = ℕ}, length-number)
-payload_sized (HintPart scheme version part words) = omega (arith, length-append (number_bytes 8 version) (number_bytes 4 part ++ word_bytes words), length-append (number_bytes 4 part) (word_bytes words), length-number 8 version, length-number 4 part, length-words words)
+payload_sized (HintPart scheme version part words) =
+    omega (arith, length-append (number_bytes 8 version) (number_bytes 4 part ++ word_bytes words), length-append (number_bytes 4 part) (word_bytes words),
+    length-number 8 version, length-number 4 part, length-words words)
 payload_sized (Answer scheme version words) = scheme_words_length scheme version words
-payload_sized (Stale version count) = omega (arith, length-append (number_bytes 8 version) (number_bytes 4 count), length-number 8 version, length-number 4 count)
+payload_sized (Stale version count) =
+    omega (arith, length-append (number_bytes 8 version) (number_bytes 4 count), length-number 8 version, length-number 4 count)
 payload_sized (Done version) = length-number 8 version
 payload_sized (Refused code) = refl
 
@@ -54,7 +60,8 @@ length-payload (Query scheme version words) fits = (length words, payload_sized 
 length-payload (Edit index bytes) fits = omega (arith, payload_sized (Edit index bytes))
 length-payload Publish fits = payload_sized Publish
 length-payload Bye fits = payload_sized Bye
-length-payload (Welcome profile width record_len groups count version dimension seed) fits = omega (arith, payload_sized (Welcome profile width record_len groups count version dimension seed), fits.7)
+length-payload (Welcome profile width record_len groups count version dimension seed) fits =
+    omega (arith, payload_sized (Welcome profile width record_len groups count version dimension seed), fits.7)
 length-payload (HintPart scheme version part words) fits = (length words, payload_sized (HintPart scheme version part words))
 length-payload (Answer scheme version words) fits = (length words, payload_sized (Answer scheme version words))
 length-payload (Stale version count) fits = payload_sized (Stale version count)
@@ -68,13 +75,15 @@ no_stands k bytes bad f s = bad (rw (← s.kind, ← s.payload) (length-payload 
 -- ---- numbers in their places
 
 -- a number at the beginning, where the others are known
-pub number_first : (n : ℕ) (bytes : List ℕ) → IsBytes bytes → n ≤ length bytes → (x : ℕ) (more : List ℕ) → x ≡ number_in n bytes → more ≡ drop n bytes → number_bytes n x ++ more ≡ bytes
+pub number_first : (n : ℕ) (bytes : List ℕ) → IsBytes bytes → n ≤ length bytes → (x : ℕ) (more : List ℕ) → x ≡ number_in n bytes → more ≡ drop n bytes →
+    number_bytes n x ++ more ≡ bytes
 number_first n bytes fits le x more e rest = rw (e, rest) (prefix n bytes fits le)
 
 -- a number that is all
 pub number_alone : (n : ℕ) (bytes : List ℕ) → IsBytes bytes → length bytes ≡ n → (x : ℕ) → x ≡ number_in n bytes → number_bytes n x ≡ bytes
 number_alone n bytes fits len x e =
-    sym (append-nil (number_bytes n x)) ∙ number_first n bytes fits (omega arith) x [] e (sym (nil_from_length (drop n bytes) (omega (arith, length-drop n bytes))))
+    sym (append-nil (number_bytes n x))
+        ∙ number_first n bytes fits (omega arith) x [] e (sym (nil_from_length (drop n bytes) (omega (arith, length-drop n bytes))))
 
 -- one byte at the beginning
 pub byte_first : (bytes : List ℕ) → 1 ≤ length bytes → get_or bytes 0 0 ∷ drop 1 bytes ≡ bytes
@@ -83,19 +92,23 @@ byte_first (b ∷ bytes) le = refl
 
 -- ---- the kinds
 
-pub is_load : (bytes : List ℕ) → IsBytes bytes → 5 ≤ length bytes → (record_len groups : ℕ) (records : List ℕ) → record_len < 2 ^ 16 → groups < 2 ^ 16 → record_len ≡ number_in 2 bytes → groups ≡ number_in 2 (drop 2 bytes) → records ≡ drop 5 bytes → All (λ b. b < 2 ^ 8) records
+pub is_load : (bytes : List ℕ) → IsBytes bytes → 5 ≤ length bytes → (record_len groups : ℕ) (records : List ℕ) → record_len < 2 ^ 16 → groups < 2 ^ 16 →
+    record_len ≡ number_in 2 bytes → groups ≡ number_in 2 (drop 2 bytes) → records ≡ drop 5 bytes → All (λ b. b < 2 ^ 8) records
     → Stands 1 bytes (Load record_len groups (get_or bytes 4 0) records)
 unfolding payload_of
 is_load bytes fits le record_len groups records small small2 e e2 er all =
-    let width : get_or bytes 4 0 ∷ records ≡ drop 2 (drop 2 bytes) = ap (λ (x : List ℕ). get_or bytes 4 0 ∷ x) er ∙ sym (drop_more bytes 4 0 (omega arith)) ∙ sym (drop-drop 2 2 bytes) in
-    let tail : number_bytes 2 groups ++ (get_or bytes 4 0 ∷ records) ≡ drop 2 bytes = number_first 2 (drop 2 bytes) (IsBytes-drop 2 bytes fits) (omega (arith, length-drop 2 bytes)) groups (get_or bytes 4 0 ∷ records) e2 width in
+    let width : get_or bytes 4 0 ∷ records ≡ drop 2 (drop 2 bytes) = ap (λ (x : List ℕ). get_or bytes 4 0 ∷ x) er ∙ sym (drop_more bytes 4 0 (omega arith))
+        ∙ sym (drop-drop 2 2 bytes) in
+    let tail : number_bytes 2 groups ++ (get_or bytes 4 0 ∷ records) ≡ drop 2 bytes =
+        number_first 2 (drop 2 bytes) (IsBytes-drop 2 bytes fits) (omega (arith, length-drop 2 bytes)) groups (get_or bytes 4 0 ∷ records) e2 width in
     record {
       kind = refl;
       payload = number_first 2 bytes fits (omega arith) record_len (number_bytes 2 groups ++ (get_or bytes 4 0 ∷ records)) e tail;
       fields = (small, small2, fits 4, all);
     }
 
-pub is_hello : (bytes : List ℕ) → IsBytes bytes → length bytes ≡ 34 → (profile : ℕ) (key : List ℕ) → profile < 2 ^ 16 → profile ≡ number_in 2 bytes → key ≡ drop 2 bytes → All (λ b. b < 2 ^ 8) key → Stands 2 bytes (Hello profile key)
+pub is_hello : (bytes : List ℕ) → IsBytes bytes → length bytes ≡ 34 → (profile : ℕ) (key : List ℕ) → profile < 2 ^ 16 → profile ≡ number_in 2 bytes →
+    key ≡ drop 2 bytes → All (λ b. b < 2 ^ 8) key → Stands 2 bytes (Hello profile key)
 unfolding payload_of
 is_hello bytes fits len profile key small e ek all = record {
   kind = refl;
@@ -104,19 +117,23 @@ is_hello bytes fits len profile key small e ek all = record {
 }
 
 -- a version and a number of four bytes that are all
-pub is_version_number : (bytes : List ℕ) → IsBytes bytes → length bytes ≡ 12 → (version x : ℕ) → version ≡ number_in 8 bytes → x ≡ number_in 4 (drop 8 bytes) → number_bytes 8 version ++ number_bytes 4 x ≡ bytes
+pub is_version_number : (bytes : List ℕ) → IsBytes bytes → length bytes ≡ 12 → (version x : ℕ) → version ≡ number_in 8 bytes → x ≡ number_in 4 (drop 8 bytes) →
+    number_bytes 8 version ++ number_bytes 4 x ≡ bytes
 is_version_number bytes fits len version x e e2 =
     let tail : number_bytes 4 x ≡ drop 8 bytes = number_alone 4 (drop 8 bytes) (IsBytes-drop 8 bytes fits) (omega (arith, length-drop 8 bytes)) x e2 in
     number_first 8 bytes fits (omega arith) version (number_bytes 4 x) e tail
 
-pub is_hint_ask : (bytes : List ℕ) → IsBytes bytes → length bytes ≡ 13 → (version part : ℕ) → version < 2 ^ 64 → part < 2 ^ 32 → version ≡ number_in 8 (drop 1 bytes) → part ≡ number_in 4 (drop 9 bytes) → Stands 3 bytes (HintAsk (get_or bytes 0 0) version part)
+pub is_hint_ask : (bytes : List ℕ) → IsBytes bytes → length bytes ≡ 13 → (version part : ℕ) → version < 2 ^ 64 → part < 2 ^ 32 →
+    version ≡ number_in 8 (drop 1 bytes) → part ≡ number_in 4 (drop 9 bytes) → Stands 3 bytes (HintAsk (get_or bytes 0 0) version part)
 unfolding payload_of
 is_hint_ask bytes fits len version part small small2 e e2 =
     let e3 : part ≡ number_in 4 (drop 8 (drop 1 bytes)) = e2 ∙ ap (number_in 4) (sym (drop-drop 8 1 bytes)) in
-    let tail : number_bytes 8 version ++ number_bytes 4 part ≡ drop 1 bytes = is_version_number (drop 1 bytes) (IsBytes-drop 1 bytes fits) (omega (arith, length-drop 1 bytes)) version part e e3 in
+    let tail : number_bytes 8 version ++ number_bytes 4 part ≡ drop 1 bytes =
+        is_version_number (drop 1 bytes) (IsBytes-drop 1 bytes fits) (omega (arith, length-drop 1 bytes)) version part e e3 in
     record { kind = refl; payload = ap (λ (x : List ℕ). get_or bytes 0 0 ∷ x) tail ∙ byte_first bytes (omega arith); fields = (fits 0, small, small2) }
 
-pub is_edit : (bytes : List ℕ) → IsBytes bytes → 4 ≤ length bytes → (index : ℕ) (content : List ℕ) → index < 2 ^ 32 → index ≡ number_in 4 bytes → content ≡ drop 4 bytes → All (λ b. b < 2 ^ 8) content → Stands 6 bytes (Edit index content)
+pub is_edit : (bytes : List ℕ) → IsBytes bytes → 4 ≤ length bytes → (index : ℕ) (content : List ℕ) → index < 2 ^ 32 → index ≡ number_in 4 bytes →
+    content ≡ drop 4 bytes → All (λ b. b < 2 ^ 8) content → Stands 6 bytes (Edit index content)
 unfolding payload_of
 is_edit bytes fits le index content small e ec all = record { kind = refl; payload = number_first 4 bytes fits le index content e ec; fields = (small, all) }
 
@@ -135,44 +152,59 @@ pub record WelcomeFields (bytes : List ℕ) (profile record_len groups count ver
   pub seed_is : seed ≡ drop 21 bytes
 
 -- a number after the first i bytes
-number_at : (i n j : ℕ) (bytes : List ℕ) → IsBytes bytes → i + n ≡ j → j ≤ length bytes → (x : ℕ) (more : List ℕ) → x ≡ number_in n (drop i bytes) → more ≡ drop j bytes → number_bytes n x ++ more ≡ drop i bytes
+number_at : (i n j : ℕ) (bytes : List ℕ) → IsBytes bytes → i + n ≡ j → j ≤ length bytes → (x : ℕ) (more : List ℕ) → x ≡ number_in n (drop i bytes) →
+    more ≡ drop j bytes → number_bytes n x ++ more ≡ drop i bytes
 number_at i n j bytes fits place le x more e rest =
-    number_first n (drop i bytes) (IsBytes-drop i bytes fits) (omega (arith, length-drop i bytes)) x more e (rest ∙ ap (λ (k : ℕ). drop k bytes) (sym place) ∙ sym (drop-drop n i bytes))
+    number_first n (drop i bytes) (IsBytes-drop i bytes fits) (omega (arith, length-drop i bytes)) x more e (rest ∙ ap (λ (k : ℕ). drop k bytes) (sym place)
+        ∙ sym (drop-drop n i bytes))
 
-pub is_welcome : (bytes : List ℕ) → IsBytes bytes → length bytes ≡ 53 → (profile record_len groups count version dimension : ℕ) (seed : List ℕ) → WelcomeFields bytes profile record_len groups count version dimension seed
+pub is_welcome : (bytes : List ℕ) → IsBytes bytes → length bytes ≡ 53 → (profile record_len groups count version dimension : ℕ) (seed : List ℕ) →
+    WelcomeFields bytes profile record_len groups count version dimension seed
     → profile < 2 ^ 16 → record_len < 2 ^ 16 → groups < 2 ^ 16 → count < 2 ^ 32 → version < 2 ^ 64 → dimension < 2 ^ 16 → All (λ b. b < 2 ^ 8) seed
     → Stands 130 bytes (Welcome profile (get_or bytes 2 0) record_len groups count version dimension seed)
 unfolding payload_of
 is_welcome bytes fits len profile record_len groups count version dimension seed w sp sr sg sc sv sd all =
     let at19 : number_bytes 2 dimension ++ seed ≡ drop 19 bytes = number_at 19 2 21 bytes fits refl (omega arith) dimension seed w.dimension_is w.seed_is in
-    let at11 : number_bytes 8 version ++ (number_bytes 2 dimension ++ seed) ≡ drop 11 bytes = number_at 11 8 19 bytes fits refl (omega arith) version (number_bytes 2 dimension ++ seed) w.version_is at19 in
-    let at7 : number_bytes 4 count ++ (number_bytes 8 version ++ (number_bytes 2 dimension ++ seed)) ≡ drop 7 bytes = number_at 7 4 11 bytes fits refl (omega arith) count _ w.count_is at11 in
-    let at5 : number_bytes 2 groups ++ (number_bytes 4 count ++ (number_bytes 8 version ++ (number_bytes 2 dimension ++ seed))) ≡ drop 5 bytes = number_at 5 2 7 bytes fits refl (omega arith) groups _ w.groups_is at7 in
-    let at3 : number_bytes 2 record_len ++ (number_bytes 2 groups ++ (number_bytes 4 count ++ (number_bytes 8 version ++ (number_bytes 2 dimension ++ seed)))) ≡ drop 3 bytes = number_at 3 2 5 bytes fits refl (omega arith) record_len _ w.record_len_is at5 in
-    let at2 : get_or bytes 2 0 ∷ (number_bytes 2 record_len ++ (number_bytes 2 groups ++ (number_bytes 4 count ++ (number_bytes 8 version ++ (number_bytes 2 dimension ++ seed))))) ≡ drop 2 bytes = ap (λ (x : List ℕ). get_or bytes 2 0 ∷ x) at3 ∙ sym (drop_more bytes 2 0 (omega arith)) in
+    let at11 : number_bytes 8 version ++ (number_bytes 2 dimension ++ seed) ≡ drop 11 bytes =
+        number_at 11 8 19 bytes fits refl (omega arith) version (number_bytes 2 dimension ++ seed) w.version_is at19 in
+    let at7 : number_bytes 4 count ++ (number_bytes 8 version ++ (number_bytes 2 dimension ++ seed)) ≡ drop 7 bytes =
+        number_at 7 4 11 bytes fits refl (omega arith) count _ w.count_is at11 in
+    let at5 : number_bytes 2 groups ++ (number_bytes 4 count ++ (number_bytes 8 version ++ (number_bytes 2 dimension ++ seed))) ≡ drop 5 bytes =
+        number_at 5 2 7 bytes fits refl (omega arith) groups _ w.groups_is at7 in
+    let at3 : number_bytes 2 record_len
+        ++ (number_bytes 2 groups ++ (number_bytes 4 count ++ (number_bytes 8 version ++ (number_bytes 2 dimension ++ seed)))) ≡ drop 3 bytes =
+        number_at 3 2 5 bytes fits refl (omega arith) record_len _ w.record_len_is at5 in
+    let at2 : get_or bytes 2 0 ∷
+        (number_bytes 2 record_len ++ (number_bytes 2 groups ++ (number_bytes 4 count ++ (number_bytes 8 version ++ (number_bytes 2 dimension ++ seed)))))
+        ≡ drop 2 bytes = ap (λ (x : List ℕ). get_or bytes 2 0 ∷ x) at3 ∙ sym (drop_more bytes 2 0 (omega arith)) in
     record {
       kind = refl;
       payload = number_first 2 bytes fits (omega arith) profile _ w.profile_is at2;
       fields = (sp, fits 2, sr, sg, sc, sv, sd, ap length w.seed_is ∙ omega (arith, length-drop 21 bytes), all);
     }
 
-pub is_hint_part : (bytes : List ℕ) → IsBytes bytes → 13 ≤ length bytes → (version part : ℕ) (words : List ℕ) → version < 2 ^ 64 → part < 2 ^ 32 → version ≡ number_in 8 (drop 1 bytes) → part ≡ number_in 4 (drop 9 bytes) → word_bytes words ≡ drop 13 bytes → All (λ w. w < 2 ^ 32) words
+pub is_hint_part : (bytes : List ℕ) → IsBytes bytes → 13 ≤ length bytes → (version part : ℕ) (words : List ℕ) → version < 2 ^ 64 → part < 2 ^ 32 →
+    version ≡ number_in 8 (drop 1 bytes) → part ≡ number_in 4 (drop 9 bytes) → word_bytes words ≡ drop 13 bytes → All (λ w. w < 2 ^ 32) words
     → Stands 131 bytes (HintPart (get_or bytes 0 0) version part words)
 unfolding payload_of
 is_hint_part bytes fits le version part words small small2 e e2 ew all =
     let at9 : number_bytes 4 part ++ word_bytes words ≡ drop 9 bytes = number_at 9 4 13 bytes fits refl le part (word_bytes words) e2 ew in
-    let at1 : number_bytes 8 version ++ (number_bytes 4 part ++ word_bytes words) ≡ drop 1 bytes = number_at 1 8 9 bytes fits refl (omega arith) version (number_bytes 4 part ++ word_bytes words) e at9 in
+    let at1 : number_bytes 8 version ++ (number_bytes 4 part ++ word_bytes words) ≡ drop 1 bytes =
+        number_at 1 8 9 bytes fits refl (omega arith) version (number_bytes 4 part ++ word_bytes words) e at9 in
     record { kind = refl; payload = ap (λ (x : List ℕ). get_or bytes 0 0 ∷ x) at1 ∙ byte_first bytes (omega arith); fields = (fits 0, small, small2, all) }
 
 -- a scheme, a version and words that are all
-pub is_scheme_words : (bytes : List ℕ) → IsBytes bytes → 9 ≤ length bytes → (version : ℕ) (words : List ℕ) → version ≡ number_in 8 (drop 1 bytes) → word_bytes words ≡ drop 9 bytes
+pub is_scheme_words : (bytes : List ℕ) → IsBytes bytes → 9 ≤ length bytes → (version : ℕ) (words : List ℕ) → version ≡ number_in 8 (drop 1 bytes) →
+    word_bytes words ≡ drop 9 bytes
     → get_or bytes 0 0 ∷ (number_bytes 8 version ++ word_bytes words) ≡ bytes
 is_scheme_words bytes fits le version words e ew =
     let rest : word_bytes words ≡ drop 8 (drop 1 bytes) = ew ∙ sym (drop-drop 8 1 bytes) in
-    ap (λ (x : List ℕ). get_or bytes 0 0 ∷ x) (number_first 8 (drop 1 bytes) (IsBytes-drop 1 bytes fits) (omega (arith, length-drop 1 bytes)) version (word_bytes words) e rest)
+    ap (λ (x : List ℕ). get_or bytes 0 0 ∷ x)
+        (number_first 8 (drop 1 bytes) (IsBytes-drop 1 bytes fits) (omega (arith, length-drop 1 bytes)) version (word_bytes words) e rest)
     ∙ byte_first bytes (omega arith)
 
-pub is_query : (bytes : List ℕ) (scheme version : ℕ) (words : List ℕ) → scheme ∷ (number_bytes 8 version ++ word_bytes words) ≡ bytes → HasFields (Query scheme version words) → Stands 5 bytes (Query scheme version words)
+pub is_query : (bytes : List ℕ) (scheme version : ℕ) (words : List ℕ) → scheme ∷ (number_bytes 8 version ++ word_bytes words) ≡ bytes →
+    HasFields (Query scheme version words) → Stands 5 bytes (Query scheme version words)
 unfolding payload_of
 is_query bytes scheme version words e fits = record { kind = refl; payload = e; fields = fits }
 
@@ -180,17 +212,20 @@ pub is_bye : (bytes : List ℕ) → length bytes ≡ 0 → Stands 8 bytes Bye
 unfolding payload_of
 is_bye bytes e = record { kind = refl; payload = sym (nil_from_length bytes e); fields = tt }
 
-pub is_answer : (bytes : List ℕ) (scheme version : ℕ) (words : List ℕ) → scheme ∷ (number_bytes 8 version ++ word_bytes words) ≡ bytes → HasFields (Answer scheme version words) → Stands 133 bytes (Answer scheme version words)
+pub is_answer : (bytes : List ℕ) (scheme version : ℕ) (words : List ℕ) → scheme ∷ (number_bytes 8 version ++ word_bytes words) ≡ bytes →
+    HasFields (Answer scheme version words) → Stands 133 bytes (Answer scheme version words)
 unfolding payload_of
 is_answer bytes scheme version words e fits = record { kind = refl; payload = e; fields = fits }
 
-pub is_stale : (bytes : List ℕ) → IsBytes bytes → length bytes ≡ 12 → (version count : ℕ) → version < 2 ^ 64 → count < 2 ^ 32 → version ≡ number_in 8 bytes → count ≡ number_in 4 (drop 8 bytes) → Stands 134 bytes (Stale version count)
+pub is_stale : (bytes : List ℕ) → IsBytes bytes → length bytes ≡ 12 → (version count : ℕ) → version < 2 ^ 64 → count < 2 ^ 32 → version ≡ number_in 8 bytes →
+    count ≡ number_in 4 (drop 8 bytes) → Stands 134 bytes (Stale version count)
 unfolding payload_of
 is_stale bytes fits len version count small small2 e e2 =
     let tail : number_bytes 4 count ≡ drop 8 bytes = number_alone 4 (drop 8 bytes) (IsBytes-drop 8 bytes fits) (omega (arith, length-drop 8 bytes)) count e2 in
     record { kind = refl; payload = number_first 8 bytes fits (omega arith) version (number_bytes 4 count) e tail; fields = (small, small2) }
 
-pub is_done : (bytes : List ℕ) → IsBytes bytes → length bytes ≡ 8 → (version : ℕ) → version < 2 ^ 64 → version ≡ number_in 8 bytes → Stands 135 bytes (Done version)
+pub is_done : (bytes : List ℕ) → IsBytes bytes → length bytes ≡ 8 → (version : ℕ) → version < 2 ^ 64 → version ≡ number_in 8 bytes →
+    Stands 135 bytes (Done version)
 unfolding payload_of
 is_done bytes fits len version small e = record { kind = refl; payload = number_alone 8 bytes fits len version e; fields = small }
 
@@ -198,7 +233,8 @@ pub is_refused : (bytes : List ℕ) → IsBytes bytes → length bytes ≡ 1 →
 unfolding payload_of
 is_refused bytes fits e = record {
   kind = refl;
-  payload = ap (λ (x : List ℕ). get_or bytes 0 0 ∷ x) (sym (nil_from_length (drop 1 bytes) (omega (arith, length-drop 1 bytes)))) ∙ byte_first bytes (omega arith);
+  payload = ap (λ (x : List ℕ). get_or bytes 0 0 ∷ x) (sym (nil_from_length (drop 1 bytes) (omega (arith, length-drop 1 bytes))))
+      ∙ byte_first bytes (omega arith);
   fields = fits 0;
 }
 
@@ -210,7 +246,8 @@ bytes_after n bytes fits = All-from_get_or (λ b. b < 2 ^ 8) (drop n bytes) 0 (�
 pub has_load : (bytes : List ℕ) → IsBytes bytes → 5 ≤ length bytes → IsPayload 1 bytes
 has_load bytes fits le = (
   Load (number_in 2 bytes) (number_in 2 (drop 2 bytes)) (get_or bytes 4 0) (drop 5 bytes),
-  is_load bytes fits le _ _ _ (number_in-lt 2 bytes fits (omega arith)) (number_in-lt 2 (drop 2 bytes) (IsBytes-drop 2 bytes fits) (omega (arith, length-drop 2 bytes)))
+  is_load bytes fits le _ _ _ (number_in-lt 2 bytes fits (omega arith))
+      (number_in-lt 2 (drop 2 bytes) (IsBytes-drop 2 bytes fits) (omega (arith, length-drop 2 bytes)))
       refl refl refl (bytes_after 5 bytes fits),
 )
 

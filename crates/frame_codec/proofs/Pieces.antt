@@ -5,7 +5,7 @@ use Rattle.std.proofs.lemmas.List.{length-append, length-drop, append-nil, nil_f
 use Rattle.frame_codec.specs.declared.frame.Frame.{Frame}
 use Rattle.frame_codec.specs.Frames.{encoding, IsFrame}
 use Rattle.frame_codec.specs.declared.reader.ReadFault.{ReadFault}
-use Rattle.frame_codec.specs.Streams.{Fills, HasFault, StopsAt, IsPartial, IsSound, TopsUp, length_at}
+use Rattle.frame_codec.specs.Streams.{Fills, HasFault, StopsAt, IsPartial, IsReadable, TopsUp, length_at}
 use Rattle.frame_codec.proofs.NumberBytes.{number_ahead}
 use Rattle.frame_codec.proofs.Prefixes.{announced, partial_lacks, sound_ahead, fault_ahead, fault_stops, stops_ahead}
 
@@ -16,7 +16,8 @@ same_length : (size : ℕ) (first beyond new rest : List ℕ) → TopsUp size fi
 same_length size first beyond new rest t le = ap length_at t.grown ∙ number_ahead 4 first t.moved le
 
 -- all of the piece is used where the header isn't whole
-used_up : (old piece first beyond : List ℕ) (size : ℕ) (new rest : List ℕ) → TopsUp 5 old piece first beyond → TopsUp size first beyond new rest → length first < 5 → (rest ≡ []) × (new ≡ first)
+used_up : (old piece first beyond : List ℕ) (size : ℕ) (new rest : List ℕ) → TopsUp 5 old piece first beyond → TopsUp size first beyond new rest →
+    length first < 5 → (rest ≡ []) × (new ≡ first)
 used_up old piece first beyond size new rest a b lt =
     let empty : beyond ≡ [] = a.until lt in
     let n : length b.moved + length rest ≡ 0 = sym (length-append b.moved rest) ∙ ap length (sym b.split ∙ empty) in
@@ -24,7 +25,8 @@ used_up old piece first beyond size new rest a b lt =
     (nil_from_length rest (omega arith), b.grown ∙ ap (λ (x : List ℕ). first ++ x) moved ∙ append-nil first)
 
 -- the header and then the payload
-pub fills : (old piece first beyond : List ℕ) (size : ℕ) (new rest : List ℕ) → IsPartial old → TopsUp 5 old piece first beyond → IsSound first size → TopsUp size first beyond new rest → Fills old piece new rest
+pub fills : (old piece first beyond : List ℕ) (size : ℕ) (new rest : List ℕ) → IsPartial old → TopsUp 5 old piece first beyond → IsReadable first size →
+    TopsUp size first beyond new rest → Fills old piece new rest
 fills old piece first beyond size new rest p a s b = record {
   whole = tops_whole size first beyond new rest b ∙ tops_whole 5 old piece first beyond a;
   alone = alone;
@@ -50,13 +52,14 @@ fills old piece first beyond size new rest p a s b = record {
         | inl lt ↦ absurd (let u = used_up old piece first beyond size new rest a b lt in omega (arith, an.size, ap length u.1))
         | inr ge ↦
             let len : length_at new ≡ length_at first = same_length size first beyond new rest b (omega arith) in
-            nil_from_length more (omega (arith, ap length an.after, length-drop (length_at new) (drop 5 new), length-drop 5 new, within ge, (s.known ge).1, len, an.size))
+            nil_from_length more (omega (arith, ap length an.after, length-drop (length_at new) (drop 5 new), length-drop 5 new, within ge, (s.known ge).1,
+                len, an.size))
       ]
 
   until : IsPartial new → rest ≡ []
   until q = elim (cases_lt (length first) 5) [
     | inl lt ↦ (used_up old piece first beyond size new rest a b lt).0
-    | inr ge ↦ b.until (partial_lacks new size q (subst (λ (x : List ℕ). IsSound x size) (sym b.grown) (sound_ahead first b.moved size ge s)))
+    | inr ge ↦ b.until (partial_lacks new size q (subst (λ (x : List ℕ). IsReadable x size) (sym b.grown) (sound_ahead first b.moved size ge s)))
   ]
 
 -- a fault of the header stands in the whole

@@ -8,7 +8,7 @@ use Rattle.frame_codec.specs.declared.reader.ReadFault.{ReadFault}
 use Rattle.frame_codec.specs.declared.reader.ReadFault.TheVariants.{TooLong, UnknownKind, BadPayload, Memory, Failed}
 use Rattle.frame_codec.specs.Numbers.{number_bytes, number_in}
 use Rattle.frame_codec.specs.Frames.{kind_of, payload_of, payload_size, payload_limit, encoding, IsFrame, Stands}
-use Rattle.frame_codec.specs.Streams.{is_kind, length_at, kind_at, HasFrame, HasFault, StopsAt, IsPartial, IsSound}
+use Rattle.frame_codec.specs.Streams.{is_kind, length_at, kind_at, HasFrame, HasFault, StopsAt, IsPartial, IsReadable}
 use Rattle.frame_codec.proofs.Payloads.{payload_sized}
 use Rattle.frame_codec.proofs.NumberBytes.{IsBytes, prefix, length-number, number_back, number_ahead, drop_number}
 
@@ -39,7 +39,8 @@ unfolding encoding
 encoding_first f more = append_assoc (number_bytes 4 (length (payload_of f))) (kind_of f ∷ payload_of f) more
 
 -- a frame's length, kind and payload, added one after another
-pub encoded_in_order : (out : List ℕ) (f : Frame) (n k : ℕ) → n ≡ payload_size f → k ≡ kind_of f → ((out ++ number_bytes 4 n) ++ k ∷ []) ++ payload_of f ≡ out ++ encoding f
+pub encoded_in_order : (out : List ℕ) (f : Frame) (n k : ℕ) → n ≡ payload_size f → k ≡ kind_of f →
+    ((out ++ number_bytes 4 n) ++ k ∷ []) ++ payload_of f ≡ out ++ encoding f
 unfolding encoding
 encoded_in_order out f n k len kind =
     let size : n ≡ length (payload_of f) = len ∙ sym (payload_sized f) in
@@ -58,11 +59,13 @@ pub header : (f : Frame) (more : List ℕ) → IsFrame f → Header f more
 header f more fits =
     let n : ℕ = length (payload_of f) in
     let le : length (payload_of f) ≤ 16777216 = fits.short in
-    let fourth : drop 4 (encoding f ++ more) ≡ kind_of f ∷ (payload_of f ++ more) = ap (drop 4) (encoding_first f more) ∙ drop_number 4 (length (payload_of f)) (kind_of f ∷ (payload_of f ++ more)) in
+    let fourth : drop 4 (encoding f ++ more) ≡ kind_of f ∷ (payload_of f ++ more) = ap (drop 4) (encoding_first f more)
+        ∙ drop_number 4 (length (payload_of f)) (kind_of f ∷ (payload_of f ++ more)) in
     record {
       size = omega (arith, length-append (encoding f) more, encoded_length f);
       len = ap (number_in 4) (encoding_first f more) ∙ number_back 4 (length (payload_of f)) (kind_of f ∷ (payload_of f ++ more)) (omega (arith, le));
-      kind = ap (λ (x : List ℕ). get_or x 4 0) (encoding_first f more) ∙ get_or_at (number_bytes 4 (length (payload_of f))) (kind_of f) (payload_of f ++ more) 0 4 (length-number 4 (length (payload_of f)));
+      kind = ap (λ (x : List ℕ). get_or x 4 0) (encoding_first f more)
+          ∙ get_or_at (number_bytes 4 (length (payload_of f))) (kind_of f) (payload_of f ++ more) 0 4 (length-number 4 (length (payload_of f)));
       beyond = sym (drop-drop 1 4 (encoding f ++ more)) ∙ ap (drop 1) fourth;
     }
 
@@ -81,7 +84,8 @@ announced bytes f more fits e =
       size = omega (arith, h.size, h.len);
       len = omega (arith, h.len, fits.short);
       kind = ap is_kind h.kind ∙ kinds_are f;
-      stands = record { kind = sym h.kind; payload = sym (rw (h.len, h.beyond) (take_at (payload_of f) more (length (payload_of f)) refl)); fields = fits.fields };
+      stands = record { kind = sym h.kind; payload = sym (rw (h.len, h.beyond) (take_at (payload_of f) more (length (payload_of f)) refl)); fields =
+          fits.fields };
       after = sym (rw (h.len, h.beyond) (drop_at (payload_of f) more (length (payload_of f)) refl));
     })
 
@@ -90,28 +94,33 @@ five : (bytes : List ℕ) → IsBytes bytes → 5 ≤ length bytes → number_by
 five bytes fits le = ap (λ (x : List ℕ). number_bytes 4 (length_at bytes) ++ x) (sym (drop_more bytes 4 0 (omega arith))) ∙ prefix 4 bytes fits (omega arith)
 
 -- the frame that the first five bytes announce stands at the beginning
-pub whole_frame : (bytes : List ℕ) (f : Frame) → IsBytes bytes → 5 + length_at bytes ≤ length bytes → length_at bytes ≤ payload_limit → Stands (kind_at bytes) (take (length_at bytes) (drop 5 bytes)) f
+pub whole_frame : (bytes : List ℕ) (f : Frame) → IsBytes bytes → 5 + length_at bytes ≤ length bytes → length_at bytes ≤ payload_limit →
+    Stands (kind_at bytes) (take (length_at bytes) (drop 5 bytes)) f
     → IsFrame f × (bytes ≡ encoding f ++ drop (length_at bytes) (drop 5 bytes))
 whole_frame bytes f fits size len stands =
-    let n : length (payload_of f) ≡ length_at bytes = ap length stands.payload ∙ length-take-le (length_at bytes) (drop 5 bytes) (omega (arith, length-drop 5 bytes)) in
+    let n : length (payload_of f) ≡ length_at bytes = ap length stands.payload
+        ∙ length-take-le (length_at bytes) (drop 5 bytes) (omega (arith, length-drop 5 bytes)) in
     let rest : List ℕ = drop (length_at bytes) (drop 5 bytes) in (
       record { fields = stands.fields; short = omega (arith, n, len) },
       sym (encoding_first f (drop (length_at bytes) (drop 5 bytes))
-          ∙ rw (n, stands.kind, stands.payload) (ap (λ (x : List ℕ). number_bytes 4 (length_at bytes) ++ (kind_at bytes ∷ x)) (take-append-drop (length_at bytes) (drop 5 bytes)))
+          ∙ rw (n, stands.kind, stands.payload)
+              (ap (λ (x : List ℕ). number_bytes 4 (length_at bytes) ++ (kind_at bytes ∷ x)) (take-append-drop (length_at bytes) (drop 5 bytes)))
           ∙ five bytes fits (omega arith)),
     )
 
 -- ---- less than a frame
 
 -- nothing is whole, and nothing can be judged yet
-pub is_partial : (bytes : List ℕ) → (5 + length_at bytes ≤ length bytes → ⊥) → (4 ≤ length bytes → length_at bytes ≤ payload_limit) → (5 ≤ length bytes → is_kind (kind_at bytes) ≡ true) → IsPartial bytes
+pub is_partial : (bytes : List ℕ) → (5 + length_at bytes ≤ length bytes → ⊥) → (4 ≤ length bytes → length_at bytes ≤ payload_limit) →
+    (5 ≤ length bytes → is_kind (kind_at bytes) ≡ true) → IsPartial bytes
 is_partial bytes short len kind = record {
   no_frame = λ h. short (announced bytes h.0 h.1 h.2 h.3).size;
   no_fault = none;
 } where
   none : (fault : ReadFault) → HasFault fault bytes → ⊥
   none TooLong h = let le : length_at bytes ≤ 16777216 = len h.0 in omega (arith, le, h.1)
-  none UnknownKind h = absurd (let t : is_kind (kind_at bytes) ≡ true = kind h.0 in let f : is_kind (kind_at bytes) ≡ false = h.2 in let bad : true ≡ false = sym t ∙ f in cc)
+  none UnknownKind h = absurd (let t : is_kind (kind_at bytes) ≡ true = kind h.0 in let f : is_kind (kind_at bytes) ≡ false = h.2 in let bad : true ≡ false =
+      sym t ∙ f in cc)
   none BadPayload h = short h.0
   none Memory h = h
   none Failed h = h
@@ -120,14 +129,14 @@ pub nothing_partial : IsPartial []
 nothing_partial = is_partial [] (λ h. omega arith) (λ h. absurd (omega arith)) (λ h. absurd (omega arith))
 
 -- bytes that are sound, and fewer than they say
-pub sound_partial : (bytes : List ℕ) (size : ℕ) → IsSound bytes size → length bytes < size → IsPartial bytes
+pub sound_partial : (bytes : List ℕ) (size : ℕ) → IsReadable bytes size → length bytes < size → IsPartial bytes
 sound_partial bytes size s lt = is_partial bytes
     (λ h. let k = s.known (omega (arith, h)) in omega (arith, h, k.1, lt))
     s.short
     (λ h. (s.known h).0)
 
 -- an unfinished frame that has its header lacks some of its payload
-pub partial_lacks : (bytes : List ℕ) (size : ℕ) → IsPartial bytes → IsSound bytes size → length bytes < size
+pub partial_lacks : (bytes : List ℕ) (size : ℕ) → IsPartial bytes → IsReadable bytes size → length bytes < size
 partial_lacks bytes size p s = elim (cases_lt (length bytes) size) [
   | inl lt ↦ lt
   | inr ge ↦ absurd (elim (cases_lt (length bytes) 5) [
@@ -146,7 +155,7 @@ pub record Judged (bytes : List ℕ) (size : ℕ) : Type 0 where
   pub prefix_payload : drop 5 (take size bytes) ≡ take (length_at bytes) (drop 5 bytes)
   pub beyond : drop size bytes ≡ drop (length_at bytes) (drop 5 bytes)
 
-pub judged : (bytes : List ℕ) (size : ℕ) → IsSound bytes size → size ≤ length bytes → Judged bytes size
+pub judged : (bytes : List ℕ) (size : ℕ) → IsReadable bytes size → size ≤ length bytes → Judged bytes size
 judged bytes size s le =
     let ge : 5 ≤ length bytes = elim (cases_lt (length bytes) 5) [
       | inl lt ↦ omega (arith, s.header lt)
@@ -169,7 +178,7 @@ kind_ahead : (bytes more : List ℕ) → 5 ≤ length bytes → kind_at (bytes +
 kind_ahead bytes more le = get_or_append_left bytes more 0 4 (omega arith)
 
 -- a sound header stays so, whatever comes after
-pub sound_ahead : (bytes more : List ℕ) (size : ℕ) → 5 ≤ length bytes → IsSound bytes size → IsSound (bytes ++ more) size
+pub sound_ahead : (bytes more : List ℕ) (size : ℕ) → 5 ≤ length bytes → IsReadable bytes size → IsReadable (bytes ++ more) size
 sound_ahead bytes more size le s =
     let len : length_at (bytes ++ more) ≡ length_at bytes = number_ahead 4 bytes more (omega arith) in
     record {
@@ -184,13 +193,17 @@ frame_within bytes more size h =
     let f : Frame = h.0 in
     let len : length_at bytes ≡ length (payload_of f) = sym (number_ahead 4 bytes more (omega arith)) ∙ ap length_at h.3 ∙ (header h.0 h.1 h.2).len in
     let long : length (encoding f) ≤ length bytes = omega (arith, encoded_length f, len) in
-    let here : take (length (encoding f)) bytes ≡ encoding f = sym (take-append-le (length (encoding f)) bytes more long) ∙ ap (take (length (encoding f))) h.3 ∙ take_at (encoding f) h.1 (length (encoding f)) refl in
-    (f, drop (length (encoding f)) bytes, h.2, sym (take-append-drop (length (encoding f)) bytes) ∙ ap (λ (x : List ℕ). x ++ drop (length (encoding f)) bytes) here)
+    let here : take (length (encoding f)) bytes ≡ encoding f = sym (take-append-le (length (encoding f)) bytes more long)
+        ∙ ap (take (length (encoding f))) h.3 ∙ take_at (encoding f) h.1 (length (encoding f)) refl in
+    (f, drop (length (encoding f)) bytes, h.2, sym (take-append-drop (length (encoding f)) bytes)
+        ∙ ap (λ (x : List ℕ). x ++ drop (length (encoding f)) bytes) here)
 
 -- a fault stays where it stands, whatever comes after
 pub fault_ahead : (fault : ReadFault) (bytes more : List ℕ) → HasFault fault bytes → HasFault fault (bytes ++ more)
 fault_ahead TooLong bytes more h = (omega (arith, length-append bytes more, h.0), omega (arith, number_ahead 4 bytes more h.0, h.1))
-fault_ahead UnknownKind bytes more h = (omega (arith, length-append bytes more, h.0), omega (arith, number_ahead 4 bytes more (omega (arith, h.0)), h.1), ap is_kind (kind_ahead bytes more h.0) ∙ h.2)
+fault_ahead UnknownKind bytes more h =
+    (omega (arith, length-append bytes more, h.0), omega (arith, number_ahead 4 bytes more (omega (arith, h.0)), h.1), ap is_kind (kind_ahead bytes more h.0)
+    ∙ h.2)
 fault_ahead BadPayload bytes more h = (
   omega (arith, length-append bytes more, number_ahead 4 bytes more (omega (arith, h.0)), h.0),
   omega (arith, number_ahead 4 bytes more (omega (arith, h.0)), h.1),

@@ -59,11 +59,13 @@ number_alone_back n x h = ap (number_in n) (sym (append-nil (number_bytes n x)))
 frame_back : (f : Frame) → HasFields f → frame_of (kind_of f) (payload_of f) ≡ f
 unfolding frame_of payload_of welcome_in
 frame_back (Load record_len groups width records) fits =
-    rw (number_back 2 record_len (number_bytes 2 groups ++ (width ∷ records)) fits.0, drop_number 2 record_len (number_bytes 2 groups ++ (width ∷ records)), number_back 2 groups (width ∷ records) fits.1, drop_number 2 groups (width ∷ records)) refl
+    rw (number_back 2 record_len (number_bytes 2 groups ++ (width ∷ records)) fits.0, drop_number 2 record_len (number_bytes 2 groups ++ (width ∷ records)),
+        number_back 2 groups (width ∷ records) fits.1, drop_number 2 groups (width ∷ records)) refl
 frame_back (Query scheme version words) fits =
     rw (number_back 8 version (word_bytes words) fits.1, drop_number 8 version (word_bytes words), words_all_back words fits.2) refl
 frame_back (Hello profile key) fits = rw (number_back 2 profile key fits.0, drop_number 2 profile key) refl
-frame_back (HintAsk scheme version part) fits = rw (number_back 8 version (number_bytes 4 part) fits.1, drop_number 8 version (number_bytes 4 part), number_alone_back 4 part fits.2) refl
+frame_back (HintAsk scheme version part) fits =
+    rw (number_back 8 version (number_bytes 4 part) fits.1, drop_number 8 version (number_bytes 4 part), number_alone_back 4 part fits.2) refl
 frame_back (Edit index bytes) fits = rw (number_back 4 index bytes fits.0, drop_number 4 index bytes) refl
 frame_back Publish fits = refl
 frame_back Bye fits = refl
@@ -72,7 +74,8 @@ frame_back (Welcome profile width record_len groups count version dimension seed
     let p11 : List ℕ = number_bytes 8 version ++ (number_bytes 2 dimension ++ seed) in
     let p7 : List ℕ = number_bytes 4 count ++ (number_bytes 8 version ++ (number_bytes 2 dimension ++ seed)) in
     let p5 : List ℕ = number_bytes 2 groups ++ (number_bytes 4 count ++ (number_bytes 8 version ++ (number_bytes 2 dimension ++ seed))) in
-    let p3 : List ℕ = number_bytes 2 record_len ++ (number_bytes 2 groups ++ (number_bytes 4 count ++ (number_bytes 8 version ++ (number_bytes 2 dimension ++ seed)))) in
+    let p3 : List ℕ = number_bytes 2 record_len
+        ++ (number_bytes 2 groups ++ (number_bytes 4 count ++ (number_bytes 8 version ++ (number_bytes 2 dimension ++ seed)))) in
     rw (
       number_back 2 profile (width ∷ p3) fits.0,
       drop_number 2 profile (width ∷ p3),
@@ -89,7 +92,8 @@ frame_back (Welcome profile width record_len groups count version dimension seed
     ) refl
 frame_back (HintPart scheme version part words) fits =
     let p9 : List ℕ = number_bytes 4 part ++ word_bytes words in
-    rw (number_back 8 version p9 fits.1, drop_number 8 version p9, number_back 4 part (word_bytes words) fits.2, drop_number 4 part (word_bytes words), words_all_back words fits.3) refl
+    rw (number_back 8 version p9 fits.1, drop_number 8 version p9, number_back 4 part (word_bytes words) fits.2, drop_number 4 part (word_bytes words),
+        words_all_back words fits.3) refl
 frame_back (Answer scheme version words) fits =
     rw (number_back 8 version (word_bytes words) fits.1, drop_number 8 version (word_bytes words), words_all_back words fits.2) refl
 frame_back (Stale version count) fits =
@@ -114,7 +118,8 @@ pub regroup : (f : Frame) (fs : List Frame) (r : List ℕ) → flat_map encoding
 regroup f fs r = ap (λ (x : List ℕ). x ++ r) (flat_map-cons encoding f fs) ∙ append_assoc (encoding f) (flat_map encoding fs) r
 
 -- the frames of one reading begin those of another that ends where no frame is whole
-pub one_prefix : (fs gs : List Frame) (r s : List ℕ) → AllByRecursion IsFrame fs → AllByRecursion IsFrame gs → flat_map encoding fs ++ r ≡ flat_map encoding gs ++ s → (HasFrame s → ⊥)
+pub one_prefix : (fs gs : List Frame) (r s : List ℕ) → AllByRecursion IsFrame fs → AllByRecursion IsFrame gs →
+    flat_map encoding fs ++ r ≡ flat_map encoding gs ++ s → (HasFrame s → ⊥)
     → (more : List Frame) × (gs ≡ fs ++ more) × (r ≡ flat_map encoding more ++ s) × AllByRecursion IsFrame more
 one_prefix [] gs r s ff gg e last = (gs, refl, e, gg)
 one_prefix (f ∷ fs) [] r s ff gg e last = absurd (last (f, flat_map encoding fs ++ r, ff.0, sym e ∙ regroup f fs r))
@@ -123,7 +128,8 @@ one_prefix (f ∷ fs) (g ∷ gs) r s ff gg e last =
     let m = one_prefix fs gs r s ff.1 gg.1 one.1 last in
     (m.0, ap (λ (x : Frame). x ∷ gs) (sym one.0) ∙ ap (λ (x : List Frame). f ∷ x) m.1, m.2, m.3)
 
-same_reading : (fs gs : List Frame) (r s : List ℕ) → AllByRecursion IsFrame fs → AllByRecursion IsFrame gs → flat_map encoding fs ++ r ≡ flat_map encoding gs ++ s → (HasFrame r → ⊥) → (HasFrame s → ⊥) → (fs ≡ gs) × (r ≡ s)
+same_reading : (fs gs : List Frame) (r s : List ℕ) → AllByRecursion IsFrame fs → AllByRecursion IsFrame gs →
+    flat_map encoding fs ++ r ≡ flat_map encoding gs ++ s → (HasFrame r → ⊥) → (HasFrame s → ⊥) → (fs ≡ gs) × (r ≡ s)
 same_reading [] [] r s ff gg e lr ls = (refl, e)
 same_reading [] (g ∷ gs) r s ff gg e lr ls = absurd (lr (g, flat_map encoding gs ++ s, gg.0, e ∙ regroup g gs s))
 same_reading (f ∷ fs) [] r s ff gg e lr ls = absurd (ls (f, flat_map encoding fs ++ r, ff.0, sym e ∙ regroup f fs r))
@@ -132,7 +138,8 @@ same_reading (f ∷ fs) (g ∷ gs) r s ff gg e lr ls =
     let m = same_reading fs gs r s ff.1 gg.1 one.1 lr ls in
     (ap (λ (x : Frame). x ∷ fs) one.0 ∙ ap (λ (x : List Frame). g ∷ x) m.0, m.1)
 
-pub one_reading : (bytes : List ℕ) (frames others : List Frame) (rest end : List ℕ) → Begins bytes frames rest → Begins bytes others end → (HasFrame rest → ⊥) → (HasFrame end → ⊥) → (frames ≡ others) × (rest ≡ end)
+pub one_reading : (bytes : List ℕ) (frames others : List Frame) (rest end : List ℕ) → Begins bytes frames rest → Begins bytes others end →
+    (HasFrame rest → ⊥) → (HasFrame end → ⊥) → (frames ≡ others) × (rest ≡ end)
 one_reading bytes frames others rest end a b last final = same_reading frames others rest end a.each b.each (sym a.whole ∙ b.whole) last final
 
 -- ---- frames that are on their way
@@ -156,14 +163,17 @@ nothing_bad Memory h = h
 nothing_bad Failed h = h
 
 -- no fault stands where frames are on their way
-no_fault_ahead : (fault : ReadFault) (rest later : List ℕ) (more : List Frame) → AllByRecursion IsFrame more → rest ++ later ≡ flat_map encoding more → HasFault fault rest → ⊥
+no_fault_ahead : (fault : ReadFault) (rest later : List ℕ) (more : List Frame) → AllByRecursion IsFrame more → rest ++ later ≡ flat_map encoding more →
+    HasFault fault rest → ⊥
 no_fault_ahead fault rest later [] all e h = nothing_bad fault (subst (HasFault fault) e (fault_ahead fault rest later h))
-no_fault_ahead fault rest later (m ∷ ms) all e h = fault_of_frame fault (rest ++ later) (fault_ahead fault rest later h) (m, flat_map encoding ms, all.0, e ∙ flat_map-cons encoding m ms)
+no_fault_ahead fault rest later (m ∷ ms) all e h = fault_of_frame fault (rest ++ later) (fault_ahead fault rest later h) (m, flat_map encoding ms, all.0, e
+    ∙ flat_map-cons encoding m ms)
 
 nothing_whole : HasFrame [] → ⊥
 nothing_whole h = let a = announced [] h.0 h.1 h.2 h.3 in omega (arith, a.size)
 
-stops_on_way : (fault : ReadFault) (new : Option (List ℕ)) (rest later : List ℕ) (more : List Frame) → AllByRecursion IsFrame more → rest ++ later ≡ flat_map encoding more → StopsAt fault rest → Arrives (Err fault) new later more
+stops_on_way : (fault : ReadFault) (new : Option (List ℕ)) (rest later : List ℕ) (more : List Frame) → AllByRecursion IsFrame more →
+    rest ++ later ≡ flat_map encoding more → StopsAt fault rest → Arrives (Err fault) new later more
 stops_on_way TooLong new rest later more all e h = absurd (no_fault_ahead TooLong rest later more all e h)
 stops_on_way UnknownKind new rest later more all e h = absurd (no_fault_ahead UnknownKind rest later more all e h)
 stops_on_way BadPayload new rest later more all e h = absurd (no_fault_ahead BadPayload rest later more all e h)
@@ -171,15 +181,18 @@ stops_on_way Memory new rest later more all e h = tt
 stops_on_way Failed new rest later more all e h = absurd h
 
 -- what comes of frames that were sent: those that are whole are read, and the others are still on their way
-pub reads_sent : (old piece later : List ℕ) (sent : List Frame) (answer : Result (Unit {0}) ReadFault) (frames : List Frame) (new : Option (List ℕ)) → AllByRecursion IsFrame sent → (old ++ piece) ++ later ≡ flat_map encoding sent
+pub reads_sent : (old piece later : List ℕ) (sent : List Frame) (answer : Result (Unit {0}) ReadFault) (frames : List Frame) (new : Option (List ℕ)) →
+    AllByRecursion IsFrame sent → (old ++ piece) ++ later ≡ flat_map encoding sent
     → Feeds (Some old) piece answer frames new → (more : List Frame) × (sent ≡ frames ++ more) × AllByRecursion IsFrame more × Arrives answer new later more
 reads_sent old piece later sent (Ok d) frames new all e f =
     let b = f.1.begins in
-    let whole : flat_map encoding frames ++ (f.0 ++ later) ≡ flat_map encoding sent ++ [] = sym (append_assoc (flat_map encoding frames) f.0 later) ∙ ap (λ (x : List ℕ). x ++ later) (sym b.whole) ∙ e ∙ sym (append-nil (flat_map encoding sent)) in
+    let whole : flat_map encoding frames ++ (f.0 ++ later) ≡ flat_map encoding sent ++ [] = sym (append_assoc (flat_map encoding frames) f.0 later)
+        ∙ ap (λ (x : List ℕ). x ++ later) (sym b.whole) ∙ e ∙ sym (append-nil (flat_map encoding sent)) in
     let m = one_prefix frames sent (f.0 ++ later) [] b.each all whole nothing_whole in
     (m.0, m.1, m.3, rw f.2 (m.2 ∙ append-nil (flat_map encoding m.0)))
 reads_sent old piece later sent (Err fault) frames new all e f =
     let b = f.0.1 in
-    let whole : flat_map encoding frames ++ (f.0.0 ++ later) ≡ flat_map encoding sent ++ [] = sym (append_assoc (flat_map encoding frames) f.0.0 later) ∙ ap (λ (x : List ℕ). x ++ later) (sym b.whole) ∙ e ∙ sym (append-nil (flat_map encoding sent)) in
+    let whole : flat_map encoding frames ++ (f.0.0 ++ later) ≡ flat_map encoding sent ++ [] = sym (append_assoc (flat_map encoding frames) f.0.0 later)
+        ∙ ap (λ (x : List ℕ). x ++ later) (sym b.whole) ∙ e ∙ sym (append-nil (flat_map encoding sent)) in
     let m = one_prefix frames sent (f.0.0 ++ later) [] b.each all whole nothing_whole in
     (m.0, m.1, m.3, stops_on_way fault new f.0.0 later m.0 m.3 (m.2 ∙ append-nil (flat_map encoding m.0)) f.0.2)

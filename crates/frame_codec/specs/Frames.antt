@@ -30,7 +30,9 @@ payload_of (Edit index bytes) = number_bytes 4 index ++ bytes
 payload_of Publish = []
 payload_of Bye = []
 payload_of (Welcome profile width record_len groups count version dimension seed) =
-    number_bytes 2 profile ++ (width ∷ (number_bytes 2 record_len ++ (number_bytes 2 groups ++ (number_bytes 4 count ++ (number_bytes 8 version ++ (number_bytes 2 dimension ++ seed))))))
+    number_bytes 2 profile ++
+        (width ∷ (number_bytes 2 record_len
+        ++ (number_bytes 2 groups ++ (number_bytes 4 count ++ (number_bytes 8 version ++ (number_bytes 2 dimension ++ seed))))))
 payload_of (HintPart scheme version part words) = scheme ∷ (number_bytes 8 version ++ (number_bytes 4 part ++ word_bytes words))
 payload_of (Answer scheme version words) = scheme ∷ (number_bytes 8 version ++ word_bytes words)
 payload_of (Stale version count) = number_bytes 8 version ++ number_bytes 4 count
@@ -63,7 +65,8 @@ HasFields (Edit index bytes) = (index < 2 ^ 32) × All (λ b. b < 2 ^ 8) bytes
 HasFields Publish = Unit {0}
 HasFields Bye = Unit {0}
 HasFields (Welcome profile width record_len groups count version dimension seed) =
-    (profile < 2 ^ 16) × (width < 2 ^ 8) × (record_len < 2 ^ 16) × (groups < 2 ^ 16) × (count < 2 ^ 32) × (version < 2 ^ 64) × (dimension < 2 ^ 16) × (length seed ≡ 32) × All (λ b. b < 2 ^ 8) seed
+    (profile < 2 ^ 16) × (width < 2 ^ 8) × (record_len < 2 ^ 16) × (groups < 2 ^ 16) × (count < 2 ^ 32) × (version < 2 ^ 64) × (dimension < 2 ^ 16)
+        × (length seed ≡ 32) × All (λ b. b < 2 ^ 8) seed
 HasFields (HintPart scheme version part words) = (scheme < 2 ^ 8) × (version < 2 ^ 64) × (part < 2 ^ 32) × All (λ w. w < 2 ^ 32) words
 HasFields (Answer scheme version words) = (scheme < 2 ^ 8) × (version < 2 ^ 64) × All (λ w. w < 2 ^ 32) words
 HasFields (Stale version count) = (version < 2 ^ 64) × (count < 2 ^ 32)

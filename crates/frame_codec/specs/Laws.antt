@@ -15,15 +15,18 @@ OneFault = (fault other : ReadFault) (bytes : List ℕ) → HasFault fault bytes
 
 -- The unfinished bytes and the piece decide the answer, the frames and the bytes that are unfinished then, where memory isn't refused.
 abbrev pub FeedsDecide : Type 0
-FeedsDecide = (old : Option (List ℕ)) (piece : List ℕ) (answer other : Result (Unit {0}) ReadFault) (frames others : List Frame) (new end : Option (List ℕ)) → Feeds old piece answer frames new → Feeds old piece other others end → answer ≢ Err Memory
+FeedsDecide = (old : Option (List ℕ)) (piece : List ℕ) (answer other : Result (Unit {0}) ReadFault) (frames others : List Frame) (new end : Option (List ℕ)) →
+    Feeds old piece answer frames new → Feeds old piece other others end → answer ≢ Err Memory
     → other ≢ Err Memory → (answer ≡ other) × (frames ≡ others) × (new ≡ end)
 
 -- where memory may be refused to one of them, its frames are the first of the other's
 abbrev pub FeedsBegin : Type 0
-FeedsBegin = (old : Option (List ℕ)) (piece : List ℕ) (answer other : Result (Unit {0}) ReadFault) (frames others : List Frame) (new end : Option (List ℕ)) → Feeds old piece answer frames new → Feeds old piece other others end → answer ≢ Err Memory
+FeedsBegin = (old : Option (List ℕ)) (piece : List ℕ) (answer other : Result (Unit {0}) ReadFault) (frames others : List Frame) (new end : Option (List ℕ)) →
+    Feeds old piece answer frames new → Feeds old piece other others end → answer ≢ Err Memory
     → (more : List Frame) × (frames ≡ others ++ more)
 
 -- where memory may be refused to both, the frames of one of them are the first of the other's
 abbrev pub FeedsAgree : Type 0
-FeedsAgree = (old : Option (List ℕ)) (piece : List ℕ) (answer other : Result (Unit {0}) ReadFault) (frames others : List Frame) (new end : Option (List ℕ)) → Feeds old piece answer frames new → Feeds old piece other others end
+FeedsAgree = (old : Option (List ℕ)) (piece : List ℕ) (answer other : Result (Unit {0}) ReadFault) (frames others : List Frame) (new end : Option (List ℕ)) →
+    Feeds old piece answer frames new → Feeds old piece other others end
     → ((more : List Frame) × (frames ≡ others ++ more)) ⊎ ((more : List Frame) × (others ≡ frames ++ more))

@@ -80,10 +80,11 @@ FeedsAll old (piece ∷ pieces) frames rest =
     × Feeds (Some old) piece (Ok done) first (Some between) × FeedsAll between pieces later rest × (frames ≡ first ++ later)
 
 -- the stream that pieces make
-abbrev pub joined : List (List ℕ) → List ℕ
-joined pieces = flat_map (λ piece. piece) pieces
+abbrev pub joined_pieces : List (List ℕ) → List ℕ
+joined_pieces pieces = flat_map (λ piece. piece) pieces
 
--- What stands after a piece of frames that were sent, where later bytes are still on their way: the rest and these are the other frames. Else memory was refused.
+-- What stands after a piece of frames that were sent, where later bytes are still on their way: the rest and these
+-- are the other frames. Else memory was refused.
 abbrev pub Arrives : Result (Unit {0}) ReadFault → Option (List ℕ) → List ℕ → List Frame → Type 0
 Arrives (Ok done) None later more = ⊥
 Arrives (Ok done) (Some rest) later more = rest ++ later ≡ flat_map encoding more
@@ -94,7 +95,7 @@ Arrives (Err Memory) new later more = Unit {0}
 Arrives (Err Failed) new later more = ⊥
 
 -- The first five bytes are sound as far as they have come, and say the frame's whole length; that it has five bytes is known before.
-pub record IsSound (bytes : List ℕ) (size : ℕ) : Type 0 where
+pub record IsReadable (bytes : List ℕ) (size : ℕ) : Type 0 where
   pub header : length bytes < 5 → size ≡ 5
   pub short : 4 ≤ length bytes → length_at bytes ≤ payload_limit
   pub known : 5 ≤ length bytes → (is_kind (kind_at bytes) ≡ true) × (size ≡ 5 + length_at bytes)

@@ -10,7 +10,7 @@ ghost use Rattle.frame_codec.specs.Laws.{FaultsExcludeFrames, OneFault, FeedsDec
     FeedsAgree};
 ghost use Rattle.frame_codec.specs.Frames.{IsFrame, encoding, payload_of, payload_size};
 ghost use Rattle.frame_codec.specs.Streams.{Begins, HasFrame, Feeds, FeedsAll, Reads, Stops,
-    Arrives, joined};
+    Arrives, joined_pieces};
 
 /// The bytes that are read as a number are its only encoding in so many bytes.
 pub fn one_number()
@@ -43,14 +43,14 @@ pub fn one_reading()
 /// the frames before it, and two chunkings give the same frames and keep the same rest.
 pub fn any_chunking()
     ensures frames { (pieces : List (List ℕ)) (frames : List Frame) (rest : List ℕ) →
-        FeedsAll [] pieces frames rest → Reads (joined pieces) frames rest }
+        FeedsAll [] pieces frames rest → Reads (joined_pieces pieces) frames rest }
     ensures fault { (pieces : List (List ℕ)) (frames : List Frame) (rest piece : List ℕ)
         (fault : ReadFault) (last : List Frame) (new : Option (List ℕ)) →
         FeedsAll [] pieces frames rest → Feeds (Some rest) piece (Err fault) last new →
-            Stops (joined pieces ++ piece) (frames ++ last) fault }
+            Stops (joined_pieces pieces ++ piece) (frames ++ last) fault }
     ensures same { (pieces others : List (List ℕ)) (frames more : List Frame) (rest end : List ℕ) →
         FeedsAll [] pieces frames rest → FeedsAll [] others more end →
-            joined pieces ≡ joined others → (frames ≡ more) × (rest ≡ end) }
+            joined_pieces pieces ≡ joined_pieces others → (frames ≡ more) × (rest ≡ end) }
 {}
 
 /// Of frames that were sent, those that are whole are read, and the others are still on their way.

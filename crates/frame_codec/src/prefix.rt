@@ -3,7 +3,7 @@
 ghost use Rattle.std.specs.Prelude.{◌≡◌, ◌<◌, ℕ, List, ◌++◌, IfOk, IfErr, IfSome, IfNone, length};
 ghost use Rattle.frame_codec.specs.declared.frame.Frame.{Frame};
 ghost use Rattle.frame_codec.specs.Frames.{IsFrame, encoding};
-ghost use Rattle.frame_codec.specs.Streams.{Begins, HasFault, HasFrame, IsPartial, IsSound, Reads,
+ghost use Rattle.frame_codec.specs.Streams.{Begins, HasFault, HasFrame, IsPartial, IsReadable, Reads,
     Stops, StopsAt, is_kind};
 
 use crate::frame::Frame;
@@ -26,7 +26,7 @@ fn is_known_kind(kind: u8) -> bool
 
 /// The whole length of the frame at the beginning, or of a header where that isn't whole.
 pub fn frame_len(bytes: &[u8]) -> Result<usize, ReadFault>
-    ensures ok { IfOk result (λ size. IsSound bytes.now size) }
+    ensures ok { IfOk result (λ size. IsReadable bytes.now size) }
     ensures err { IfErr result (λ fault. HasFault fault bytes.now) }
 {
     if bytes.len() < 4 {

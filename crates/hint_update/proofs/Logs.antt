@@ -34,7 +34,9 @@ sorted_rows lists rows sorted kept is moved up left =
     record {
       ascending = rw once (IsStrictlyIncreasing-dedup sorted up);
       each = λ r. (
-        λ h. subst (λ x. Contains x r) is (Contains-permutation sorted rows r (IsPermutation-sym rows sorted moved) (Contains-from_dedup eqb sorted r (subst (λ x. Contains x r) once h))),
-        λ h. subst (λ x. Contains x r) (sym once) (Contains-dedup_nat sorted r (Contains-permutation rows sorted r moved (subst (λ x. Contains x r) (sym is) h))),
+        λ h. subst (λ x. Contains x r) is
+            (Contains-permutation sorted rows r (IsPermutation-sym rows sorted moved) (Contains-from_dedup eqb sorted r (subst (λ x. Contains x r) once h))),
+        λ h. subst (λ x. Contains x r) (sym once)
+            (Contains-dedup_nat sorted r (Contains-permutation rows sorted r moved (subst (λ x. Contains x r) (sym is) h))),
       );
     }

@@ -65,7 +65,8 @@ pub written_row_is : (m : WordMatrix) (i : ℕ) (words : List ℕ) → IsWhole m
 written_row_is m i words whole inside wide =
     matrix_by_entries (written_row m i words) m.rows m.cols (λ r j. if r == i then slice_index words j else entry m r j) refl refl
     (length-written_row m i words whole inside wide) (λ r j p q. elim (cases_eq r i) [
-      | inl e ↦ ap (λ x. entry (written_row m i words) x j) e ∙ written_row-same m i words whole inside wide j q ∙ sym (if_here r i (slice_index words j) (entry m r j) e)
+      | inl e ↦ ap (λ x. entry (written_row m i words) x j) e ∙ written_row-same m i words whole inside wide j q
+          ∙ sym (if_here r i (slice_index words j) (entry m r j) e)
       | inr ne ↦ written_row-other m i words whole inside wide r j ne q ∙ sym (if_elsewhere r i (slice_index words j) (entry m r j) ne)
     ])
 
@@ -126,7 +127,8 @@ block_row a b m start count i f words below factors is so_far =
     let sum = ap (λ xs. slice_index xs q) is ∙ plus_rows-index (row m i) count f b start q (omega (arith, length-row m i)) in
     let old = row_index m i q here ∙ so_far.rest i q (omega arith) below h in
     let more = sum_below-add start count (λ k. entry a i k * entry b k q) in
-    let each = sum_same count (λ k. f k * entry b (start + k) q) (λ k. entry a i (start + k) * entry b (start + k) q) (λ k p. ap (λ n. n * entry b (start + k) q) (factors k p)) in
+    let each = sum_same count (λ k. f k * entry b (start + k) q) (λ k. entry a i (start + k) * entry b (start + k) q)
+        (λ k p. ap (λ n. n * entry b (start + k) q) (factors k p)) in
     new ∙ sum ∙ omega (arith, old, more, each) in
     record {
       rows = so_far.rows;

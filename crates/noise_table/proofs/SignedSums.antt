@@ -21,6 +21,7 @@ term_le : (w a : ℕ) (e : ℤ) → a < 2 ^ w → unsigned_abs e ≤ 27 → unsi
 term_le w a e p q = rw (unsigned_abs-mul (pos a) e) (omega (arith, mul-le a (unsigned_abs e) (2 ^ w - 1) 27 (omega arith) q))
 
 -- where so many terms are certain, every row of that many digits is quiet
-pub certain_quiet : (w : ℕ) (x : List ℕ) (e : List ℤ) → IsCertain w (length x) → ((j : ℕ) → slice_index x j < 2 ^ w) → ((j : ℕ) → unsigned_abs (slice_index_or e j (pos 0)) ≤ 27) → IsQuiet w x e
+pub certain_quiet : (w : ℕ) (x : List ℕ) (e : List ℤ) → IsCertain w (length x) → ((j : ℕ) → slice_index x j < 2 ^ w) →
+    ((j : ℕ) → unsigned_abs (slice_index_or e j (pos 0)) ≤ 27) → IsQuiet w x e
 certain_quiet w x e c d n =
     omega (arith, c, signed_sum_le (length x) (27 * (2 ^ w - 1)) (λ j. pos (slice_index x j) *ℤ slice_index_or e j (pos 0)) (λ j _. term_le w _ _ (d j) (n j)))

@@ -6,7 +6,7 @@ use Rattle.std.proofs.lemmas.List.Concat.{flat_map-append}
 use Rattle.frame_codec.specs.declared.frame.Frame.{Frame}
 use Rattle.frame_codec.specs.Frames.{encoding}
 use Rattle.once_session.specs.declared.stage.Stage.{Stage}
-use Rattle.once_session.specs.Courses.{next, reply, replies_to, stage_after, encodings, reply_bytes}
+use Rattle.once_session.specs.Courses.{next, reply, replies_to, stage_after, encodings, work_reply_bytes}
 use Rattle.once_session.specs.Outputs.{IsPrefixOf}
 
 pub stage_after-append : (st : Stage) (fs gs : List Frame) → stage_after st (fs ++ gs) ≡ stage_after (stage_after st fs) gs
@@ -19,16 +19,18 @@ replies_to-append st (f ∷ fs) gs =
     ap (λ rs. option_to_list (reply st f) ++ rs) (replies_to-append (next st f) fs gs)
     ∙ sym (append_assoc (option_to_list (reply st f)) (replies_to (next st f) fs) (replies_to (stage_after (next st f) fs) gs))
 
-pub encodings-reply : (r : Option Frame) → encodings (option_to_list r) ≡ reply_bytes r
+pub encodings-reply : (r : Option Frame) → encodings (option_to_list r) ≡ work_reply_bytes r
 encodings-reply None = refl
 encodings-reply (Some f) = append-nil (encoding f)
 
 -- the output for frames in two parts
-pub output-append : (st : Stage) (fs gs : List Frame) → encodings (replies_to st (fs ++ gs)) ≡ encodings (replies_to st fs) ++ encodings (replies_to (stage_after st fs) gs)
+pub output-append : (st : Stage) (fs gs : List Frame) →
+    encodings (replies_to st (fs ++ gs)) ≡ encodings (replies_to st fs) ++ encodings (replies_to (stage_after st fs) gs)
 output-append st fs gs = ap encodings (replies_to-append st fs gs) ∙ flat_map-append encoding (replies_to st fs) (replies_to (stage_after st fs) gs)
 
 -- one more frame
-pub output-more : (st : Stage) (fs : List Frame) (f : Frame) → encodings (replies_to st (fs ++ f ∷ [])) ≡ encodings (replies_to st fs) ++ reply_bytes (reply (stage_after st fs) f)
+pub output-more : (st : Stage) (fs : List Frame) (f : Frame) →
+    encodings (replies_to st (fs ++ f ∷ [])) ≡ encodings (replies_to st fs) ++ work_reply_bytes (reply (stage_after st fs) f)
 output-more st fs f =
     output-append st fs (f ∷ [])
     ∙ ap (λ (bs : List ℕ). encodings (replies_to st fs) ++ bs)

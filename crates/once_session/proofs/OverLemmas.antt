@@ -2,21 +2,23 @@
 use Rattle.std.proofs.Common.{◌≡◌, ◌<◌, ℕ, List, [], ◌∷◌, ◌++◌, true, false, Option, Result, Ok, Err, OnOk, IfErr, sym, subst, inl, inr}
 use Rattle.std.proofs.lemmas.Fn.{FoldsTo-push}
 use Rattle.connection_io.specs.Calls.{Call, Read}
-use Rattle.connection_io.specs.Turns.{Turn}
+use Rattle.connection_io.specs.Turns.{CallTurn}
 use Rattle.once_session.specs.declared.stage.Stage.{Stage}
 use Rattle.once_session.specs.declared.engine.OnceFault.{OnceFault}
 use Rattle.once_session.specs.declared.engine.OnceFault.TheVariants as fault
 use Rattle.once_session.specs.Outputs.{goes_on, is_done, IsServeFault, Finishes}
-use Rattle.once_session.specs.OnceTurns.{WritesReplies, Work, fresh, TakesPiece, LeavesOpen, GoesOn, EndsTurns}
+use Rattle.once_session.specs.OnceTurns.{WritesWorkReplies, Work, fresh_work, TakesWorkPiece, LeavesOpen, WorkGoesOn, EndsWorkTurns}
 
-pub one_more : {C : Type 0} (does : C → Call → C → Type 0) (a : C) (turns : List Turn) (mid : Work) (b : C) (serve_chunk : Turn) (new : Work) (c : C)
-    → GoesOn does fresh a turns mid b → LeavesOpen does mid b serve_chunk new c → GoesOn does fresh a (turns ++ serve_chunk ∷ []) new c
+pub one_more : {C : Type 0} (does : C → Call → C → Type 0) (a : C) (turns : List CallTurn) (mid : Work) (b : C) (serve_chunk : CallTurn) (new : Work) (c : C)
+    → WorkGoesOn does fresh_work a turns mid b → LeavesOpen does mid b serve_chunk new c → WorkGoesOn does fresh_work a (turns ++ serve_chunk ∷ []) new c
 one_more {C = C} does a turns mid b serve_chunk new c go t =
-    FoldsTo-push {P = Work × C} (λ p serve_chunk q. LeavesOpen does p.0 p.1 serve_chunk q.0 q.1) (fresh, a) turns (mid, b) serve_chunk (new, c) go t
+    FoldsTo-push {P = Work × C} (λ p serve_chunk q. LeavesOpen does p.0 p.1 serve_chunk q.0 q.1) (fresh_work, a) turns (mid, b) serve_chunk (new, c) go t
 
 -- the stream has ended
-pub end_found : {C : Type 0} (does : C → Call → C → Type 0) (turns count : ℕ) (old : Work) (a : C) (answer : Result (Unit {0}) OnceFault) (b : C) → count < turns
-    → (m : C) → does a (Read 65536 []) m → (out : List ℕ) → WritesReplies does answer m out b → Finishes answer old.unfinished out → EndsTurns does turns count old a answer b
+pub end_found : {C : Type 0} (does : C → Call → C → Type 0) (turns count : ℕ) (old : Work) (a : C) (answer : Result (Unit {0}) OnceFault) (b : C) →
+    count < turns
+    → (m : C) → does a (Read 65536 []) m → (out : List ℕ) → WritesWorkReplies does answer m out b → Finishes answer old.unfinished out →
+        EndsWorkTurns does turns count old a answer b
 end_found does turns count old a (Ok d) b lt m r out w f = (lt, inr (record { middle = m; reads = r; out = out; writes = w; finishes = f }))
 end_found does turns count old a (Err fault.BadInput) b lt m r out w f = (lt, inr (record { middle = m; reads = r; out = out; writes = w; finishes = f }))
 end_found does turns count old a (Err fault.Read) b lt m r out w f = absurd f
@@ -26,16 +28,23 @@ end_found does turns count old a (Err fault.TurnsUsedUp) b lt m r out w f = absu
 
 -- a piece at which a reply failed
 pub piece_failed : {C : Type 0} (does : C → Call → C → Type 0) (turns count : ℕ) (old : Work) (a : C) (e : OnceFault) (b : C) → count < turns
-    → (serve_chunk : Turn) (stage : Stage) (codec : Option (List ℕ)) → IsServeFault e → TakesPiece does old a (Err e) serve_chunk stage codec b → EndsTurns does turns count old a (Err e) b
+    → (serve_chunk : CallTurn) (stage : Stage) (codec : Option (List ℕ)) → IsServeFault e → TakesWorkPiece does old a (Err e) serve_chunk stage codec b →
+        EndsWorkTurns does turns count old a (Err e) b
 piece_failed does turns count old a e b lt serve_chunk stage codec (inl is) t =
-    subst (λ k. EndsTurns does turns count old a (Err k) b) (sym is) (lt, inl (serve_chunk, stage, codec, subst (λ k. TakesPiece does old a (Err k) serve_chunk stage codec b) is t))
+    subst (λ k. EndsWorkTurns does turns count old a (Err k) b) (sym is)
+        (lt, inl (serve_chunk, stage, codec, subst (λ k. TakesWorkPiece does old a (Err k) serve_chunk stage codec b) is t))
 piece_failed does turns count old a e b lt serve_chunk stage codec (inr is) t =
-    subst (λ k. EndsTurns does turns count old a (Err k) b) (sym is) (lt, inl (serve_chunk, stage, codec, subst (λ k. TakesPiece does old a (Err k) serve_chunk stage codec b) is t))
+    subst (λ k. EndsWorkTurns does turns count old a (Err k) b) (sym is)
+        (lt, inl (serve_chunk, stage, codec, subst (λ k. TakesWorkPiece does old a (Err k) serve_chunk stage codec b) is t))
 
 -- one that ended the work
-pub piece_ended : {C : Type 0} (does : C → Call → C → Type 0) (turns count : ℕ) (old : Work) (a : C) (answer : Result (Unit {0}) OnceFault) (b : C) → count < turns
-    → (serve_chunk : Turn) (stage : Stage) (codec : Option (List ℕ)) → OnOk answer (is_done stage ≡ true) → IfErr answer (λ e. (e ≡ fault.BadInput) × (is_done stage ≡ false)) → goes_on stage ≡ false
-    → TakesPiece does old a (Ok tt) serve_chunk stage codec b → EndsTurns does turns count old a answer b
-piece_ended does turns count old a (Ok d) b lt serve_chunk stage codec well ill over t = (lt, inl (record { serve_chunk = serve_chunk; stage = stage; codec = codec; takes = t; over = over; well_is = well }))
+pub piece_ended : {C : Type 0} (does : C → Call → C → Type 0) (turns count : ℕ) (old : Work) (a : C) (answer : Result (Unit {0}) OnceFault) (b : C) →
+    count < turns
+    → (serve_chunk : CallTurn) (stage : Stage) (codec : Option (List ℕ)) → OnOk answer (is_done stage ≡ true) →
+        IfErr answer (λ e. (e ≡ fault.BadInput) × (is_done stage ≡ false)) → goes_on stage ≡ false
+    → TakesWorkPiece does old a (Ok tt) serve_chunk stage codec b → EndsWorkTurns does turns count old a answer b
+piece_ended does turns count old a (Ok d) b lt serve_chunk stage codec well ill over t =
+    (lt, inl (record { serve_chunk = serve_chunk; stage = stage; codec = codec; takes = t; over = over; well_is = well }))
 piece_ended does turns count old a (Err e) b lt serve_chunk stage codec well ill over t =
-    subst (λ k. EndsTurns does turns count old a (Err k) b) (sym ill.0) (lt, inl (record { serve_chunk = serve_chunk; stage = stage; codec = codec; takes = t; over = over; well_is = ill.1 }))
+    subst (λ k. EndsWorkTurns does turns count old a (Err k) b) (sym ill.0)
+        (lt, inl (record { serve_chunk = serve_chunk; stage = stage; codec = codec; takes = t; over = over; well_is = ill.1 }))

@@ -14,11 +14,11 @@ use Rattle.once_session.specs.declared.engine.OnceFault.TheVariants as fault
 use Rattle.once_session.specs.declared.stage.Stage.{Stage}
 use Rattle.once_session.specs.declared.stage.Stage.TheVariants as stage
 use Rattle.once_session.specs.Courses.{replies_to, stage_after, encodings}
-use Rattle.once_session.specs.Outputs.{IsPrefixOf, goes_on, rest_reply, is_well, is_done, output_of, Ends, Waits, Breaks, Turns, IsOutput, IsAnswered, IsCutOff, IsServeFault, Serves, Finishes}
+use Rattle.once_session.specs.Outputs.{IsPrefixOf, goes_on, rest_reply, is_well, is_done, output_of, EndsWork, WaitsForMore, Breaks, Turns, IsOutput, IsOnceReply, IsStreamCut, IsServeFault, ServesStream, Finishes}
 use Rattle.once_session.proofs.CourseLemmas.{stage_after-append, output-append, prefix_after, prefix_taken}
 
 -- nothing was read yet
-pub waits_none : Waits stage.Fresh [] stage.Fresh (Some []) []
+pub waits_none : WaitsForMore stage.Fresh [] stage.Fresh (Some []) []
 waits_none = record {
   frames = [];
   rest = [];
@@ -29,7 +29,8 @@ waits_none = record {
 }
 
 -- two parts of an output
-both_outs : (fs gs : List Frame) (st : Stage) (out more : List ℕ) → out ≡ encodings (replies_to stage.Fresh fs) → st ≡ stage_after stage.Fresh fs → (tail : List ℕ) →
+both_outs : (fs gs : List Frame) (st : Stage) (out more : List ℕ) → out ≡ encodings (replies_to stage.Fresh fs) → st ≡ stage_after stage.Fresh fs →
+    (tail : List ℕ) →
     more ≡ encodings (replies_to st gs) ++ tail → out ++ more ≡ encodings (replies_to stage.Fresh (fs ++ gs)) ++ tail
 both_outs fs gs st out more o s tail m =
     ap (λ (b : List ℕ). b ++ more) o
@@ -41,23 +42,27 @@ both_outs fs gs st out more o s tail m =
 both_stages : (fs gs : List Frame) (st : Stage) → st ≡ stage_after stage.Fresh fs → stage_after st gs ≡ stage_after stage.Fresh (fs ++ gs)
 both_stages fs gs st s = ap (λ x. stage_after x gs) s ∙ sym (stage_after-append stage.Fresh fs gs)
 
-both_begin : (read piece : List ℕ) (fs gs : List Frame) (rest last : List ℕ) → Begins read fs rest → Begins (rest ++ piece) gs last → Begins (read ++ piece) (fs ++ gs) last
+both_begin : (read piece : List ℕ) (fs gs : List Frame) (rest last : List ℕ) → Begins read fs rest → Begins (rest ++ piece) gs last →
+    Begins (read ++ piece) (fs ++ gs) last
 both_begin read piece fs gs rest last a b = begins_both (read ++ piece) fs gs (rest ++ piece) last (begins_ahead read fs rest piece a) b
 
 -- the work goes on
-pub waits_on : (read out piece more : List ℕ) (st new : Stage) (codec left : Option (List ℕ)) (w : Waits stage.Fresh read st codec out) → Waits st (w.rest ++ piece) new left more →
-    Waits stage.Fresh (read ++ piece) new left (out ++ more)
+pub waits_on : (read out piece more : List ℕ) (st new : Stage) (codec left : Option (List ℕ)) (w : WaitsForMore stage.Fresh read st codec out) →
+    WaitsForMore st (w.rest ++ piece) new left more →
+    WaitsForMore stage.Fresh (read ++ piece) new left (out ++ more)
 waits_on read out piece more st new codec left w t = record {
   frames = w.frames ++ t.frames;
   rest = t.rest;
   reads = record { begins = both_begin read piece w.frames t.frames w.rest t.rest w.reads.begins t.reads.begins; partial = t.reads.partial };
   codec_is = t.codec_is;
   stage_is = t.stage_is ∙ both_stages w.frames t.frames st w.stage_is;
-  out_is = both_outs w.frames t.frames st out more w.out_is w.stage_is [] (t.out_is ∙ sym (append-nil (encodings (replies_to st t.frames)))) ∙ append-nil (encodings (replies_to stage.Fresh (w.frames ++ t.frames)));
+  out_is = both_outs w.frames t.frames st out more w.out_is w.stage_is [] (t.out_is ∙ sym (append-nil (encodings (replies_to st t.frames))))
+      ∙ append-nil (encodings (replies_to stage.Fresh (w.frames ++ t.frames)));
 }
 
 -- a frame, or what can't be read, ended it
-pub ends_on : (read out piece more : List ℕ) (st new : Stage) (codec left : Option (List ℕ)) (well : Bool) (w : Waits stage.Fresh read st codec out) → Ends st (w.rest ++ piece) new more → is_done new ≡ well →
+pub ends_on : (read out piece more : List ℕ) (st new : Stage) (codec left : Option (List ℕ)) (well : Bool) (w : WaitsForMore stage.Fresh read st codec out) →
+    EndsWork st (w.rest ++ piece) new more → is_done new ≡ well →
     IsOutput (read ++ piece) (out ++ more) left well
 ends_on read out piece more st new codec left well w t done =
     let s : stage_after st t.frames ≡ stage_after stage.Fresh (w.frames ++ t.frames) = both_stages w.frames t.frames st w.stage_is in
@@ -72,7 +77,8 @@ ends_on read out piece more st new codec left well w t done =
     }
 
 -- two parts of an output, of which the second is a prefix
-both_prefix : (fs gs : List Frame) (st : Stage) (out more : List ℕ) → out ≡ encodings (replies_to stage.Fresh fs) → st ≡ stage_after stage.Fresh fs → (tail : List ℕ) →
+both_prefix : (fs gs : List Frame) (st : Stage) (out more : List ℕ) → out ≡ encodings (replies_to stage.Fresh fs) → st ≡ stage_after stage.Fresh fs →
+    (tail : List ℕ) →
     IsPrefixOf more (encodings (replies_to st gs) ++ tail) → IsPrefixOf (out ++ more) (encodings (replies_to stage.Fresh (fs ++ gs)) ++ tail)
 both_prefix fs gs st out more o s tail f =
     let all : List ℕ = encodings (replies_to st gs) ++ tail in
@@ -85,8 +91,9 @@ prefix_long : (prefix all : List ℕ) → IsPrefixOf prefix all → IsPrefixOf p
 prefix_long prefix all f = subst (IsPrefixOf prefix) (sym (append-nil all)) f
 
 -- it broke off
-pub breaks_on : (read out piece more : List ℕ) (st : Stage) (codec left : Option (List ℕ)) (w : Waits stage.Fresh read st codec out) → Breaks st (w.rest ++ piece) more →
-    IsCutOff (read ++ piece) (out ++ more) left
+pub breaks_on : (read out piece more : List ℕ) (st : Stage) (codec left : Option (List ℕ)) (w : WaitsForMore stage.Fresh read st codec out) →
+    Breaks st (w.rest ++ piece) more →
+    IsStreamCut (read ++ piece) (out ++ more) left
 breaks_on read out piece more st codec left w t =
     let s : stage_after st t.frames ≡ stage_after stage.Fresh (w.frames ++ t.frames) = both_stages w.frames t.frames st w.stage_is in
     let all : List ℕ = encodings (replies_to st t.frames) in
@@ -107,11 +114,14 @@ breaks_on read out piece more st codec left w t =
     }
 
 -- every turn was used
-pub waits_served : (read out : List ℕ) (st : Stage) (codec : Option (List ℕ)) → Waits stage.Fresh read st codec out → goes_on st ≡ true → IsAnswered read out
-waits_served read out st codec w going = record { frames = w.frames; rest = w.rest; reads = w.reads; open_still = ap goes_on (sym w.stage_is) ∙ going; out_is = w.out_is }
+pub waits_served : (read out : List ℕ) (st : Stage) (codec : Option (List ℕ)) → WaitsForMore stage.Fresh read st codec out → goes_on st ≡ true →
+    IsOnceReply read out
+waits_served read out st codec w going = record { frames = w.frames; rest = w.rest; reads = w.reads; open_still = ap goes_on (sym w.stage_is) ∙ going; out_is =
+    w.out_is }
 
 -- the stream's end is after a frame, or within one
-shut_output : (read out more : List ℕ) (st : Stage) (codec left : Option (List ℕ)) (well : Bool) (w : Waits stage.Fresh read st codec out) → goes_on st ≡ true → IsAtEnd left → more ≡ rest_reply w.rest →
+shut_output : (read out more : List ℕ) (st : Stage) (codec left : Option (List ℕ)) (well : Bool) (w : WaitsForMore stage.Fresh read st codec out) →
+    goes_on st ≡ true → IsAtEnd left → more ≡ rest_reply w.rest →
     well ≡ is_well (stage_after stage.Fresh w.frames) w.rest → IsOutput read (out ++ more) left well
 shut_output read out more st codec left well w going end m is = record {
   frames = w.frames;
@@ -141,8 +151,9 @@ some_reply : (rest : List ℕ) → (rest ≡ [] → ⊥) → encoding (Refused 1
 some_reply [] some = absurd (some refl)
 some_reply (b ∷ bs) some = refl
 
-shut_cut : (read out more : List ℕ) (st : Stage) (codec left : Option (List ℕ)) (w : Waits stage.Fresh read st codec out) → goes_on st ≡ true → IsAtEnd left → IsPrefixOf more (rest_reply w.rest) →
-    IsCutOff read (out ++ more) left
+shut_cut : (read out more : List ℕ) (st : Stage) (codec left : Option (List ℕ)) (w : WaitsForMore stage.Fresh read st codec out) → goes_on st ≡ true →
+    IsAtEnd left → IsPrefixOf more (rest_reply w.rest) →
+    IsStreamCut read (out ++ more) left
 shut_cut read out more st codec left w going end f = record {
   frames = w.frames;
   rest = w.rest;
@@ -155,8 +166,9 @@ shut_cut read out more st codec left w going end f = record {
   );
 }
 
-pub finish_served : (turns : ℕ) (answer : Result (Unit {0}) OnceFault) (read out more : List ℕ) (st : Stage) (codec left : Option (List ℕ)) (w : Waits stage.Fresh read st codec out) → goes_on st ≡ true → IsAtEnd left →
-    Finishes answer w.rest more → Serves turns answer read (out ++ more) left
+pub finish_served : (turns : ℕ) (answer : Result (Unit {0}) OnceFault) (read out more : List ℕ) (st : Stage) (codec left : Option (List ℕ))
+    (w : WaitsForMore stage.Fresh read st codec out) → goes_on st ≡ true → IsAtEnd left →
+    Finishes answer w.rest more → ServesStream turns answer read (out ++ more) left
 finish_served turns (Ok done) read out more st codec left w going end f =
     shut_output read out more st codec left true w going end (f.1 ∙ sym (ap rest_reply f.0))
     (well_at_end (stage_after stage.Fresh w.frames) w.rest (ap goes_on (sym w.stage_is) ∙ going) f.0)
@@ -169,27 +181,32 @@ finish_served turns (Err fault.Write) read out more st codec left w going end f 
 finish_served turns (Err fault.Memory) read out more st codec left w going end f = shut_cut read out more st codec left w going end f
 
 -- a turn broke off, by a fault of one reply
-pub turn_served : (turns : ℕ) (e : OnceFault) (read out piece more : List ℕ) (st new : Stage) (codec later left : Option (List ℕ)) (w : Waits stage.Fresh read st codec out) → IsServeFault e →
-    Turns (Err e) st (w.rest ++ piece) new later more → Serves turns (Err e) (read ++ piece) (out ++ more) left
+pub turn_served : (turns : ℕ) (e : OnceFault) (read out piece more : List ℕ) (st new : Stage) (codec later left : Option (List ℕ))
+    (w : WaitsForMore stage.Fresh read st codec out) → IsServeFault e →
+    Turns (Err e) st (w.rest ++ piece) new later more → ServesStream turns (Err e) (read ++ piece) (out ++ more) left
 turn_served turns e read out piece more st new codec later left w (inl is) t =
-    subst (λ x. Serves turns (Err x) (read ++ piece) (out ++ more) left) (sym is) (breaks_on read out piece more st codec left w t)
+    subst (λ x. ServesStream turns (Err x) (read ++ piece) (out ++ more) left) (sym is) (breaks_on read out piece more st codec left w t)
 turn_served turns e read out piece more st new codec later left w (inr is) t =
-    subst (λ x. Serves turns (Err x) (read ++ piece) (out ++ more) left) (sym is) (breaks_on read out piece more st codec left w t)
+    subst (λ x. ServesStream turns (Err x) (read ++ piece) (out ++ more) left) (sym is) (breaks_on read out piece more st codec left w t)
 
 -- what a turn that goes on, or ends, led to
-pub turned_on : (st new : Stage) (stream more : List ℕ) (left : Option (List ℕ)) → goes_on new ≡ true → Turns (Ok tt) st stream new left more → Waits st stream new left more
-turned_on st new stream more left going t = subst (λ b. MatchBool b (Waits st stream new left more) (Ends st stream new more)) going t
+pub turned_on : (st new : Stage) (stream more : List ℕ) (left : Option (List ℕ)) → goes_on new ≡ true → Turns (Ok tt) st stream new left more →
+    WaitsForMore st stream new left more
+turned_on st new stream more left going t = subst (λ b. MatchBool b (WaitsForMore st stream new left more) (EndsWork st stream new more)) going t
 
-pub turned_off : (st new : Stage) (stream more : List ℕ) (left : Option (List ℕ)) → goes_on new ≡ false → Turns (Ok tt) st stream new left more → Ends st stream new more
-turned_off st new stream more left over t = subst (λ b. MatchBool b (Waits st stream new left more) (Ends st stream new more)) over t
+pub turned_off : (st new : Stage) (stream more : List ℕ) (left : Option (List ℕ)) → goes_on new ≡ false → Turns (Ok tt) st stream new left more →
+    EndsWork st stream new more
+turned_off st new stream more left over t = subst (λ b. MatchBool b (WaitsForMore st stream new left more) (EndsWork st stream new more)) over t
 
 -- no room for a piece: nothing was read
-pub nothing_served : (turns : ℕ) (left : Option (List ℕ)) → Serves turns (Err fault.Memory) [] [] left
+pub nothing_served : (turns : ℕ) (left : Option (List ℕ)) → ServesStream turns (Err fault.Memory) [] [] left
 nothing_served turns left = record { frames = []; rest = []; begins = begins_none []; prefix = inl ([], refl) }
 
 -- the refusal of a frame that is cut was written in part
 pub finish_cut : (e : OnceFault) (rest : List ℕ) (n : ℕ) → (rest ≡ [] → ⊥) → IsServeFault e → Finishes (Err e) rest (take n (encoding (Refused 1)))
 finish_cut e rest n some (inl is) =
-    subst (λ x. Finishes (Err x) rest (take n (encoding (Refused 1)))) (sym is) (subst (IsPrefixOf (take n (encoding (Refused 1)))) (some_reply rest some) (prefix_taken n (encoding (Refused 1))))
+    subst (λ x. Finishes (Err x) rest (take n (encoding (Refused 1)))) (sym is)
+        (subst (IsPrefixOf (take n (encoding (Refused 1)))) (some_reply rest some) (prefix_taken n (encoding (Refused 1))))
 finish_cut e rest n some (inr is) =
-    subst (λ x. Finishes (Err x) rest (take n (encoding (Refused 1)))) (sym is) (subst (IsPrefixOf (take n (encoding (Refused 1)))) (some_reply rest some) (prefix_taken n (encoding (Refused 1))))
+    subst (λ x. Finishes (Err x) rest (take n (encoding (Refused 1)))) (sym is)
+        (subst (IsPrefixOf (take n (encoding (Refused 1)))) (some_reply rest some) (prefix_taken n (encoding (Refused 1))))

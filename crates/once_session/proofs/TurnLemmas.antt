@@ -11,7 +11,7 @@ use Rattle.frame_codec.specs.Streams.{Begins, Feeds, HasFault, StopsAt}
 use Rattle.once_session.specs.declared.stage.Stage.{Stage}
 use Rattle.once_session.specs.declared.stage.Stage.TheVariants as stage
 use Rattle.once_session.specs.Courses.{replies_to, stage_after, encodings}
-use Rattle.once_session.specs.Outputs.{IsPrefixOf, IsJudged, goes_on, rest_reply, is_well, is_done, Ends, Waits, Breaks, Turns}
+use Rattle.once_session.specs.Outputs.{IsPrefixOf, IsJudged, goes_on, rest_reply, is_well, is_done, EndsWork, WaitsForMore, Breaks, Turns}
 use Rattle.connection_io.specs.Calls.{Call, Sends}
 use Rattle.connection_io.proofs.Parts.{sends_both, sends_faulty}
 use Rattle.once_session.specs.declared.engine.OnceFault.{OnceFault}
@@ -20,7 +20,8 @@ use Rattle.once_session.specs.OnceTurns.{SendsBefore}
 use Rattle.frame_codec.proofs.Unique.{fault_of_frame}
 use Rattle.once_session.proofs.CourseLemmas.{prefix_after, prefix_taken, all_prefix}
 
-pub feeds_begins : (old piece : List ℕ) (answer : Result (Unit {0}) ReadFault) (frames : List Frame) (new : Option (List ℕ)) → Feeds (Some old) piece answer frames new → (rest : List ℕ) × Begins (old ++ piece) frames rest
+pub feeds_begins : (old piece : List ℕ) (answer : Result (Unit {0}) ReadFault) (frames : List Frame) (new : Option (List ℕ)) →
+    Feeds (Some old) piece answer frames new → (rest : List ℕ) × Begins (old ++ piece) frames rest
 feeds_begins old piece (Ok d) frames new f = (f.0, f.1.begins)
 feeds_begins old piece (Err e) frames new f = (f.0.0, f.0.1)
 
@@ -42,7 +43,7 @@ pub turn_over : (old new : Stage) (stream : List ℕ) (frames : List Frame) (res
     new ≡ stage_after old frames → goes_on new ≡ false → out ≡ encodings (replies_to old frames) → Turns (Ok tt) old stream new codec out
 turn_over old new stream frames rest codec out begins is over o =
     let shut : goes_on (stage_after old frames) ≡ false = ap goes_on (sym is) ∙ over in
-    at_false (goes_on new) (Waits old stream new codec out) (Ends old stream new out) over (record {
+    at_false (goes_on new) (WaitsForMore old stream new codec out) (EndsWork old stream new out) over (record {
       frames = frames;
       rest = rest;
       begins = begins;
@@ -81,18 +82,20 @@ ill_rest stage.Bad rest g some = refl
 
 -- what is owed where the stream can't be read on
 owed_at : (old : Stage) (frames : List Frame) (rest : List ℕ) → goes_on (stage_after old frames) ≡ true → (rest ≡ [] → ⊥) →
-    encodings (replies_to old frames) ++ encoding (Refused 1) ≡ encodings (replies_to old frames) ++ cond (goes_on (stage_after old frames)) (rest_reply rest) []
+    encodings (replies_to old frames) ++ encoding (Refused 1) ≡ encodings (replies_to old frames)
+        ++ cond (goes_on (stage_after old frames)) (rest_reply rest) []
 owed_at old frames rest going some =
     ap (λ (b : List ℕ). encodings (replies_to old frames) ++ b) (sym (refused_rest rest some) ∙ ap (λ b. cond b (rest_reply rest) []) (sym going))
 
 -- what can't be read was refused
-pub turn_refused : (old new : Stage) (stream : List ℕ) (frames : List Frame) (rest : List ℕ) (fault : ReadFault) (codec : Option (List ℕ)) (out : List ℕ) → Begins stream frames rest →
+pub turn_refused : (old new : Stage) (stream : List ℕ) (frames : List Frame) (rest : List ℕ) (fault : ReadFault) (codec : Option (List ℕ)) (out : List ℕ) →
+    Begins stream frames rest →
     StopsAt fault rest → IsJudged fault → goes_on (stage_after old frames) ≡ true → new ≡ stage.Bad →
     out ≡ encodings (replies_to old frames) ++ encoding (Refused 1) → Turns (Ok tt) old stream new codec out
 turn_refused old new stream frames rest fault codec out begins stops judged going bad o =
     let has : HasFault fault rest = judged_fault fault rest judged stops in
     let some : rest ≡ [] → ⊥ = some_bytes fault rest has in
-    at_false (goes_on new) (Waits old stream new codec out) (Ends old stream new out) (ap goes_on bad) (record {
+    at_false (goes_on new) (WaitsForMore old stream new codec out) (EndsWork old stream new out) (ap goes_on bad) (record {
       frames = frames;
       rest = rest;
       begins = begins;
@@ -104,7 +107,8 @@ turn_refused old new stream frames rest fault codec out begins stops judged goin
 
 -- and here the refusal, or nothing of it, was written in part
 pub turn_cut : (old : Stage) (stream : List ℕ) (frames : List Frame) (rest : List ℕ) (fault : ReadFault) (n : ℕ) → Begins stream frames rest →
-    StopsAt fault rest → goes_on (stage_after old frames) ≡ true → ((n ≡ 0) ⊎ IsJudged fault) → Breaks old stream (encodings (replies_to old frames) ++ take n (encoding (Refused 1)))
+    StopsAt fault rest → goes_on (stage_after old frames) ≡ true → ((n ≡ 0) ⊎ IsJudged fault) →
+        Breaks old stream (encodings (replies_to old frames) ++ take n (encoding (Refused 1)))
 turn_cut old stream frames rest fault n begins stops going (inl none) = record {
   frames = frames;
   rest = rest;
@@ -129,7 +133,8 @@ turn_cut old stream frames rest fault n begins stops going (inr judged) =
     }
 
 -- some bytes, and then a part of others
-pub sends_before : {C : Type 0} (does : C → Call → C → Type 0) (e : OnceFault) (a m b : C) (bytes more : List ℕ) → Sends does a bytes m → SendsBefore does e m more b → SendsBefore does e a (bytes ++ more) b
+pub sends_before : {C : Type 0} (does : C → Call → C → Type 0) (e : OnceFault) (a m b : C) (bytes more : List ℕ) → Sends does a bytes m →
+    SendsBefore does e m more b → SendsBefore does e a (bytes ++ more) b
 sends_before does fault.BadInput a m b bytes more s t = sends_both does a m b bytes more s t
 sends_before does fault.Read a m b bytes more s t = sends_both does a m b bytes more s t
 sends_before does fault.Write a m b bytes more s t = sends_faulty does a m b bytes more s t
@@ -137,8 +142,9 @@ sends_before does fault.Memory a m b bytes more s t = sends_both does a m b byte
 sends_before does fault.TurnsUsedUp a m b bytes more s t = sends_both does a m b bytes more s t
 
 -- the work goes on
-pub turn_on : (old new : Stage) (rest piece : List ℕ) (frames : List Frame) (codec : Option (List ℕ)) (out : List ℕ) → Feeds (Some rest) piece (Ok tt) frames codec →
+pub turn_on : (old new : Stage) (rest piece : List ℕ) (frames : List Frame) (codec : Option (List ℕ)) (out : List ℕ) →
+    Feeds (Some rest) piece (Ok tt) frames codec →
     new ≡ stage_after old frames → goes_on new ≡ true → out ≡ encodings (replies_to old frames) → Turns (Ok tt) old (rest ++ piece) new codec out
 turn_on old new rest piece frames codec out feeds is going o =
-    subst (λ b. MatchBool b (Waits old (rest ++ piece) new codec out) (Ends old (rest ++ piece) new out)) (sym going)
+    subst (λ b. MatchBool b (WaitsForMore old (rest ++ piece) new codec out) (EndsWork old (rest ++ piece) new out)) (sym going)
     (record { frames = frames; rest = feeds.0; reads = feeds.1; codec_is = feeds.2; stage_is = is; out_is = o })

@@ -66,9 +66,9 @@ stage_after st [] = st
 stage_after st (f ∷ fs) = stage_after (next st f) fs
 
 -- a reply that may be sent
-abbrev pub FitsReply : Option Frame → Type 0
-FitsReply None = Unit {0}
-FitsReply (Some f) = payload_size f ≤ payload_limit
+abbrev pub FitsWorkReply : Option Frame → Type 0
+FitsWorkReply None = Unit {0}
+FitsWorkReply (Some f) = payload_size f ≤ payload_limit
 
 -- a database whose digits have the sizes of its layout
 pub record IsTable (t : Table) : Type 0 where
@@ -84,16 +84,16 @@ HasTable Done = Unit {0}
 HasTable Bad = Unit {0}
 
 -- what a frame does: its reply, and the stage that it leads to, where it leads to another
-pub record Steps (st : Stage) (f : Frame) (answer : Option Frame) (moves : Option Stage) : Type 0 where
+pub record WorkSteps (st : Stage) (f : Frame) (answer : Option Frame) (moves : Option Stage) : Type 0 where
   pub reply_is : answer ≡ reply st f
   pub stage_is : unwrap_or moves st ≡ next st f
-  pub fits : FitsReply answer
+  pub fits : FitsWorkReply answer
   pub kept : HasTable (unwrap_or moves st)
 
 -- the bytes of a reply
-abbrev pub reply_bytes : Option Frame → List ℕ
-reply_bytes None = []
-reply_bytes (Some f) = encoding f
+abbrev pub work_reply_bytes : Option Frame → List ℕ
+work_reply_bytes None = []
+work_reply_bytes (Some f) = encoding f
 
 -- the bytes of frames
 abbrev pub encodings : List Frame → List ℕ

@@ -2,7 +2,7 @@
 use Rattle.std.specs.Prelude.{◌≡◌, ◌<◌, ◌⊎◌, ℕ, List, [], ◌++◌, length, Bool, true, false, Option, Some, Result, Ok, Err}
 use Rattle.std.specs.List.{FoldsTo}
 use Rattle.connection_io.specs.Calls.{Call, Read, ReadFails, Sends, SendsUntilFault}
-use Rattle.connection_io.specs.Turns.{Turn, ReadsPiece}
+use Rattle.connection_io.specs.Turns.{CallTurn, ReadsPiece}
 use Rattle.once_session.specs.declared.stage.Stage.{Stage}
 use Rattle.once_session.specs.declared.stage.Stage.TheVariants.{Fresh}
 use Rattle.once_session.specs.declared.engine.OnceFault.{OnceFault}
@@ -15,9 +15,9 @@ SendsBefore does fault.Write a bytes b = SendsUntilFault does a bytes b
 SendsBefore does _ a bytes b = Sends does a bytes b
 
 -- how replies went out: all of them, or those before a fault
-abbrev pub WritesReplies : {C : Type 0} → (C → Call → C → Type 0) → Result (Unit {0}) OnceFault → C → List ℕ → C → Type 0
-WritesReplies does (Ok done) a bytes b = Sends does a bytes b
-WritesReplies does (Err e) a bytes b = SendsBefore does e a bytes b
+abbrev pub WritesWorkReplies : {C : Type 0} → (C → Call → C → Type 0) → Result (Unit {0}) OnceFault → C → List ℕ → C → Type 0
+WritesWorkReplies does (Ok done) a bytes b = Sends does a bytes b
+WritesWorkReplies does (Err e) a bytes b = SendsBefore does e a bytes b
 
 -- how far the work has come: its stage, and the bytes of an unfinished frame
 pub record Work : Type 0 where
@@ -25,31 +25,32 @@ pub record Work : Type 0 where
   pub unfinished : List ℕ
 
 -- nothing has come
-abbrev pub fresh : Work
-fresh = record { stage = Fresh; unfinished = [] }
+abbrev pub fresh_work : Work
+fresh_work = record { stage = Fresh; unfinished = [] }
 
 -- A piece came, in one read: it was served, and the replies went out before any other call.
-pub record TakesPiece {C : Type 0} (does : C → Call → C → Type 0) (old : Work) (a : C) (answer : Result (Unit {0}) OnceFault) (serve_chunk : Turn) (new : Stage) (codec : Option (List ℕ)) (b : C) : Type 0 where
+pub record TakesWorkPiece {C : Type 0} (does : C → Call → C → Type 0) (old : Work) (a : C) (answer : Result (Unit {0}) OnceFault) (serve_chunk : CallTurn)
+    (new : Stage) (codec : Option (List ℕ)) (b : C) : Type 0 where
   pub middle : C
   pub reads : ReadsPiece does a serve_chunk.piece middle
-  pub writes : WritesReplies does answer middle serve_chunk.output b
+  pub writes : WritesWorkReplies does answer middle serve_chunk.output b
   pub turned : Turns answer old.stage (old.unfinished ++ serve_chunk.piece) new codec serve_chunk.output
 
 -- a turn after which the work goes on
-pub record LeavesOpen {C : Type 0} (does : C → Call → C → Type 0) (old : Work) (a : C) (serve_chunk : Turn) (new : Work) (b : C) : Type 0 where
-  pub takes : TakesPiece does old a (Ok tt) serve_chunk new.stage (Some new.unfinished) b
+pub record LeavesOpen {C : Type 0} (does : C → Call → C → Type 0) (old : Work) (a : C) (serve_chunk : CallTurn) (new : Work) (b : C) : Type 0 where
+  pub takes : TakesWorkPiece does old a (Ok tt) serve_chunk new.stage (Some new.unfinished) b
   pub going : goes_on new.stage ≡ true
 
 -- such turns, one after another
-abbrev pub GoesOn : {C : Type 0} → (C → Call → C → Type 0) → Work → C → List Turn → Work → C → Type 0
-GoesOn {C = C} does old a turns new b = FoldsTo {P = Work × C} (λ p serve_chunk q. LeavesOpen does p.0 p.1 serve_chunk q.0 q.1) (old, a) turns (new, b)
+abbrev pub WorkGoesOn : {C : Type 0} → (C → Call → C → Type 0) → Work → C → List CallTurn → Work → C → Type 0
+WorkGoesOn {C = C} does old a turns new b = FoldsTo {P = Work × C} (λ p serve_chunk q. LeavesOpen does p.0 p.1 serve_chunk q.0 q.1) (old, a) turns (new, b)
 
 -- the work ended with a piece: well, by a Bye, or not
 pub record EndsByPiece {C : Type 0} (does : C → Call → C → Type 0) (old : Work) (a : C) (well : Bool) (b : C) : Type 0 where
-  pub serve_chunk : Turn
+  pub serve_chunk : CallTurn
   pub stage : Stage
   pub codec : Option (List ℕ)
-  pub takes : TakesPiece does old a (Ok tt) serve_chunk stage codec b
+  pub takes : TakesWorkPiece does old a (Ok tt) serve_chunk stage codec b
   pub over : goes_on stage ≡ false
   pub well_is : is_done stage ≡ well
 
@@ -58,31 +59,32 @@ pub record EndsByEnd {C : Type 0} (does : C → Call → C → Type 0) (old : Wo
   pub middle : C
   pub reads : does a (Read 65536 []) middle
   pub out : List ℕ
-  pub writes : WritesReplies does answer middle out b
+  pub writes : WritesWorkReplies does answer middle out b
   pub finishes : Finishes answer old.unfinished out
 
 -- a fault at a piece or at the end
-abbrev pub BreaksOff : {C : Type 0} → (C → Call → C → Type 0) → Work → C → OnceFault → C → Type 0
-BreaksOff does old a e b =
-    ((serve_chunk : Turn) × (stage : Stage) × (codec : Option (List ℕ)) × TakesPiece does old a (Err e) serve_chunk stage codec b) ⊎ EndsByEnd does old a (Err e) b
+abbrev pub BreaksOffWork : {C : Type 0} → (C → Call → C → Type 0) → Work → C → OnceFault → C → Type 0
+BreaksOffWork does old a e b =
+    ((serve_chunk : CallTurn) × (stage : Stage) × (codec : Option (List ℕ)) × TakesWorkPiece does old a (Err e) serve_chunk stage codec b)
+        ⊎ EndsByEnd does old a (Err e) b
 
 -- the last turn after so many, of which there may be `turns`
-abbrev pub EndsTurns : {C : Type 0} → (C → Call → C → Type 0) → ℕ → ℕ → Work → C → Result (Unit {0}) OnceFault → C → Type 0
-EndsTurns does turns count old a (Ok done) b = (count < turns) × (EndsByPiece does old a true b ⊎ EndsByEnd does old a (Ok tt) b)
-EndsTurns does turns count old a (Err fault.BadInput) b = (count < turns) × (EndsByPiece does old a false b ⊎ EndsByEnd does old a (Err fault.BadInput) b)
-EndsTurns does turns count old a (Err fault.Read) b = (count < turns) × does a ReadFails b
-EndsTurns does turns count old a (Err fault.Write) b = (count < turns) × BreaksOff does old a fault.Write b
-EndsTurns does turns count old a (Err fault.Memory) b = (count < turns) × BreaksOff does old a fault.Memory b
-EndsTurns does turns count old a (Err fault.TurnsUsedUp) b = (count ≡ turns) × (b ≡ a)
+abbrev pub EndsWorkTurns : {C : Type 0} → (C → Call → C → Type 0) → ℕ → ℕ → Work → C → Result (Unit {0}) OnceFault → C → Type 0
+EndsWorkTurns does turns count old a (Ok done) b = (count < turns) × (EndsByPiece does old a true b ⊎ EndsByEnd does old a (Ok tt) b)
+EndsWorkTurns does turns count old a (Err fault.BadInput) b = (count < turns) × (EndsByPiece does old a false b ⊎ EndsByEnd does old a (Err fault.BadInput) b)
+EndsWorkTurns does turns count old a (Err fault.Read) b = (count < turns) × does a ReadFails b
+EndsWorkTurns does turns count old a (Err fault.Write) b = (count < turns) × BreaksOffWork does old a fault.Write b
+EndsWorkTurns does turns count old a (Err fault.Memory) b = (count < turns) × BreaksOffWork does old a fault.Memory b
+EndsWorkTurns does turns count old a (Err fault.TurnsUsedUp) b = (count ≡ turns) × (b ≡ a)
 
 -- Turn after turn, each with a read of its own: those that left the work open, and the last. There is no call after it.
-pub record ServesTurns {C : Type 0} (does : C → Call → C → Type 0) (turns : ℕ) (a : C) (result : Result (Unit {0}) OnceFault) (b : C) : Type 0 where
-  pub before : List Turn
+pub record ServesWorkTurns {C : Type 0} (does : C → Call → C → Type 0) (turns : ℕ) (a : C) (result : Result (Unit {0}) OnceFault) (b : C) : Type 0 where
+  pub before : List CallTurn
   pub work : Work
   pub middle : C
-  pub go_on : GoesOn does fresh a before work middle
-  pub ends : EndsTurns does turns (length before) work middle result b
+  pub go_on : WorkGoesOn does fresh_work a before work middle
+  pub ends : EndsWorkTurns does turns (length before) work middle result b
 
 -- the same, or there was no memory to begin with, and no call was made
-abbrev pub ServesOver : {C : Type 0} → (C → Call → C → Type 0) → ℕ → C → Result (Unit {0}) OnceFault → C → Type 0
-ServesOver does turns a result b = ((result ≡ Err fault.Memory) × (b ≡ a)) ⊎ ServesTurns does turns a result b
+abbrev pub ServesWorkOver : {C : Type 0} → (C → Call → C → Type 0) → ℕ → C → Result (Unit {0}) OnceFault → C → Type 0
+ServesWorkOver does turns a result b = ((result ≡ Err fault.Memory) × (b ≡ a)) ⊎ ServesWorkTurns does turns a result b

@@ -53,7 +53,7 @@ pub record IsOutput (read out : List ℕ) (left : Option (List ℕ)) (well : Boo
   pub well_is : well ≡ is_well (stage_after Fresh frames) rest
 
 -- the replies to the whole frames read
-pub record IsAnswered (read out : List ℕ) : Type 0 where
+pub record IsOnceReply (read out : List ℕ) : Type 0 where
   pub frames : List Frame
   pub rest : List ℕ
   pub reads : Reads read frames rest
@@ -65,20 +65,20 @@ abbrev pub IsPrefixOf : List ℕ → List ℕ → Type 0
 IsPrefixOf prefix all = (rest : List ℕ) × (all ≡ prefix ++ rest)
 
 -- a prefix of what is owed for what was read: of the replies to its frames, or of all where nothing more comes
-pub record IsCutOff (read out : List ℕ) (left : Option (List ℕ)) : Type 0 where
+pub record IsStreamCut (read out : List ℕ) (left : Option (List ℕ)) : Type 0 where
   pub frames : List Frame
   pub rest : List ℕ
   pub begins : Begins read frames rest
   pub prefix : IsPrefixOf out (encodings (replies_to Fresh frames)) ⊎ (IsLast (stage_after Fresh frames) rest left × IsPrefixOf out (output_of frames rest))
 
 -- what was written for what was read in at most so many turns, by the answer
-abbrev pub Serves : ℕ → Result (Unit {0}) OnceFault → List ℕ → List ℕ → Option (List ℕ) → Type 0
-Serves turns (Ok done) read out left = IsOutput read out left true
-Serves turns (Err BadInput) read out left = IsOutput read out left false
-Serves turns (Err Read) read out left = IsAnswered read out
-Serves turns (Err TurnsUsedUp) read out left = IsAnswered read out × (turns ≤ length read)
-Serves turns (Err Write) read out left = IsCutOff read out left
-Serves turns (Err Memory) read out left = IsCutOff read out left
+abbrev pub ServesStream : ℕ → Result (Unit {0}) OnceFault → List ℕ → List ℕ → Option (List ℕ) → Type 0
+ServesStream turns (Ok done) read out left = IsOutput read out left true
+ServesStream turns (Err BadInput) read out left = IsOutput read out left false
+ServesStream turns (Err Read) read out left = IsOnceReply read out
+ServesStream turns (Err TurnsUsedUp) read out left = IsOnceReply read out × (turns ≤ length read)
+ServesStream turns (Err Write) read out left = IsStreamCut read out left
+ServesStream turns (Err Memory) read out left = IsStreamCut read out left
 
 -- a fault of one reply
 abbrev pub IsServeFault : OnceFault → Type 0
@@ -100,7 +100,7 @@ is_done Done = true
 is_done Bad = false
 
 -- a stream that ends the work, by a frame or by what can't be read
-pub record Ends (old : Stage) (stream : List ℕ) (new : Stage) (out : List ℕ) : Type 0 where
+pub record EndsWork (old : Stage) (stream : List ℕ) (new : Stage) (out : List ℕ) : Type 0 where
   pub frames : List Frame
   pub rest : List ℕ
   pub begins : Begins stream frames rest
@@ -110,7 +110,7 @@ pub record Ends (old : Stage) (stream : List ℕ) (new : Stage) (out : List ℕ)
   pub well_is : is_done new ≡ is_well (stage_after old frames) rest
 
 -- a stream after which the work goes on
-pub record Waits (old : Stage) (stream : List ℕ) (new : Stage) (codec : Option (List ℕ)) (out : List ℕ) : Type 0 where
+pub record WaitsForMore (old : Stage) (stream : List ℕ) (new : Stage) (codec : Option (List ℕ)) (out : List ℕ) : Type 0 where
   pub frames : List Frame
   pub rest : List ℕ
   pub reads : Reads stream frames rest
@@ -129,7 +129,7 @@ pub record Breaks (old : Stage) (stream : List ℕ) (out : List ℕ) : Type 0 wh
 
 -- what a piece does at an open stage, where `stream` is the unfinished frame before it and the piece
 abbrev pub Turns : Result (Unit {0}) OnceFault → Stage → List ℕ → Stage → Option (List ℕ) → List ℕ → Type 0
-Turns (Ok done) old stream new codec out = MatchBool (goes_on new) (Waits old stream new codec out) (Ends old stream new out)
+Turns (Ok done) old stream new codec out = MatchBool (goes_on new) (WaitsForMore old stream new codec out) (EndsWork old stream new out)
 Turns (Err e) old stream new codec out = Breaks old stream out
 
 -- what the stream's end is answered after its whole frames, by the answer

@@ -4,10 +4,10 @@ ghost use Rattle.std.specs.Prelude.{◌≡◌, ◌≤◌, ◌<◌, ◌++◌, ◌
     false, IsTrue, ◌↔◌, Some, None, Ok, Err, OnOk, OnErr, IfOk, IfErr, unwrap_or};
 ghost use Rattle.connection_io.specs.Calls.{Sends};
 ghost use Rattle.frame_codec.specs.Frames.{encoding, payload_size, payload_limit};
-ghost use Rattle.once_session.specs.Courses.{next, HasTable, FitsReply, replies_to, stage_after,
-    reply_bytes, reply, encodings};
+ghost use Rattle.once_session.specs.Courses.{next, HasTable, FitsWorkReply, replies_to, stage_after,
+    work_reply_bytes, reply, encodings};
 ghost use Rattle.once_session.specs.Outputs.{IsServeFault, IsPrefixOf, IsJudged, goes_on, Turns};
-ghost use Rattle.once_session.specs.OnceTurns.{SendsBefore, WritesReplies};
+ghost use Rattle.once_session.specs.OnceTurns.{SendsBefore, WritesWorkReplies};
 ghost use Rattle.frame_codec.specs.declared.frame.Frame.TheVariants.{Refused};
 
 use crate::stage::{Stage, Step, step_of};
@@ -70,10 +70,10 @@ fn serve_frame<K: Kernel, C: Connection>(
     requires { HasTable stage.old }
     ensures stage { OnOk result ((stage.new ≡ next stage.old frame.now) × HasTable stage.new) }
     ensures all { OnOk result
-        (Sends C.does connection.old (reply_bytes (reply stage.old frame.now)) connection.new) }
+        (Sends C.does connection.old (work_reply_bytes (reply stage.old frame.now)) connection.new) }
     ensures prefix { IfErr result (λ e. (n : ℕ)
         × SendsBefore C.does e connection.old
-            (take n (reply_bytes (reply stage.old frame.now))) connection.new) }
+            (take n (work_reply_bytes (reply stage.old frame.now))) connection.new) }
     ensures fault { IfErr result IsServeFault }
 {
     let Ok(Step { reply, moves }) = step_of(alloc, kernel, stage, frame) else {
@@ -90,10 +90,12 @@ fn send_reply<C: Connection>(
     reply: &Option<Frame>,
     connection: &mut C,
 ) -> Result<(), OnceFault>
-    requires { FitsReply reply.now }
-    ensures all { OnOk result (Sends C.does connection.old (reply_bytes reply.now) connection.new) }
+    requires { FitsWorkReply reply.now }
+    ensures all { OnOk result
+        (Sends C.does connection.old (work_reply_bytes reply.now) connection.new) }
     ensures prefix { IfErr result (λ e. (n : ℕ)
-        × SendsBefore C.does e connection.old (take n (reply_bytes reply.now)) connection.new) }
+        × SendsBefore C.does e connection.old (take n (work_reply_bytes reply.now)) connection.new)
+            }
     ensures fault { IfErr result IsServeFault }
 {
     match reply {
@@ -183,7 +185,7 @@ pub(crate) fn serve_chunk<K: Kernel, C: Connection>(
     requires open { goes_on stage.old ≡ true }
     ensures table { OnOk result (HasTable stage.new) }
     ensures turned { (rest : List ℕ) → codec.old ≡ Some rest → (out : List ℕ)
-        × WritesReplies C.does result connection.old out connection.new
+        × WritesWorkReplies C.does result connection.old out connection.new
         × Turns result stage.old (rest ++ piece.now) stage.new codec.new out }
     ensures fault { IfErr result IsServeFault }
 {

@@ -4,8 +4,8 @@ ghost use Rattle.std.specs.Prelude.{◌≡◌, ◌≤◌, ◌*◌, ℕ, List, []
     true, false};
 ghost use Rattle.std.specs.Io.KnownBytes.{Appends, Consumes};
 ghost use Rattle.frame_codec.specs.Streams.{IsPartial};
-ghost use Rattle.once_session.specs.Outputs.{Finishes, Serves, is_done};
-ghost use Rattle.once_session.specs.OnceTurns.{WritesReplies, ServesOver};
+ghost use Rattle.once_session.specs.Outputs.{Finishes, ServesStream, is_done};
+ghost use Rattle.once_session.specs.OnceTurns.{WritesWorkReplies, ServesWorkOver};
 
 use crate::engine::{OnceFault, goes_on, send, serve_chunk};
 use crate::stage::Stage;
@@ -20,7 +20,8 @@ use std::io::{Read, Write};
 // Ends the work where the stream ends: a frame that is cut is refused.
 fn finish<C: Connection>(alloc: Global, codec: &Reader, connection: &mut C) -> Result<(), OnceFault>
     ensures { (rest : List ℕ) → codec.now ≡ Some rest → (out : List ℕ)
-        × WritesReplies C.does result connection.old out connection.new × Finishes result rest out }
+        × WritesWorkReplies C.does result connection.old out connection.new ×
+            Finishes result rest out }
 {
     if codec.is_between_frames() {
         return Ok(());
@@ -56,7 +57,7 @@ pub fn once_over<K: Kernel, C: Connection>(
     connection: &mut C,
     turns: u64,
 ) -> Result<(), OnceFault>
-    ensures { ServesOver C.does turns connection.old result connection.new }
+    ensures { ServesWorkOver C.does turns connection.old result connection.new }
 {
     let Ok(mut buffer) = piece_buffer(alloc) else {
         return Err(OnceFault::Memory);
@@ -99,7 +100,7 @@ pub fn once_with<K: Kernel, R: Read, W: Write>(
         × Consumes (R.remaining reader.old) (R.remaining reader.new) read
         × Appends (W.contents writer.old) (W.contents writer.new) out
         × (length read ≤ 65536 * turns)
-        × Serves turns result read out (R.remaining reader.new) }
+        × ServesStream turns result read out (R.remaining reader.new) }
 {
     let mut pair = Pair::new(reader, writer);
     match once_over(alloc, kernel, &mut pair, turns) {
@@ -132,7 +133,7 @@ pub fn once<R: Read, W: Write>(
         × Consumes (R.remaining reader.old) (R.remaining reader.new) read
         × Appends (W.contents writer.old) (W.contents writer.new) out
         × (length read ≤ 65536 * turns)
-        × Serves turns result read out (R.remaining reader.new) }
+        × ServesStream turns result read out (R.remaining reader.new) }
 {
     once_with(alloc, Lanes, reader, writer, turns)
 }

@@ -38,7 +38,7 @@ ghost use Rattle.once_session.specs.Courses.{
   is_load,
   table_of,
   loaded_shape,
-  Steps,
+  WorkSteps,
   IsTable,
   HasTable,
 };
@@ -122,7 +122,7 @@ fn load(
     records: &Bytes,
 ) -> Result<Step, AllocError>
     ensures { IfOk result
-        (λ s. Steps Fresh (Load record_len groups width records.now) s.reply s.moves) }
+        (λ s. WorkSteps Fresh (Load record_len groups width records.now) s.reply s.moves) }
 {
     let Some(layout) = load_layout(record_len, groups, width, records.as_slice()) else {
         return Ok(refuse());
@@ -173,7 +173,7 @@ pub fn step_of<K: Kernel>(
     frame: &Frame,
 ) -> Result<Step, AllocError>
     requires { HasTable stage.now }
-    ensures { IfOk result (λ s. Steps stage.now frame.now s.reply s.moves) }
+    ensures { IfOk result (λ s. WorkSteps stage.now frame.now s.reply s.moves) }
 {
     match stage {
         Stage::Fresh => match frame {

@@ -7,9 +7,9 @@ use Rattle.simple_scheme.specs.Simple.{hint_of, query_of, answer_of, reading as 
 use Rattle.double_scheme.specs.Double.{
   server_hint_of,
   client_hint_of,
-  query_words as double_query_count,
+  query_count as double_query_count,
   query_of as double_query_of,
-  answer_words as double_answer_count,
+  answer_count as double_answer_count,
   answer_of as double_answer_of,
   reading as double_reading,
   IsQuietDouble,

@@ -37,7 +37,8 @@ delta_fits w d h l =
     omega (arith, delta-mul w h, mul-le-mul_left (delta w) m)
 
 -- a word that stands for delta d and a noise of u - n, below half of delta
-pub nearest_of : (w z u n d : ℕ) → w < 32 → d < 2 ^ w → (z + n) % 2 ^ 32 ≡ (u + delta w * d) % 2 ^ 32 → u < n + delta w / 2 → n ≤ u + delta w / 2 → nearest w z ≡ d
+pub nearest_of : (w z u n d : ℕ) → w < 32 → d < 2 ^ w → (z + n) % 2 ^ 32 ≡ (u + delta w * d) % 2 ^ 32 → u < n + delta w / 2 → n ≤ u + delta w / 2 →
+    nearest w z ≡ d
 unfolding nearest
 nearest_of w z u n d h l e p q =
     let half : delta w ≡ 2 * (delta w / 2) = delta-half w h in

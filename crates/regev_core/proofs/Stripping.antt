@@ -17,7 +17,8 @@ term_split : (a : ℕ) (e : ℤ) → pos a *ℤ e +ℤ pos (a * down e) ≡ pos 
 term_split a (pos b) = omega (arith, ints)
 term_split a (negsuc b) = omega (arith, ints)
 
-noise_split : (n : ℕ) (x : ℕ → ℕ) (e : ℕ → ℤ) → signed_sum_below n (λ j. pos (x j) *ℤ e j) +ℤ pos (sum_below n (λ j. x j * down (e j))) ≡ pos (sum_below n (λ j. x j * up (e j)))
+noise_split : (n : ℕ) (x : ℕ → ℕ) (e : ℕ → ℤ) → signed_sum_below n (λ j. pos (x j) *ℤ e j) +ℤ pos (sum_below n (λ j. x j * down (e j)))
+    ≡ pos (sum_below n (λ j. x j * up (e j)))
 unfolding signed_sum_below sum_below
 noise_split zero x e = refl
 noise_split (suc n) x e = omega (arith, ints, noise_split n x e, term_split (x n) (e n))
@@ -28,7 +29,8 @@ residue-up z = residue-shift z (down z) (up z) (omega (arith, ints))
 times_same : (a m n : ℕ) → m % 2 ^ 32 ≡ n % 2 ^ 32 → (a * m) % 2 ^ 32 ≡ (a * n) % 2 ^ 32
 times_same a m n e = sym (mul-mod_second a m (2 ^ 32)) ∙ ap (λ t. (a * t) % 2 ^ 32) e ∙ mul-mod_second a n (2 ^ 32)
 
-residues : (n : ℕ) (x : ℕ → ℕ) (e : ℕ → ℤ) → (sum_below n (λ j. x j * residue (e j)) + sum_below n (λ j. x j * down (e j))) % 2 ^ 32 ≡ sum_below n (λ j. x j * up (e j)) % 2 ^ 32
+residues : (n : ℕ) (x : ℕ → ℕ) (e : ℕ → ℤ) → (sum_below n (λ j. x j * residue (e j)) + sum_below n (λ j. x j * down (e j))) % 2 ^ 32
+    ≡ sum_below n (λ j. x j * up (e j)) % 2 ^ 32
 residues n x e =
     ap (λ t. t % 2 ^ 32) (sym (sum_add n (λ j. x j * residue (e j)) (λ j. x j * down (e j))))
     ∙ sum_congruent n _ (λ j. x j * up (e j)) (λ j _.
@@ -41,7 +43,8 @@ times_if true a v = refl
 times_if false a v = omega arith
 
 pub dot-cipher : (w : ℕ) (a : WordMatrix) (s : List ℕ) (e : List ℤ) (place : ℕ) (x : List ℕ) → length x ≡ a.rows → place < a.rows →
-    dot x (cipher w a s e place) ≡ (dot x (times_vector a s) + sum_below a.rows (λ j. slice_index x j * residue (slice_index_or e j (pos 0))) + slice_index x place * delta w) % 2 ^ 32
+    dot x (cipher w a s e place)
+        ≡ (dot x (times_vector a s) + sum_below a.rows (λ j. slice_index x j * residue (slice_index_or e j (pos 0))) + slice_index x place * delta w) % 2 ^ 32
 dot-cipher w a s e place x l p =
     let y = λ (j : ℕ). slice_index x j in
     let m = λ (j : ℕ). dot (row a j) s in

@@ -76,9 +76,11 @@ retrieved_text client index version shown =
 -- an event's line
 abbrev pub event_text : ℕ → Event → List ℕ
 event_text client (event.Welcomed version) = about_client client (codes ": welcomed " ++ (decimal version ++ codes "\n"))
-event_text client (event.Synced scheme version) = about_client client (codes ": synced " ++ (scheme_name scheme ++ (codes " " ++ (decimal version ++ codes "\n"))))
+event_text client (event.Synced scheme version) =
+    about_client client (codes ": synced " ++ (scheme_name scheme ++ (codes " " ++ (decimal version ++ codes "\n"))))
 event_text client (event.Retrieved index version bytes) = retrieved_text client index version (shown_bytes bytes)
-event_text client (event.Unreadable index version) = about_client client (codes ": unreadable " ++ (decimal index ++ (codes " " ++ (decimal version ++ codes "\n"))))
+event_text client (event.Unreadable index version) =
+    about_client client (codes ": unreadable " ++ (decimal index ++ (codes " " ++ (decimal version ++ codes "\n"))))
 event_text client (event.Stale version) = about_client client (codes ": stale " ++ (decimal version ++ codes "\n"))
 event_text client (event.Done version) = about_client client (codes ": done " ++ (decimal version ++ codes "\n"))
 event_text client (event.Refused code) = about_client client (codes ": server refused " ++ (decimal code ++ codes "\n"))

@@ -4,7 +4,8 @@ use Rattle.rand_chacha.specs.ChaCha.{ChaCha, word_at, key_of}
 use Rattle.matrix_u32.specs.Sum.{list_of}
 use Rattle.matrix_u32.specs.Matrix.{WordMatrix, matrix_of}
 
--- the word at a place of a seed's stream: of ChaCha20, which has ten double rounds, with the seed as its key and the stream as its nonce; places run on modulo 2 ^ 68
+-- the word at a place of a seed's stream: of ChaCha20, which has ten double rounds, with the seed as its key and the
+-- stream as its nonce; places run on modulo 2 ^ 68
 unfoldable pub word : List ℕ → ℕ → ℕ → ℕ
 word seed stream place = word_at 10 (key_of seed) stream (place % 2 ^ 68)
 

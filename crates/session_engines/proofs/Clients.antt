@@ -39,16 +39,19 @@ either c false t u a b = b
 
 sound_welcome : (call : Call) (c : ClientState) (profile : ℕ) (l : Shape) (n v : ℕ) (seed : List ℕ) → IsSound c (takes_welcome call c profile l n v seed)
 sound_welcome Idle c profile l n v seed = bad c client.BadReply
-sound_welcome (Hello key) c profile l n v seed = either c (is_welcome profile l n v) _ (faulty c client.BadWelcome) (λ _. (refl, refl)) (bad c client.BadWelcome)
+sound_welcome (Hello key) c profile l n v seed =
+    either c (is_welcome profile l n v) _ (faulty c client.BadWelcome) (λ _. (refl, refl)) (bad c client.BadWelcome)
 sound_welcome (Sync s w p) c profile l n v seed = bad c client.BadReply
 sound_welcome (Ask i s w k) c profile l n v seed = bad c client.BadReply
 sound_welcome (Edit i b) c profile l n v seed = bad c client.BadReply
 sound_welcome Publish c profile l n v seed = bad c client.BadReply
 
-sound_asked : (known : Option ServerInfo) (s : Scheme) (c : ClientState) (asked next scheme version part : ℕ) (words : List ℕ) → IsSound c (takes_asked_part known s c asked next scheme version part words)
+sound_asked : (known : Option ServerInfo) (s : Scheme) (c : ClientState) (asked next scheme version part : ℕ) (words : List ℕ) →
+    IsSound c (takes_asked_part known s c asked next scheme version part words)
 sound_asked None s c asked next scheme version part words = bad c client.BadReply
 sound_asked (Some k) s c asked next scheme version part words =
-    either c (is_part s (hint_len s k.layout k.dimension) asked next scheme version part words) (more_parts s k c asked next (c.parts ++ words)) (faulty c client.BadReply)
+    either c (is_part s (hint_len s k.layout k.dimension) asked next scheme version part words) (more_parts s k c asked next (c.parts ++ words))
+        (faulty c client.BadReply)
     (either c _ _ _ (λ _. (refl, refl)) (λ _. (refl, refl))) (bad c client.BadReply)
 
 sound_part : (call : Call) (c : ClientState) (scheme version part : ℕ) (words : List ℕ) → IsSound c (takes_part call c scheme version part words)
@@ -59,7 +62,8 @@ sound_part (Ask i s v k) c scheme version part words = bad c client.BadReply
 sound_part (Edit i b) c scheme version part words = bad c client.BadReply
 sound_part Publish c scheme version part words = bad c client.BadReply
 
-sound_answered : (known : Option ServerInfo) (hint : Option Hint) (c : ClientState) (i asked number scheme version : ℕ) (words : List ℕ) → IsSound c (answered known hint c i asked number scheme version words)
+sound_answered : (known : Option ServerInfo) (hint : Option Hint) (c : ClientState) (i asked number scheme version : ℕ) (words : List ℕ) →
+    IsSound c (answered known hint c i asked number scheme version words)
 sound_answered None hint c i asked number scheme version words = bad c client.BadReply
 sound_answered (Some k) None c i asked number scheme version words = bad c client.BadReply
 sound_answered (Some k) (Some h) c i asked number scheme version words = either c _ _ (faulty c client.BadReply) (λ _. (refl, refl)) (bad c client.BadReply)
@@ -72,7 +76,8 @@ sound_answer (Ask i s v k) c scheme version words = sound_answered c.known c.hin
 sound_answer (Edit i b) c scheme version words = bad c client.BadReply
 sound_answer Publish c scheme version words = bad c client.BadReply
 
-sound_staled : (known : Option ServerInfo) (after c : ClientState) (asked version count : ℕ) → (after.failed ≡ c.failed) × (after.number ≡ c.number) → IsSound c (staled known after c asked version count)
+sound_staled : (known : Option ServerInfo) (after c : ClientState) (asked version count : ℕ) → (after.failed ≡ c.failed) × (after.number ≡ c.number) →
+    IsSound c (staled known after c asked version count)
 sound_staled None after c asked version count e = bad c client.BadReply
 sound_staled (Some k) after c asked version count e = either c _ _ (faulty c client.BadReply) (λ _. e) (bad c client.BadReply)
 
@@ -136,7 +141,8 @@ runs_lives : (k : Course) (fs : List Frame) → (runs k fs).fault ≡ None → L
 runs_lives k [] n = (refl, refl)
 runs_lives k (f ∷ fs) n = by_next (course_more k f).fault refl (runs_lives (course_more k f) fs n)
   where
-    by_next : (o : Option ClientFault) → (course_more k f).fault ≡ o → Lives (course_more k f).state (runs (course_more k f) fs).state → Lives k.state (runs (course_more k f) fs).state
+    by_next : (o : Option ClientFault) → (course_more k f).fault ≡ o → Lives (course_more k f).state (runs (course_more k f) fs).state →
+        Lives k.state (runs (course_more k f) fs).state
     by_next None e later =
         let one = more_lives k f k.fault refl e in
         (later.0 ∙ one.0, later.1 ∙ one.1)
@@ -150,7 +156,8 @@ beyond s k = record { state = k.state; sends = s ++ k.sends; events = k.events; 
 abbrev course : ClientState → List Frame → List Event → Option ClientFault → Course
 course c ss es o = record { state = c; sends = ss; events = es; fault = o }
 
-more_after : (s : List Frame) (c : ClientState) (ss : List Frame) (es : List Event) (o : Option ClientFault) (f : Frame) → course_more (beyond s (course c ss es o)) f ≡ beyond s (course_more (course c ss es o) f)
+more_after : (s : List Frame) (c : ClientState) (ss : List Frame) (es : List Event) (o : Option ClientFault) (f : Frame) →
+    course_more (beyond s (course c ss es o)) f ≡ beyond s (course_more (course c ss es o) f)
 more_after s c ss es None f = rw (append_assoc s ss (sends_of (reaction_to_reply c f).reaction)) refl
 more_after s c ss es (Some x) f = refl
 
@@ -158,12 +165,14 @@ runs_after : (s : List Frame) (k : Course) (fs : List Frame) → runs (beyond s 
 runs_after s k [] = refl
 runs_after s k (f ∷ fs) = ap (λ (y : Course). runs y fs) (more_after s k.state k.sends k.events k.fault f) ∙ runs_after s (course_more k f) fs
 
-failing_after : (s : List Frame) (c : ClientState) (ss : List Frame) (es : List Event) (o fault : Option ClientFault) → failing (beyond s (course c ss es o)) fault ≡ beyond s (failing (course c ss es o) fault)
+failing_after : (s : List Frame) (c : ClientState) (ss : List Frame) (es : List Event) (o fault : Option ClientFault) →
+    failing (beyond s (course c ss es o)) fault ≡ beyond s (failing (course c ss es o) fault)
 failing_after s c ss es o None = refl
 failing_after s c ss es None (Some x) = refl
 failing_after s c ss es (Some y) (Some x) = refl
 
-failing_fails : (c : ClientState) (ss : List Frame) (es : List Event) (o : Option ClientFault) (x : ClientFault) → (failing (course c ss es o) (Some x)).fault ≡ None → ⊥
+failing_fails : (c : ClientState) (ss : List Frame) (es : List Event) (o : Option ClientFault) (x : ClientFault) →
+    (failing (course c ss es o) (Some x)).fault ≡ None → ⊥
 failing_fails c ss es None x n = let no : Some x ≡ None = n in cc
 failing_fails c ss es (Some y) x n = let no : Some y ≡ None = n in cc
 
@@ -187,7 +196,8 @@ record First (old : Client) (read out : List ℕ) (mid : Client) : Type 0 where
   course_is : takes_all old.state frames ≡ beyond sends (start mid.state)
   lives : Lives old.state mid.state
 
-first_followed : (old : Client) (read out : List ℕ) (mid : Client) (frames : List Frame) (answer : Result (Unit {0}) ReadFault) → Feeds old.reader read answer frames mid.reader
+first_followed : (old : Client) (read out : List ℕ) (mid : Client) (frames : List Frame) (answer : Result (Unit {0}) ReadFault) →
+    Feeds old.reader read answer frames mid.reader
     → Follows (ends_with (takes_all old.state frames) answer) out [] None mid.state → First old read out mid
 first_followed old read out mid frames answer reads f =
     let k : Course = takes_all old.state frames in
@@ -215,19 +225,23 @@ first_of old read out mid a = elim a.takes [
 ]
 
 -- the course of both
-both_run : (old : Client) (read out : List ℕ) (mid : Client) (a : First old read out mid) (gs : List Frame) → takes_all old.state (a.frames ++ gs) ≡ beyond a.sends (takes_all mid.state gs)
+both_run : (old : Client) (read out : List ℕ) (mid : Client) (a : First old read out mid) (gs : List Frame) →
+    takes_all old.state (a.frames ++ gs) ≡ beyond a.sends (takes_all mid.state gs)
 both_run old read out mid a gs =
     runs_append (start old.state) a.frames gs ∙ ap (λ (y : Course). runs y gs) a.course_is ∙ runs_after a.sends (start mid.state) gs
 
-gives_after : (s : List Frame) (k : Course) (out more : List ℕ) (events : List Event) → out ≡ flat_map encoding s → AllByRecursion IsFrame s → Gives k more events → Gives (beyond s k) (out ++ more) events
+gives_after : (s : List Frame) (k : Course) (out more : List ℕ) (events : List Event) → out ≡ flat_map encoding s → AllByRecursion IsFrame s →
+    Gives k more events → Gives (beyond s k) (out ++ more) events
 gives_after s k out more events e all g = record {
   written = ap (λ (y : List ℕ). y ++ more) e ∙ ap (λ (y : List ℕ). flat_map encoding s ++ y) g.written ∙ sym (flat_map-append encoding s k.sends);
   each = each_both s k.sends all g.each;
   reported = g.reported;
 }
 
-followed_after : (old : Client) (read out : List ℕ) (mid : Client) (a : First old read out mid) (gs : List Frame) (answer : Result (Unit {0}) ReadFault) (more : List ℕ) (events : List Event) (fault : Option ClientFault) (new : ClientState)
-    → Follows (ends_with (takes_all mid.state gs) answer) more events fault new → Follows (ends_with (takes_all old.state (a.frames ++ gs)) answer) (out ++ more) events fault new
+followed_after : (old : Client) (read out : List ℕ) (mid : Client) (a : First old read out mid) (gs : List Frame) (answer : Result (Unit {0}) ReadFault)
+    (more : List ℕ) (events : List Event) (fault : Option ClientFault) (new : ClientState)
+    → Follows (ends_with (takes_all mid.state gs) answer) more events fault new →
+        Follows (ends_with (takes_all old.state (a.frames ++ gs)) answer) (out ++ more) events fault new
 followed_after old read out mid a gs answer more events fault new f =
     let k : Course = takes_all mid.state gs in
     let e : ends_with (takes_all old.state (a.frames ++ gs)) answer ≡ beyond a.sends (ends_with k answer) =
@@ -235,7 +249,8 @@ followed_after old read out mid a gs answer more events fault new f =
     subst (λ (y : Course). Follows y (out ++ more) events fault new) (sym e)
     (record { gives = gives_after a.sends (ends_with k answer) out more events a.out_is a.each f.gives; fault_is = f.fault_is; state = f.state })
 
-broken_after : (old : Client) (read out : List ℕ) (mid : Client) (a : First old read out mid) (gs : List Frame) (more : List ℕ) (events : List Event) (fault : Option ClientFault) (new : ClientState)
+broken_after : (old : Client) (read out : List ℕ) (mid : Client) (a : First old read out mid) (gs : List Frame) (more : List ℕ) (events : List Event)
+    (fault : Option ClientFault) (new : ClientState)
     → BreaksOff mid.state gs more events fault new → BreaksOff old.state (a.frames ++ gs) (out ++ more) events fault new
 broken_after old read out mid a gs more events fault new b =
     let e : takes_all old.state (take (length a.frames + b.n) (a.frames ++ gs)) ≡ beyond a.sends (takes_all mid.state (take b.n gs)) =
@@ -244,7 +259,8 @@ broken_after old read out mid a gs more events fault new b =
       n = length a.frames + b.n;
       inside = omega (arith, length-append a.frames gs, b.inside);
       good = ap (λ (y : Course). y.fault) e ∙ b.good;
-      gives = subst (λ (y : Course). Gives y (out ++ more) events) (sym e) (gives_after a.sends (takes_all mid.state (take b.n gs)) out more events a.out_is a.each b.gives);
+      gives = subst (λ (y : Course). Gives y (out ++ more) events) (sym e)
+          (gives_after a.sends (takes_all mid.state (take b.n gs)) out more events a.out_is a.each b.gives);
       fault_is = b.fault_is;
       failed = b.failed;
       number = b.number ∙ a.lives.1;
@@ -267,7 +283,8 @@ pub fed_both : (old : Client) (read out : List ℕ) (mid : Client) (piece more :
     → FeedsClient old read out [] None mid → FeedsClient mid piece more events fault new → FeedsClient old (read ++ piece) (out ++ more) events fault new
 fed_both old read out mid piece more events fault new a b = by_old old.state.failed refl a
   where
-    by_mid : (failed : Bool) → failed ≡ mid.state.failed → mid.state.failed ≡ false → MatchBool failed (FeedsFailed mid more events fault new) (FeedsOpen mid piece more events fault new) → FeedsOpen mid piece more events fault new
+    by_mid : (failed : Bool) → failed ≡ mid.state.failed → mid.state.failed ≡ false →
+        MatchBool failed (FeedsFailed mid more events fault new) (FeedsOpen mid piece more events fault new) → FeedsOpen mid piece more events fault new
     by_mid true e n m = let no : true ≡ false = e ∙ n in absurd cc
     by_mid false e n m = m
 

@@ -23,7 +23,7 @@ use Rattle.server_core.specs.Sessions.{Session, new_session, AfterReading, EndsP
 use Rattle.session_engines.specs.declared.serving.Ending.{Ending}
 use Rattle.session_engines.specs.declared.serving.ServeFault.{ServeFault}
 use Rattle.session_engines.specs.declared.serving.ServeFault.TheVariants as fault
-use Rattle.session_engines.specs.Serving.{IsServed, ServesStream, ServesPiece as TurnServes}
+use Rattle.session_engines.specs.Serving.{IsStreamServed, ServesStream, ServesStreamPiece as TurnServes}
 use Rattle.session_engines.proofs.Streams.{each_both, take_both, feeds_both, cut_after}
 
 not_both : {P : Type 0} (b : Bool) → b ≡ true → b ≡ false → P
@@ -31,16 +31,20 @@ not_both b t f = absurd (let no : true ≡ false = sym t ∙ f in cc)
 
 -- ---- frames, and then others
 
-serves_both : (x : Setting) (h : History) (st : Standing) (fs gs : List Frame) (h1 h2 : History) (st1 st2 : Standing) (rs more : List Frame) → ServesAll x h st fs h1 st1 rs → is_closed st1 ≡ false → ServesAll x h1 st1 gs h2 st2 more
+serves_both : (x : Setting) (h : History) (st : Standing) (fs gs : List Frame) (h1 h2 : History) (st1 st2 : Standing) (rs more : List Frame) →
+    ServesAll x h st fs h1 st1 rs → is_closed st1 ≡ false → ServesAll x h1 st1 gs h2 st2 more
     → ServesAll x h st (fs ++ gs) h2 st2 (rs ++ more)
 serves_both x h st [] gs h1 h2 st1 st2 rs more a open_ b = rw (← a.0, ← a.1, a.2) b
 serves_both x h standing.Closed (f ∷ fs) gs h1 h2 st1 st2 rs more a open_ b = not_both (is_closed st1) (ap is_closed a.1) open_
 serves_both x h standing.Stranger (f ∷ fs) gs h1 h2 st1 st2 rs more a open_ b =
-    (a.0, a.1 ++ more, a.2, rw a.3 (append_assoc (option_to_list a.0.reply) a.1 more), serves_both x a.0.history a.0.standing fs gs h1 h2 st1 st2 a.1 more a.4 open_ b)
+    (a.0, a.1 ++ more, a.2, rw a.3 (append_assoc (option_to_list a.0.reply) a.1 more),
+        serves_both x a.0.history a.0.standing fs gs h1 h2 st1 st2 a.1 more a.4 open_ b)
 serves_both x h standing.Reader (f ∷ fs) gs h1 h2 st1 st2 rs more a open_ b =
-    (a.0, a.1 ++ more, a.2, rw a.3 (append_assoc (option_to_list a.0.reply) a.1 more), serves_both x a.0.history a.0.standing fs gs h1 h2 st1 st2 a.1 more a.4 open_ b)
+    (a.0, a.1 ++ more, a.2, rw a.3 (append_assoc (option_to_list a.0.reply) a.1 more),
+        serves_both x a.0.history a.0.standing fs gs h1 h2 st1 st2 a.1 more a.4 open_ b)
 serves_both x h standing.Publisher (f ∷ fs) gs h1 h2 st1 st2 rs more a open_ b =
-    (a.0, a.1 ++ more, a.2, rw a.3 (append_assoc (option_to_list a.0.reply) a.1 more), serves_both x a.0.history a.0.standing fs gs h1 h2 st1 st2 a.1 more a.4 open_ b)
+    (a.0, a.1 ++ more, a.2, rw a.3 (append_assoc (option_to_list a.0.reply) a.1 more),
+        serves_both x a.0.history a.0.standing fs gs h1 h2 st1 st2 a.1 more a.4 open_ b)
 
 -- ---- a piece that leaves the session open
 
@@ -50,7 +54,8 @@ record LeftOpen (answer : Result (Unit {0}) ReadFault) (middle after : Standing)
   after_is : after ≡ middle
   none : more ≡ []
 
-left_by_reading : (answer : Result (Unit {0}) ReadFault) (middle after : Standing) (more : List Frame) → AfterReading answer middle after more → is_closed after ≡ false → LeftOpen answer middle after more
+left_by_reading : (answer : Result (Unit {0}) ReadFault) (middle after : Standing) (more : List Frame) → AfterReading answer middle after more →
+    is_closed after ≡ false → LeftOpen answer middle after more
 left_by_reading (Ok d) middle after more r open_ = record { answer_is = refl; after_is = r.0; none = r.1 }
 left_by_reading (Err read_fault.TooLong) middle after more r open_ = not_both (is_closed after) (ap is_closed r.0) open_
 left_by_reading (Err read_fault.UnknownKind) middle after more r open_ = not_both (is_closed after) (ap is_closed r.0) open_
@@ -58,10 +63,12 @@ left_by_reading (Err read_fault.BadPayload) middle after more r open_ = not_both
 left_by_reading (Err read_fault.Memory) middle after more r open_ = absurd r
 left_by_reading (Err read_fault.Failed) middle after more r open_ = absurd r
 
-left_open : (answer : Result (Unit {0}) ReadFault) (middle after : Standing) (more : List Frame) → EndsPiece answer middle after more → is_closed after ≡ false → LeftOpen answer middle after more
+left_open : (answer : Result (Unit {0}) ReadFault) (middle after : Standing) (more : List Frame) → EndsPiece answer middle after more →
+    is_closed after ≡ false → LeftOpen answer middle after more
 left_open answer middle after more e open_ = by_middle (is_closed middle) refl e
   where
-    by_middle : (b : Bool) → b ≡ is_closed middle → MatchBool b ((after ≡ middle) × (more ≡ [])) (AfterReading answer middle after more) → LeftOpen answer middle after more
+    by_middle : (b : Bool) → b ≡ is_closed middle → MatchBool b ((after ≡ middle) × (more ≡ [])) (AfterReading answer middle after more) →
+        LeftOpen answer middle after more
     by_middle true is r = not_both (is_closed after) (ap is_closed r.0 ∙ sym is) open_
     by_middle false is r = left_by_reading answer middle after more r open_
 
@@ -73,7 +80,8 @@ record First (x : Setting) (h : History) (read : List ℕ) (h1 : History) (s1 : 
   reads : Feeds (Some []) read (Ok tt) frames s1.unfinished
   serves : ServesAll x h standing.Stranger frames h1 s1.standing rs
 
-first_of : (x : Setting) (h : History) (read : List ℕ) (h1 : History) (s1 : Session) (rs : List Frame) → ServesPiece x h new_session read h1 s1 rs → is_closed s1.standing ≡ false → First x h read h1 s1 rs
+first_of : (x : Setting) (h : History) (read : List ℕ) (h1 : History) (s1 : Session) (rs : List Frame) → ServesPiece x h new_session read h1 s1 rs →
+    is_closed s1.standing ≡ false → First x h read h1 s1 rs
 first_of x h read h1 s1 rs a open_ =
     let left = left_open a.answer a.middle s1.standing a.more a.ends open_ in
     let rs_is : rs ≡ a.reported = a.all ∙ ap (λ (m : List Frame). a.reported ++ m) left.none ∙ append-nil a.reported in
@@ -84,7 +92,8 @@ first_of x h read h1 s1 rs a open_ =
           (subst (λ (st : Standing). ServesAll x h standing.Stranger a.frames h1 st a.reported) (sym left.after_is) a.serves);
     }
 
-then_whole : (x : Setting) (h : History) (read piece : List ℕ) (h1 h2 : History) (s1 s2 : Session) (rs more : List Frame) → First x h read h1 s1 rs → is_closed s1.standing ≡ false → ServesPiece x h1 s1 piece h2 s2 more
+then_whole : (x : Setting) (h : History) (read piece : List ℕ) (h1 h2 : History) (s1 s2 : Session) (rs more : List Frame) → First x h read h1 s1 rs →
+    is_closed s1.standing ≡ false → ServesPiece x h1 s1 piece h2 s2 more
     → ServesPiece x h new_session (read ++ piece) h2 s2 (rs ++ more)
 then_whole x h read piece h1 h2 s1 s2 rs more a open_ b = record {
   answer = b.answer;
@@ -102,7 +111,8 @@ stop_after : (answer : Result (Unit {0}) ReadFault) (fs gs : List Frame) (n : �
 stop_after answer fs gs n (inl lt) = inl (omega (arith, length-append fs gs, lt))
 stop_after answer fs gs n (inr e) = inr (omega (arith, length-append fs gs, e.0), e.1)
 
-then_broken : (x : Setting) (h : History) (read piece : List ℕ) (h1 h2 : History) (s1 s2 : Session) (rs more : List Frame) → First x h read h1 s1 rs → is_closed s1.standing ≡ false → BreaksOff x h1 s1 piece h2 s2 more
+then_broken : (x : Setting) (h : History) (read piece : List ℕ) (h1 h2 : History) (s1 s2 : Session) (rs more : List Frame) → First x h read h1 s1 rs →
+    is_closed s1.standing ≡ false → BreaksOff x h1 s1 piece h2 s2 more
     → BreaksOff x h new_session (read ++ piece) h2 s2 (rs ++ more)
 then_broken x h read piece h1 h2 s1 s2 rs more a open_ b = record {
   answer = b.answer;
@@ -117,29 +127,35 @@ then_broken x h read piece h1 h2 s1 s2 rs more a open_ b = record {
   shut = b.shut;
 }
 
-then_feeds : (x : Setting) (h : History) (read piece : List ℕ) (h1 h2 : History) (s1 s2 : Session) (rs more : List Frame) (answer : Result (Unit {0}) AllocError) → FeedsSession x h new_session read (Ok tt) h1 s1 rs → is_closed s1.standing ≡ false
+then_feeds : (x : Setting) (h : History) (read piece : List ℕ) (h1 h2 : History) (s1 s2 : Session) (rs more : List Frame)
+    (answer : Result (Unit {0}) AllocError) → FeedsSession x h new_session read (Ok tt) h1 s1 rs → is_closed s1.standing ≡ false
     → FeedsSession x h1 s1 piece answer h2 s2 more → FeedsSession x h new_session (read ++ piece) answer h2 s2 (rs ++ more)
 then_feeds x h read piece h1 h2 s1 s2 rs more (Ok d) a open_ b =
     let second : ServesPiece x h1 s1 piece h2 s2 more = at_open (is_closed s1.standing) open_ b in
     then_whole x h read piece h1 h2 s1 s2 rs more (first_of x h read h1 s1 rs a open_) open_ second
   where
-    at_open : (b : Bool) → b ≡ false → MatchBool b ((h2 ≡ h1) × (s2 ≡ s1) × (more ≡ [])) (ServesPiece x h1 s1 piece h2 s2 more) → ServesPiece x h1 s1 piece h2 s2 more
+    at_open : (b : Bool) → b ≡ false → MatchBool b ((h2 ≡ h1) × (s2 ≡ s1) × (more ≡ [])) (ServesPiece x h1 s1 piece h2 s2 more) →
+        ServesPiece x h1 s1 piece h2 s2 more
     at_open true e m = let no : true ≡ false = e in absurd cc
     at_open false e m = m
-then_feeds x h read piece h1 h2 s1 s2 rs more (Err e) a open_ b = (refl, then_broken x h read piece h1 h2 s1 s2 rs more (first_of x h read h1 s1 rs a open_) open_ b.1)
+then_feeds x h read piece h1 h2 s1 s2 rs more (Err e) a open_ b =
+    (refl, then_broken x h read piece h1 h2 s1 s2 rs more (first_of x h read h1 s1 rs a open_) open_ b.1)
 
 -- a stream that left the session open, and another piece of it
-fed_both : (x : Setting) (h : History) (read piece out bytes : List ℕ) (answer : Result (Unit {0}) AllocError) (store1 store2 : StoreState) (s1 s2 : Session) (a : Fed x h new_session read (Ok tt) store1 s1 [] out) → is_closed s1.standing ≡ false
+fed_both : (x : Setting) (h : History) (read piece out bytes : List ℕ) (answer : Result (Unit {0}) AllocError) (store1 store2 : StoreState) (s1 s2 : Session)
+    (a : Fed x h new_session read (Ok tt) store1 s1 [] out) → is_closed s1.standing ≡ false
     → Fed (setting_of store1) a.history s1 piece answer store2 s2 [] bytes → Fed x h new_session (read ++ piece) answer store2 s2 [] (out ++ bytes)
 fed_both x h read piece out bytes answer store1 store2 s1 s2 a open_ step =
-    let b : Fed x a.history s1 piece answer store2 s2 [] bytes = subst (λ (y : Setting). Fed y a.history s1 piece answer store2 s2 [] bytes) a.setting_is step in
+    let b : Fed x a.history s1 piece answer store2 s2 [] bytes =
+        subst (λ (y : Setting). Fed y a.history s1 piece answer store2 s2 [] bytes) a.setting_is step in
     record {
       history = b.history;
       replies = a.replies ++ b.replies;
       setting_is = b.setting_is;
       store_is = b.store_is;
       course = then_feeds x h read piece a.history b.history s1 s2 a.replies b.replies answer a.course open_ b.course;
-      written = ap (λ (y : List ℕ). y ++ bytes) a.written ∙ ap (λ (y : List ℕ). flat_map encoding a.replies ++ y) b.written ∙ sym (flat_map-append encoding a.replies b.replies);
+      written = ap (λ (y : List ℕ). y ++ bytes) a.written ∙ ap (λ (y : List ℕ). flat_map encoding a.replies ++ y) b.written
+          ∙ sym (flat_map-append encoding a.replies b.replies);
       each = each_both a.replies b.replies a.each b.each;
     }
 
@@ -180,22 +196,27 @@ abbrev pub Step : StoreState → Option Session → List ℕ → Result (Unit {0
 Step store1 found piece answer store2 new bytes =
     (h : History) → StandsFor store1 h → (old : Session) → found ≡ Some old → TurnServes (setting_of store1) h old piece answer store2 new bytes
 
-pub opened : (h : History) (store : StoreState) (found : Option Session) → StandsFor store h → found ≡ Some new_session → IsOpenStill (setting_of store) h [] [] store found
+pub opened : (h : History) (store : StoreState) (found : Option Session) → StandsFor store h → found ≡ Some new_session →
+    IsOpenStill (setting_of store) h [] [] store found
 opened h store found stands e = (new_session, e, refl, fed_none h store stands)
 
-pub not_begun : (h : History) (store : StoreState) (turns : ℕ) (left : Option (List ℕ)) → StandsFor store h → ServesStream (setting_of store) h turns (Err fault.Memory) [] [] left store
+pub not_begun : (h : History) (store : StoreState) (turns : ℕ) (left : Option (List ℕ)) → StandsFor store h →
+    ServesStream (setting_of store) h turns (Err fault.Memory) [] [] left store
 not_begun h store turns left stands = (new_session, Ok tt, fed_none h store stands, λ _. refl)
 
-pub left_so : (x : Setting) (h : History) (read out : List ℕ) (store : StoreState) (found : Option Session) → IsOpenStill x h read out store found → IsServed x h read out store false
+pub left_so : (x : Setting) (h : History) (read out : List ℕ) (store : StoreState) (found : Option Session) → IsOpenStill x h read out store found →
+    IsStreamServed x h read out store false
 left_so x h read out store found o = (o.0, o.3, o.2)
 
-pub step_well : (x : Setting) (h : History) (read out piece bytes : List ℕ) (store1 store2 : StoreState) (found new : Option Session) → IsOpenStill x h read out store1 found → Step store1 found piece (Ok tt) store2 new bytes
+pub step_well : (x : Setting) (h : History) (read out piece bytes : List ℕ) (store1 store2 : StoreState) (found new : Option Session) →
+    IsOpenStill x h read out store1 found → Step store1 found piece (Ok tt) store2 new bytes
     → IsThere x h (read ++ piece) (out ++ bytes) store2 new
 step_well x h read out piece bytes store1 store2 found new o step =
     let t = step o.3.history o.3.store_is o.0 o.1 in
     (t.0, t.1, fed_both x h read piece out bytes (Ok tt) store1 store2 o.0 t.0 o.3 o.2 t.2)
 
-pub step_faulty : (e : ServeFault) (x : Setting) (h : History) (turns : ℕ) (read out piece bytes : List ℕ) (left : Option (List ℕ)) (store1 store2 : StoreState) (found new : Option Session) → IsOpenStill x h read out store1 found
+pub step_faulty : (e : ServeFault) (x : Setting) (h : History) (turns : ℕ) (read out piece bytes : List ℕ) (left : Option (List ℕ))
+    (store1 store2 : StoreState) (found new : Option Session) → IsOpenStill x h read out store1 found
     → Step store1 found piece (Err e) store2 new bytes → e ≢ fault.IdInUse → ServesStream x h turns (Err e) (read ++ piece) (out ++ bytes) left store2
 step_faulty fault.IdInUse x h turns read out piece bytes left store1 store2 found new o step other = absurd (other refl)
 step_faulty fault.Read x h turns read out piece bytes left store1 store2 found new o step other = absurd (step o.3.history o.3.store_is o.0 o.1)
@@ -211,14 +232,17 @@ negated : (b c : Bool) → not b ≡ c → b ≡ not c
 negated true c e = ap not e
 negated false c e = ap not e
 
-pub found_open : (x : Setting) (h : History) (read out : List ℕ) (store : StoreState) (found : Option Session) → IsThere x h read out store found → is_open found ≡ true → IsOpenStill x h read out store found
+pub found_open : (x : Setting) (h : History) (read out : List ℕ) (store : StoreState) (found : Option Session) → IsThere x h read out store found →
+    is_open found ≡ true → IsOpenStill x h read out store found
 found_open x h read out store found t e = (t.0, t.1, negated (is_closed t.0.standing) true (ap is_open (sym t.1) ∙ e), t.2)
 
-pub found_shut : (x : Setting) (h : History) (read out : List ℕ) (store : StoreState) (found : Option Session) → IsThere x h read out store found → is_open found ≡ false → IsServed x h read out store true
+pub found_shut : (x : Setting) (h : History) (read out : List ℕ) (store : StoreState) (found : Option Session) → IsThere x h read out store found →
+    is_open found ≡ false → IsStreamServed x h read out store true
 found_shut x h read out store found t e = (t.0, t.2, negated (is_closed t.0.standing) false (ap is_open (sym t.1) ∙ e))
 
 -- stores that are the same before and after
-pub same_stores : (h : History) (turns : ℕ) (answer : Result Ending ServeFault) (read out : List ℕ) (left : Option (List ℕ)) (a b c d : StoreState) → b ≡ a → d ≡ c → (StandsFor b h → ServesStream (setting_of b) h turns answer read out left c)
+pub same_stores : (h : History) (turns : ℕ) (answer : Result Ending ServeFault) (read out : List ℕ) (left : Option (List ℕ)) (a b c d : StoreState) → b ≡ a →
+    d ≡ c → (StandsFor b h → ServesStream (setting_of b) h turns answer read out left c)
     → StandsFor a h → ServesStream (setting_of a) h turns answer read out left d
 same_stores h turns answer read out left a b c d first last served =
     subst (λ (y : StoreState). StandsFor a h → ServesStream (setting_of a) h turns answer read out left y) (sym last)
@@ -226,16 +250,20 @@ same_stores h turns answer read out left a b c d first last served =
 
 -- ---- one piece
 
-pub core_served : (x : Setting) (h : History) (old : Session) (piece : List ℕ) (answer : Result (Unit {0}) FeedError) (store : StoreState) (new : Session) (before after : List ℕ) → before ≡ [] → FeedsCore x h old piece answer store new before after
+pub core_served : (x : Setting) (h : History) (old : Session) (piece : List ℕ) (answer : Result (Unit {0}) FeedError) (store : StoreState) (new : Session)
+    (before after : List ℕ) → before ≡ [] → FeedsCore x h old piece answer store new before after
     → (r : Result (Unit {0}) AllocError) × Fed x h old piece r store new [] after
 core_served x h old piece (Ok d) store new before after e f = (Ok tt, subst (λ (y : List ℕ). Fed x h old piece (Ok tt) store new y after) e f)
 core_served x h old piece (Err feed_error.NoSession) store new before after e f = absurd f
-core_served x h old piece (Err feed_error.Memory) store new before after e f = (Err f.0, subst (λ (y : List ℕ). Fed x h old piece (Err f.0) store new y after) e f.1)
+core_served x h old piece (Err feed_error.Memory) store new before after e f =
+    (Err f.0, subst (λ (y : List ℕ). Fed x h old piece (Err f.0) store new y after) e f.1)
 
-pub core_whole : (x : Setting) (h : History) (old : Session) (piece : List ℕ) (d : Unit {0}) (store : StoreState) (new : Session) (before after : List ℕ) → before ≡ [] → Fed x h old piece (Ok d) store new before after → Fed x h old piece (Ok tt) store new [] after
+pub core_whole : (x : Setting) (h : History) (old : Session) (piece : List ℕ) (d : Unit {0}) (store : StoreState) (new : Session) (before after : List ℕ) →
+    before ≡ [] → Fed x h old piece (Ok d) store new before after → Fed x h old piece (Ok tt) store new [] after
 core_whole x h old piece d store new before after e f = subst (λ (y : List ℕ). Fed x h old piece (Ok tt) store new y after) e f
 
-pub core_short : (x : Setting) (h : History) (old : Session) (piece : List ℕ) (answer : Result (Unit {0}) FeedError) (e : FeedError) (store : StoreState) (new : Session) (before after : List ℕ) → answer ≡ Err e → before ≡ [] → FeedsCore x h old piece answer store new before after
+pub core_short : (x : Setting) (h : History) (old : Session) (piece : List ℕ) (answer : Result (Unit {0}) FeedError) (e : FeedError) (store : StoreState)
+    (new : Session) (before after : List ℕ) → answer ≡ Err e → before ≡ [] → FeedsCore x h old piece answer store new before after
     → (r : AllocError) × Fed x h old piece (Err r) store new [] after
 core_short x h old piece answer e store new before after is none f =
     by_fault e (subst (λ (r : Result (Unit {0}) FeedError). FeedsCore x h old piece r store new before after) is f)

@@ -7,7 +7,7 @@ ghost use Rattle.version_store.specs.Histories.{History, StandsFor};
 ghost use Rattle.server_core.specs.Cores.{session_of, is_open};
 ghost use Rattle.server_core.specs.Serving.{setting_of};
 ghost use Rattle.server_core.specs.Sessions.{Session, new_session};
-ghost use Rattle.session_engines.specs.Serving.{ServesPiece, ServesStream};
+ghost use Rattle.session_engines.specs.Serving.{ServesStreamPiece, ServesStream};
 ghost use Rattle.session_engines.specs.ServingTurns.{WritesReplies, ServesTurn, ServesTurns,
     NeverServes, ServesOver};
 
@@ -60,7 +60,7 @@ fn serve_piece<K: Kernel, C: Connection>(
         × WritesReplies C.does result connection.old bytes connection.new
         × ((h : History) → StandsFor core.old.store h → (old : Session) →
         session_of core.old.sessions id ≡ Some old →
-        ServesPiece (setting_of core.old.store) h old piece.now result core.new.store
+        ServesStreamPiece (setting_of core.old.store) h old piece.now result core.new.store
             (session_of core.new.sessions id) bytes) }
     ensures fault { IfErr result (λ e. (e ≡ ServeFault.Write) ⊎ (e ≡ ServeFault.Memory)) }
     ensures others { (other : ℕ) → other ≢ id →

@@ -48,6 +48,7 @@ length-header h is = simp (length-append, length-number, length-magic, is.seed, 
 pub header_fields : (h : Header) → IsHeader h → (fields : List ℕ) × (header_bytes h ≡ magic ++ fields)
 unfolding header_bytes
 header_fields h is = (
-  (h.width ∷ []) ++ (number_bytes 2 h.record_len ++ (number_bytes 2 h.groups ++ (number_bytes 4 h.count ++ (number_bytes 2 h.dimension ++ (number_bytes 8 h.version ++ (h.seed ++ h.publisher)))))),
+  (h.width ∷ []) ++ (number_bytes 2 h.record_len
+      ++ (number_bytes 2 h.groups ++ (number_bytes 4 h.count ++ (number_bytes 2 h.dimension ++ (number_bytes 8 h.version ++ (h.seed ++ h.publisher)))))),
   simp append_assoc refl,
 )

@@ -7,10 +7,11 @@ use Rattle.snapshot_file.specs.declared.snapshot.Header.{Header}
 use Rattle.snapshot_file.specs.declared.snapshot.SnapshotFault.{SnapshotFault}
 use Rattle.snapshot_file.specs.declared.snapshot.SnapshotFault.TheVariants as faults
 use Rattle.snapshot_file.specs.Snapshots.{magic, header_bytes, hashed_bytes, snapshot_bytes, IsSnapshot}
-use Rattle.snapshot_file.specs.Verdicts.{IsUnfinished, HasBadDigest, EndsBelow, EndsKept, EndsAfter, StopsAt, MayRefuse}
+use Rattle.snapshot_file.specs.Verdicts.{IsUnfinished, HasBadDigest, EndsBelow, EndsKept, EndsAfter, StopsReadingAt, MayRefuse}
 
 -- the input ended, or failed, in the fields
-pub stops_in_fields : (fault : SnapshotFault) (first part : List ℕ) (left : Option (List ℕ)) → first ≡ magic → EndsBelow 83 fault part left → StopsAt fault (first ++ part) left
+pub stops_in_fields : (fault : SnapshotFault) (first part : List ℕ) (left : Option (List ℕ)) → first ≡ magic → EndsBelow 83 fault part left →
+    StopsReadingAt fault (first ++ part) left
 stops_in_fields faults.Short first part left e d = (inr (inl (part, ap (λ (x : List ℕ). x ++ part) e, d.0)), d.1)
 stops_in_fields faults.Read first part left e d = inl (inr (inl (part, ap (λ (x : List ℕ). x ++ part) e, d)))
 stops_in_fields faults.NotSnapshot first part left e d = absurd d
@@ -23,8 +24,9 @@ stops_in_fields faults.Memory first part left e d = absurd d
 in_digest : (h : Header) (records part : List ℕ) → IsSnapshot h records → length part < 32 → IsUnfinished (header_bytes h ++ (records ++ part))
 in_digest h records part is lt = inr (inr (h, records ++ part, (is.header, is.accepted, refl), omega (arith, length-append records part, is.len)))
 
-pub stops_in_digest : (fault : SnapshotFault) (h : Header) (records part : List ℕ) (left : Option (List ℕ)) → IsSnapshot h records → EndsBelow 32 fault part left
-    → StopsAt fault (header_bytes h ++ (records ++ part)) left
+pub stops_in_digest : (fault : SnapshotFault) (h : Header) (records part : List ℕ) (left : Option (List ℕ)) → IsSnapshot h records →
+    EndsBelow 32 fault part left
+    → StopsReadingAt fault (header_bytes h ++ (records ++ part)) left
 stops_in_digest faults.Short h records part left is d = (in_digest h records part is d.0, d.1)
 stops_in_digest faults.Read h records part left is d = inl (in_digest h records part is d)
 stops_in_digest faults.NotSnapshot h records part left is d = absurd d
@@ -35,7 +37,8 @@ stops_in_digest faults.Memory h records part left is d = absurd d
 
 pub stops_at_digest : (h : Header) (records digest : List ℕ) → IsSnapshot h records → length digest ≡ 32 → ¬ (digest ≡ sha256 (hashed_bytes h records))
     → HasBadDigest (header_bytes h ++ (records ++ digest)) []
-stops_at_digest h records digest is len wrong = (h, records, digest, is, len, wrong, sym (append_assoc (header_bytes h) records digest) ∙ sym (append-nil (hashed_bytes h records ++ digest)))
+stops_at_digest h records digest is len wrong =
+    (h, records, digest, is, len, wrong, sym (append_assoc (header_bytes h) records digest) ∙ sym (append-nil (hashed_bytes h records ++ digest)))
 
 -- the bytes of a snapshot, as they were read
 pub joined : (h : Header) (records digest part : List ℕ) → digest ≡ sha256 (hashed_bytes h records)
@@ -44,8 +47,9 @@ joined h records digest part e =
     sym (append_assoc (header_bytes h) (records ++ digest) part)
     ∙ ap (λ (x : List ℕ). x ++ part) (sym (append_assoc (header_bytes h) records digest) ∙ ap (λ (x : List ℕ). hashed_bytes h records ++ x) e)
 
-pub stops_after : (fault : SnapshotFault) (h : Header) (records digest part : List ℕ) (left : Option (List ℕ)) → IsSnapshot h records → digest ≡ sha256 (hashed_bytes h records)
-    → EndsAfter fault part → StopsAt fault (header_bytes h ++ ((records ++ digest) ++ part)) left
+pub stops_after : (fault : SnapshotFault) (h : Header) (records digest part : List ℕ) (left : Option (List ℕ)) → IsSnapshot h records →
+    digest ≡ sha256 (hashed_bytes h records)
+    → EndsAfter fault part → StopsReadingAt fault (header_bytes h ++ ((records ++ digest) ++ part)) left
 stops_after faults.TrailingBytes h records digest part left is e d =
     (d.0, (h, records, is, joined h records digest part e ∙ ap (λ (x : List ℕ). snapshot_bytes h records ++ x) d.1))
 stops_after faults.Read h records digest part left is e d =
@@ -60,7 +64,7 @@ stops_after faults.Memory h records digest part left is e d = absurd d
 more : (read prefix rest ys : List ℕ) → read ≡ prefix ++ rest → read ++ ys ≡ prefix ++ (rest ++ ys)
 more read prefix rest ys e = ap (λ (x : List ℕ). x ++ ys) e ∙ append_assoc prefix rest ys
 
-answered : (fault : SnapshotFault) (read ys : List ℕ) → StopsAt fault read (Some ys) → MayRefuse fault (read ++ ys)
+answered : (fault : SnapshotFault) (read ys : List ℕ) → StopsReadingAt fault read (Some ys) → MayRefuse fault (read ++ ys)
 answered faults.NotSnapshot read ys s = (omega (arith, length-append read ys, s.0), λ e. s.1 (sym (take_at read ys 8 s.0) ∙ e))
 answered faults.BadLayout read ys s = (ys, (s.0, s.1, s.2, more read (header_bytes s.0) [] ys s.3))
 answered faults.Short read ys s = subst IsUnfinished (sym (ap (λ (x : List ℕ). read ++ x) s.1 ∙ append-nil read)) s.0
@@ -69,7 +73,8 @@ answered faults.TrailingBytes read ys s = (s.0, ys, (s.1.0, s.1.1, s.1.2, more r
 answered faults.Read read ys s = tt
 answered faults.Memory read ys s = (s.0, s.1 ++ ys, (s.2.0, s.2.1, more read (header_bytes s.0) s.1 ys s.2.2))
 
-pub answers_fault : (fault : SnapshotFault) (a b : Option (List ℕ)) (read : List ℕ) → Consumes a b read → StopsAt fault read b → IfSome a (λ bytes. MayRefuse fault bytes)
+pub answers_fault : (fault : SnapshotFault) (a b : Option (List ℕ)) (read : List ℕ) → Consumes a b read → StopsReadingAt fault read b →
+    IfSome a (λ bytes. MayRefuse fault bytes)
 answers_fault fault None b read p s = tt
 answers_fault fault (Some xs) None read p s = absurd p
 answers_fault fault (Some xs) (Some ys) read p s = subst (λ (x : List ℕ). MayRefuse fault x) (sym p) (answered fault read ys s)

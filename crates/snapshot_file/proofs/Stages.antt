@@ -7,7 +7,7 @@ use Rattle.snapshot_file.specs.declared.snapshot.Header.{Header}
 use Rattle.snapshot_file.specs.declared.snapshot.SnapshotFault.{SnapshotFault}
 use Rattle.snapshot_file.specs.declared.snapshot.SnapshotFault.TheVariants as faults
 use Rattle.snapshot_file.specs.Snapshots.{magic, header_bytes, hashed_bytes, snapshot_bytes, records_len, IsHeader, IsAccepted, IsSnapshot}
-use Rattle.snapshot_file.specs.Verdicts.{EndsInHeader, HasHeader, EndsAfterHeader, HasBadHeader, HasBadDigest, HasSnapshot, HasFault, IsVerdict}
+use Rattle.snapshot_file.specs.Verdicts.{EndsInHeader, HasHeader, EndsAfterHeader, HasBadHeader, HasBadDigest, HasSnapshot, HasSnapshotFault, IsVerdict}
 use Rattle.snapshot_file.proofs.Headers.{length-header, length-magic, header_fields}
 use Rattle.snapshot_file.proofs.Unique.{cut_prefix, one_header, same_records, one_snapshot, length-sha256}
 
@@ -40,7 +40,8 @@ rest_of_snapshot : (bytes end : List ℕ) → HasSnapshot bytes end → (h : Hea
 rest_of_snapshot bytes end p =
     let digest : List ℕ = sha256 (hashed_bytes p.0 p.1) in
     let e : bytes ≡ header_bytes p.0 ++ (p.1 ++ (sha256 (hashed_bytes p.0 p.1) ++ end)) =
-    p.3 ∙ append_assoc (hashed_bytes p.0 p.1) (sha256 (hashed_bytes p.0 p.1)) end ∙ append_assoc (header_bytes p.0) p.1 (sha256 (hashed_bytes p.0 p.1) ++ end) in
+    p.3 ∙ append_assoc (hashed_bytes p.0 p.1) (sha256 (hashed_bytes p.0 p.1)) end
+        ∙ append_assoc (header_bytes p.0) p.1 (sha256 (hashed_bytes p.0 p.1) ++ end) in
     let len = length-sha256 (hashed_bytes p.0 p.1) in (
       p.0,
       p.1 ++ (sha256 (hashed_bytes p.0 p.1) ++ end),
@@ -141,10 +142,11 @@ record FaultStage (fault : SnapshotFault) (bytes : List ℕ) : Type 0 where
   stops : StopsAfter stage bytes
   is : fault ≡ fault_after stage
 
-stage_of_fault : (fault : SnapshotFault) (bytes : List ℕ) → HasFault fault bytes → FaultStage fault bytes
+stage_of_fault : (fault : SnapshotFault) (bytes : List ℕ) → HasSnapshotFault fault bytes → FaultStage fault bytes
 stage_of_fault faults.NotSnapshot bytes p = record { stage = 1; early = omega arith; stops = record { reached = p.0; last = p.1 }; is = refl }
 stage_of_fault faults.BadLayout bytes p = record { stage = 3; early = omega arith; stops = bad_header bytes p.0 p.1; is = refl }
-stage_of_fault faults.Short bytes (inl p) = record { stage = 0; early = omega arith; stops = record { reached = tt; last = λ q. absurd (omega arith) }; is = refl }
+stage_of_fault faults.Short bytes (inl p) = record { stage = 0; early = omega arith; stops = record { reached = tt; last = λ q. absurd (omega arith) }; is =
+    refl }
 stage_of_fault faults.Short bytes (inr (inl p)) = record { stage = 2; early = omega arith; stops = ends_in_header bytes p; is = refl }
 stage_of_fault faults.Short bytes (inr (inr p)) = record { stage = 4; early = omega arith; stops = ends_after bytes p; is = refl }
 stage_of_fault faults.BadDigest bytes p = record { stage = 5; early = omega arith; stops = bad_digest bytes p.0 p.1; is = refl }
@@ -152,7 +154,8 @@ stage_of_fault faults.TrailingBytes bytes p = record { stage = 6; early = omega 
 stage_of_fault faults.Read bytes p = absurd p
 stage_of_fault faults.Memory bytes p = absurd p
 
-not_both : (h : Header) (records bytes : List ℕ) (fault : SnapshotFault) → IsSnapshot h records → bytes ≡ snapshot_bytes h records → HasFault fault bytes → ⊥
+not_both : (h : Header) (records bytes : List ℕ) (fault : SnapshotFault) → IsSnapshot h records → bytes ≡ snapshot_bytes h records →
+    HasSnapshotFault fault bytes → ⊥
 not_both h records bytes fault is e p =
     let s = stage_of_fault fault bytes p in
     let whole : StopsAfter 7 bytes = record { reached = (h, records, is, e ∙ sym (append-nil (snapshot_bytes h records))); last = λ q. q } in

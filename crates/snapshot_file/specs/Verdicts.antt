@@ -37,40 +37,40 @@ abbrev pub HasSnapshot : List ℕ → List ℕ → Type 0
 HasSnapshot bytes rest = (h : Header) × (records : List ℕ) × IsSnapshot h records × (bytes ≡ snapshot_bytes h records ++ rest)
 
 -- the fault of a whole input, where nothing keeps it from being read
-abbrev pub HasFault : SnapshotFault → List ℕ → Type 0
-HasFault faults.NotSnapshot bytes = (8 ≤ length bytes) × ¬ (take 8 bytes ≡ magic)
-HasFault faults.BadLayout bytes = (rest : List ℕ) × HasBadHeader bytes rest
-HasFault faults.Short bytes = IsUnfinished bytes
-HasFault faults.BadDigest bytes = (rest : List ℕ) × HasBadDigest bytes rest
-HasFault faults.TrailingBytes bytes = (b : ℕ) × (rest : List ℕ) × HasSnapshot bytes (b ∷ rest)
-HasFault faults.Read bytes = ⊥
-HasFault faults.Memory bytes = ⊥
+abbrev pub HasSnapshotFault : SnapshotFault → List ℕ → Type 0
+HasSnapshotFault faults.NotSnapshot bytes = (8 ≤ length bytes) × ¬ (take 8 bytes ≡ magic)
+HasSnapshotFault faults.BadLayout bytes = (rest : List ℕ) × HasBadHeader bytes rest
+HasSnapshotFault faults.Short bytes = IsUnfinished bytes
+HasSnapshotFault faults.BadDigest bytes = (rest : List ℕ) × HasBadDigest bytes rest
+HasSnapshotFault faults.TrailingBytes bytes = (b : ℕ) × (rest : List ℕ) × HasSnapshot bytes (b ∷ rest)
+HasSnapshotFault faults.Read bytes = ⊥
+HasSnapshotFault faults.Memory bytes = ⊥
 
 -- what a whole input is: a snapshot of this header and these records, or its fault
 abbrev pub IsVerdict : List ℕ → Result (Header × List ℕ) SnapshotFault → Type 0
 IsVerdict bytes (Ok s) = IsSnapshot s.0 s.1 × (bytes ≡ snapshot_bytes s.0 s.1)
-IsVerdict bytes (Err fault) = HasFault fault bytes
+IsVerdict bytes (Err fault) = HasSnapshotFault fault bytes
 
 -- what may be answered to a whole input in place of its snapshot: its fault, or that a read failed or,
 -- after an accepted header, that there was no memory
 abbrev pub MayRefuse : SnapshotFault → List ℕ → Type 0
-MayRefuse faults.NotSnapshot bytes = HasFault faults.NotSnapshot bytes
-MayRefuse faults.BadLayout bytes = HasFault faults.BadLayout bytes
-MayRefuse faults.Short bytes = HasFault faults.Short bytes
-MayRefuse faults.BadDigest bytes = HasFault faults.BadDigest bytes
-MayRefuse faults.TrailingBytes bytes = HasFault faults.TrailingBytes bytes
+MayRefuse faults.NotSnapshot bytes = HasSnapshotFault faults.NotSnapshot bytes
+MayRefuse faults.BadLayout bytes = HasSnapshotFault faults.BadLayout bytes
+MayRefuse faults.Short bytes = HasSnapshotFault faults.Short bytes
+MayRefuse faults.BadDigest bytes = HasSnapshotFault faults.BadDigest bytes
+MayRefuse faults.TrailingBytes bytes = HasSnapshotFault faults.TrailingBytes bytes
 MayRefuse faults.Read bytes = Unit {0}
 MayRefuse faults.Memory bytes = (h : Header) × (rest : List ℕ) × HasHeader bytes h rest
 
 -- what had been read when reading stopped, and what was left: a fault is told with the first byte that makes it
-abbrev pub StopsAt : SnapshotFault → List ℕ → Option (List ℕ) → Type 0
-StopsAt faults.NotSnapshot read left = (length read ≡ 8) × ¬ (read ≡ magic)
-StopsAt faults.BadLayout read left = HasBadHeader read []
-StopsAt faults.Short read left = IsUnfinished read × IsAtEnd left
-StopsAt faults.BadDigest read left = HasBadDigest read []
-StopsAt faults.TrailingBytes read left = (b : ℕ) × HasSnapshot read (b ∷ [])
-StopsAt faults.Read read left = IsUnfinished read ⊎ HasSnapshot read []
-StopsAt faults.Memory read left = (h : Header) × (rest : List ℕ) × HasHeader read h rest
+abbrev pub StopsReadingAt : SnapshotFault → List ℕ → Option (List ℕ) → Type 0
+StopsReadingAt faults.NotSnapshot read left = (length read ≡ 8) × ¬ (read ≡ magic)
+StopsReadingAt faults.BadLayout read left = HasBadHeader read []
+StopsReadingAt faults.Short read left = IsUnfinished read × IsAtEnd left
+StopsReadingAt faults.BadDigest read left = HasBadDigest read []
+StopsReadingAt faults.TrailingBytes read left = (b : ℕ) × HasSnapshot read (b ∷ [])
+StopsReadingAt faults.Read read left = IsUnfinished read ⊎ HasSnapshot read []
+StopsReadingAt faults.Memory read left = (h : Header) × (rest : List ℕ) × HasHeader read h rest
 
 -- what came before so many bytes were there: the input ended, or a read failed
 abbrev pub EndsBelow : ℕ → SnapshotFault → List ℕ → Option (List ℕ) → Type 0

@@ -33,7 +33,7 @@ ghost use Rattle.snapshot_file.specs.Snapshots.{
   IsAccepted,
   IsSnapshot,
 };
-ghost use Rattle.snapshot_file.specs.Verdicts.{EndsBelow, EndsKept, EndsAfter, StopsAt, MayRefuse};
+ghost use Rattle.snapshot_file.specs.Verdicts.{EndsBelow, EndsKept, EndsAfter, StopsReadingAt, MayRefuse};
 
 use crate::header::{
     DIGEST_LEN, FIELDS_LEN, MAGIC_LEN, digest_of, header_bytes, header_in, magic_bytes,
@@ -80,7 +80,7 @@ fn read_header<R: Read>(reader: &mut R) -> Result<Header, SnapshotFault>
         Consumes (R.remaining reader.old) (R.remaining reader.new) (header_bytes h)) }
     ensures err { IfErr result (λ fault. (read : List ℕ) ×
         Consumes (R.remaining reader.old) (R.remaining reader.new) read
-        × StopsAt fault read (R.remaining reader.new)) }
+        × StopsReadingAt fault read (R.remaining reader.new)) }
 {
     let first = read_array::<MAGIC_LEN, R>(reader)?;
     if first != magic_bytes() {
@@ -200,7 +200,7 @@ fn read_body<R: Read>(
         × IsAtEnd (R.remaining reader.new)) }
     ensures err { IfErr result (λ fault. (read : List ℕ) ×
         Consumes (R.remaining reader.old) (R.remaining reader.new) read
-        × StopsAt fault (header_bytes header.now ++ read) (R.remaining reader.new)) }
+        × StopsReadingAt fault (header_bytes header.now ++ read) (R.remaining reader.new)) }
 {
     // the bytes that were read: a header has no others
     let Ok(prefix) = header_bytes(alloc, header) else {
@@ -231,7 +231,7 @@ pub fn read_snapshot<R: Read>(alloc: Global, reader: &mut R) -> Result<Snapshot,
         × IsAtEnd (R.remaining reader.new)) }
     ensures stops { IfErr result (λ fault. (read : List ℕ) ×
         Consumes (R.remaining reader.old) (R.remaining reader.new) read
-        × StopsAt fault read (R.remaining reader.new)) }
+        × StopsReadingAt fault read (R.remaining reader.new)) }
 {
     let header = read_header(reader)?;
     let records = read_body(alloc, reader, &header)?;

@@ -28,11 +28,13 @@ other_key k i d = grind (arith, nat_tests)
 updated_here : (m n : BTreeMap ℕ (Vec ℕ Global)) (k : ℕ) (w : Option (Vec ℕ Global)) → Updates nat_cmp m n k w → change_at n.entries k ≡ w
 updated_here m n k w u = u.0 k ∙ ap (λ b. cond b w (change_at m.entries k)) (same_key k k refl)
 
-updated_elsewhere : (m n : BTreeMap ℕ (Vec ℕ Global)) (k i : ℕ) (w : Option (Vec ℕ Global)) → Updates nat_cmp m n k w → i ≢ k → change_at n.entries i ≡ change_at m.entries i
+updated_elsewhere : (m n : BTreeMap ℕ (Vec ℕ Global)) (k i : ℕ) (w : Option (Vec ℕ Global)) → Updates nat_cmp m n k w → i ≢ k →
+    change_at n.entries i ≡ change_at m.entries i
 updated_elsewhere m n k i w u d = u.0 i ∙ ap (λ b. cond b w (change_at m.entries i)) (other_key k i d)
 
 -- a change that goes into the records leaves the draft
-pub draft-popped : (records : List (List ℕ)) (m n : BTreeMap ℕ (Vec ℕ Global)) (k : ℕ) (v : Vec ℕ Global) → change_at m.entries k ≡ Some v → Updates nat_cmp m n k None →
+pub draft-popped : (records : List (List ℕ)) (m n : BTreeMap ℕ (Vec ℕ Global)) (k : ℕ) (v : Vec ℕ Global) → change_at m.entries k ≡ Some v →
+    Updates nat_cmp m n k None →
     k < length records → draft_of (set records k v.items) n.entries ≡ draft_of records m.entries
 draft-popped records m n k v is u inside =
     ap (λ c. list_of c (λ i. bytes_or (change_at n.entries i) (record_at (set records k v.items) i))) (length-set records k v.items)
@@ -52,7 +54,8 @@ draft-popped records m n k v is u inside =
 pub draft-inserted : (records : List (List ℕ)) (m n : BTreeMap ℕ (Vec ℕ Global)) (k : ℕ) (v : Vec ℕ Global) → Updates nat_cmp m n k (Some v) →
     k < length records → draft_of records n.entries ≡ set (draft_of records m.entries) k v.items
 draft-inserted records m n k v u inside =
-    set-list_of (length records) k (λ i. bytes_or (change_at m.entries i) (record_at records i)) (λ i. bytes_or (change_at n.entries i) (record_at records i)) v.items [] inside
+    set-list_of (length records) k (λ i. bytes_or (change_at m.entries i) (record_at records i))
+        (λ i. bytes_or (change_at n.entries i) (record_at records i)) v.items [] inside
     (ap (λ c. bytes_or c (record_at records k)) (updated_here m n k (Some v) u))
     (λ i h apart. ap (λ c. bytes_or c (record_at records i)) (updated_elsewhere m n k i (Some v) u apart))
 

@@ -37,5 +37,6 @@ open_stands s h bytes e = record {
 -- a store stands for its history after any changes
 pub run_stands : (changes : List Change) (s : StoreState) (h : History) → StandsFor s h → StandsFor (held_after changes s) (history_after changes h)
 run_stands [] s h stands = stands
-run_stands (Some (i, bytes) ∷ more) s h stands = run_stands more (held_edited i bytes s) (after_edit i bytes h) (edit_stands s (held_edited i bytes s) i bytes refl h stands)
+run_stands (Some (i, bytes) ∷ more) s h stands =
+    run_stands more (held_edited i bytes s) (after_edit i bytes h) (edit_stands s (held_edited i bytes s) i bytes refl h stands)
 run_stands (None ∷ more) s h stands = run_stands more (held_published s) (published h) (publish_stands s (held_published s) refl h stands)

@@ -8,7 +8,8 @@ use Rattle.digit_pack.specs.Layout.{Shape, records_in}
 use Rattle.version_store.specs.Openings.{bytes_of_records}
 
 -- pieces of equal length, from some piece on
-pieces_joined : (r : ℕ) (bytes : List ℕ) (s n : ℕ) → flat_map (λ (p : List ℕ). p) (map (λ i. take r (drop (i * r) bytes)) (range_with_len s n)) ≡ take (n * r) (drop (s * r) bytes)
+pieces_joined : (r : ℕ) (bytes : List ℕ) (s n : ℕ) → flat_map (λ (p : List ℕ). p) (map (λ i. take r (drop (i * r) bytes)) (range_with_len s n))
+    ≡ take (n * r) (drop (s * r) bytes)
 pieces_joined r bytes s zero = let none : 0 ≡ 0 * r = omega arith in ap (λ k. take k (drop (s * r) bytes)) none
 pieces_joined r bytes s (suc n) =
     let first : List ℕ = drop (s * r) bytes in

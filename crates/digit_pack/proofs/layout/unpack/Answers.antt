@@ -26,5 +26,6 @@ returns c = (
       c.width-w.ensures.value c.record_len.ensures.value c.digits_per_record-top.ensures.value c.width-w.ensures.layout c.requires.small c.requires.digits).0
       c.if-digits-top.false,
   words_are c.loop-i.out c.args.layout.now.record_len (digit 8 (number_of c.args.layout.now.width c.args.digits.now)) (c.loop-i.auto.out ∙ c.requires.room)
-      (λ k l. c.loop-i.invariant k (omega (arith, c.requires.room, c.loop-i-test.false)) ∙ ap (λ w. digit 8 (number_of w c.args.digits.now) k) c.width-w.ensures.value),
+      (λ k l. c.loop-i.invariant k (omega (arith, c.requires.room, c.loop-i-test.false))
+          ∙ ap (λ w. digit 8 (number_of w c.args.digits.now) k) c.width-w.ensures.value),
 )

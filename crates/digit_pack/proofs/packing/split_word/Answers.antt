@@ -10,7 +10,8 @@ loop-t-preserved c =
     let size : 1 * 2 ^ c.args.w % 2 ^ 32 ≡ 2 ^ c.args.w = one_shl c.args.w 32 (omega arith) in
     let e : c.args.w * c.loop-t.t + c.args.w ≡ c.args.w * (c.loop-t.t + 1) = omega arith in
     record {
-      done = filled_more c.loop-t.out c.loop-t.t _ (digit c.args.w c.args.x) (omega arith) (ap (λ y. c.loop-t.rest % y) size ∙ ap (λ y. y % 2 ^ c.args.w) c.loop-t.invariant.rest) c.loop-t.invariant.done;
+      done = filled_more c.loop-t.out c.loop-t.t _ (digit c.args.w c.args.x) (omega arith) (ap (λ y. c.loop-t.rest % y) size
+          ∙ ap (λ y. y % 2 ^ c.args.w) c.loop-t.invariant.rest) c.loop-t.invariant.done;
       rest = ap (λ y. y / 2 ^ c.args.w) c.loop-t.invariant.rest ∙ shr-shr c.args.x (c.args.w * c.loop-t.t) c.args.w ∙ ap (λ k. c.args.x / 2 ^ k) e;
     }
 

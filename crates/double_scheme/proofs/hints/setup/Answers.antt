@@ -9,7 +9,8 @@ use Rattle.double_scheme.proofs.hints.setup.Goals as goal
 
 pub returns-clause-server : goal.returns-clause-server
 unfolding hint_of
-returns-clause-server g c = λ digits a1 e h. c.in_ok-server.ensures ∙ ap (λ m. decomposed c.args.w (transpose m)) h ∙ ap (decomposed c.args.w) (c.product_transposes.ensures digits a1 e)
+returns-clause-server g c = λ digits a1 e h. c.in_ok-server.ensures ∙ ap (λ m. decomposed c.args.w (transpose m)) h
+    ∙ ap (decomposed c.args.w) (c.product_transposes.ensures digits a1 e)
 
 pub returns-clause-client : goal.returns-clause-client
 unfolding hint_of
@@ -20,8 +21,10 @@ decompose-requires-clause-size g c = few_across c.args.w c.args.hint.now.cols c.
 
 pub setup-requires-clause-size : goal.setup-requires-clause-size
 setup-requires-clause-size g c =
-    let rows : (g.S.DigitStore.digits c.in_ok-server.server).rows ≡ c.args.hint.now.cols * split_count c.args.w = ap (λ (m : WordMatrix). m.rows) c.in_ok-server.ensures in
-    rw rows (few_across c.args.w c.args.hint.now.cols c.args.a2.now.cols c.requires.width.0 c.requires.col_limit (omega (arith, c.requires.cols, c.requires.col_limit)))
+    let rows : (g.S.DigitStore.digits c.in_ok-server.server).rows ≡ c.args.hint.now.cols * split_count c.args.w =
+        ap (λ (m : WordMatrix). m.rows) c.in_ok-server.ensures in
+    rw rows (few_across c.args.w c.args.hint.now.cols c.args.a2.now.cols c.requires.width.0 c.requires.col_limit
+        (omega (arith, c.requires.cols, c.requires.col_limit)))
 
 pub returns-clause-server_sizes : goal.returns-clause-server_sizes
 returns-clause-server_sizes g c = (
@@ -32,6 +35,7 @@ returns-clause-server_sizes g c = (
 pub returns-clause-client_sizes : goal.returns-clause-client_sizes
 unfolding hint_of
 returns-clause-client_sizes g c = (
-  ap (λ (m : WordMatrix). m.rows) c.in_ok-client.ensures ∙ ap (λ (m : WordMatrix). m.rows) c.in_ok-server.ensures ∙ ap (λ n. n * split_count c.args.w) (sym c.requires.cols),
+  ap (λ (m : WordMatrix). m.rows) c.in_ok-client.ensures ∙ ap (λ (m : WordMatrix). m.rows) c.in_ok-server.ensures
+      ∙ ap (λ n. n * split_count c.args.w) (sym c.requires.cols),
   ap (λ (m : WordMatrix). m.cols) c.in_ok-client.ensures,
 )

@@ -28,6 +28,8 @@ row_quiet quiet bounded small w a seed number d r certain =
 pub returns : goal.returns
 returns c = λ l records a1 seed number i s one two. record {
   first = c.certain_shape_is_quiet.ensures l records seed number a1.rows i s one;
-  hint = λ d r _ _. row_quiet c.certain_is_quiet.ensures c.noise_is_bounded.ensures c.digits_are_small.ensures l.width (product (transpose a1) (transpose (digit_matrix l records))) seed number d r two;
-  answer = λ d r _ _. row_quiet c.certain_is_quiet.ensures c.noise_is_bounded.ensures c.digits_are_small.ensures l.width (product (one_row (first_query_of l a1 seed number i)) (transpose (digit_matrix l records))) seed number d r two;
+  hint = λ d r _ _. row_quiet c.certain_is_quiet.ensures c.noise_is_bounded.ensures c.digits_are_small.ensures l.width
+      (product (transpose a1) (transpose (digit_matrix l records))) seed number d r two;
+  answer = λ d r _ _. row_quiet c.certain_is_quiet.ensures c.noise_is_bounded.ensures c.digits_are_small.ensures l.width
+      (product (one_row (first_query_of l a1 seed number i)) (transpose (digit_matrix l records))) seed number d r two;
 }

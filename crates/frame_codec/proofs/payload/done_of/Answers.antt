@@ -6,4 +6,5 @@ pub returns-then-payload-ne8-clause-none : goal.returns-then-payload-ne8-clause-
 returns-then-payload-ne8-clause-none c = no_stands 135 c.args.payload.now (λ h. c.if-payload-ne8.true h)
 
 pub returns-clause-some : goal.returns-clause-some
-returns-clause-some c = is_done c.args.payload.now (λ i. omega (arith, c.type_inv.payload i)) c.if-payload-ne8.false _ (omega (arith, c.u64_at.type_inv)) c.u64_at.ensures
+returns-clause-some c = is_done c.args.payload.now (λ i. omega (arith, c.type_inv.payload i)) c.if-payload-ne8.false _
+    (omega (arith, c.u64_at.type_inv)) c.u64_at.ensures

@@ -15,7 +15,8 @@ loop-i-preserved c =
     let long = scaled_length 16 at c.args.k out c.args.x.now (omega arith) (omega arith) in
     rw (c.as_chunks.ensures.front, chunk_at 16 n c.loop-i.i c.args.x.now [] below, next)
     (record {
-      done = put_done (λ q. (slice_index c.args.out.now q + c.args.k * slice_index c.args.x.now q) % 2 ^ 32) at 16 out _ long (omega arith) c.loop-i.invariant.done
+      done = put_done (λ q. (slice_index c.args.out.now q + c.args.k * slice_index c.args.x.now q) % 2 ^ 32) at 16 out _ long
+          (omega arith) c.loop-i.invariant.done
           (λ j h. scaled_lane 16 at c.args.k out c.args.x.now j (omega arith) (omega arith) h ∙ rw (c.loop-i.invariant.rest (at + j) (omega arith)) refl);
       rest = λ q h. get_or-put_chunk_above at out _ q 0 (omega (arith, long)) ∙ c.loop-i.invariant.rest q (omega arith);
     })

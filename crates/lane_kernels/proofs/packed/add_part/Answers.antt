@@ -10,16 +10,20 @@ use Rattle.lane_kernels.proofs.PackedSums.{part_sum, parts_more, piece_fits}
 use Rattle.lane_kernels.proofs.packed.add_part.Goals as goal
 
 pub piece-requires : goal.piece-requires
-piece-requires c = piece_fits (c.loop-t.t * 4) (length c.args.out.now) (c.args.words) c.args.start c.args.count _ (omega arith) (omega arith) c.requires.rows_fit
+piece-requires c = piece_fits (c.loop-t.t * 4) (length c.args.out.now) (c.args.words) c.args.start c.args.count _ (omega arith)
+    (omega arith) c.requires.rows_fit
 
 pub piece-requires-in-loop-t : goal.piece-requires-in-loop-t
-piece-requires-in-loop-t c = piece_fits (c.loop-t.t * 4 + 1) (length c.args.out.now) (c.args.words) c.args.start c.args.count _ (omega arith) (omega arith) c.requires.rows_fit
+piece-requires-in-loop-t c = piece_fits (c.loop-t.t * 4 + 1) (length c.args.out.now) (c.args.words) c.args.start c.args.count _ (omega arith)
+    (omega arith) c.requires.rows_fit
 
 pub piece-requires-in-loop-t-2 : goal.piece-requires-in-loop-t-2
-piece-requires-in-loop-t-2 c = piece_fits (c.loop-t.t * 4 + 2) (length c.args.out.now) (c.args.words) c.args.start c.args.count _ (omega arith) (omega arith) c.requires.rows_fit
+piece-requires-in-loop-t-2 c = piece_fits (c.loop-t.t * 4 + 2) (length c.args.out.now) (c.args.words) c.args.start c.args.count _ (omega arith)
+    (omega arith) c.requires.rows_fit
 
 pub piece-requires-in-loop-t-3 : goal.piece-requires-in-loop-t-3
-piece-requires-in-loop-t-3 c = piece_fits (c.loop-t.t * 4 + 3) (length c.args.out.now) (c.args.words) c.args.start c.args.count _ (omega arith) (omega arith) c.requires.rows_fit
+piece-requires-in-loop-t-3 c = piece_fits (c.loop-t.t * 4 + 3) (length c.args.out.now) (c.args.words) c.args.start c.args.count _ (omega arith)
+    (omega arith) c.requires.rows_fit
 
 pub loop-t-preserved : goal.loop-t-preserved
 loop-t-preserved c =
@@ -50,8 +54,10 @@ loop-t-preserved c =
     rw next (record {
       done = put_done (λ q. sum_below (start + count) (λ t. products_at packed x (q * words) t) % 2 ^ 32) row 4 out _ long room c.loop-t.invariant.done
           (λ j h. get_or-zip2 add (chunk row 4 out) four j 0 0 0 (omega arith) (omega arith)
-          ∙ rw (get_or-chunk row 4 out j 0 h) (parts_more packed x ((row + j) * words) start count _ _ (c.loop-t.invariant.rest (row + j) (omega arith) (omega arith)) (new j h)));
-      rest = λ q h within. get_or-put_chunk_above row out _ q 0 (omega (arith, long)) ∙ c.loop-t.invariant.rest q (omega arith) (omega (arith, length-put_chunk {A = ℕ}));
+          ∙ rw (get_or-chunk row 4 out j 0 h)
+              (parts_more packed x ((row + j) * words) start count _ _ (c.loop-t.invariant.rest (row + j) (omega arith) (omega arith)) (new j h)));
+      rest = λ q h within. get_or-put_chunk_above row out _ q 0 (omega (arith, long))
+          ∙ c.loop-t.invariant.rest q (omega arith) (omega (arith, length-put_chunk {A = ℕ}));
     })
 
 pub returns : goal.returns
@@ -76,7 +82,8 @@ returns c =
             let inside : at + count ≤ length packed = piece_fits q rows words start count (length packed) below c.requires.inside c.requires.rows_fit in
             let cut : at + count - at ≡ count = omega arith in
             let long : length ws ≡ count = rw cut (length-chunk at count packed inside) in
-            let new = part_sum packed x (q * words) start count ws c.part-a_part.result c.carried-b_part.result c.carried-c_part.result long c.requires.most refl
+            let new = part_sum packed x (q * words) start count ws c.part-a_part.result c.carried-b_part.result c.carried-c_part.result long c.requires.most
+                refl
             c.part-a_part.ensures c.carried-b_part.ensures.words c.carried-c_part.ensures.words in
             rw wide at (c.add_part_singly.ensures.done q le (omega arith)) ∙ parts_more packed x (q * words) start count _ _ was new
       ];

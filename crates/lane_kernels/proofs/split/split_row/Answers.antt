@@ -40,5 +40,6 @@ returns c =
     let n = length c.args.x.now / 8 * 8 in
     words_are _ _ _ (omega arith) (λ q h. elim (cases_lt q n) [
       | inl lt ↦ c.split_rest.ensures.kept q (omega arith) ∙ c.loop-i.invariant q (omega arith)
-      | inr le ↦ c.split_rest.ensures.done q (omega arith) (omega arith) ∙ digit_mask c.args.w (slice_index c.args.x.now q / 2 ^ (c.args.w * c.args.k)) (omega arith)
+      | inr le ↦ c.split_rest.ensures.done q (omega arith) (omega arith)
+          ∙ digit_mask c.args.w (slice_index c.args.x.now q / 2 ^ (c.args.w * c.args.k)) (omega arith)
     ])

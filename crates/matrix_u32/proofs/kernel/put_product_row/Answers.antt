@@ -12,7 +12,8 @@ loop-j-preserved c =
     let word = c.column_dot.ensures ∙ entry-product a b c.args.i c.loop-j.j c.requires.row (omega arith) in
     record {
       count = length-set _ _ _ ∙ c.loop-j.invariant.count;
-      done = filled_more c.loop-j.out c.loop-j.j c.column_dot.result (λ j. dot (row a c.args.i) (column b j)) (omega (arith, c.loop-j.invariant.count)) word c.loop-j.invariant.done;
+      done = filled_more c.loop-j.out c.loop-j.j c.column_dot.result (λ j. dot (row a c.args.i) (column b j))
+          (omega (arith, c.loop-j.invariant.count)) word c.loop-j.invariant.done;
     }
 
 pub returns : goal.returns

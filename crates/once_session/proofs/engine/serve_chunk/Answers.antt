@@ -20,11 +20,14 @@ returns-in-Ok-stop-clause-turned g c rest e =
     subst (λ (o : Option (List ℕ)). Feeds o c.args.piece.now (Err c.in-Err-read.fault) f.0 c.feed-read.new.self) e f.2 in
     let frames : c.deref.result.now ≡ f.0 = c.deref.ensures.value ∙ f.1 ∙ rw c.new-frames.ensures.items refl in
     let going : goes_on (stage_after old f.0) ≡ true =
-    ap (λ (fs : List Frame). goes_on (stage_after old fs)) (sym frames) ∙ ap goes_on (sym c.in_default.ensures.stage.0) ∙ sym c.goes_on.ensures ∙ c.if-not-goes_on.false in
+    ap (λ (fs : List Frame). goes_on (stage_after old fs)) (sym frames) ∙ ap goes_on (sym c.in_default.ensures.stage.0) ∙ sym c.goes_on.ensures
+        ∙ c.if-not-goes_on.false in
     let out : List ℕ = encodings (replies_to old c.deref.result.now) ++ encoding (Refused 1) in (
       out,
-      sends_both g.C.Connection.does c.args.connection.now c.serve_frames.new.connection c.stop.new.connection _ _ c.in_default.ensures.all c.in-Ok-stop.ensures.all,
-      turn_refused old c.stop.new.stage stream f.0 fed.0.0 c.in-Err-read.fault c.feed-read.new.self out fed.0.1 fed.0.2 c.in-Ok-stop.ensures.refused.0 going c.in-Ok-stop.ensures.refused.1
+      sends_both g.C.Connection.does c.args.connection.now c.serve_frames.new.connection c.stop.new.connection _ _ c.in_default.ensures.all
+          c.in-Ok-stop.ensures.all,
+      turn_refused old c.stop.new.stage stream f.0 fed.0.0 c.in-Err-read.fault c.feed-read.new.self out fed.0.1 fed.0.2 c.in-Ok-stop.ensures.refused.0 going
+          c.in-Ok-stop.ensures.refused.1
           (ap (λ (fs : List Frame). encodings (replies_to old fs) ++ encoding (Refused 1)) frames),
     )
 
@@ -37,12 +40,15 @@ returns-clause-turned g c rest e =
     subst (λ (o : Option (List ℕ)). Feeds o c.args.piece.now (Err c.in-Err-read.fault) f.0 c.feed-read.new.self) e f.2 in
     let frames : c.deref.result.now ≡ f.0 = c.deref.ensures.value ∙ f.1 ∙ rw c.new-frames.ensures.items refl in
     let going : goes_on (stage_after old f.0) ≡ true =
-    ap (λ (fs : List Frame). goes_on (stage_after old fs)) (sym frames) ∙ ap goes_on (sym c.in_default.ensures.stage.0) ∙ sym c.goes_on.ensures ∙ c.if-not-goes_on.false in
+    ap (λ (fs : List Frame). goes_on (stage_after old fs)) (sym frames) ∙ ap goes_on (sym c.in_default.ensures.stage.0) ∙ sym c.goes_on.ensures
+        ∙ c.if-not-goes_on.false in
     let part = c.in-Err-stop.ensures.prefix in
     let out : List ℕ = encodings (replies_to old f.0) ++ take part.0 (encoding (Refused 1)) in (
       out,
-      subst (λ (fs : List Frame). SendsBefore g.C.Connection.does c.in-Err-stop.broken c.args.connection.now (encodings (replies_to old fs) ++ take part.0 (encoding (Refused 1))) c.stop.new.connection) frames
-          (sends_before g.C.Connection.does c.in-Err-stop.broken c.args.connection.now c.serve_frames.new.connection c.stop.new.connection _ _ c.in_default.ensures.all part.1),
+      subst (λ (fs : List Frame). SendsBefore g.C.Connection.does c.in-Err-stop.broken c.args.connection.now
+          (encodings (replies_to old fs) ++ take part.0 (encoding (Refused 1))) c.stop.new.connection) frames
+          (sends_before g.C.Connection.does c.in-Err-stop.broken c.args.connection.now c.serve_frames.new.connection c.stop.new.connection _ _
+              c.in_default.ensures.all part.1),
       turn_cut old stream f.0 fed.0.0 c.in-Err-read.fault part.0 fed.0.1 fed.0.2 going part.2,
     )
 
@@ -57,7 +63,8 @@ returns-then-not-goes_on-clause-turned g c rest e =
     let out : List ℕ = encodings (replies_to old c.deref.result.now) in (
       out,
       c.in_default.ensures.all,
-      turn_over old c.serve_frames.new.stage (rest ++ c.args.piece.now) f.0 begins.0 c.feed-read.new.self out begins.1 (c.in_default.ensures.stage.0 ∙ ap (λ (fs : List Frame). stage_after old fs) frames)
+      turn_over old c.serve_frames.new.stage (rest ++ c.args.piece.now) f.0 begins.0 c.feed-read.new.self out begins.1 (c.in_default.ensures.stage.0
+          ∙ ap (λ (fs : List Frame). stage_after old fs) frames)
           (sym c.goes_on.ensures ∙ c.if-not-goes_on.true) (ap (λ (fs : List Frame). encodings (replies_to old fs)) frames),
     )
 
@@ -71,6 +78,7 @@ returns-in-Ok-clause-turned g c rest e =
     let out : List ℕ = encodings (replies_to old c.deref.result.now) in (
       out,
       c.in_default.ensures.all,
-      turn_on old c.serve_frames.new.stage rest c.args.piece.now f.0 c.feed-read.new.self out fed (c.in_default.ensures.stage.0 ∙ ap (λ (fs : List Frame). stage_after old fs) frames)
+      turn_on old c.serve_frames.new.stage rest c.args.piece.now f.0 c.feed-read.new.self out fed (c.in_default.ensures.stage.0
+          ∙ ap (λ (fs : List Frame). stage_after old fs) frames)
           (sym c.goes_on.ensures ∙ c.if-not-goes_on.false) (ap (λ (fs : List Frame). encodings (replies_to old fs)) frames),
     )

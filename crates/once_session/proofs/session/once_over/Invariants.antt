@@ -1,16 +1,16 @@
 use Rattle.std.proofs.Common.{◌≡◌, ◌≤◌, List, ℕ, length, true, Some}
-use Rattle.connection_io.specs.Turns.{Turn}
+use Rattle.connection_io.specs.Turns.{CallTurn}
 use Rattle.once_session.specs.Courses.{HasTable}
 use Rattle.once_session.specs.Outputs.{goes_on}
-use Rattle.once_session.specs.OnceTurns.{GoesOn, fresh}
+use Rattle.once_session.specs.OnceTurns.{WorkGoesOn, fresh_work}
 use Rattle.once_session.proofs.session.once_over.Given as goal
 
 abbrev pub invariant-turns : goal.invariant-turns
 invariant-turns g l = record {
-  before : List Turn;
+  before : List CallTurn;
   unfinished : List ℕ;
   codec_is : l.codec ≡ Some unfinished;
-  go_on : GoesOn g.C.Connection.does fresh l.fn.connection before (record { stage = l.stage; unfinished = unfinished }) l.connection;
+  go_on : WorkGoesOn g.C.Connection.does fresh_work l.fn.connection before (record { stage = l.stage; unfinished = unfinished }) l.connection;
   count : length before ≡ l.counter;
   within : l.counter ≤ l.turns;
   going : goes_on l.stage ≡ true;

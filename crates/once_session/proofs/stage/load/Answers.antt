@@ -26,7 +26,8 @@ returns c =
     ap (λ s. t s c.in_ok-digits.digits) layout ∙ ap (t l) digits in
     record {
       reply_is = let none : Bool → Option Frame = λ b. if b then None else Some (Refused 1) in sym (ap none is);
-      stage_is = ap Loaded table ∙ (let goes : Bool → Stage = λ b. if b then Loaded (table_of c.args.record_len c.args.groups c.args.width bytes) else Bad in sym (ap goes is));
+      stage_is = ap Loaded table
+          ∙ (let goes : Bool → Stage = λ b. if b then Loaded (table_of c.args.record_len c.args.groups c.args.width bytes) else Bad in sym (ap goes is));
       fits = tt;
       kept = record { layout = c.in-Some.ensures.layout; rows = ap (λ m. m.rows) c.in_ok-digits.ensures; cols = ap (λ m. m.cols) c.in_ok-digits.ensures };
     }

@@ -17,7 +17,8 @@ module _ (w : ℕ) (a : WordMatrix) (s : List ℕ) (e : List ℤ) where
   unfolding plain
   at place k l = at-list_of a.rows (λ j. (dot (row a j) s + residue (slice_index_or e j (pos 0)) + (if j == place then delta w else 0)) % 2 ^ 32) k l
 
-  one_side : (place other : ℕ) → place < a.rows → place ≢ other → slice_index (cipher w a s e place) place ≡ (slice_index (cipher w a s e other) place + delta w) % 2 ^ 32
+  one_side : (place other : ℕ) → place < a.rows → place ≢ other →
+      slice_index (cipher w a s e place) place ≡ (slice_index (cipher w a s e other) place + delta w) % 2 ^ 32
   one_side place other p d =
       omega (arith, at place place p, at other place p, at_place place place (delta w) refl, off_place place other (delta w) d)
 
@@ -26,6 +27,7 @@ returns c = λ w a s e place other p q d. record {
   here = one_side w a s e place other p d;
   there = one_side w a s e other place q (λ x. d (sym x));
   elsewhere = λ k l x y.
-      let inside : k < a.rows = omega (arith, l, length-list_of a.rows (λ j. (dot (row a j) s + residue (slice_index_or e j (pos 0)) + (if j == place then delta w else 0)) % 2 ^ 32)) in
+      let inside : k < a.rows = omega
+          (arith, l, length-list_of a.rows (λ j. (dot (row a j) s + residue (slice_index_or e j (pos 0)) + (if j == place then delta w else 0)) % 2 ^ 32)) in
       omega (arith, at w a s e place k inside, at w a s e other k inside, off_place k place (delta w) x, off_place k other (delta w) y);
 }

@@ -1,12 +1,12 @@
 use Rattle.std.proofs.Common.{◌≡◌, ◌≤◌, List, length}
-use Rattle.connection_io.specs.Turns.{Turn}
-use Rattle.session_engines.specs.ConversingTurns.{GoesOn}
+use Rattle.connection_io.specs.Turns.{CallTurn}
+use Rattle.session_engines.specs.ConversingTurns.{ConversingGoesOn}
 use Rattle.session_engines.proofs.conversing.read_until_event.Given as goal
 
 abbrev pub invariant-turns : goal.invariant-turns
 invariant-turns g l = record {
-  before : List Turn;
-  go_on : GoesOn g.C.Connection.does l.fn.client l.fn.connection before l.client l.connection;
+  before : List CallTurn;
+  go_on : ConversingGoesOn g.C.Connection.does l.fn.client l.fn.connection before l.client l.connection;
   count : length before ≡ l.counter;
   within : l.counter ≤ l.fn.turns;
   room : length l.buffer.items ≡ 65536;

@@ -7,10 +7,12 @@ use Rattle.session_engines.proofs.serving.serve_opened.Goals as goal
 pub turns-preserved : goal.turns-preserved
 turns-preserved g c =
     let i = c.turns.invariant in
-    let t = subst (λ o. ServesTurn g.C.Connection.does c.args.id c.turns.core c.turns.connection (Ok o) c.serve_turn.new.core c.serve_turn.new.connection) c.in-Ok-None.field-0-is c.in-Ok-None.ensures.turn in
+    let t = subst (λ o. ServesTurn g.C.Connection.does c.args.id c.turns.core c.turns.connection (Ok o) c.serve_turn.new.core c.serve_turn.new.connection)
+        c.in-Ok-None.field-0-is c.in-Ok-None.ensures.turn in
     record {
       before = i.before ++ t.0 ∷ [];
-      go_on = goes_on_more g.C.Connection.does c.args.id c.args.core.now c.args.connection.now i.before c.turns.core c.turns.connection t.0 c.serve_turn.new.core c.serve_turn.new.connection i.go_on t.1;
+      go_on = goes_on_more g.C.Connection.does c.args.id c.args.core.now c.args.connection.now i.before c.turns.core c.turns.connection t.0
+          c.serve_turn.new.core c.serve_turn.new.connection i.go_on t.1;
       count = omega (arith, length-append i.before (t.0 ∷ []), i.count);
       within = omega (arith, c.turns-test.true);
       open_ = t.1.is_so;
@@ -26,5 +28,6 @@ returns-in-Err-clause-turns g c =
       core = c.turns.core;
       middle = c.turns.connection;
       go_on = i.go_on;
-      ends = stops_by g.C.Connection.does c.args.id c.args.turns (length i.before) c.turns.core c.turns.connection c.in-Err.fault c.serve_turn.new.core c.serve_turn.new.connection (omega (arith, i.count, c.turns-test.true)) c.in-Err.ensures.turn;
+      ends = stops_by g.C.Connection.does c.args.id c.args.turns (length i.before) c.turns.core c.turns.connection c.in-Err.fault c.serve_turn.new.core
+          c.serve_turn.new.connection (omega (arith, i.count, c.turns-test.true)) c.in-Err.ensures.turn;
     })

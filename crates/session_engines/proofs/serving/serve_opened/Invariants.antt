@@ -1,12 +1,12 @@
 use Rattle.std.proofs.Common.{◌≡◌, ◌≢◌, ◌≤◌, List, ℕ, true, length}
 use Rattle.server_core.specs.Cores.{session_of, is_open}
-use Rattle.connection_io.specs.Turns.{Turn}
+use Rattle.connection_io.specs.Turns.{CallTurn}
 use Rattle.session_engines.specs.ServingTurns.{GoesOn}
 use Rattle.session_engines.proofs.serving.serve_opened.Given as goal
 
 abbrev pub invariant-turns : goal.invariant-turns
 invariant-turns g l = record {
-  before : List Turn;
+  before : List CallTurn;
   go_on : GoesOn g.C.Connection.does l.fn.id l.fn.core l.fn.connection before l.core l.connection;
   count : length before ≡ l.counter;
   within : l.counter ≤ l.fn.turns;

@@ -2,7 +2,7 @@ use Rattle.std.proofs.Common.{◌≡◌, ◌++◌, List, [], ℕ, rules, sym, ap
 use Rattle.std.proofs.lemmas.List.{append-nil}
 use Rattle.std.specs.Io.KnownBytes.{Consumes}
 use Rattle.std.proofs.KnownBytes.{Consumes-trans}
-use Rattle.snapshot_file.specs.Verdicts.{StopsAt}
+use Rattle.snapshot_file.specs.Verdicts.{StopsReadingAt}
 use Rattle.snapshot_file.specs.Snapshots.{magic, header_bytes, IsAccepted}
 use Rattle.snapshot_file.proofs.Readings.{stops_in_fields}
 use Rattle.snapshot_file.proofs.reading.read_header.Goals as goal
@@ -13,7 +13,7 @@ returns-in_err-fields-clause-err g c =
     let first : List ℕ = c.in_ok-first.first in
     let is : c.in_ok-first.first ≡ magic = search rules in
     let h : (read : List ℕ) × Consumes (g.R.Read.remaining c.args.reader.now) (g.R.Read.remaining c.read_array-2.new.reader) read
-    × StopsAt c.in_err-fields.field-0.0 read (g.R.Read.remaining c.read_array-2.new.reader) =
+    × StopsReadingAt c.in_err-fields.field-0.0 read (g.R.Read.remaining c.read_array-2.new.reader) =
     (c.in_ok-first.first ++ e.0, Consumes-trans _ _ _ _ _ c.in_ok-first.ensures.ok.1 e.1, stops_in_fields _ c.in_ok-first.first e.0 _ is e.2) in
     search (rules, h)
 

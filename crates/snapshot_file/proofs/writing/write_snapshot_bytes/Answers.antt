@@ -46,7 +46,8 @@ returns-in_err-write_out-3-clause-part g c =
     let e = c.in_err-write_out-3.ensures.prefix in
     let prefix : c.deref-2.result.now ≡ header_bytes c.args.header.now = c.deref-2.ensures.value ∙ c.in-Ok.ensures in
     let hashed : c.deref.result.now ≡ header_bytes c.args.header.now = c.deref.ensures.value ∙ c.in-Ok.ensures in
-    let digest : c.digest_of-digest.result ≡ sha256 (hashed_bytes c.args.header.now c.args.records.now) = c.digest_of-digest.ensures ∙ ap (λ (x : List ℕ). sha256 (x ++ c.args.records.now)) hashed in
+    let digest : c.digest_of-digest.result ≡ sha256 (hashed_bytes c.args.header.now c.args.records.now) = c.digest_of-digest.ensures
+        ∙ ap (λ (x : List ℕ). sha256 (x ++ c.args.records.now)) hashed in
     let before : List ℕ = c.deref-2.result.now ++ c.args.records.now in
     let encoded : snapshot_bytes c.args.header.now c.args.records.now ≡ before ++ (c.digest_of-digest.result ++ []) =
     ap (λ (x : List ℕ). hashed_bytes c.args.header.now c.args.records.now ++ x) (sym (append-nil c.digest_of-digest.result ∙ digest))
@@ -54,6 +55,7 @@ returns-in_err-write_out-3-clause-part g c =
     reported_as _ faults.Write _ c.from_residual-in_err-write_out-3.ensures.1 (
       length before + e.0,
       part_shorter before c.digest_of-digest.result [] _ e.0 encoded e.1,
-      subst (Appends _ _) (part_taken before c.digest_of-digest.result [] _ e.0 encoded e.1) (Appends-trans _ _ _ _ _ (Appends-trans _ _ _ _ _ c.in_ok-write_out.ensures.all c.in_ok-write_out-2.ensures.all) e.2),
+      subst (Appends _ _) (part_taken before c.digest_of-digest.result [] _ e.0 encoded e.1)
+          (Appends-trans _ _ _ _ _ (Appends-trans _ _ _ _ _ c.in_ok-write_out.ensures.all c.in_ok-write_out-2.ensures.all) e.2),
       λ m. absurd (cc),
     )

@@ -64,7 +64,8 @@ loop-i-preserved g c =
           ∙ draft-popped old c.loop-i.changes c.pop_first.new.self i c.in-Some.bytes c.in-Some.ensures.value c.in-Some.ensures.updates inside
           ∙ c.loop-i.invariant.draft;
       marks = more_marked (digits_at first.plan first.records) (digits_at c.loop-i.layer.plan c.loop-i.layer.records)
-          (digits_at c.replace.new.self.plan c.replace.new.self.records) c.args.marks.now c.loop-i.marks c.replace.new.marks high c.loop-i.invariant.marks c.replace.ensures.marks;
+          (digits_at c.replace.new.self.plan c.replace.new.self.records) c.args.marks.now c.loop-i.marks c.replace.new.marks high c.loop-i.invariant.marks
+              c.replace.ensures.marks;
     }
 
 pub returns-clause-records : goal.returns-clause-records

@@ -12,7 +12,8 @@ returns-clause-value c =
 pub returns-clause-plan : goal.returns-clause-plan
 returns-clause-plan c =
     subst (λ e. IsPlan e.plan (length e.records)) c.self.view_is (record {
-      layout = subst IsLayout (sym (shape_again c.self.inside.layout c.self.inside.a1.cols c.self.inside.seed c.self.inside.bytes.items)) c.self.invariant.layout;
+      layout = subst IsLayout (sym (shape_again c.self.inside.layout c.self.inside.a1.cols c.self.inside.seed c.self.inside.bytes.items))
+          c.self.invariant.layout;
       low = c.self.invariant.low;
       high = c.self.invariant.high;
     })
