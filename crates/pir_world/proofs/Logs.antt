@@ -7,7 +7,7 @@ use Rattle.std.proofs.lemmas.List.Sums.{fold-append}
 use Rattle.std.proofs.lemmas.Bool.{cond_both, ne_eqb}
 use Rattle.pir_schemes.specs.declared.scheme.Scheme.{Scheme}
 use Rattle.frame_codec.specs.declared.frame.Frame.{Frame}
-use Rattle.frame_codec.specs.declared.frame.Frame.TheVariants.{Query}
+use Rattle.frame_codec.specs.declared.frame.Frame.TheVariants as frame
 use Rattle.version_store.specs.Histories.{History}
 use Rattle.server_core.specs.Serving.{Setting, is_closed}
 use Rattle.client_core.specs.declared.state.ClientState.{ClientState}
@@ -183,8 +183,10 @@ module _ (x : Setting) (h h2 : History) (later : IsLater h h2) where
   }
 
   earlier_later : (seeds : List (List ℕ)) (before : List Entry) (e : Entry) → HasEarlier x seeds h before e → HasEarlier x seeds h2 before e
-  earlier_later seeds before (Sent k (Query scheme version words)) p = (p.0, asked_later (seed_of seeds k) k p.0 _ before p.1)
-  earlier_later seeds before (Sent k f) p = tt
+  earlier_later seeds before (Sent k (frame.Query scheme version words)) p = (p.0, asked_later (seed_of seeds k) k p.0 _ before p.1)
+  earlier_later seeds before (Sent k (frame.Hello profile key)) p = p
+  earlier_later seeds before (Sent k (frame.HintAsk scheme version part)) p = p
+  earlier_later seeds before (Sent k f) p = absurd p
   earlier_later seeds before (Served k f now reply) p = p
   earlier_later seeds before (Ended k r reply event) p =
       record { query = p.query; first = p.first; asked = asked_later (seed_of seeds k) k r p.query p.first p.asked; served = p.served }
@@ -199,7 +201,7 @@ module _ (x : Setting) (h h2 : History) (later : IsLater h h2) where
   from_later seed k (Ask i s v n) f first p = asked_later seed k _ f first p
   from_later seed k Idle f first p = tt
   from_later seed k (Hello key) f first p = tt
-  from_later seed k (Sync scheme v n) f first p = tt
+  from_later seed k (Sync scheme v n) f first p = p
   from_later seed k (Edit i bytes) f first p = tt
   from_later seed k Publish f first p = tt
 

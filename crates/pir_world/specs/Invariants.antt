@@ -85,6 +85,7 @@ IsReplyOf x h v r answer =
     ⊎ ((now : ℕ) × (records : List (List ℕ)) × HasVersion h now records × (v < now) × (r ≡ frame.Stale now (length records)))
     ⊎ ((records : List (List ℕ)) × HasVersion h v records × (r ≡ answer records))
 
+-- the Welcome that tells of a version with these records
 abbrev pub welcome_frame : Setting → ℕ → List (List ℕ) → Frame
 welcome_frame x v records =
     frame.Welcome (profile_of x.plan) x.plan.width x.plan.record_len x.plan.groups (length records) v x.plan.dimension x.plan.seed
@@ -125,10 +126,11 @@ pub record LinkInv (x : Setting) (h : History) (seed : List ℕ) (l : Link) : Ty
   pub call : CallIs x h l.client l.client.call
   pub phase : Phase x h l.standing seed l.client l.client.call l.up.frames l.down.frames
 
--- an ask's frame is the query of its retrieval, which was asked for last
+-- a sync's frame asks for its next part; an ask's is the query of its retrieval, which was asked for last
 abbrev pub IsFrom : Setting → History → List ℕ → ℕ → Call → Frame → List Entry → Type 0
 IsFrom x h seed k (Ask i s v n) f first =
     IsAsked x h seed k (record { index = i; scheme = s; version = v; number = n }) f first
+IsFrom x h seed k (Sync s v p) f first = f ≡ frame.HintAsk (scheme_byte s) v p
 IsFrom x h seed k _ f first = Unit {0}
 
 -- what the log says of a client: its next number, the hint that it holds, the frame on its way, or the reply
