@@ -191,6 +191,7 @@ module _ (x : Setting) (h h2 : History) (later : IsLater h h2) where
   earlier_later seeds before (Ended k r reply event) p =
       record { query = p.query; first = p.first; asked = asked_later (seed_of seeds k) k r p.query p.first p.asked; served = p.served }
   earlier_later seeds before (Called k want refusal) p = tt
+  earlier_later seeds before (Plain (Reported k event)) p = p
   earlier_later seeds before (Plain o) p = tt
 
   pub each_later : (seeds : List (List ℕ)) (before es : List Entry) → EachAfter (HasEarlier x seeds h) before es → EachAfter (HasEarlier x seeds h2) before es

@@ -122,11 +122,11 @@ module _ (x : Setting) (seeds : List (List ℕ)) (h : History) (k : ℕ) (log fi
   reacts_earlier (Asks scheme version part) call from asks = (part_earlier scheme version part call from (asks scheme version part refl), tt)
   reacts_earlier (Fails fault) call from asks = (tt, tt)
   reacts_earlier (Reports event) (Ask j z v m) from asks = (record { query = f; first = first; asked = from; served = s }, tt)
-  reacts_earlier (Reports event) Idle from asks = (tt, tt)
-  reacts_earlier (Reports event) (Hello key) from asks = (tt, tt)
-  reacts_earlier (Reports event) (Sync scheme v q) from asks = (tt, tt)
-  reacts_earlier (Reports event) (Edit j bytes) from asks = (tt, tt)
-  reacts_earlier (Reports event) Publish from asks = (tt, tt)
+  reacts_earlier (Reports event) Idle from asks = ((f, reply, first, s), tt)
+  reacts_earlier (Reports event) (Hello key) from asks = ((f, reply, first, s), tt)
+  reacts_earlier (Reports event) (Sync scheme v q) from asks = ((f, reply, first, s), tt)
+  reacts_earlier (Reports event) (Edit j bytes) from asks = ((f, reply, first, s), tt)
+  reacts_earlier (Reports event) Publish from asks = ((f, reply, first, s), tt)
 
 module _ (x : Setting) (seeds : List (List ℕ)) (h : History) (k : ℕ) (l : Link) (log : List Entry) (g : LogInv x h (seed_of seeds k) k l log) where
   -- ---- an accepted call

@@ -86,7 +86,7 @@ IsAskForPart k scheme version part log =
     ⊎ ((first : List Entry) × (p : ℕ) × (words : List ℕ) × (part ≡ p + 1) ×
       IsServedLast k (frame.HintAsk scheme version p) (frame.HintPart scheme version p words) first log)
 
--- What came before an entry: each frame sent is that of a call that was accepted last, or asks for the next part of a hint; each frame served was sent; each retrieval that ended was asked for and served.
+-- What came before an entry: each frame sent is that of a call that was accepted last, or asks for the next part of a hint; each frame served was sent; each retrieval that ended was asked for and served, and each other event came of a reply to the last frame.
 abbrev pub HasEarlier : Setting → List (List ℕ) → History → List Entry → Entry → Type 0
 HasEarlier x seeds h before (Sent k (frame.Query scheme version words)) =
     (r : Retrieval) × IsAsked x h (seed_of seeds k) k r (frame.Query scheme version words) before
@@ -96,4 +96,6 @@ HasEarlier x seeds h before (Sent k (frame.HintAsk scheme version part)) = IsAsk
 HasEarlier x seeds h before (Sent k f) = ⊥
 HasEarlier x seeds h before (Served k f now reply) = (first : List Entry) × IsSentLast k f first before
 HasEarlier x seeds h before (Ended k r reply event) = IsEndOfAsk x h (seed_of seeds k) k r reply before
+HasEarlier x seeds h before (Plain (Reported k event)) =
+    (f : Frame) × (reply : Frame) × (first : List Entry) × IsServedLast k f reply first before
 HasEarlier x seeds h before e = Unit {0}
