@@ -13,7 +13,7 @@ use Rattle.client_core.specs.Calls.{Hello as want_hello, Sync as want_sync, Ask 
 use Rattle.pir_world.specs.declared.steps.Step.{Step}
 use Rattle.pir_world.specs.declared.steps.Step.TheVariants.{Edit, Publish, Hello, Sync, Ask, ToServer, ToClient}
 use Rattle.pir_world.specs.declared.steps.Outcome.{Outcome}
-use Rattle.pir_world.specs.declared.steps.Outcome.TheVariants.{Edited, EditRefused, Published, PublishRefused, CallRefused}
+use Rattle.pir_world.specs.declared.steps.Outcome.TheVariants.{Edited, EditRefused, Published, PublishRefused}
 use Rattle.pir_world.specs.Runs.{State, Link, Entry, Called, Sent, Plain, after, called_at, served_at, reported_at, call_at, with_link, with_history, edit_after, publish_after, link_called, link_reported, link_served, turn_of, reported_by, arrived, reader_key, FitsStep, Steps, Run}
 use Rattle.pir_world.specs.Earlier.{IsAside, HasEarlier}
 use Rattle.pir_world.specs.Versions.{seed_of}

@@ -1,6 +1,6 @@
 -- What a log says of the entries before an entry, as it grows.
-use Rattle.std.proofs.Common.{◌≡◌, ◌≢◌, ℕ, ◌+◌, Bool, true, false, cond, List, [], ◌∷◌, ◌++◌, Option, Some, None, refl, sym, ap, subst, ◌∙◌, append_assoc, arith}
-use Rattle.std.specs.Prelude.{◌==◌, fold, count_by, is_some}
+use Rattle.std.proofs.Common.{◌≡◌, ◌≢◌, ℕ, ◌+◌, Bool, false, cond, List, [], ◌∷◌, ◌++◌, Option, Some, None, refl, sym, ap, subst, ◌∙◌, append_assoc, arith}
+use Rattle.std.specs.Prelude.{fold, is_some}
 use Rattle.std.specs.List.{AllByRecursion}
 use Rattle.std.proofs.lemmas.List.{append-nil}
 use Rattle.std.proofs.lemmas.List.Sums.{fold-append}
@@ -19,11 +19,10 @@ use Rattle.client_core.specs.declared.state.Reaction.{Reaction}
 use Rattle.client_core.specs.declared.state.Reaction.TheVariants.{Asks, Reports, Fails}
 use Rattle.client_core.specs.Calls.{Sync as want_sync, Ask as want_ask}
 use Rattle.client_core.specs.Replies.{reaction_to_reply}
-use Rattle.client_core.specs.Feeding.{sends_of, fault_of}
-use Rattle.pir_world.specs.declared.steps.Outcome.{Outcome}
-use Rattle.pir_world.specs.declared.steps.Outcome.TheVariants.{Reported, Failed}
+use Rattle.client_core.specs.Feeding.{fault_of}
+use Rattle.pir_world.specs.declared.steps.Outcome.TheVariants.{Reported}
 use Rattle.pir_world.specs.Runs.{Link, Turn, Retrieval, Entry, Called, Sent, Served, Ended, Plain, turns, turn_more, reports, reacts, reported_by}
-use Rattle.pir_world.specs.Earlier.{AllWithEarlier, IsAside, IsSentLast, IsServedLast, is_ask, asks_of, hint_after, hint_told, IsAsked, IsEndOfAsk, HasEarlier}
+use Rattle.pir_world.specs.Earlier.{AllWithEarlier, IsAside, IsSentLast, IsServedLast, is_ask, asks_of, hint_after, hint_told, IsAsked, HasEarlier}
 use Rattle.pir_world.specs.Versions.{name_of, seed_of}
 use Rattle.pir_world.specs.Invariants.{IsFrom, LogInv, EachAfter}
 use Rattle.pir_world.proofs.Later.{IsLater}

@@ -1,13 +1,13 @@
 -- What a client makes of a reply.
-use Rattle.std.proofs.Common.{◌≡◌, ℕ, ◌+◌, ◌*◌, ◌<◌, ◌≤◌, ◌⊎◌, Bool, true, false, not, cond, List, [], ◌∷◌, ◌++◌, length, take, drop, min, Option, Some, None, refl, sym, ap, subst, ◌∙◌, arith, inl, inr}
-use Rattle.std.specs.Prelude.{nat_lt, nat_le, ◌==◌, ◌&&◌, is_some, fold}
+use Rattle.std.proofs.Common.{◌≡◌, ℕ, ◌+◌, ◌*◌, ◌<◌, ◌⊎◌, Bool, true, false, not, cond, List, [], ◌∷◌, ◌++◌, length, take, drop, min, Option, Some, None, refl, sym, ap, subst, ◌∙◌, arith, inl, inr}
+use Rattle.std.specs.Prelude.{nat_lt, nat_le, ◌==◌, ◌&&◌, fold}
 use Rattle.std.specs.List.{AllByRecursion}
 use Rattle.std.proofs.lemmas.List.{length-take, length-drop, take_all}
 use Rattle.std.proofs.Math.Seq.{take-add}
 use Rattle.std.proofs.Math.Nat.{mul-pos}
 use Rattle.std.proofs.lemmas.Bool.{cases_Bool, eqb-true, eqb-false, eq-eqb, ne_eqb, lt-ltb, le-leb, and_from}
 use Rattle.matrix_u32.specs.Matrix.{WordMatrix}
-use Rattle.digit_pack.specs.Layout.{Shape, shape, IsShape, digit_rows, record_at}
+use Rattle.digit_pack.specs.Layout.{Shape, shape, IsShape}
 use Rattle.digit_pack.proofs.Changes.{some_digits}
 use Rattle.digit_pack.proofs.DigitSums.{split_some}
 use Rattle.digit_pack.proofs.RecordLemmas.{shape_of_layout}
@@ -15,8 +15,8 @@ use Rattle.pir_schemes.specs.declared.scheme.Scheme.{Scheme}
 use Rattle.pir_schemes.specs.declared.scheme.Scheme.TheVariants.{Simple, Double}
 use Rattle.pir_schemes.specs.Schemes.{scheme_byte}
 use Rattle.pir_schemes.specs.Parts.{part_len}
-use Rattle.pir_schemes.specs.Plans.{Plan, IsPlan, shape_at, profile_of, plan_of, record_of}
-use Rattle.pir_schemes.specs.Retrievals.{hint_rows, hint_len, hint_matrix, query_words, answer_count, answer_words, reading}
+use Rattle.pir_schemes.specs.Plans.{Plan, IsPlan, shape_at, profile_of, record_of}
+use Rattle.pir_schemes.specs.Retrievals.{hint_rows, hint_len, hint_matrix, reading}
 use Rattle.pir_schemes.specs.Laws.{RetrievalGivesTheRecord}
 use Rattle.pir_schemes.proofs.Lengths.{hint_sizes, length-answer}
 use Rattle.frame_codec.specs.declared.frame.Frame.{Frame}
@@ -32,18 +32,17 @@ use Rattle.client_core.specs.declared.state.ServerInfo.{ServerInfo}
 use Rattle.client_core.specs.declared.state.Hint.{Hint}
 use Rattle.client_core.specs.declared.state.Call.{Call}
 use Rattle.client_core.specs.declared.state.Call.TheVariants.{Idle, Hello, Sync, Ask, Edit, Publish}
-use Rattle.client_core.specs.declared.state.Event.TheVariants.{Retrieved}
 use Rattle.client_core.specs.declared.state.ClientFault.TheVariants.{BadReply}
 use Rattle.client_core.specs.declared.state.Reaction.TheVariants.{Asks}
 use Rattle.client_core.specs.States.{is_layout}
-use Rattle.client_core.specs.Replies.{Taken, reaction_to_reply, takes_welcome, takes_part, takes_answer, takes_stale, takes_refused, takes_asked_part, more_parts, hint_made, is_welcome, is_part, is_answer, with_count, event_of, answered, ended, faulty}
+use Rattle.client_core.specs.Replies.{Taken, reaction_to_reply, takes_welcome, takes_part, takes_answer, takes_stale, takes_refused, takes_asked_part, more_parts, is_welcome, is_part, is_answer, with_count, event_of, answered, ended, faulty}
 use Rattle.client_core.specs.Feeding.{sends_of, fault_of}
 use Rattle.client_core.proofs.Layouts.{layout_accepted}
 use Rattle.pir_world.specs.Runs.{Retrieval, Entry, reacts}
 use Rattle.pir_world.specs.Earlier.{hint_after}
-use Rattle.pir_world.specs.Versions.{HasVersion, IsVersion, HintIs, asked_words, given_words, name_of, record_read, seed_of}
+use Rattle.pir_world.specs.Versions.{HasVersion, HintIs, asked_words, given_words, name_of, record_read, seed_of}
 use Rattle.pir_world.specs.Headlines.{IsRight, IsAnswered}
-use Rattle.pir_world.specs.Invariants.{GoodHistory, IsKnownOf, KnownIs, SyncIs, AskIs, CallIs, IsReply, IsFrom, Phase, welcome_frame}
+use Rattle.pir_world.specs.Invariants.{GoodHistory, IsKnownOf, KnownIs, SyncIs, CallIs, IsReply, IsFrom, Phase, welcome_frame}
 use Rattle.pir_world.proofs.Later.{version_positive, one_version}
 
 pub one_alike : {X : Type 0} (x y : X) → ◌≡◌ {A = List X} (x ∷ []) (y ∷ []) → x ≡ y

@@ -1,6 +1,6 @@
 -- What a client's own steps add to the log.
-use Rattle.std.proofs.Common.{◌≡◌, ℕ, ◌+◌, Bool, true, false, List, [], ◌∷◌, ◌++◌, Option, Some, None, refl, sym, ap, subst, ◌∙◌, append_assoc, arith, inl, inr}
-use Rattle.std.specs.Prelude.{◌==◌, cond, fold, option_to_list, is_some}
+use Rattle.std.proofs.Common.{◌≡◌, ℕ, ◌+◌, Bool, false, List, [], ◌∷◌, ◌++◌, Option, Some, None, refl, sym, ap, subst, ◌∙◌, append_assoc, arith, inl, inr}
+use Rattle.std.specs.Prelude.{cond, fold, option_to_list, is_some}
 use Rattle.std.specs.List.{AllByRecursion}
 use Rattle.std.proofs.lemmas.List.{append-nil}
 use Rattle.std.proofs.lemmas.List.Sums.{fold-append}
@@ -24,15 +24,15 @@ use Rattle.client_core.specs.Calls.{Want, state_after_call, call_frame}
 use Rattle.client_core.specs.Calls.{Hello as want_hello, Sync as want_sync, Ask as want_ask}
 use Rattle.client_core.specs.Replies.{reaction_to_reply}
 use Rattle.client_core.specs.Feeding.{takes_all, sends_of, fault_of}
-use Rattle.pir_world.specs.Runs.{Wire, Link, Retrieval, Entry, Called, Sent, Served, Plain, Turn, arrived, beyond, sent, serves, served_or, turn_of, link_called, link_served, link_reported, reports, reacts, reported_by, reader_key}
-use Rattle.pir_world.specs.Earlier.{IsSentLast, IsServedLast, is_ask, asks_of, hint_after, hint_told, IsAsked, IsEndOfAsk, HasEarlier, IsAskForPart}
+use Rattle.pir_world.specs.Runs.{Wire, Link, Retrieval, Entry, Called, Sent, Served, arrived, beyond, sent, serves, served_or, turn_of, link_called, link_served, link_reported, reports, reacts, reported_by, reader_key}
+use Rattle.pir_world.specs.Earlier.{IsSentLast, IsServedLast, is_ask, asks_of, hint_after, hint_told, IsAsked, HasEarlier, IsAskForPart}
 use Rattle.pir_world.specs.Versions.{name_of, seed_of}
-use Rattle.pir_world.specs.Invariants.{GoodHistory, AskIs, IsReply, InFlight, Phase, LinkInv, IsFrom, LogInv, EachAfter}
-use Rattle.pir_world.proofs.Wires.{none_arrives, one_arrives, Split, IsFew, split_few}
+use Rattle.pir_world.specs.Invariants.{GoodHistory, IsReply, InFlight, Phase, LinkInv, IsFrom, LogInv, EachAfter}
+use Rattle.pir_world.proofs.Wires.{none_arrives, one_arrives}
 use Rattle.pir_world.proofs.Serves.{ask_words}
 use Rattle.pir_world.proofs.Takes.{ClientInv, IsTaken, IsPartBefore, one_alike, taken}
 use Rattle.pir_world.proofs.Calls.{few_frames}
-use Rattle.pir_world.proofs.Logs.{no_asks, same_number, hint_more, log_same}
+use Rattle.pir_world.proofs.Logs.{same_number, hint_more, log_same}
 
 one_more : {X : Type 0} (xs : List X) (x : X) → xs ++ x ∷ [] ≡ [] → ⊥
 one_more [] x e = cc

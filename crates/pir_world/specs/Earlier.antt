@@ -84,7 +84,7 @@ abbrev pub IsAskForPart : ℕ → ℕ → ℕ → ℕ → List Entry → Type 0
 IsAskForPart k scheme version part log =
     ((first : List Entry) × (s : Scheme) × (log ≡ first ++ Called k (Sync s) None ∷ []) × (scheme ≡ scheme_byte s) × (part ≡ 0))
     ⊎ ((first : List Entry) × (p : ℕ) × (words : List ℕ) × (part ≡ p + 1) ×
-      IsServedLast k (frame.HintAsk scheme version p) (frame.HintPart scheme version p words) first log)
+    IsServedLast k (frame.HintAsk scheme version p) (frame.HintPart scheme version p words) first log)
 
 -- What came before an entry: each frame sent is that of a call that was accepted last, or asks for the next part of a hint; each frame served was sent; each retrieval that ended was asked for and served, and each other event came of a reply to the last frame.
 abbrev pub HasEarlier : Setting → List (List ℕ) → History → List Entry → Entry → Type 0
