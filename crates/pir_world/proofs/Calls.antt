@@ -22,7 +22,7 @@ use Rattle.client_core.specs.Calls.{Hello as want_hello, Sync as want_sync, Ask 
 use Rattle.client_core.specs.Replies.{reaction_to_reply}
 use Rattle.client_core.specs.Feeding.{takes_all, fault_of}
 use Rattle.pir_world.specs.Runs.{Wire, Link, Entry, arrived, beyond, link_called, link_reported, link_served, turn_of, reported_by, reacts, reader_key}
-use Rattle.pir_world.specs.Versions.{HasVersion, seed_of}
+use Rattle.pir_world.specs.Versions.{seed_of}
 use Rattle.pir_world.specs.Headlines.{IsRight}
 use Rattle.pir_world.specs.Invariants.{GoodHistory, KnownIs, SyncIs, IsReply, InFlight, Phase, LinkInv}
 use Rattle.pir_world.proofs.Wires.{none_arrives, one_arrives, Split, IsFew, split_few}

@@ -13,7 +13,7 @@ use Rattle.client_core.specs.Calls.{Hello as want_hello, Sync as want_sync, Ask 
 use Rattle.pir_world.specs.declared.steps.Step.{Step}
 use Rattle.pir_world.specs.declared.steps.Step.TheVariants.{Edit, Publish, Hello, Sync, Ask, ToServer, ToClient}
 use Rattle.pir_world.specs.declared.steps.Outcome.{Outcome}
-use Rattle.pir_world.specs.declared.steps.Outcome.TheVariants.{Edited, EditRefused, Published, PublishRefused, CallRefused}
+use Rattle.pir_world.specs.declared.steps.Outcome.TheVariants.{Edited, EditRefused, Published, PublishRefused}
 use Rattle.pir_world.specs.Runs.{State, Link, Entry, Called, Sent, Plain, after, called_at, served_at, reported_at, call_at, with_link, with_history, edit_after, publish_after, link_called, link_reported, link_served, turn_of, reported_by, arrived, reader_key, FitsStep, Steps, Run}
 use Rattle.pir_world.specs.Earlier.{IsAside, HasEarlier}
 use Rattle.pir_world.specs.Versions.{seed_of}
@@ -49,13 +49,14 @@ module _ (x : Setting) (seeds : List (List ℕ)) (s : State) (inv : Inv x seeds 
           let g : Some m ≡ Some y = sym (get_same s.links k m l at) ∙ ap (λ (n : ℕ). slice_get (slice_set s.links k m) n) (sym same) ∙ f in
           cc
 
-  at_history : (h : History) (o : Outcome) → GoodHistory x h → IsLater s.history h → IsRightOutcome h o → ((j : ℕ) → IsAside j (Plain o)) → Inv x seeds (with_history s h o)
-  at_history h o g later right aside = record {
+  at_history : (h : History) (o : Outcome) → GoodHistory x h → IsLater s.history h → IsRightOutcome h o → ((j : ℕ) → IsAside j (Plain o))
+      → HasEarlier x seeds h s.log (Plain o) → Inv x seeds (with_history s h o)
+  at_history h o g later right aside early = record {
     history = g;
     links = λ j y f. link_later x s.history h later (seed_of seeds j) y (inv.links j y f);
     logs = λ j y f. log_aside x h (seed_of seeds j) j y s.log (Plain o ∷ []) (log_later x s.history h later (seed_of seeds j) j y s.log (inv.logs j y f)) (aside j, tt);
     entries = all_append (IsRight x seeds h) s.log (Plain o ∷ []) (entries_later x s.history h later seeds s.log inv.entries) (right, tt);
-    earlier = each_more (HasEarlier x seeds h) [] s.log (Plain o ∷ []) (each_later x s.history h later seeds [] s.log inv.earlier) (tt, tt);
+    earlier = each_more (HasEarlier x seeds h) [] s.log (Plain o ∷ []) (each_later x s.history h later seeds [] s.log inv.earlier) (early, tt);
   }
 
   -- a call that is accepted
@@ -95,17 +96,17 @@ module _ (x : Setting) (seeds : List (List ℕ)) (s : State) (inv : Inv x seeds 
   edit_inv i bytes small =
       cond_both (nat_lt i (length s.history.draft)) _ _ (λ t. Inv x seeds t)
       (λ t. cond_both (fits x.plan bytes) _ _ (λ t. Inv x seeds t)
-      (λ u. at_history (after_edit i bytes s.history) (Edited i) (good_edited x s.history i bytes (record { len = eqb-true _ _ u; each = small }) inv.history) (λ v records p. p) tt (λ j. tt))
-      (λ u. at_history s.history (EditRefused i _) inv.history (same_history s.history) tt (λ j. tt)))
-      (λ t. at_history s.history (EditRefused i _) inv.history (same_history s.history) tt (λ j. tt))
+      (λ u. at_history (after_edit i bytes s.history) (Edited i) (good_edited x s.history i bytes (record { len = eqb-true _ _ u; each = small }) inv.history) (λ v records p. p) tt (λ j. tt) tt)
+      (λ u. at_history s.history (EditRefused i _) inv.history (same_history s.history) tt (λ j. tt) tt))
+      (λ t. at_history s.history (EditRefused i _) inv.history (same_history s.history) tt (λ j. tt) tt)
 
   publish_inv : Inv x seeds (publish_after s)
   publish_inv =
       cond_both s.history.marked _ _ (λ t. Inv x seeds t)
       (λ t. cond_both (current_version s.history + 1 == 2 ^ 64) _ _ (λ t. Inv x seeds t)
-      (λ u. at_history s.history (PublishRefused _) inv.history (same_history s.history) tt (λ j. tt))
-      (λ u. at_history (published s.history) (Published (current_version s.history + 1)) (good_published x s.history inv.history) (later_published s.history) (new_version s.history) (λ j. tt)))
-      (λ t. at_history s.history (PublishRefused _) inv.history (same_history s.history) tt (λ j. tt))
+      (λ u. at_history s.history (PublishRefused _) inv.history (same_history s.history) tt (λ j. tt) tt)
+      (λ u. at_history (published s.history) (Published (current_version s.history + 1)) (good_published x s.history inv.history) (later_published s.history) (new_version s.history) (λ j. tt) tt))
+      (λ t. at_history s.history (PublishRefused _) inv.history (same_history s.history) tt (λ j. tt) tt)
     where
       new_version : (h : History) → IsRightOutcome (published h) (Published (current_version h + 1))
       new_version h = let e : current_version (published h) ≡ current_version h + 1 = omega arith in (h.draft, let n = newest (published h) in rw (← e) n)

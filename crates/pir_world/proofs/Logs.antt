@@ -1,13 +1,13 @@
 -- What a log says of the entries before an entry, as it grows.
-use Rattle.std.proofs.Common.{◌≡◌, ◌≢◌, ℕ, ◌+◌, Bool, true, false, cond, List, [], ◌∷◌, ◌++◌, Option, Some, None, refl, sym, ap, subst, ◌∙◌, append_assoc, arith}
-use Rattle.std.specs.Prelude.{◌==◌, fold, count_by, is_some}
+use Rattle.std.proofs.Common.{◌≡◌, ◌≢◌, ℕ, ◌+◌, Bool, false, cond, List, [], ◌∷◌, ◌++◌, Option, Some, None, refl, sym, ap, subst, ◌∙◌, append_assoc, arith}
+use Rattle.std.specs.Prelude.{fold, is_some}
 use Rattle.std.specs.List.{AllByRecursion}
 use Rattle.std.proofs.lemmas.List.{append-nil}
 use Rattle.std.proofs.lemmas.List.Sums.{fold-append}
 use Rattle.std.proofs.lemmas.Bool.{cond_both, ne_eqb}
 use Rattle.pir_schemes.specs.declared.scheme.Scheme.{Scheme}
 use Rattle.frame_codec.specs.declared.frame.Frame.{Frame}
-use Rattle.frame_codec.specs.declared.frame.Frame.TheVariants.{Query}
+use Rattle.frame_codec.specs.declared.frame.Frame.TheVariants as frame
 use Rattle.version_store.specs.Histories.{History}
 use Rattle.server_core.specs.Serving.{Setting, is_closed}
 use Rattle.client_core.specs.declared.state.ClientState.{ClientState}
@@ -19,11 +19,10 @@ use Rattle.client_core.specs.declared.state.Reaction.{Reaction}
 use Rattle.client_core.specs.declared.state.Reaction.TheVariants.{Asks, Reports, Fails}
 use Rattle.client_core.specs.Calls.{Sync as want_sync, Ask as want_ask}
 use Rattle.client_core.specs.Replies.{reaction_to_reply}
-use Rattle.client_core.specs.Feeding.{sends_of, fault_of}
-use Rattle.pir_world.specs.declared.steps.Outcome.{Outcome}
-use Rattle.pir_world.specs.declared.steps.Outcome.TheVariants.{Reported, Failed}
+use Rattle.client_core.specs.Feeding.{fault_of}
+use Rattle.pir_world.specs.declared.steps.Outcome.TheVariants.{Reported}
 use Rattle.pir_world.specs.Runs.{Link, Turn, Retrieval, Entry, Called, Sent, Served, Ended, Plain, turns, turn_more, reports, reacts, reported_by}
-use Rattle.pir_world.specs.Earlier.{AllWithEarlier, IsAside, IsSentLast, IsServedLast, is_ask, asks_of, hint_after, hint_told, IsAsked, IsEndOfAsk, HasEarlier}
+use Rattle.pir_world.specs.Earlier.{AllWithEarlier, IsAside, IsSentLast, IsServedLast, is_ask, asks_of, hint_after, hint_told, IsAsked, HasEarlier}
 use Rattle.pir_world.specs.Versions.{name_of, seed_of}
 use Rattle.pir_world.specs.Invariants.{IsFrom, LogInv, EachAfter}
 use Rattle.pir_world.proofs.Later.{IsLater}
@@ -183,12 +182,15 @@ module _ (x : Setting) (h h2 : History) (later : IsLater h h2) where
   }
 
   earlier_later : (seeds : List (List ℕ)) (before : List Entry) (e : Entry) → HasEarlier x seeds h before e → HasEarlier x seeds h2 before e
-  earlier_later seeds before (Sent k (Query scheme version words)) p = (p.0, asked_later (seed_of seeds k) k p.0 _ before p.1)
-  earlier_later seeds before (Sent k f) p = tt
+  earlier_later seeds before (Sent k (frame.Query scheme version words)) p = (p.0, asked_later (seed_of seeds k) k p.0 _ before p.1)
+  earlier_later seeds before (Sent k (frame.Hello profile key)) p = p
+  earlier_later seeds before (Sent k (frame.HintAsk scheme version part)) p = p
+  earlier_later seeds before (Sent k f) p = absurd p
   earlier_later seeds before (Served k f now reply) p = p
   earlier_later seeds before (Ended k r reply event) p =
       record { query = p.query; first = p.first; asked = asked_later (seed_of seeds k) k r p.query p.first p.asked; served = p.served }
   earlier_later seeds before (Called k want refusal) p = tt
+  earlier_later seeds before (Plain (Reported k event)) p = p
   earlier_later seeds before (Plain o) p = tt
 
   pub each_later : (seeds : List (List ℕ)) (before es : List Entry) → EachAfter (HasEarlier x seeds h) before es → EachAfter (HasEarlier x seeds h2) before es
@@ -199,7 +201,7 @@ module _ (x : Setting) (h h2 : History) (later : IsLater h h2) where
   from_later seed k (Ask i s v n) f first p = asked_later seed k _ f first p
   from_later seed k Idle f first p = tt
   from_later seed k (Hello key) f first p = tt
-  from_later seed k (Sync scheme v n) f first p = tt
+  from_later seed k (Sync scheme v n) f first p = p
   from_later seed k (Edit i bytes) f first p = tt
   from_later seed k Publish f first p = tt
 

@@ -6,7 +6,6 @@ use Rattle.std.proofs.lemmas.List.Elements.{All-take, All-drop}
 use Rattle.std.proofs.Math.Nat.{mul-le-mul_right}
 use Rattle.matrix_u32.proofs.Products.{at-list_of_any, length-list_of}
 use Rattle.digit_pack.specs.Layout.{IsRecord, records_in, record_at}
-use Rattle.pir_schemes.specs.Plans.{plan_of, shape_at, IsPlan}
 use Rattle.pir_schemes.specs.Laws.{RetrievalGivesTheRecord}
 use Rattle.frame_codec.specs.declared.frame.Frame.{Frame}
 use Rattle.snapshot_file.specs.declared.snapshot.Header.{Header}

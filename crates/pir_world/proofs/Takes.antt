@@ -1,13 +1,13 @@
 -- What a client makes of a reply.
-use Rattle.std.proofs.Common.{◌≡◌, ℕ, ◌+◌, ◌*◌, ◌<◌, ◌≤◌, ◌⊎◌, Bool, true, false, not, cond, List, [], ◌++◌, length, take, drop, min, Option, Some, None, refl, sym, ap, subst, ◌∙◌, arith, inl, inr}
-use Rattle.std.specs.Prelude.{nat_lt, nat_le, ◌==◌, ◌&&◌, is_some, fold}
+use Rattle.std.proofs.Common.{◌≡◌, ℕ, ◌+◌, ◌*◌, ◌<◌, ◌⊎◌, Bool, true, false, not, cond, List, [], ◌∷◌, ◌++◌, length, take, drop, min, Option, Some, None, refl, sym, ap, subst, ◌∙◌, arith, inl, inr}
+use Rattle.std.specs.Prelude.{nat_lt, nat_le, ◌==◌, ◌&&◌, fold}
 use Rattle.std.specs.List.{AllByRecursion}
 use Rattle.std.proofs.lemmas.List.{length-take, length-drop, take_all}
 use Rattle.std.proofs.Math.Seq.{take-add}
 use Rattle.std.proofs.Math.Nat.{mul-pos}
 use Rattle.std.proofs.lemmas.Bool.{cases_Bool, eqb-true, eqb-false, eq-eqb, ne_eqb, lt-ltb, le-leb, and_from}
 use Rattle.matrix_u32.specs.Matrix.{WordMatrix}
-use Rattle.digit_pack.specs.Layout.{Shape, shape, IsShape, digit_rows, record_at}
+use Rattle.digit_pack.specs.Layout.{Shape, shape, IsShape}
 use Rattle.digit_pack.proofs.Changes.{some_digits}
 use Rattle.digit_pack.proofs.DigitSums.{split_some}
 use Rattle.digit_pack.proofs.RecordLemmas.{shape_of_layout}
@@ -15,8 +15,8 @@ use Rattle.pir_schemes.specs.declared.scheme.Scheme.{Scheme}
 use Rattle.pir_schemes.specs.declared.scheme.Scheme.TheVariants.{Simple, Double}
 use Rattle.pir_schemes.specs.Schemes.{scheme_byte}
 use Rattle.pir_schemes.specs.Parts.{part_len}
-use Rattle.pir_schemes.specs.Plans.{Plan, IsPlan, shape_at, profile_of, plan_of, record_of}
-use Rattle.pir_schemes.specs.Retrievals.{hint_rows, hint_len, hint_matrix, query_words, answer_count, answer_words, reading}
+use Rattle.pir_schemes.specs.Plans.{Plan, IsPlan, shape_at, profile_of, record_of}
+use Rattle.pir_schemes.specs.Retrievals.{hint_rows, hint_len, hint_matrix, reading}
 use Rattle.pir_schemes.specs.Laws.{RetrievalGivesTheRecord}
 use Rattle.pir_schemes.proofs.Lengths.{hint_sizes, length-answer}
 use Rattle.frame_codec.specs.declared.frame.Frame.{Frame}
@@ -32,18 +32,21 @@ use Rattle.client_core.specs.declared.state.ServerInfo.{ServerInfo}
 use Rattle.client_core.specs.declared.state.Hint.{Hint}
 use Rattle.client_core.specs.declared.state.Call.{Call}
 use Rattle.client_core.specs.declared.state.Call.TheVariants.{Idle, Hello, Sync, Ask, Edit, Publish}
-use Rattle.client_core.specs.declared.state.Event.TheVariants.{Retrieved}
 use Rattle.client_core.specs.declared.state.ClientFault.TheVariants.{BadReply}
+use Rattle.client_core.specs.declared.state.Reaction.TheVariants.{Asks}
 use Rattle.client_core.specs.States.{is_layout}
-use Rattle.client_core.specs.Replies.{Taken, reaction_to_reply, takes_welcome, takes_part, takes_answer, takes_stale, takes_refused, takes_asked_part, more_parts, hint_made, is_welcome, is_part, is_answer, with_count, event_of, answered, ended, faulty}
+use Rattle.client_core.specs.Replies.{Taken, reaction_to_reply, takes_welcome, takes_part, takes_answer, takes_stale, takes_refused, takes_asked_part, more_parts, is_welcome, is_part, is_answer, with_count, event_of, answered, ended, faulty}
 use Rattle.client_core.specs.Feeding.{sends_of, fault_of}
 use Rattle.client_core.proofs.Layouts.{layout_accepted}
-use Rattle.pir_world.specs.Runs.{Retrieval, reacts}
+use Rattle.pir_world.specs.Runs.{Retrieval, Entry, reacts}
 use Rattle.pir_world.specs.Earlier.{hint_after}
-use Rattle.pir_world.specs.Versions.{HasVersion, IsVersion, HintIs, asked_words, given_words, name_of, record_read, seed_of}
+use Rattle.pir_world.specs.Versions.{HasVersion, HintIs, asked_words, given_words, name_of, record_read, seed_of}
 use Rattle.pir_world.specs.Headlines.{IsRight, IsAnswered}
-use Rattle.pir_world.specs.Invariants.{GoodHistory, IsKnownOf, KnownIs, SyncIs, AskIs, CallIs, IsReply, Phase, welcome_frame}
+use Rattle.pir_world.specs.Invariants.{GoodHistory, IsKnownOf, KnownIs, SyncIs, CallIs, IsReply, IsFrom, Phase, welcome_frame}
 use Rattle.pir_world.proofs.Later.{version_positive, one_version}
+
+pub one_alike : {X : Type 0} (x y : X) → ◌≡◌ {A = List X} (x ∷ []) (y ∷ []) → x ≡ y
+one_alike x y e = cc
 
 -- what is kept of a client
 pub record ClientInv (x : Setting) (h : History) (seed : List ℕ) (st : Standing) (c : ClientState) : Type 0 where
@@ -53,10 +56,11 @@ pub record ClientInv (x : Setting) (h : History) (seed : List ℕ) (st : Standin
   pub hint : HintIs x h c.hint
   pub call : CallIs x h c c.call
 
--- a call that asks for no record
-abbrev pub IsNoAsk : Call → Type 0
-IsNoAsk (Ask i s v n) = ⊥
-IsNoAsk _ = Unit {0}
+-- the next part is asked for where the one before came
+abbrev pub IsPartBefore : Call → Frame → Scheme → ℕ → ℕ → Type 0
+IsPartBefore (Sync s v p) reply scheme version part =
+    (scheme ≡ s) × (version ≡ v) × (part ≡ p + 1) × ((words : List ℕ) × (reply ≡ frame.HintPart (scheme_byte scheme) version p words))
+IsPartBefore _ reply scheme version part = ⊥
 
 -- what a good reply leads to
 pub record IsTaken (x : Setting) (seeds : List (List ℕ)) (k : ℕ) (h : History) (st : Standing) (c : ClientState) (call : Call) (reply : Frame) (t : Taken) : Type 0 where
@@ -66,7 +70,8 @@ pub record IsTaken (x : Setting) (seeds : List (List ℕ)) (k : ℕ) (h : Histor
   pub right : AllByRecursion (IsRight x seeds h) (reacts k call reply t.reaction)
   pub number : t.state.number ≡ c.number
   pub told : name_of t.state.hint ≡ fold (hint_after k) (name_of c.hint) (reacts k call reply t.reaction)
-  pub no_ask : IsNoAsk t.state.call
+  pub asks : (scheme : Scheme) (version part : ℕ) → t.reaction ≡ Asks scheme version part → IsPartBefore call reply scheme version part
+  pub next : (f : Frame) (first : List Entry) → sends_of t.reaction ≡ f ∷ [] → IsFrom x h (seed_of seeds k) k t.state.call f first
 
 -- ---- sizes
 
@@ -135,7 +140,8 @@ module _ (law : RetrievalGivesTheRecord) (x : Setting) (seeds : List (List ℕ))
     right = ((records, p), tt);
     number = refl;
     told = refl;
-    no_ask = tt;
+    asks = λ s2 v2 q2 e2. absurd cc;
+    next = λ f first e2. tt;
   })
 
   refused_sync : (s : Scheme) (v q code : ℕ) → IsTaken x seeds k h st c (Sync s v q) (frame.Refused code) (takes_refused (Sync s v q) c code)
@@ -146,7 +152,8 @@ module _ (law : RetrievalGivesTheRecord) (x : Setting) (seeds : List (List ℕ))
     right = (tt, tt);
     number = refl;
     told = refl;
-    no_ask = tt;
+    asks = λ s2 v2 q2 e2. absurd cc;
+    next = λ f first e2. tt;
   }
 
   refused_ask : (j : ℕ) (s : Scheme) (v n : ℕ) → IsTaken x seeds k h st c (Ask j s v n) (refused refusal.Memory) (takes_refused (Ask j s v n) c (code_of refusal.Memory))
@@ -157,7 +164,8 @@ module _ (law : RetrievalGivesTheRecord) (x : Setting) (seeds : List (List ℕ))
     right = (inr (inr (refl, refl)), tt);
     number = refl;
     told = refl;
-    no_ask = tt;
+    asks = λ s2 v2 q2 e2. absurd cc;
+    next = λ f first e2. tt;
   }
 
   module _ (y : ServerInfo) (at : c.known ≡ Some y) (known : (st ≡ Reader) × IsKnownOf x h y) where
@@ -187,7 +195,8 @@ module _ (law : RetrievalGivesTheRecord) (x : Setting) (seeds : List (List ℕ))
       right = ((records, p), tt);
       number = refl;
       told = refl;
-      no_ask = tt;
+      asks = λ s2 v2 q2 e2. absurd cc;
+      next = λ f first e2. tt;
     })
 
     stale_ask : (j : ℕ) (s : Scheme) (v n now : ℕ) (records : List (List ℕ)) → HasVersion h now records → v < now
@@ -199,7 +208,8 @@ module _ (law : RetrievalGivesTheRecord) (x : Setting) (seeds : List (List ℕ))
       right = (inr (inl (record { now = now; records = records; version_is = p; later = lt; reply_is = refl; event_is = refl })), tt);
       number = refl;
       told = refl;
-      no_ask = tt;
+      asks = λ s2 v2 q2 e2. absurd cc;
+      next = λ f first e2. tt;
     })
 
     -- the layout is that of the version asked
@@ -246,7 +256,8 @@ module _ (law : RetrievalGivesTheRecord) (x : Setting) (seeds : List (List ℕ))
             right = ((r.records, r.version_is), tt);
             number = refl;
             told = rw (eq-eqb k k refl) refl;
-            no_ask = tt;
+            asks = λ s2 v2 q2 e2. absurd cc;
+            next = λ f first e2. tt;
           })
       more words all (inr t) =
           let ne : length words ≡ length (hint_words x s r.records) → ⊥ = λ q. eqb-false _ _ t (q ∙ sym total_is) in
@@ -264,7 +275,12 @@ module _ (law : RetrievalGivesTheRecord) (x : Setting) (seeds : List (List ℕ))
             right = (tt, tt);
             number = refl;
             told = refl;
-            no_ask = tt;
+            asks = λ s2 v2 q2 e2.
+                let a : s2 ≡ s = cc in
+                let b : v2 ≡ v = cc in
+                let d : q2 ≡ p + 1 = cc in
+                (a, b, d, (part_words x s r.records p, rw (a, b) refl));
+            next = λ f first e2. sym (one_alike _ f e2);
           })
 
       part_step : takes_part (Sync s v p) c (scheme_byte s) v p (part_words x s r.records p) ≡ more_parts s y c v p (c.parts ++ part_words x s r.records p)
@@ -330,7 +346,8 @@ module _ (law : RetrievalGivesTheRecord) (x : Setting) (seeds : List (List ℕ))
         right = (inl answer_right, tt);
         number = refl;
         told = refl;
-        no_ask = tt;
+        asks = λ s2 v2 q2 e2. absurd cc;
+        next = λ f first e2. tt;
       })
 
   by_call : (f : Call → Taken) (call : Call) (r : Frame) → c.call ≡ call → IsTaken x seeds k h st c call r (f call) → IsTaken x seeds k h st c call r (f c.call)

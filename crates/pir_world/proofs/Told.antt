@@ -1,6 +1,6 @@
 -- What a client's own steps add to the log.
-use Rattle.std.proofs.Common.{◌≡◌, ℕ, ◌+◌, Bool, true, false, List, [], ◌∷◌, ◌++◌, Option, Some, None, refl, sym, ap, subst, ◌∙◌, append_assoc, arith, inl, inr}
-use Rattle.std.specs.Prelude.{◌==◌, cond, fold, option_to_list, is_some}
+use Rattle.std.proofs.Common.{◌≡◌, ℕ, ◌+◌, Bool, false, List, [], ◌∷◌, ◌++◌, Option, Some, None, refl, sym, ap, subst, ◌∙◌, append_assoc, arith, inl, inr}
+use Rattle.std.specs.Prelude.{cond, fold, option_to_list, is_some}
 use Rattle.std.specs.List.{AllByRecursion}
 use Rattle.std.proofs.lemmas.List.{append-nil}
 use Rattle.std.proofs.lemmas.List.Sums.{fold-append}
@@ -24,18 +24,15 @@ use Rattle.client_core.specs.Calls.{Want, state_after_call, call_frame}
 use Rattle.client_core.specs.Calls.{Hello as want_hello, Sync as want_sync, Ask as want_ask}
 use Rattle.client_core.specs.Replies.{reaction_to_reply}
 use Rattle.client_core.specs.Feeding.{takes_all, sends_of, fault_of}
-use Rattle.pir_world.specs.Runs.{Wire, Link, Retrieval, Entry, Called, Sent, Served, Plain, Turn, arrived, beyond, sent, serves, served_or, turn_of, link_called, link_served, link_reported, reports, reacts, reported_by, reader_key}
-use Rattle.pir_world.specs.Earlier.{IsSentLast, IsServedLast, is_ask, asks_of, hint_after, hint_told, IsAsked, IsEndOfAsk, HasEarlier}
+use Rattle.pir_world.specs.Runs.{Wire, Link, Retrieval, Entry, Called, Sent, Served, arrived, beyond, sent, serves, served_or, turn_of, link_called, link_served, link_reported, reports, reacts, reported_by, reader_key}
+use Rattle.pir_world.specs.Earlier.{IsSentLast, IsServedLast, is_ask, asks_of, hint_after, hint_told, IsAsked, HasEarlier, IsAskForPart}
 use Rattle.pir_world.specs.Versions.{name_of, seed_of}
-use Rattle.pir_world.specs.Invariants.{GoodHistory, AskIs, IsReply, InFlight, Phase, LinkInv, IsFrom, LogInv, EachAfter}
-use Rattle.pir_world.proofs.Wires.{none_arrives, one_arrives, Split, IsFew, split_few}
+use Rattle.pir_world.specs.Invariants.{GoodHistory, IsReply, InFlight, Phase, LinkInv, IsFrom, LogInv, EachAfter}
+use Rattle.pir_world.proofs.Wires.{none_arrives, one_arrives}
 use Rattle.pir_world.proofs.Serves.{ask_words}
-use Rattle.pir_world.proofs.Takes.{ClientInv, IsTaken, IsNoAsk, taken}
+use Rattle.pir_world.proofs.Takes.{ClientInv, IsTaken, IsPartBefore, one_alike, taken}
 use Rattle.pir_world.proofs.Calls.{few_frames}
-use Rattle.pir_world.proofs.Logs.{no_asks, same_number, hint_more, log_same}
-
-one_alike : {X : Type 0} (x y : X) → ◌≡◌ {A = List X} (x ∷ []) (y ∷ []) → x ≡ y
-one_alike x y e = cc
+use Rattle.pir_world.proofs.Logs.{same_number, hint_more, log_same}
 
 one_more : {X : Type 0} (xs : List X) (x : X) → xs ++ x ∷ [] ≡ [] → ⊥
 one_more [] x e = cc
@@ -87,14 +84,6 @@ one_reply : (reply : Option Frame) (r : Frame) → option_to_list reply ≡ r �
 one_reply None r e = absurd cc
 one_reply (Some y) r e = ap (λ (z : Frame). Some z) (one_alike y r e)
 
-no_ask_from : (x : Setting) (h : History) (seed : List ℕ) (k : ℕ) (call : Call) (f : Frame) (first : List Entry) → IsNoAsk call → IsFrom x h seed k call f first
-no_ask_from x h seed k Idle f first p = tt
-no_ask_from x h seed k (Hello key) f first p = tt
-no_ask_from x h seed k (Sync scheme v q) f first p = tt
-no_ask_from x h seed k (Ask j z v m) f first p = absurd p
-no_ask_from x h seed k (Edit j bytes) f first p = tt
-no_ask_from x h seed k Publish f first p = tt
-
 -- ---- the entries of a reaction
 
 reports_no_ask : (k : ℕ) (call : Call) (reply : Frame) (e : Event) → is_ask k (reports k call reply e) ≡ false
@@ -115,16 +104,29 @@ reacts_sends k call reply (Asks scheme version part) f e = ap (λ (y : Frame). S
 reacts_sends k call reply (Reports event) f e = absurd cc
 reacts_sends k call reply (Fails fault) f e = absurd cc
 
-reacts_earlier : (x : Setting) (seeds : List (List ℕ)) (h : History) (k : ℕ) (log first : List Entry) (reply f : Frame) → IsServedLast k f reply first log
-    → (t : Reaction) (call : Call) → IsFrom x h (seed_of seeds k) k call f first → EachAfter (HasEarlier x seeds h) log (reacts k call reply t)
-reacts_earlier x seeds h k log first reply f s (Asks scheme version part) call from = (tt, tt)
-reacts_earlier x seeds h k log first reply f s (Fails fault) call from = (tt, tt)
-reacts_earlier x seeds h k log first reply f s (Reports event) (Ask j z v m) from = (record { query = f; first = first; asked = from; served = s }, tt)
-reacts_earlier x seeds h k log first reply f s (Reports event) Idle from = (tt, tt)
-reacts_earlier x seeds h k log first reply f s (Reports event) (Hello key) from = (tt, tt)
-reacts_earlier x seeds h k log first reply f s (Reports event) (Sync scheme v q) from = (tt, tt)
-reacts_earlier x seeds h k log first reply f s (Reports event) (Edit j bytes) from = (tt, tt)
-reacts_earlier x seeds h k log first reply f s (Reports event) Publish from = (tt, tt)
+module _ (x : Setting) (seeds : List (List ℕ)) (h : History) (k : ℕ) (log first : List Entry) (reply f : Frame) (s : IsServedLast k f reply first log) where
+  part_earlier : (scheme : Scheme) (version part : ℕ) (call : Call) → IsFrom x h (seed_of seeds k) k call f first → IsPartBefore call reply scheme version part
+      → IsAskForPart k (scheme_byte scheme) version part log
+  part_earlier scheme version part (Sync s2 v2 p) from a =
+      let f_is : f ≡ frame.HintAsk (scheme_byte scheme) version p = from ∙ rw (a.0, a.1) refl in
+      let asked : IsServedLast k (frame.HintAsk (scheme_byte scheme) version p) reply first log = subst (λ (y : Frame). IsServedLast k y reply first log) f_is s in
+      inr (first, p, a.3.0, a.2, subst (λ (y : Frame). IsServedLast k (frame.HintAsk (scheme_byte scheme) version p) y first log) a.3.1 asked)
+  part_earlier scheme version part Idle from a = absurd a
+  part_earlier scheme version part (Hello key) from a = absurd a
+  part_earlier scheme version part (Ask j z v m) from a = absurd a
+  part_earlier scheme version part (Edit j bytes) from a = absurd a
+  part_earlier scheme version part Publish from a = absurd a
+
+  reacts_earlier : (t : Reaction) (call : Call) → IsFrom x h (seed_of seeds k) k call f first
+      → ((scheme : Scheme) (version part : ℕ) → t ≡ Asks scheme version part → IsPartBefore call reply scheme version part) → EachAfter (HasEarlier x seeds h) log (reacts k call reply t)
+  reacts_earlier (Asks scheme version part) call from asks = (part_earlier scheme version part call from (asks scheme version part refl), tt)
+  reacts_earlier (Fails fault) call from asks = (tt, tt)
+  reacts_earlier (Reports event) (Ask j z v m) from asks = (record { query = f; first = first; asked = from; served = s }, tt)
+  reacts_earlier (Reports event) Idle from asks = ((f, reply, first, s), tt)
+  reacts_earlier (Reports event) (Hello key) from asks = ((f, reply, first, s), tt)
+  reacts_earlier (Reports event) (Sync scheme v q) from asks = ((f, reply, first, s), tt)
+  reacts_earlier (Reports event) (Edit j bytes) from asks = ((f, reply, first, s), tt)
+  reacts_earlier (Reports event) Publish from asks = ((f, reply, first, s), tt)
 
 module _ (x : Setting) (seeds : List (List ℕ)) (h : History) (k : ℕ) (l : Link) (log : List Entry) (g : LogInv x h (seed_of seeds k) k l log) where
   -- ---- an accepted call
@@ -176,7 +178,7 @@ module _ (x : Setting) (seeds : List (List ℕ)) (h : History) (k : ℕ) (l : Li
       let number = same_number k l.client.number log es g.number (refl, (refl, tt)) in
       record {
         kept = called_log (want_hello reader_key) n.phase number (g.hint ∙ sym (hint_more k log es)) tt;
-        earlier = (tt, (tt, tt));
+        earlier = (tt, ((log, refl), tt));
       }
 
   pub logged_sync : (s : Scheme) → LinkInv x h (seed_of seeds k) (link_called (want_sync s) l)
@@ -185,8 +187,8 @@ module _ (x : Setting) (seeds : List (List ℕ)) (h : History) (k : ℕ) (l : Li
       let es = called_entries (want_sync s) in
       let dropped : fold (hint_after k) (hint_told k log) es ≡ None = rw (eq-eqb k k refl) refl in
       record {
-        kept = called_log (want_sync s) n.phase (same_number k l.client.number log es g.number (refl, (refl, tt))) (sym (hint_more k log es ∙ dropped)) tt;
-        earlier = (tt, (tt, tt));
+        kept = called_log (want_sync s) n.phase (same_number k l.client.number log es g.number (refl, (refl, tt))) (sym (hint_more k log es ∙ dropped)) refl;
+        earlier = (tt, (inl (log, s, refl, refl, refl), tt));
       }
 
   abbrev retrieval : ℕ → Retrieval
@@ -304,12 +306,12 @@ module _ (x : Setting) (seeds : List (List ℕ)) (h : History) (k : ℕ) (l : Li
           sent = λ f e. (
             log,
             record { since = []; log_is = ap (λ (z : List Entry). log ++ z) (is ∙ reacts_sends k l.client.call r reaction f (sym u ∙ e)); aside = tt },
-            subst (λ (y : ClientState). IsFrom x h (seed_of seeds k) k y.call f log) (sym c) (no_ask_from x h (seed_of seeds k) k _ f log t.no_ask),
+            subst (λ (y : ClientState). IsFrom x h (seed_of seeds k) k y.call f log) (sym c) (t.next f log (sym u ∙ e)),
           );
           served = λ r2 e. absurd (none_one m.down.frames r2 d e);
         };
         earlier = subst (λ (z : List Entry). EachAfter (HasEarlier x seeds h) log z) (sym is)
-            (reacts_earlier x seeds h k log s.1 r s.0 s.2 reaction l.client.call s.3);
+            (reacts_earlier x seeds h k log s.1 r s.0 s.2 reaction l.client.call s.3 t.asks);
       }
 
   -- what is reported and sent at one reply without a fault

@@ -1,10 +1,10 @@
 -- What a log says of the entries before an entry.
-use Rattle.std.specs.Prelude.{◌≡◌, ◌≢◌, ℕ, List, [], ◌∷◌, ◌++◌, Bool, false, Option, Some, None, ◌==◌, cond, fold, count_by}
+use Rattle.std.specs.Prelude.{◌≡◌, ◌≢◌, ◌+◌, ◌⊎◌, ℕ, List, [], ◌∷◌, ◌++◌, Bool, false, Option, Some, None, ◌==◌, cond, fold, count_by}
 use Rattle.std.specs.List.{AllByRecursion}
 use Rattle.pir_schemes.specs.declared.scheme.Scheme.{Scheme}
 use Rattle.frame_codec.specs.declared.frame.Frame.{Frame}
 use Rattle.client_core.specs.declared.state.Event.TheVariants.{Synced}
-use Rattle.client_core.specs.Calls.{Ask, Sync}
+use Rattle.client_core.specs.Calls.{Ask, Hello, Sync}
 use Rattle.pir_world.specs.declared.steps.Outcome.TheVariants.{Reported, Failed}
 use Rattle.pir_world.specs.Runs.{Entry, Called, Sent, Served, Ended, Plain, Retrieval}
 use Rattle.pir_schemes.specs.Schemes.{scheme_byte}
@@ -79,10 +79,23 @@ pub record IsEndOfAsk (x : Setting) (h : History) (seed : List ℕ) (k : ℕ) (r
   pub asked : IsAsked x h seed k r query first
   pub served : IsServedLast k query reply first log
 
--- what came before an entry: each query sent is a retrieval's, each frame served was sent, and each retrieval that ended was asked for and served
+-- A part of a hint was asked for: the first after an accepted sync, and each other after the one before it was served.
+abbrev pub IsAskForPart : ℕ → ℕ → ℕ → ℕ → List Entry → Type 0
+IsAskForPart k scheme version part log =
+    ((first : List Entry) × (s : Scheme) × (log ≡ first ++ Called k (Sync s) None ∷ []) × (scheme ≡ scheme_byte s) × (part ≡ 0))
+    ⊎ ((first : List Entry) × (p : ℕ) × (words : List ℕ) × (part ≡ p + 1) ×
+    IsServedLast k (frame.HintAsk scheme version p) (frame.HintPart scheme version p words) first log)
+
+-- What came before an entry: each frame sent is that of a call that was accepted last, or asks for the next part of a hint; each frame served was sent; each retrieval that ended was asked for and served, and each other event came of a reply to the last frame.
 abbrev pub HasEarlier : Setting → List (List ℕ) → History → List Entry → Entry → Type 0
 HasEarlier x seeds h before (Sent k (frame.Query scheme version words)) =
     (r : Retrieval) × IsAsked x h (seed_of seeds k) k r (frame.Query scheme version words) before
+HasEarlier x seeds h before (Sent k (frame.Hello profile key)) =
+    (first : List Entry) × (before ≡ first ++ Called k (Hello key) None ∷ [])
+HasEarlier x seeds h before (Sent k (frame.HintAsk scheme version part)) = IsAskForPart k scheme version part before
+HasEarlier x seeds h before (Sent k f) = ⊥
 HasEarlier x seeds h before (Served k f now reply) = (first : List Entry) × IsSentLast k f first before
 HasEarlier x seeds h before (Ended k r reply event) = IsEndOfAsk x h (seed_of seeds k) k r reply before
+HasEarlier x seeds h before (Plain (Reported k event)) =
+    (f : Frame) × (reply : Frame) × (first : List Entry) × IsServedLast k f reply first before
 HasEarlier x seeds h before e = Unit {0}

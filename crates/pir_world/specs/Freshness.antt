@@ -6,7 +6,7 @@ use Rattle.version_store.specs.Histories.{History, current_version}
 use Rattle.client_core.specs.declared.state.Event.{Event}
 use Rattle.client_core.specs.declared.state.Event.TheVariants.{Welcomed, Synced, Retrieved, Unreadable, Stale, Done, Refused}
 use Rattle.pir_world.specs.declared.steps.Step.{Step}
-use Rattle.pir_world.specs.declared.steps.Outcome.TheVariants.{Edited, EditRefused, Published, PublishRefused, Reported, CallRefused, Failed}
+use Rattle.pir_world.specs.declared.steps.Outcome.TheVariants.{Published, Reported}
 use Rattle.pir_world.specs.Runs.{State, Link, Entry, Served, Ended, Plain, Run, opening, setting_in, turn_of}
 use Rattle.pir_world.specs.Headlines.{IsOpening}
 

@@ -4,7 +4,11 @@ use Rattle.pir_world.specs.declared.world.World.TheInside.{Inside}
 use Rattle.pir_world.specs.Runs.{State}
 use Rattle.pir_world.specs.Worlds.{Kept, IsRunOf}
 
+<<<<<<< HEAD
 -- a world as contracts see it
+=======
+-- what callers see of it
+>>>>>>> h1
 abbrev pub shown : {K : Type 0} → Inside K → Kept
 shown w = record { header = w.header; records = w.records.items; seeds = w.seeds.items; core = w.server; ends = w.ends.items; steps = w.steps.items; outcomes = w.outcomes.items; broken = w.broken }
 

@@ -1,5 +1,5 @@
 -- What each step of a run keeps.
-use Rattle.std.specs.Prelude.{◌≡◌, ◌≤◌, ◌<◌, ◌*◌, ◌⊎◌, ℕ, List, [], ◌∷◌, length, take, ◌++◌, true, false, Option, Some, None, slice_get, is_some}
+use Rattle.std.specs.Prelude.{◌≡◌, ◌≤◌, ◌<◌, ◌*◌, ◌⊎◌, ℕ, List, [], ◌∷◌, length, take, ◌++◌, false, Option, Some, None, slice_get}
 use Rattle.std.specs.List.{AllByRecursion}
 use Rattle.digit_pack.specs.Layout.{IsRecord, record_at}
 use Rattle.pir_schemes.specs.declared.scheme.Scheme.{Scheme}
@@ -9,7 +9,7 @@ use Rattle.frame_codec.specs.declared.frame.Frame.{Frame}
 use Rattle.frame_codec.specs.declared.frame.Frame.TheVariants as frame
 use Rattle.frame_codec.specs.declared.refusal.Refusal.TheVariants as refusal
 use Rattle.frame_codec.specs.Refusals.{refused}
-use Rattle.version_store.specs.Histories.{History, current_version}
+use Rattle.version_store.specs.Histories.{History}
 use Rattle.server_core.specs.declared.standing.Standing.{Standing}
 use Rattle.server_core.specs.declared.standing.Standing.TheVariants.{Reader}
 use Rattle.server_core.specs.Serving.{Setting, hint_words, part_words, is_closed}
@@ -21,7 +21,7 @@ use Rattle.client_core.specs.declared.state.Call.TheVariants.{Idle, Hello, Sync,
 use Rattle.client_core.specs.Calls.{call_frame}
 use Rattle.pir_world.specs.Runs.{State, Link, Entry, reader_key}
 use Rattle.pir_world.specs.Earlier.{IsSentLast, IsServedLast, asks_of, hint_told, IsAsked, HasEarlier}
-use Rattle.pir_world.specs.Versions.{HasVersion, IsVersion, HintIs, given_words, name_of, seed_of}
+use Rattle.pir_world.specs.Versions.{HasVersion, HintIs, given_words, name_of, seed_of}
 use Rattle.pir_world.specs.Headlines.{IsRight}
 
 -- records within the limits of a plan, each of its bytes
@@ -85,7 +85,11 @@ IsReplyOf x h v r answer =
     ⊎ ((now : ℕ) × (records : List (List ℕ)) × HasVersion h now records × (v < now) × (r ≡ frame.Stale now (length records)))
     ⊎ ((records : List (List ℕ)) × HasVersion h v records × (r ≡ answer records))
 
+<<<<<<< HEAD
 -- the reply to a greeting while a version with these records is current
+=======
+-- the Welcome that tells of a version with these records
+>>>>>>> h1
 abbrev pub welcome_frame : Setting → ℕ → List (List ℕ) → Frame
 welcome_frame x v records =
     frame.Welcome (profile_of x.plan) x.plan.width x.plan.record_len x.plan.groups (length records) v x.plan.dimension x.plan.seed
@@ -126,10 +130,11 @@ pub record LinkInv (x : Setting) (h : History) (seed : List ℕ) (l : Link) : Ty
   pub call : CallIs x h l.client l.client.call
   pub phase : Phase x h l.standing seed l.client l.client.call l.up.frames l.down.frames
 
--- an ask's frame is the query of its retrieval, which was asked for last
+-- a sync's frame asks for its next part; an ask's is the query of its retrieval, which was asked for last
 abbrev pub IsFrom : Setting → History → List ℕ → ℕ → Call → Frame → List Entry → Type 0
 IsFrom x h seed k (Ask i s v n) f first =
     IsAsked x h seed k (record { index = i; scheme = s; version = v; number = n }) f first
+IsFrom x h seed k (Sync s v p) f first = f ≡ frame.HintAsk (scheme_byte s) v p
 IsFrom x h seed k _ f first = Unit {0}
 
 -- what the log says of a client: its next number, the hint that it holds, the frame on its way, or the reply

@@ -46,7 +46,7 @@ has_client (step.Ask k i) n = nat_lt k n
 has_client (step.ToServer k most) n = nat_lt k n
 has_client (step.ToClient k most) n = nat_lt k n
 
--- the bytes that a delivery of at most some hands over, and those that stay
+-- the bytes that a delivery of at most some hands over
 abbrev pub prefix : ℕ → List ℕ → List ℕ
 prefix most bytes = take (min most (length bytes)) bytes
 
