@@ -12,6 +12,7 @@ mod answers;
 mod calls;
 mod hints;
 mod replies;
+mod shapes;
 mod texts;
 
 const ZEROS: [u8; 32] = [0; 32];

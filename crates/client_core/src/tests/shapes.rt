@@ -1,0 +1,107 @@
+//! The kinds and lengths of the frames that a client sends.
+
+use super::*;
+
+/// Makes a call, and adds the kind and the payload's length of the one frame that it sends.
+fn adds(
+    rt: &(impl Abort + AllocGlobal),
+    shapes: &mut String,
+    client: &mut ClientCore<Plain>,
+    wanted: Wanted,
+) -> Result<(), Fail> {
+    let sent = call(client, wanted)?;
+    assert!(rt; sent.len() >= 5 && sent.len() < 261);
+    let len = sent.len() - 5;
+    let kind = sent[4];
+    assert_eq!(rt; &sent[..4], [len as u8, 0, 0, 0].as_slice());
+    let shape = format!(in rt.alloc(); "({kind},{len}) ")?;
+    shapes.push_str(&shape)?;
+    Ok(())
+}
+
+/// Asks for a hint of the version last known, and takes it in one part.
+fn takes_hint(
+    rt: &(impl Abort + AllocGlobal),
+    shapes: &mut String,
+    client: &mut ClientCore<Plain>,
+    version: u64,
+    words: &[u32],
+) -> Result<(), Fail> {
+    adds(rt, shapes, client, Wanted::Sync(Scheme::Simple))?;
+    let frame = part(rt, 0, version, 0, words)?;
+    let wanted = format!(in rt.alloc(); "synced simple {version} ")?;
+    feeds(rt, client, frame.as_slice(), &wanted)
+}
+
+/// Greets, and takes the Welcome of [`TWO_RECORDS`].
+fn greets(
+    rt: &(impl Abort + AllocGlobal),
+    shapes: &mut String,
+    client: &mut ClientCore<Plain>,
+) -> Result<(), Fail> {
+    adds(rt, shapes, client, Wanted::Hello(0))?;
+    let frame = welcome(rt, TWO_RECORDS)?;
+    feeds(rt, client, frame.as_slice(), "welcomed 1 ")
+}
+
+/// A reader by SimplePIR whose first query comes after a publication: it asks for one record twice.
+fn shapes_across_versions(rt: &(impl Abort + AllocGlobal), index: u32) -> Result<String, Fail> {
+    let mut shapes = String::new(rt.alloc());
+    let mut client = newcomer(rt, 0);
+    greets(rt, &mut shapes, &mut client)?;
+    takes_hint(rt, &mut shapes, &mut client, 1, &[TWO_RECORDS_HINT])?;
+    adds(rt, &mut shapes, &mut client, Wanted::Ask(index))?;
+    let frame = stale(rt, 2, 2)?;
+    feeds(rt, &mut client, frame.as_slice(), "stale 2 ")?;
+    takes_hint(rt, &mut shapes, &mut client, 2, &[TWO_RECORDS_HINT])?;
+    adds(rt, &mut shapes, &mut client, Wanted::Ask(index))?;
+    Ok(shapes)
+}
+
+/// A reader by DoublePIR, which asks for one record.
+fn shapes_of_double(rt: &(impl Abort + AllocGlobal), index: u32) -> Result<String, Fail> {
+    let mut shapes = String::new(rt.alloc());
+    let mut client = newcomer(rt, 0);
+    greets(rt, &mut shapes, &mut client)?;
+    adds(rt, &mut shapes, &mut client, Wanted::Sync(Scheme::Double))?;
+    let frame = part(rt, 1, 1, 0, &[0, 0, 0, 0])?;
+    feeds(rt, &mut client, frame.as_slice(), "synced double 1 ")?;
+    adds(rt, &mut shapes, &mut client, Wanted::Ask(index))?;
+    Ok(shapes)
+}
+
+#[test]
+fn frames_of_two_readers_whatever_they_ask_for(rt: HostRuntime) -> Result<(), Fail> {
+    let first = "(2,34) (3,13) (5,17) (3,13) (5,17) ";
+    assert_eq!(rt; shapes_across_versions(&rt, 1)?.as_str(), first);
+    assert_eq!(rt; shapes_across_versions(&rt, 0)?.as_str(), first);
+    let second = "(2,34) (3,13) (5,21) ";
+    assert_eq!(rt; shapes_of_double(&rt, 1)?.as_str(), second);
+    assert_eq!(rt; shapes_of_double(&rt, 0)?.as_str(), second);
+    Ok(())
+}
+
+/// The words of the first query of a seed of 11 bytes, for one of two records.
+fn words_of_query(rt: &(impl Abort + AllocGlobal), index: u32) -> Result<[u32; 2], Fail> {
+    let mut client = ClientCore::new(rt.alloc(), Plain, [0x11; 32], 0);
+    let_in(rt, &mut client, TWO_RECORDS)?;
+    fetches(rt, &mut client, 1, &[TWO_RECORDS_HINT])?;
+    let sent = call(&mut client, Wanted::Ask(index))?;
+    let mut frames = Vec::new(rt.alloc());
+    Reader::new(rt.alloc()).feed(sent.as_slice(), &mut frames)?;
+    let Some(Frame::Query { words, .. }) = frames.pop() else {
+        panic!(rt; "no query");
+    };
+    let words = words.as_slice();
+    assert_eq!(rt; words.len(), 2);
+    Ok([words[0], words[1]])
+}
+
+#[test]
+fn queries_for_two_records_differ_by_delta_at_their_columns(rt: HostRuntime) -> Result<(), Fail> {
+    let first = words_of_query(&rt, 0)?;
+    let second = words_of_query(&rt, 1)?;
+    assert_eq!(rt; first[0].wrapping_sub(second[0]), 16_777_216);
+    assert_eq!(rt; second[1].wrapping_sub(first[1]), 16_777_216);
+    Ok(())
+}
