@@ -1,6 +1,6 @@
 //! Words that are taken and refused, and the lines of failures.
 
-use crate::{Failure, decimal, publisher_key, record_bytes, bytes32_from_hex};
+use crate::{Failure, bytes32_from_hex, decimal, publisher_key, record_bytes};
 use std::alloc::Global;
 use std::process::Abort;
 use std::test::Fail;
@@ -11,12 +11,13 @@ const ONES: &str = "010101010101010101010101010101010101010101010101010101010101
 
 #[test]
 fn numbers_are_digits_alone(rt: HostRuntime) {
-    let taken: [(&str, u64); 5] = [
+    let taken: [(&str, u64); 6] = [
         ("0", 0),
         ("7", 7),
         ("007", 7),
         ("65536", 65_536),
         ("18446744073709551615", u64::MAX),
+        ("00000000000000000000000000000000000012", 12),
     ];
     for (text, number) in taken {
         assert_eq!(rt; decimal(text), Some(number), "{text}");
@@ -30,7 +31,11 @@ fn numbers_are_digits_alone(rt: HostRuntime) {
         "5.",
         "0x5",
         "five",
+        "5_0",
+        "-0",
+        "\u{664}",
         "18446744073709551616",
+        "99999999999999999999999999",
     ] {
         assert_eq!(rt; decimal(text), None, "{text}");
     }

@@ -7,14 +7,12 @@
 
 mod input;
 mod line;
-mod number;
 mod outcome;
 mod play;
 mod stage;
 mod stop;
 
 pub use input::SCRIPT_LIMIT;
-pub use number::number_of_text;
 pub use outcome::outcome_line;
 pub use play::{RehearseFault, rehearse};
 

@@ -1,9 +1,9 @@
 //! What a line says.
 
-use crate::number::number_of_text;
 use client_core::Scheme;
+use command_words::{bytes32_from_hex, decimal};
 use frame_codec::Bytes;
-use hex::{FromHex, FromHexError};
+use hex::FromHexError;
 use pir_world::Step;
 use std::alloc::{AllocError, Global};
 use std::str;
@@ -46,9 +46,9 @@ pub fn read_line(alloc: Global, text: &[u8]) -> Result<Option<Line>, AllocError>
         ["world", width, record_len, groups, dimension] => {
             Ok(sizes_of(width, record_len, groups, dimension).map(Line::World))
         }
-        ["seed", seed] => Ok(publisher_key(seed).map(Line::Seed)),
+        ["seed", seed] => Ok(bytes32_from_hex(seed).map(Line::Seed)),
         ["record", bytes] => Ok(bytes_of(alloc, bytes)?.map(Line::Record)),
-        ["client", seed] => Ok(publisher_key(seed).map(Line::Client)),
+        ["client", seed] => Ok(bytes32_from_hex(seed).map(Line::Client)),
         others => Ok(read_step(alloc, others)?.map(Line::Step)),
     }
 }
@@ -109,21 +109,21 @@ fn to_client(client: &str, most: &str) -> Option<Step> {
 
 fn sizes_of(width: &str, record_len: &str, groups: &str, dimension: &str) -> Option<Sizes> {
     Some(Sizes {
-        width: u8::try_from(number_of_text(width)?).ok()?,
-        record_len: u16::try_from(number_of_text(record_len)?).ok()?,
-        groups: u16::try_from(number_of_text(groups)?).ok()?,
-        dimension: u16::try_from(number_of_text(dimension)?).ok()?,
+        width: u8::try_from(decimal(width)?).ok()?,
+        record_len: u16::try_from(decimal(record_len)?).ok()?,
+        groups: u16::try_from(decimal(groups)?).ok()?,
+        dimension: u16::try_from(decimal(dimension)?).ok()?,
     })
 }
 
 /// A record's index.
 fn index_of(text: &str) -> Option<u32> {
-    u32::try_from(number_of_text(text)?).ok()
+    u32::try_from(decimal(text)?).ok()
 }
 
 /// A client's number.
 fn client_of(text: &str) -> Option<usize> {
-    Some(number_of_text(text)? as usize)
+    Some(decimal(text)? as usize)
 }
 
 /// How many bytes are handed on at most.
@@ -131,7 +131,7 @@ fn most_of(text: &str) -> Option<usize> {
     if text == "all" {
         return Some(usize::MAX);
     }
-    Some(number_of_text(text)? as usize)
+    Some(decimal(text)? as usize)
 }
 
 fn scheme_of(text: &str) -> Option<Scheme> {
@@ -140,11 +140,6 @@ fn scheme_of(text: &str) -> Option<Scheme> {
         "double" => Some(Scheme::Double),
         _ => None,
     }
-}
-
-/// 32 bytes in hex.
-fn publisher_key(text: &str) -> Option<[u8; 32]> {
-    <[u8; 32] as FromHex>::from_hex(text).ok()
 }
 
 /// One or more bytes in hex.

@@ -1,6 +1,6 @@
 //! Scripts, and what they print.
 
-use crate::{RehearseFault, SCRIPT_LIMIT, number_of_text, rehearse};
+use crate::{RehearseFault, SCRIPT_LIMIT, rehearse};
 use std::alloc::Global;
 use std::io;
 use std::io::{Read, Write};
@@ -106,7 +106,13 @@ impl Read for Input<'_> {
 }
 
 // Plays a script, and compares what it prints and its status.
-fn check(rt: &impl Abort, alloc: Global, script: &str, reported: &str, status: u8) -> Result<(), Fail> {
+fn check(
+    rt: &impl Abort,
+    alloc: Global,
+    script: &str,
+    reported: &str,
+    status: u8,
+) -> Result<(), Fail> {
     let mut out = Vec::new(alloc);
     let played = rehearse(alloc, &mut script.as_bytes(), &mut out);
     assert_eq!(rt; played, Ok(status), "{script}");
@@ -397,26 +403,4 @@ fn a_write_that_fails_ends_the_rehearsal(rt: HostRuntime) -> Result<(), Fail> {
         check_cut(&rt, rt.alloc(), "", "line 1: bad\n", 5, fails)?;
     }
     Ok(())
-}
-
-#[test]
-fn numbers_are_digits_alone(rt: HostRuntime) {
-    let numbers = [
-        ("0", Some(0)),
-        ("007", Some(7)),
-        ("18446744073709551615", Some(u64::MAX)),
-        ("00000000000000000000000000000000000012", Some(12)),
-        ("18446744073709551616", None),
-        ("99999999999999999999999999", None),
-        ("", None),
-        ("+5", None),
-        ("-0", None),
-        ("5 ", None),
-        (" 5", None),
-        ("5_0", None),
-        ("\u{664}", None),
-    ];
-    for (text, number) in numbers {
-        assert_eq!(rt; number_of_text(text), number, "{text}");
-    }
 }
