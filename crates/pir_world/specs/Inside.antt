@@ -9,6 +9,7 @@ use Rattle.pir_world.specs.Worlds.{Kept, IsRunOf}
 =======
 -- what callers see of it
 >>>>>>> h1
+-- a world as contracts see it
 abbrev pub shown : {K : Type 0} → Inside K → Kept
 shown w = record { header = w.header; records = w.records.items; seeds = w.seeds.items; core = w.server; ends = w.ends.items; steps = w.steps.items; outcomes = w.outcomes.items; broken = w.broken }
 

@@ -90,6 +90,7 @@ IsReplyOf x h v r answer =
 =======
 -- the Welcome that tells of a version with these records
 >>>>>>> h1
+-- the reply to a greeting while a version with these records is current
 abbrev pub welcome_frame : Setting → ℕ → List (List ℕ) → Frame
 welcome_frame x v records =
     frame.Welcome (profile_of x.plan) x.plan.width x.plan.record_len x.plan.groups (length records) v x.plan.dimension x.plan.seed

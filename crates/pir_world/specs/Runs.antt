@@ -51,6 +51,7 @@ silent = record { frames = []; got = 0 }
 =======
 -- more frames were sent
 >>>>>>> h1
+-- frames are sent after those on their way
 abbrev pub sent : Wire → List Frame → Wire
 sent w fs = record { frames = w.frames ++ fs; got = w.got }
 
@@ -64,6 +65,7 @@ whole (f ∷ fs) n = if nat_le (length (encoding f)) n then f ∷ whole fs (n - 
 =======
 -- what is on its way after them
 >>>>>>> h1
+-- what stays on its way after n bytes
 abbrev pub unread : List Frame → ℕ → Wire
 unread [] n = silent
 unread (f ∷ fs) n = if nat_le (length (encoding f)) n then unread fs (n - length (encoding f)) else record { frames = f ∷ fs; got = n }
@@ -81,6 +83,7 @@ arrived w most = whole w.frames (reach w most)
 =======
 -- what stays on its way
 >>>>>>> h1
+-- what a delivery leaves on its way
 abbrev pub beyond : Wire → ℕ → Wire
 beyond w most = unread w.frames (reach w most)
 
@@ -115,6 +118,7 @@ outcome_of (Plain o) = o ∷ []
 =======
 -- the outcomes of a log, in order
 >>>>>>> h1
+-- the outcomes of a log
 abbrev pub outcomes_of : List Entry → List Outcome
 outcomes_of log = flat_map outcome_of log
 
@@ -130,6 +134,7 @@ served_or true x h st f = if takes_memory x h st f then refuses refusal.Memory s
 =======
 -- what some frames lead to: the history and the standing after them, the replies, and what is written down
 >>>>>>> h1
+-- what some frames lead to: the history, the standing, the replies and the log
 pub record Turn : Type 0 where
   pub history : History
   pub standing : Standing
@@ -149,6 +154,7 @@ turn_more x short k t f =
 =======
 -- frames one after another
 >>>>>>> h1
+-- frames are served one after another
 abbrev pub turns : Setting → Bool → ℕ → Turn → List Frame → Turn
 turns x short k t [] = t
 turns x short k t (f ∷ fs) = turns x short k (turn_more x short k t f) fs
@@ -175,6 +181,7 @@ turn_of x short k most h l = serves x short k h l.standing (arrived l.up most)
 =======
 -- the link after it
 >>>>>>> h1
+-- a link after a delivery to the server
 abbrev pub link_served : Setting → Bool → ℕ → ℕ → History → Link → Link
 link_served x short k most h l =
     let t = turn_of x short k most h l in
@@ -196,6 +203,7 @@ reports k _ reply e = Plain (Reported k e)
 =======
 -- what is written down of a reaction to a reply: an event, a fault, or the frame that asks for the next part of a hint
 >>>>>>> h1
+-- what a reaction writes into the log
 abbrev pub reacts : ℕ → Call → Frame → Reaction → List Entry
 reacts k c reply (Asks scheme version part) = Sent k (frame.HintAsk (scheme_byte scheme) version part) ∷ []
 reacts k c reply (Reports e) = reports k c reply e ∷ []
@@ -241,6 +249,7 @@ with_history s h o = record { history = h; links = s.links; log = s.log ++ Plain
 
 -- a call at a link, where this refuses it
 >>>>>>> h1
+-- a state after a call that is accepted or refused
 abbrev pub call_at : State → ℕ → Want → Link → Option CallFault → State
 call_at s k w l (Some fault) = with_link s s.history k l (Called k w (Some fault) ∷ [])
 call_at s k w l None =
@@ -257,6 +266,7 @@ called_at s w k (Some l) = call_at s k w l (refusal w l.client)
 =======
 -- a delivery of client k to the server
 >>>>>>> h1
+-- a state after a delivery to the server
 abbrev pub served_at : Setting → Bool → State → ℕ → ℕ → Option Link → State
 served_at x short s k most None = s
 served_at x short s k most (Some l) =
@@ -268,6 +278,7 @@ served_at x short s k most (Some l) =
 =======
 -- a delivery to client k
 >>>>>>> h1
+-- a state after a delivery to a client
 abbrev pub reported_at : State → ℕ → ℕ → Option Link → State
 reported_at s k most None = s
 reported_at s k most (Some l) = with_link s s.history k (link_reported most l) (reported_by k l.client (arrived l.down most))
@@ -289,6 +300,7 @@ edit_after x s i bytes =
 =======
 -- a publication
 >>>>>>> h1
+-- a state after the publisher's publication
 abbrev pub publish_after : State → State
 publish_after s =
     if s.history.marked then (
