@@ -49,27 +49,34 @@ pub record SoFar (c : ClientState) (k : Course) (state : ClientState) (out : Lis
   pub number : state.number ≡ c.number
 
 -- what one more reply added
-pub record Adds (state : ClientState) (f : Frame) (state2 : ClientState) (out out2 : List ℕ) (events events2 : List Event) (fault : Option ClientFault) : Type 0 where
+pub record Adds (state : ClientState) (f : Frame) (state2 : ClientState) (out out2 : List ℕ) (events events2 : List Event)
+    (fault : Option ClientFault) : Type 0 where
   pub fault_is : fault ≡ fault_of (reaction_to_reply state f).reaction
   pub state_is : state2 ≡ (reaction_to_reply state f).state
   pub written : out2 ≡ out ++ flat_map encoding (sends_of (reaction_to_reply state f).reaction)
   pub each : AllByRecursion IsFrame (sends_of (reaction_to_reply state f).reaction)
   pub reported : events2 ≡ events ++ events_of (reaction_to_reply state f).reaction
 
-gives_more : (k : Course) (f : Frame) (state2 : ClientState) (out out2 : List ℕ) (events events2 : List Event) (fault : Option ClientFault) → Gives k out events → Adds k.state f state2 out out2 events events2 fault
+gives_more : (k : Course) (f : Frame) (state2 : ClientState) (out out2 : List ℕ) (events events2 : List Event) (fault : Option ClientFault) →
+    Gives k out events → Adds k.state f state2 out out2 events events2 fault
     → Gives (goes_on k (reaction_to_reply k.state f)) out2 events2
 gives_more k f state2 out out2 events events2 fault g a = record {
-  written = a.written ∙ ap (λ (x : List ℕ). x ++ flat_map encoding (sends_of (reaction_to_reply k.state f).reaction)) g.written ∙ sym (flat_map-append encoding k.sends (sends_of (reaction_to_reply k.state f).reaction));
+  written = a.written ∙ ap (λ (x : List ℕ). x ++ flat_map encoding (sends_of (reaction_to_reply k.state f).reaction)) g.written
+      ∙ sym (flat_map-append encoding k.sends (sends_of (reaction_to_reply k.state f).reaction));
   each = each_both k.sends (sends_of (reaction_to_reply k.state f).reaction) g.each a.each;
   reported = a.reported ∙ ap (λ (x : List Event). x ++ events_of (reaction_to_reply k.state f).reaction) g.reported;
 }
 
-adds_at : (state k_state : ClientState) (f : Frame) (state2 : ClientState) (out out2 : List ℕ) (events events2 : List Event) (fault : Option ClientFault) → state ≡ k_state
+adds_at : (state k_state : ClientState) (f : Frame) (state2 : ClientState) (out out2 : List ℕ) (events events2 : List Event) (fault : Option ClientFault) →
+    state ≡ k_state
     → Adds state f state2 out out2 events events2 fault → Adds k_state f state2 out out2 events events2 fault
-adds_at state k_state f state2 out out2 events events2 fault e a = let P : ClientState → Type 0 = λ x. Adds x f state2 out out2 events events2 fault in subst P e a
+adds_at state k_state f state2 out out2 events events2 fault e a = let P : ClientState → Type 0 = λ x. Adds x f state2 out out2 events events2 fault in
+    subst P e a
 
-pub next : (c : ClientState) (fs : List Frame) (i : ℕ) (f : Frame) (state state2 : ClientState) (out out2 : List ℕ) (events events2 : List Event) → i < length fs → f ≡ get_or fs i f
-    → SoFar c (takes_all c (take i fs)) state out events → Adds state f state2 out out2 events events2 None → Keeps state state2 → SoFar c (takes_all c (take (i + 1) fs)) state2 out2 events2
+pub next : (c : ClientState) (fs : List Frame) (i : ℕ) (f : Frame) (state state2 : ClientState) (out out2 : List ℕ) (events events2 : List Event) →
+    i < length fs → f ≡ get_or fs i f
+    → SoFar c (takes_all c (take i fs)) state out events → Adds state f state2 out out2 events events2 None → Keeps state state2 →
+        SoFar c (takes_all c (take (i + 1) fs)) state2 out2 events2
 next c fs i f state state2 out out2 events events2 lt e s a keeps =
     let n = course_next c fs i f lt e s.good in
     let b = adds_at state (takes_all c (take i fs)).state f state2 out out2 events events2 None s.state_is a in
@@ -82,13 +89,16 @@ next c fs i f state state2 out out2 events events2 lt e s a keeps =
     })
 
 -- a bad reply ends the course
-pub bad : (c : ClientState) (fs : List Frame) (i : ℕ) (f : Frame) (state state2 : ClientState) (out out2 : List ℕ) (events events2 : List Event) (x : ClientFault) → i < length fs → f ≡ get_or fs i f
-    → SoFar c (takes_all c (take i fs)) state out events → Adds state f state2 out out2 events events2 (Some x) → Follows (takes_all c fs) out2 events2 (Some x) state2
+pub bad : (c : ClientState) (fs : List Frame) (i : ℕ) (f : Frame) (state state2 : ClientState) (out out2 : List ℕ) (events events2 : List Event)
+    (x : ClientFault) → i < length fs → f ≡ get_or fs i f
+    → SoFar c (takes_all c (take i fs)) state out events → Adds state f state2 out out2 events events2 (Some x) →
+        Follows (takes_all c fs) out2 events2 (Some x) state2
 bad c fs i f state state2 out out2 events events2 x lt e s a =
     let k = takes_all c (take i fs) in
     let n = course_next c fs i f lt e s.good in
     let b = adds_at state k.state f state2 out out2 events events2 (Some x) s.state_is a in
     let here : (takes_all c (take (i + 1) fs)).fault ≡ Some x = ap (λ (y : Course). y.fault) n ∙ sym b.fault_is in
-    let all : takes_all c fs ≡ runs (takes_all c (take (i + 1) fs)) (drop (i + 1) fs) = ap (λ (y : List Frame). takes_all c y) (sym (take-append-drop (i + 1) fs)) ∙ runs_append (start c) (take (i + 1) fs) (drop (i + 1) fs) in
+    let all : takes_all c fs ≡ runs (takes_all c (take (i + 1) fs)) (drop (i + 1) fs) =
+        ap (λ (y : List Frame). takes_all c y) (sym (take-append-drop (i + 1) fs)) ∙ runs_append (start c) (take (i + 1) fs) (drop (i + 1) fs) in
     let whole : takes_all c fs ≡ goes_on k (reaction_to_reply k.state f) = all ∙ fault_stays (takes_all c (take (i + 1) fs)) (drop (i + 1) fs) x here ∙ n in
     rw whole (record { gives = gives_more k f state2 out out2 events events2 (Some x) s.gives b; fault_is = b.fault_is; state = b.state_is })

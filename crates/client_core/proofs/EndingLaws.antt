@@ -40,7 +40,8 @@ if_reacts : (call : Call) (b : Bool) (x y : Taken) → (b ≡ true → ReactsTo 
 if_reacts call true x y p q = p refl
 if_reacts call false x y p q = q
 
-welcome_reacts : (call : Call) (c : ClientState) (profile : ℕ) (l : Shape) (n version : ℕ) (seed : List ℕ) → ReactsTo call (takes_welcome call c profile l n version seed)
+welcome_reacts : (call : Call) (c : ClientState) (profile : ℕ) (l : Shape) (n version : ℕ) (seed : List ℕ) →
+    ReactsTo call (takes_welcome call c profile l n version seed)
 welcome_reacts Idle c profile l n version seed = tt
 welcome_reacts (Hello key) c profile l n version seed = if_reacts (Hello key) (is_welcome profile l n version) _ _ (λ _. tt) tt
 welcome_reacts (Sync s v p) c profile l n version seed = tt
@@ -58,7 +59,8 @@ next_part s v p q (Stale version) h = h
 next_part s v p q (Done version) h = h
 next_part s v p q (Refused code) h = h
 
-asked_part_reacts : (known : Option ServerInfo) (s : Scheme) (c : ClientState) (v p scheme version part : ℕ) (words : List ℕ) → ReactsTo (Sync s v p) (takes_asked_part known s c v p scheme version part words)
+asked_part_reacts : (known : Option ServerInfo) (s : Scheme) (c : ClientState) (v p scheme version part : ℕ) (words : List ℕ) →
+    ReactsTo (Sync s v p) (takes_asked_part known s c v p scheme version part words)
 asked_part_reacts None s c v p scheme version part words = tt
 asked_part_reacts (Some k) s c v p scheme version part words =
     if_reacts (Sync s v p) (is_part s (hint_len s k.layout k.dimension) v p scheme version part words) (more_parts s k c v p (c.parts ++ words)) _
@@ -84,7 +86,8 @@ asked_version s scheme version v b h =
     let y = and_parts (version == v) b x.1 in
     eqb-true version v y.0
 
-answered_reacts : (x : Scheme) (known : Option ServerInfo) (hint : Option Hint) (c : ClientState) (i v m scheme version : ℕ) (words : List ℕ) → ReactsTo (Ask i x v m) (answered known hint c i v m scheme version words)
+answered_reacts : (x : Scheme) (known : Option ServerInfo) (hint : Option Hint) (c : ClientState) (i v m scheme version : ℕ) (words : List ℕ) →
+    ReactsTo (Ask i x v m) (answered known hint c i v m scheme version words)
 answered_reacts x None hint c i v m scheme version words = tt
 answered_reacts x (Some k) None c i v m scheme version words = tt
 answered_reacts x (Some k) (Some h) c i v m scheme version words =
@@ -108,13 +111,15 @@ another_version version v b h = let x = and_parts (not (version == v)) b h in eq
     denied true h = absurd cc
     denied false h = refl
 
-stale_sync_reacts : (known : Option ServerInfo) (after c : ClientState) (s : Scheme) (v p version count : ℕ) → ReactsTo (Sync s v p) (staled known after c v version count)
+stale_sync_reacts : (known : Option ServerInfo) (after c : ClientState) (s : Scheme) (v p version count : ℕ) →
+    ReactsTo (Sync s v p) (staled known after c v version count)
 stale_sync_reacts None after c s v p version count = tt
 stale_sync_reacts (Some k) after c s v p version count =
     let b = nat_lt 0 version && is_layout (with_count k.layout count) in
     if_reacts (Sync s v p) (not (version == v) && b) _ _ (another_version version v b) tt
 
-stale_ask_reacts : (x : Scheme) (known : Option ServerInfo) (after c : ClientState) (i v m version count : ℕ) → ReactsTo (Ask i x v m) (staled known after c v version count)
+stale_ask_reacts : (x : Scheme) (known : Option ServerInfo) (after c : ClientState) (i v m version count : ℕ) →
+    ReactsTo (Ask i x v m) (staled known after c v version count)
 stale_ask_reacts x None after c i v m version count = tt
 stale_ask_reacts x (Some k) after c i v m version count =
     let b = nat_lt 0 version && is_layout (with_count k.layout count) in
@@ -145,7 +150,8 @@ refused_reacts (Edit i b) c code = tt
 refused_reacts Publish c code = tt
 
 reacts : (c : ClientState) (f : Frame) → ReactsTo c.call (reaction_to_reply c f)
-reacts c (frame.Welcome profile width record_len groups count version dimension seed) = welcome_reacts c.call c profile (shape width record_len groups count) dimension version seed
+reacts c (frame.Welcome profile width record_len groups count version dimension seed) =
+    welcome_reacts c.call c profile (shape width record_len groups count) dimension version seed
 reacts c (frame.HintPart scheme version part words) = part_reacts c.call c scheme version part words
 reacts c (frame.Answer scheme version words) = answer_reacts c.call c scheme version words
 reacts c (frame.Stale version count) = stale_reacts c.call c version count
@@ -178,7 +184,8 @@ abbrev Leads : Call → ClientState → Type 0
 Leads call c = (e : Event) → Ends c.call e → Ends call e
 
 on_reaction : (call : Call) (here : Call) (c : ClientState) (sends : List Frame) (r : Reaction) (fs : List Frame) (event : Event) (later : List Event)
-    → ((c : ClientState) (sends : List Frame) (o : Option ClientFault) → (o ≡ None → Leads call c) → (runs (course c sends [] o) fs).events ≡ event ∷ later → Ends call event)
+    → ((c : ClientState) (sends : List Frame) (o : Option ClientFault) → (o ≡ None → Leads call c) → (runs (course c sends [] o) fs).events ≡ event ∷ later →
+        Ends call event)
     → by_reaction here c.call r → ((e : Event) → Ends here e → Ends call e)
     → (runs (course c (sends ++ sends_of r) ([] ++ events_of r) (fault_of r)) fs).events ≡ event ∷ later → Ends call event
 on_reaction call here c sends (Asks s v p) fs event later again by leads h = again c (sends ++ sends_of (Asks s v p)) None (λ _ e x. leads e (by e x)) h
@@ -193,12 +200,14 @@ on_reaction call here c sends (Reports e) fs event later again by leads h =
     first (x ∷ xs) e = x
 on_reaction call here c sends (Fails f) fs event later again by leads h = again c (sends ++ sends_of (Fails f)) (Some f) (λ n. absurd cc) h
 
-first_of : (call : Call) (fs : List Frame) (event : Event) (later : List Event) (c : ClientState) (sends : List Frame) (o : Option ClientFault) → (o ≡ None → Leads call c)
+first_of : (call : Call) (fs : List Frame) (event : Event) (later : List Event) (c : ClientState) (sends : List Frame) (o : Option ClientFault) →
+    (o ≡ None → Leads call c)
     → (runs (course c sends [] o) fs).events ≡ event ∷ later → Ends call event
 first_of call [] event later c sends o leads h = absurd (let bad : ◌≡◌ {A = List Event} [] (event ∷ later) = h in cc)
 first_of call (f ∷ fs) event later c sends (Some x) leads h = first_of call fs event later c sends (Some x) leads h
 first_of call (f ∷ fs) event later c sends None leads h =
-    on_reaction call c.call (reaction_to_reply c f).state sends (reaction_to_reply c f).reaction fs event later (first_of call fs event later) (reacts c f) (leads refl) h
+    on_reaction call c.call (reaction_to_reply c f).state sends (reaction_to_reply c f).reaction fs event later (first_of call fs event later) (reacts c f)
+        (leads refl) h
 
 first_ends : (c : ClientState) (frames : List Frame) (event : Event) (later : List Event) → (takes_all c frames).events ≡ event ∷ later → Ends c.call event
 first_ends c frames event later h = first_of c.call frames event later c [] None (λ _ e x. x) h
@@ -223,17 +232,21 @@ runs_number k (f ∷ fs) = runs_number (course_more k f) fs ∙ more (is_some k.
 
 -- ---- a piece
 
-open_ends : (old new : Client) (piece out : List ℕ) (event : Event) (later : List Event) (fault : Option ClientFault) → FeedsOpen old piece out (event ∷ later) fault new → Ends old.state.call event
+open_ends : (old new : Client) (piece out : List ℕ) (event : Event) (later : List Event) (fault : Option ClientFault) →
+    FeedsOpen old piece out (event ∷ later) fault new → Ends old.state.call event
 open_ends old new piece out event later fault f = by f.takes
   where
-    by : (Follows (ends_with (takes_all old.state f.frames) f.answer) out (event ∷ later) fault new.state ⊎ BreaksOff old.state f.frames out (event ∷ later) fault new.state) → Ends old.state.call event
+    by : (Follows (ends_with (takes_all old.state f.frames) f.answer) out (event ∷ later) fault new.state
+        ⊎ BreaksOff old.state f.frames out (event ∷ later) fault new.state) → Ends old.state.call event
     by (inl w) = first_ends old.state f.frames event later (sym (failing_same (takes_all old.state f.frames) (codec_fault f.answer)).0 ∙ sym w.gives.reported)
     by (inr b) = first_ends old.state (take b.n f.frames) event later (sym b.gives.reported)
 
-open_number : (old new : Client) (piece out : List ℕ) (events : List Event) (fault : Option ClientFault) → FeedsOpen old piece out events fault new → new.state.number ≡ old.state.number
+open_number : (old new : Client) (piece out : List ℕ) (events : List Event) (fault : Option ClientFault) → FeedsOpen old piece out events fault new →
+    new.state.number ≡ old.state.number
 open_number old new piece out events fault f = by f.takes
   where
-    by : (Follows (ends_with (takes_all old.state f.frames) f.answer) out events fault new.state ⊎ BreaksOff old.state f.frames out events fault new.state) → new.state.number ≡ old.state.number
+    by : (Follows (ends_with (takes_all old.state f.frames) f.answer) out events fault new.state ⊎ BreaksOff old.state f.frames out events fault new.state) →
+        new.state.number ≡ old.state.number
     by (inl w) =
         ap (λ (x : ClientState). x.number) w.state
         ∙ (failing_same (takes_all old.state f.frames) (codec_fault f.answer)).1
@@ -243,7 +256,8 @@ open_number old new piece out events fault f = by f.takes
 pub first_event_ends_the_call : FirstEventEndsTheCall
 first_event_ends_the_call old new piece out event later fault = by old.state.failed
   where
-    by : (b : Bool) → MatchBool b (FeedsFailed old out (event ∷ later) fault new) (FeedsOpen old piece out (event ∷ later) fault new) → Ends old.state.call event
+    by : (b : Bool) → MatchBool b (FeedsFailed old out (event ∷ later) fault new) (FeedsOpen old piece out (event ∷ later) fault new) →
+        Ends old.state.call event
     by true f = absurd (let bad : ◌≡◌ {A = List Event} (event ∷ later) [] = f.silent in cc)
     by false f = open_ends old new piece out event later fault f
 

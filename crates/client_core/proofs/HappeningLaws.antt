@@ -78,7 +78,8 @@ went (f ∷ fs) k none =
     rw (taken_next k f none)
     (next_reply k f fs (fault_of (reaction_to_reply k.state f).reaction) refl (λ j e. went fs j e))
 
-replies_happen : (c : ClientState) (fs : List Frame) → (takes_all c fs).fault ≡ None → ((takes_all c fs).sends ≡ frames c (map Reply fs)) × ((takes_all c fs).state ≡ after_all c (map Reply fs))
+replies_happen : (c : ClientState) (fs : List Frame) → (takes_all c fs).fault ≡ None → ((takes_all c fs).sends ≡ frames c (map Reply fs))
+    × ((takes_all c fs).state ≡ after_all c (map Reply fs))
 replies_happen c fs none =
     let w : Went (start c) (takes_all c fs) fs = went fs (start c) refl in
     let all = w.all none in
@@ -109,14 +110,17 @@ fails_or_not c k (Some f) g = by (is_some k.fault)
     by true = g
     by false = fails_after c k f g
 
-open_happened : (old new : Client) (piece out : List ℕ) (events : List Event) (fault : Option ClientFault) → FeedsOpen old piece out events fault new → fault ≢ Some Memory → Happened old.state out new.state
+open_happened : (old new : Client) (piece out : List ℕ) (events : List Event) (fault : Option ClientFault) → FeedsOpen old piece out events fault new →
+    fault ≢ Some Memory → Happened old.state out new.state
 open_happened old new piece out events fault f memory = by f.takes
   where
-    by : (Follows (ends_with (takes_all old.state f.frames) f.answer) out events fault new.state ⊎ BreaksOff old.state f.frames out events fault new.state) → Happened old.state out new.state
+    by : (Follows (ends_with (takes_all old.state f.frames) f.answer) out events fault new.state ⊎ BreaksOff old.state f.frames out events fault new.state) →
+        Happened old.state out new.state
     by (inl w) =
         let q : Went (start old.state) (takes_all old.state f.frames) f.frames = went f.frames (start old.state) refl in
         let g : Gone old.state (ends_with (takes_all old.state f.frames) f.answer) =
-        fails_or_not old.state (takes_all old.state f.frames) (codec_fault f.answer) (record { happenings = q.happenings; fed = q.fed; sends = q.sends; state = q.state }) in
+        fails_or_not old.state (takes_all old.state f.frames) (codec_fault f.answer)
+            (record { happenings = q.happenings; fed = q.fed; sends = q.sends; state = q.state }) in
         record {
           happenings = g.happenings;
           fed = g.fed;
@@ -125,7 +129,8 @@ open_happened old new piece out events fault f memory = by f.takes
         }
     by (inr b) = absurd (memory b.fault_is)
 
-piece_happened : (old new : Client) (piece out : List ℕ) (events : List Event) (fault : Option ClientFault) → FeedsClient old piece out events fault new → fault ≢ Some Memory → Happened old.state out new.state
+piece_happened : (old new : Client) (piece out : List ℕ) (events : List Event) (fault : Option ClientFault) → FeedsClient old piece out events fault new →
+    fault ≢ Some Memory → Happened old.state out new.state
 piece_happened old new piece out events fault f memory = by old.state.failed f
   where
     by : (b : Bool) → MatchBool b (FeedsFailed old out events fault new) (FeedsOpen old piece out events fault new) → Happened old.state out new.state
@@ -134,11 +139,14 @@ piece_happened old new piece out events fault f memory = by old.state.failed f
 
 -- ---- calls
 
-call_happened : (old new : ClientState) (want : Want) (bytes : List ℕ) → Accepts old want new bytes → (bytes ≡ flat_map encoding (frames_at old (Accepted want))) × (new ≡ after old (Accepted want))
+call_happened : (old new : ClientState) (want : Want) (bytes : List ℕ) → Accepts old want new bytes →
+    (bytes ≡ flat_map encoding (frames_at old (Accepted want))) × (new ≡ after old (Accepted want))
 call_happened old new want bytes a =
-    (a.written ∙ ap (λ (y : ClientState). encoding (call_frame y y.call)) a.state ∙ sym (append-nil (encoding (call_frame (after old (Accepted want)) (after old (Accepted want)).call))), a.state)
+    (a.written ∙ ap (λ (y : ClientState). encoding (call_frame y y.call)) a.state
+        ∙ sym (append-nil (encoding (call_frame (after old (Accepted want)) (after old (Accepted want)).call))), a.state)
 
-refusal_happened : (old new : ClientState) (want : Want) (fault : CallFault) → Refuses old want fault new → (new ≡ after old (TurnedDown want)) ⊎ (new ≡ after old (Lacking want))
+refusal_happened : (old new : ClientState) (want : Want) (fault : CallFault) → Refuses old want fault new → (new ≡ after old (TurnedDown want))
+    ⊎ (new ≡ after old (Lacking want))
 refusal_happened old new want fault (inl a) = inl a.1
 refusal_happened old new want fault (inr a) = inr a.2
 

@@ -34,31 +34,41 @@ data Leads (s : Scheme) (k : ServerInfo) (c : ClientState) (v p : ℕ) (f : Fram
   Whole : (words : List ℕ) → f ≡ frame.HintPart (scheme_byte s) v p words → length (c.parts ++ words) ≡ hint_len s k.layout k.dimension
       → reaction_to_reply c f ≡ ended (record c { hint = Some (hint_made s k v (c.parts ++ words)); parts = [] }) (Synced s v) → Leads s k c v p f
   More : (words : List ℕ) → f ≡ frame.HintPart (scheme_byte s) v p words
-      → reaction_to_reply c f ≡ record { state = record c { call = Sync s v (p + 1); parts = c.parts ++ words }; reaction = Asks s v (p + 1) } → Leads s k c v p f
+      → reaction_to_reply c f ≡ record { state = record c { call = Sync s v (p + 1); parts = c.parts ++ words }; reaction = Asks s v (p + 1) } →
+          Leads s k c v p f
   Bad : (state : ClientState) → reaction_to_reply c f ≡ record { state = state; reaction = Fails BadReply } → Leads s k c v p f
-  Reported : (state : ClientState) (version : ℕ) → state.call ≡ Idle → reaction_to_reply c f ≡ record { state = state; reaction = Reports (Stale version) } → Leads s k c v p f
-  Turned : (state : ClientState) (code : ℕ) → state.call ≡ Idle → reaction_to_reply c f ≡ record { state = state; reaction = Reports (Refused code) } → Leads s k c v p f
+  Reported : (state : ClientState) (version : ℕ) → state.call ≡ Idle → reaction_to_reply c f ≡ record { state = state; reaction = Reports (Stale version) } →
+      Leads s k c v p f
+  Turned : (state : ClientState) (code : ℕ) → state.call ≡ Idle → reaction_to_reply c f ≡ record { state = state; reaction = Reports (Refused code) } →
+      Leads s k c v p f
 
 bad_part : (s : Scheme) (k : ServerInfo) (c : ClientState) (v p : ℕ) (f : Frame) → reaction_to_reply c f ≡ faulty c BadReply → Leads s k c v p f
 bad_part s k c v p f e = Bad (record c { failed = true }) e
 
-part_is : (s : Scheme) (scheme version part v p : ℕ) (words : List ℕ) → scheme ≡ scheme_byte s → version ≡ v → part ≡ p → frame.HintPart scheme version part words ≡ frame.HintPart (scheme_byte s) v p words
+part_is : (s : Scheme) (scheme version part v p : ℕ) (words : List ℕ) → scheme ≡ scheme_byte s → version ≡ v → part ≡ p →
+    frame.HintPart scheme version part words ≡ frame.HintPart (scheme_byte s) v p words
 part_is s scheme version part v p words a b d = cc
 
-part_leads : (s : Scheme) (k : ServerInfo) (c : ClientState) (v p scheme version part : ℕ) (words : List ℕ) → reaction_to_reply c (frame.HintPart scheme version part words) ≡ takes_asked_part (Some k) s c v p scheme version part words
-    → (b : Bool) → is_part s (hint_len s k.layout k.dimension) v p scheme version part words ≡ b → (w : Bool) → (length (c.parts ++ words) == hint_len s k.layout k.dimension) ≡ w → Leads s k c v p (frame.HintPart scheme version part words)
+part_leads : (s : Scheme) (k : ServerInfo) (c : ClientState) (v p scheme version part : ℕ) (words : List ℕ) →
+    reaction_to_reply c (frame.HintPart scheme version part words) ≡ takes_asked_part (Some k) s c v p scheme version part words
+    → (b : Bool) → is_part s (hint_len s k.layout k.dimension) v p scheme version part words ≡ b → (w : Bool) →
+        (length (c.parts ++ words) == hint_len s k.layout k.dimension) ≡ w → Leads s k c v p (frame.HintPart scheme version part words)
 part_leads s k c v p scheme version part words e false h w whole =
-    bad_part s k c v p (frame.HintPart scheme version part words) (e ∙ ap (λ (x : Bool). cond x (more_parts s k c v p (c.parts ++ words)) (faulty c BadReply)) h)
+    bad_part s k c v p (frame.HintPart scheme version part words) (e
+        ∙ ap (λ (x : Bool). cond x (more_parts s k c v p (c.parts ++ words)) (faulty c BadReply)) h)
 part_leads s k c v p scheme version part words e true h w whole =
     let a = and_parts (scheme == scheme_byte s) ((version == v) && ((part == p) && (length words == part_len (hint_len s k.layout k.dimension) p))) h in
     let b = and_parts (version == v) ((part == p) && (length words == part_len (hint_len s k.layout k.dimension) p)) a.1 in
     let d = and_parts (part == p) (length words == part_len (hint_len s k.layout k.dimension) p) b.1 in
     let is = part_is s scheme version part v p words (eqb-true scheme (scheme_byte s) a.0) (eqb-true version v b.0) (eqb-true part p d.0) in
-    let t : reaction_to_reply c (frame.HintPart scheme version part words) ≡ more_parts s k c v p (c.parts ++ words) = e ∙ ap (λ (x : Bool). cond x (more_parts s k c v p (c.parts ++ words)) (faulty c BadReply)) h in
+    let t : reaction_to_reply c (frame.HintPart scheme version part words) ≡ more_parts s k c v p (c.parts ++ words) = e
+        ∙ ap (λ (x : Bool). cond x (more_parts s k c v p (c.parts ++ words)) (faulty c BadReply)) h in
     go w whole is t
   where
-    go : (w : Bool) → (length (c.parts ++ words) == hint_len s k.layout k.dimension) ≡ w → frame.HintPart scheme version part words ≡ frame.HintPart (scheme_byte s) v p words
-        → reaction_to_reply c (frame.HintPart scheme version part words) ≡ more_parts s k c v p (c.parts ++ words) → Leads s k c v p (frame.HintPart scheme version part words)
+    go : (w : Bool) → (length (c.parts ++ words) == hint_len s k.layout k.dimension) ≡ w →
+        frame.HintPart scheme version part words ≡ frame.HintPart (scheme_byte s) v p words
+        → reaction_to_reply c (frame.HintPart scheme version part words) ≡ more_parts s k c v p (c.parts ++ words) →
+            Leads s k c v p (frame.HintPart scheme version part words)
     go true whole is t = Whole words is (eqb-true (length (c.parts ++ words)) (hint_len s k.layout k.dimension) whole) (t ∙ ap (λ (x : Bool). cond x
         (ended (record c { hint = Some (hint_made s k v (c.parts ++ words)); parts = [] }) (Synced s v))
         (record { state = record c { call = Sync s v (p + 1); parts = c.parts ++ words }; reaction = Asks s v (p + 1) })) whole)
@@ -69,7 +79,8 @@ part_leads s k c v p scheme version part words e true h w whole =
 reported_state : ServerInfo → ClientState → ℕ → ℕ → ClientState
 reported_state k c version count = record c { parts = []; known = Some (record k { version = version; layout = with_count k.layout count }); call = Idle }
 
-stale_leads : (s : Scheme) (k : ServerInfo) (c : ClientState) (v p version count : ℕ) → reaction_to_reply c (frame.Stale version count) ≡ staled (Some k) (record c { parts = [] }) c v version count
+stale_leads : (s : Scheme) (k : ServerInfo) (c : ClientState) (v p version count : ℕ) →
+    reaction_to_reply c (frame.Stale version count) ≡ staled (Some k) (record c { parts = [] }) c v version count
     → (b : Bool) → (not (version == v) && (nat_lt 0 version && is_layout (with_count k.layout count))) ≡ b → Leads s k c v p (frame.Stale version count)
 unfolding reported_state
 stale_leads s k c v p version count e true h = Reported (reported_state k c version count) version refl (e ∙ ap (λ (x : Bool). cond x
@@ -79,12 +90,14 @@ stale_leads s k c v p version count e false h = bad_part s k c v p (frame.Stale 
 
 leads : (s : Scheme) (k : ServerInfo) (c : ClientState) (v p : ℕ) (f : Frame) → c.known ≡ Some k → c.call ≡ Sync s v p → Leads s k c v p f
 leads s k c v p (frame.Welcome profile width record_len groups count version dimension seed) e a =
-    bad_part s k c v p (frame.Welcome profile width record_len groups count version dimension seed) (ap (λ (x : Call). takes_welcome x c profile (shape width record_len groups count) dimension version seed) a)
+    bad_part s k c v p (frame.Welcome profile width record_len groups count version dimension seed)
+        (ap (λ (x : Call). takes_welcome x c profile (shape width record_len groups count) dimension version seed) a)
 leads s k c v p (frame.HintPart scheme version part words) e a =
     part_leads s k c v p scheme version part words
     (ap (λ (x : Call). takes_part x c scheme version part words) a ∙ ap (λ (x : Option ServerInfo). takes_asked_part x s c v p scheme version part words) e)
     (is_part s (hint_len s k.layout k.dimension) v p scheme version part words) refl (length (c.parts ++ words) == hint_len s k.layout k.dimension) refl
-leads s k c v p (frame.Answer scheme version words) e a = bad_part s k c v p (frame.Answer scheme version words) (ap (λ (x : Call). takes_answer x c scheme version words) a)
+leads s k c v p (frame.Answer scheme version words) e a =
+    bad_part s k c v p (frame.Answer scheme version words) (ap (λ (x : Call). takes_answer x c scheme version words) a)
 leads s k c v p (frame.Stale version count) e a =
     stale_leads s k c v p version count
     (ap (λ (x : Call). takes_stale x c version count) a ∙ ap (λ (x : Option ServerInfo). staled x (record c { parts = [] }) c v version count) e)
@@ -95,7 +108,8 @@ leads s k c v p f e a = bad_part s k c v p f refl
 
 -- an idle client takes no frame
 idle_bad : (c : ClientState) (f : Frame) → c.call ≡ Idle → reaction_to_reply c f ≡ faulty c BadReply
-idle_bad c (frame.Welcome profile width record_len groups count version dimension seed) a = ap (λ (x : Call). takes_welcome x c profile (shape width record_len groups count) dimension version seed) a
+idle_bad c (frame.Welcome profile width record_len groups count version dimension seed) a =
+    ap (λ (x : Call). takes_welcome x c profile (shape width record_len groups count) dimension version seed) a
 idle_bad c (frame.HintPart scheme version part words) a = ap (λ (x : Call). takes_part x c scheme version part words) a
 idle_bad c (frame.Answer scheme version words) a = ap (λ (x : Call). takes_answer x c scheme version words) a
 idle_bad c (frame.Stale version count) a = ap (λ (x : Call). takes_stale x c version count) a
@@ -104,16 +118,19 @@ idle_bad c (frame.Refused code) a = ap (λ (x : Call). takes_refused x c code) a
 idle_bad c f a = refl
 
 -- a course with a bad reply keeps its fault
-bad_ends : (k : Course) (state : ClientState) (fs : List Frame) (P : Type 0) → (runs (goes_on k (record { state = state; reaction = Fails BadReply })) fs).fault ≡ None → P
+bad_ends : (k : Course) (state : ClientState) (fs : List Frame) (P : Type 0) →
+    (runs (goes_on k (record { state = state; reaction = Fails BadReply })) fs).fault ≡ None → P
 bad_ends k state fs P none =
     let stays = fault_stays (goes_on k (record { state = state; reaction = Fails BadReply })) fs BadReply refl in
     let f : (runs (goes_on k (record { state = state; reaction = Fails BadReply })) fs).fault ≡ Some BadReply = ap (λ (x : Course). x.fault) stays in
     absurd (let e : Some BadReply ≡ None = sym f ∙ none in cc)
 
-ends_here : (c : ClientState) (sends : List Frame) (events : List Event) (fs : List Frame) → c.call ≡ Idle → (runs (at c sends events) fs).fault ≡ None → fs ≡ []
+ends_here : (c : ClientState) (sends : List Frame) (events : List Event) (fs : List Frame) → c.call ≡ Idle → (runs (at c sends events) fs).fault ≡ None →
+    fs ≡ []
 ends_here c sends events [] a none = refl
 ends_here c sends events (g ∷ gs) a none =
-    let t : runs (at c sends events) (g ∷ gs) ≡ runs (goes_on (at c sends events) (faulty c BadReply)) gs = ap (λ (x : Taken). runs (goes_on (at c sends events) x) gs) (idle_bad c g a) in
+    let t : runs (at c sends events) (g ∷ gs) ≡ runs (goes_on (at c sends events) (faulty c BadReply)) gs =
+        ap (λ (x : Taken). runs (goes_on (at c sends events) x) gs) (idle_bad c g a) in
     bad_ends (at c sends events) (record c { failed = true }) gs (g ∷ gs ≡ []) (ap (λ (x : Course). x.fault) (sym t) ∙ none)
 
 -- what a sync leads to that has come to part p
@@ -125,11 +142,13 @@ record Made (s : Scheme) (k : ServerInfo) (c : ClientState) (v p version : ℕ) 
   hint : (runs (at c sends []) fs).state.hint ≡ Some (hint_made s k v (c.parts ++ words))
 
 -- an event that isn't Synced ends no sync
-not_synced : (s : Scheme) (c : ClientState) (sends : List Frame) (e : Event) (fs : List Frame) (version : ℕ) (P : Type 0) → c.call ≡ Idle → (runs (at c sends (e ∷ [])) fs).fault ≡ None
+not_synced : (s : Scheme) (c : ClientState) (sends : List Frame) (e : Event) (fs : List Frame) (version : ℕ) (P : Type 0) → c.call ≡ Idle →
+    (runs (at c sends (e ∷ [])) fs).fault ≡ None
     → (runs (at c sends (e ∷ [])) fs).events ≡ Synced s version ∷ [] → (e ≡ Synced s version → P) → P
 not_synced s c sends e fs version P a none reported other =
     let nil : fs ≡ [] = ends_here c sends (e ∷ []) fs a none in
-    let t : (runs (at c sends (e ∷ [])) []).events ≡ Synced s version ∷ [] = let Q : List Frame → Type 0 = λ x. (runs (at c sends (e ∷ [])) x).events ≡ Synced s version ∷ [] in subst Q nil reported in
+    let t : (runs (at c sends (e ∷ [])) []).events ≡ Synced s version ∷ [] = let Q : List Frame →
+        Type 0 = λ x. (runs (at c sends (e ∷ [])) x).events ≡ Synced s version ∷ [] in subst Q nil reported in
     other (let u : e ∷ [] ≡ Synced s version ∷ [] = t in cc)
 
 synced_same : (s : Scheme) (v version : ℕ) → Synced s v ≡ Synced s version → version ≡ v
@@ -160,7 +179,8 @@ synced_from : (s : Scheme) (k : ServerInfo) (c : ClientState) (v p version : ℕ
     → (runs (at c sends []) fs).fault ≡ None → (runs (at c sends []) fs).events ≡ Synced s version ∷ [] → Made s k c v p version sends fs
 synced_from s k c v p version sends [] e a none reported = absurd (let x : [] ≡ Synced s version ∷ [] = reported in cc)
 synced_from s k c v p version sends (f ∷ fs) e a none reported =
-    go (λ (words : List ℕ). synced_from s k (further s c v p words) v (p + 1) version (sends ++ (frame.HintAsk (scheme_byte s) v (p + 1) ∷ [])) fs e refl) (leads s k c v p f e a)
+    go (λ (words : List ℕ). synced_from s k (further s c v p words) v (p + 1) version (sends ++ (frame.HintAsk (scheme_byte s) v (p + 1) ∷ [])) fs e refl)
+        (leads s k c v p f e a)
   where
     go : ((words : List ℕ) → (runs (at (further s c v p words) (sends ++ (frame.HintAsk (scheme_byte s) v (p + 1) ∷ [])) []) fs).fault ≡ None
         → (runs (at (further s c v p words) (sends ++ (frame.HintAsk (scheme_byte s) v (p + 1) ∷ [])) []) fs).events ≡ Synced s version ∷ []
@@ -168,8 +188,10 @@ synced_from s k c v p version sends (f ∷ fs) e a none reported =
         → Leads s k c v p f → Made s k c v p version sends (f ∷ fs)
     go later (Whole words is len t) = whole_made s k c v p version sends f fs words is len t none reported
     go later (More words is t) =
-        let r : runs (at c sends []) (f ∷ fs) ≡ runs (at (further s c v p words) (sends ++ (frame.HintAsk (scheme_byte s) v (p + 1) ∷ [])) []) fs = ap (λ (x : Taken). runs (goes_on (at c sends []) x) fs) t in
-        let m : Made s k (further s c v p words) v (p + 1) version (sends ++ (frame.HintAsk (scheme_byte s) v (p + 1) ∷ [])) fs = later words (ap (λ (x : Course). x.fault) (sym r) ∙ none) (ap (λ (x : Course). x.events) (sym r) ∙ reported) in
+        let r : runs (at c sends []) (f ∷ fs) ≡ runs (at (further s c v p words) (sends ++ (frame.HintAsk (scheme_byte s) v (p + 1) ∷ [])) []) fs =
+            ap (λ (x : Taken). runs (goes_on (at c sends []) x) fs) t in
+        let m : Made s k (further s c v p words) v (p + 1) version (sends ++ (frame.HintAsk (scheme_byte s) v (p + 1) ∷ [])) fs =
+            later words (ap (λ (x : Course). x.fault) (sym r) ∙ none) (ap (λ (x : Course). x.events) (sym r) ∙ reported) in
         record {
           words = words ++ m.words;
           parts = (words, m.words, is, refl, m.parts);
@@ -178,14 +200,19 @@ synced_from s k c v p version sends (f ∷ fs) e a none reported =
           hint = ap (λ (x : Course). x.state.hint) r ∙ m.hint ∙ ap (λ (x : List ℕ). Some (hint_made s k v x)) (append_assoc c.parts words m.words);
         }
     go later (Bad state t) =
-        let r : runs (at c sends []) (f ∷ fs) ≡ runs (goes_on (at c sends []) (record { state = state; reaction = Fails BadReply })) fs = ap (λ (x : Taken). runs (goes_on (at c sends []) x) fs) t in
+        let r : runs (at c sends []) (f ∷ fs) ≡ runs (goes_on (at c sends []) (record { state = state; reaction = Fails BadReply })) fs =
+            ap (λ (x : Taken). runs (goes_on (at c sends []) x) fs) t in
         bad_ends (at c sends []) state fs (Made s k c v p version sends (f ∷ fs)) (ap (λ (x : Course). x.fault) (sym r) ∙ none)
     go later (Reported state other idle t) =
-        let r : runs (at c sends []) (f ∷ fs) ≡ runs (at state (sends ++ []) (Stale other ∷ [])) fs = ap (λ (x : Taken). runs (goes_on (at c sends []) x) fs) t in
-        not_synced s state (sends ++ []) (Stale other) fs version (Made s k c v p version sends (f ∷ fs)) idle (ap (λ (x : Course). x.fault) (sym r) ∙ none) (ap (λ (x : Course). x.events) (sym r) ∙ reported) (λ (x : Stale other ≡ Synced s version). absurd (cc))
+        let r : runs (at c sends []) (f ∷ fs) ≡ runs (at state (sends ++ []) (Stale other ∷ [])) fs =
+            ap (λ (x : Taken). runs (goes_on (at c sends []) x) fs) t in
+        not_synced s state (sends ++ []) (Stale other) fs version (Made s k c v p version sends (f ∷ fs)) idle (ap (λ (x : Course). x.fault) (sym r) ∙ none)
+            (ap (λ (x : Course). x.events) (sym r) ∙ reported) (λ (x : Stale other ≡ Synced s version). absurd (cc))
     go later (Turned state code idle t) =
-        let r : runs (at c sends []) (f ∷ fs) ≡ runs (at state (sends ++ []) (Refused code ∷ [])) fs = ap (λ (x : Taken). runs (goes_on (at c sends []) x) fs) t in
-        not_synced s state (sends ++ []) (Refused code) fs version (Made s k c v p version sends (f ∷ fs)) idle (ap (λ (x : Course). x.fault) (sym r) ∙ none) (ap (λ (x : Course). x.events) (sym r) ∙ reported) (λ (x : Refused code ≡ Synced s version). absurd (cc))
+        let r : runs (at c sends []) (f ∷ fs) ≡ runs (at state (sends ++ []) (Refused code ∷ [])) fs =
+            ap (λ (x : Taken). runs (goes_on (at c sends []) x) fs) t in
+        not_synced s state (sends ++ []) (Refused code) fs version (Made s k c v p version sends (f ∷ fs)) idle (ap (λ (x : Course). x.fault) (sym r) ∙ none)
+            (ap (λ (x : Course). x.events) (sym r) ∙ reported) (λ (x : Refused code ≡ Synced s version). absurd (cc))
 
 pub synced_is_made : SyncedHintIsMadeOfParts
 synced_is_made c s k v version replies by =
@@ -201,7 +228,8 @@ synced_is_made c s k v version replies by =
 
 -- ---- the parts of one hint
 
-parts_same : (s : Scheme) (v j : ℕ) (f : Frame) (here there : List ℕ) → f ≡ frame.HintPart (scheme_byte s) v j here → f ≡ frame.HintPart (scheme_byte s) v j there → here ≡ there
+parts_same : (s : Scheme) (v j : ℕ) (f : Frame) (here there : List ℕ) → f ≡ frame.HintPart (scheme_byte s) v j here →
+    f ≡ frame.HintPart (scheme_byte s) v j there → here ≡ there
 parts_same s v j f here there a b = cc
 
 -- a part and what stands after it
@@ -212,16 +240,20 @@ part_and_rest whole j =
     ap (λ (x : List ℕ). part_of whole j ++ x) (sym (d ∙ ap (λ (m : ℕ). drop m whole) n)) ∙ take-append-drop 65536 (drop (65536 * j) whole)
 
 -- the words of the parts of a hint are its prefix, from the first part on
-prefix_of : (s : Scheme) (whole : List ℕ) (v j : ℕ) (fs : List Frame) (words : List ℕ) → ArePartsFrom s v j fs words → ArePartsOf s whole v j fs → (rest : List ℕ) × (words ++ rest ≡ drop (65536 * j) whole)
+prefix_of : (s : Scheme) (whole : List ℕ) (v j : ℕ) (fs : List Frame) (words : List ℕ) → ArePartsFrom s v j fs words → ArePartsOf s whole v j fs →
+    (rest : List ℕ) × (words ++ rest ≡ drop (65536 * j) whole)
 prefix_of s whole v j [] words e u = (drop (65536 * j) whole, ap (λ (x : List ℕ). x ++ drop (65536 * j) whole) e)
 prefix_of s whole v j (f ∷ fs) words e u =
     let r = prefix_of s whole v (j + 1) fs e.1 e.4 u.1 in
     let here : e.0 ≡ part_of whole j = parts_same s v j f e.0 (part_of whole j) e.2 u.0 in
-    (r.0, ap (λ (x : List ℕ). x ++ r.0) e.3 ∙ append_assoc e.0 e.1 r.0 ∙ ap (λ (x : List ℕ). e.0 ++ x) r.1 ∙ ap (λ (x : List ℕ). x ++ drop (65536 * (j + 1)) whole) here ∙ part_and_rest whole j)
+    (r.0, ap (λ (x : List ℕ). x ++ r.0) e.3 ∙ append_assoc e.0 e.1 r.0 ∙ ap (λ (x : List ℕ). e.0 ++ x) r.1
+        ∙ ap (λ (x : List ℕ). x ++ drop (65536 * (j + 1)) whole) here ∙ part_and_rest whole j)
 
 all_of_it : (words rest whole : List ℕ) → words ++ rest ≡ whole → length words ≡ length whole → words ≡ whole
 all_of_it words [] whole e len = sym (append-nil words) ∙ e
-all_of_it words (x ∷ rest) whole e len = absurd (let a : length (words ++ (x ∷ rest)) ≡ length words + length (x ∷ rest) = length-append words (x ∷ rest) in let b : length (words ++ (x ∷ rest)) ≡ length whole = ap length e in omega arith)
+all_of_it words (x ∷ rest) whole e len =
+    absurd (let a : length (words ++ (x ∷ rest)) ≡ length words + length (x ∷ rest) = length-append words (x ∷ rest) in let b : length (words ++ (x ∷ rest))
+    ≡ length whole = ap length e in omega arith)
 
 abbrev some_hint : Scheme → ℕ → ℕ → ℕ → List ℕ → Option Hint
 some_hint s v rows cols words = Some (record { scheme = s; version = v; matrix = record { rows = rows; cols = cols; words = words } })
@@ -230,7 +262,8 @@ pub parts_make_it : PartsOfAHintMakeIt
 parts_make_it c s k v version replies hint by rows cols is_whole of =
     let m : IsMadeOfParts c s k v version replies = synced_is_made c s k v version replies by in
     let r = prefix_of s hint.words v 0 replies m.words m.parts of in
-    let len : length m.words ≡ length hint.words = m.count ∙ ap (λ (x : ℕ). x * k.dimension) (sym rows) ∙ ap (λ (x : ℕ). hint.rows * x) (sym cols) ∙ sym is_whole in
+    let len : length m.words ≡ length hint.words = m.count ∙ ap (λ (x : ℕ). x * k.dimension) (sym rows) ∙ ap (λ (x : ℕ). hint.rows * x) (sym cols)
+        ∙ sym is_whole in
     let same : m.words ≡ hint.words = all_of_it m.words r.0 hint.words r.1 len in
     m.hint ∙ made m.words same
   where

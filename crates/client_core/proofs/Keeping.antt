@@ -38,7 +38,8 @@ if_keeps c false x y p q = q refl
 
 -- ---- Welcome
 
-no_hint : (known : Option ServerInfo) (hint : Option Hint) (key parts : List ℕ) (k : ServerInfo) → CallFits (Hello key) known parts → HintFits known hint → HintFits (Some k) hint
+no_hint : (known : Option ServerInfo) (hint : Option Hint) (key parts : List ℕ) (k : ServerInfo) → CallFits (Hello key) known parts → HintFits known hint →
+    HintFits (Some k) hint
 no_hint None None key parts k a b = tt
 no_hint None (Some h) key parts k a b = absurd b
 no_hint (Some j) hint key parts k a b = absurd a
@@ -67,7 +68,8 @@ welcomed_keeps c key profile l n version seed s fits is = record {
   number = refl;
 }
 
-welcome_keeps : (call : Call) (c : ClientState) (profile : ℕ) (l : Shape) (n version : ℕ) (seed : List ℕ) → IsState c → CallFits call c.known c.parts → Keeps c (takes_welcome call c profile l n version seed).state
+welcome_keeps : (call : Call) (c : ClientState) (profile : ℕ) (l : Shape) (n version : ℕ) (seed : List ℕ) → IsState c → CallFits call c.known c.parts →
+    Keeps c (takes_welcome call c profile l n version seed).state
 unfolding reported
 welcome_keeps Idle c profile l n version seed s fits = faulty_keeps c s
 welcome_keeps (Hello key) c profile l n version seed s fits =
@@ -83,7 +85,8 @@ welcome_keeps Publish c profile l n version seed s fits = faulty_keeps c s
 
 -- ---- HintPart
 
-pub is_part_len : (s : Scheme) (total asked next scheme version part : ℕ) (words : List ℕ) → is_part s total asked next scheme version part words ≡ true → length words ≡ part_len total next
+pub is_part_len : (s : Scheme) (total asked next scheme version part : ℕ) (words : List ℕ) → is_part s total asked next scheme version part words ≡ true →
+    length words ≡ part_len total next
 is_part_len s total asked next scheme version part words h =
     let a = and_parts (scheme == scheme_byte s) ((version == asked) && ((part == next) && (length words == part_len total next))) h in
     let b = and_parts (version == asked) ((part == next) && (length words == part_len total next)) a.1 in
@@ -91,7 +94,8 @@ is_part_len s total asked next scheme version part words h =
     eqb-true (length words) (part_len total next) d.1
 
 -- a part after whole ones that isn't the last is a whole one
-part_fits : (total p : ℕ) (parts words : List ℕ) → length parts ≡ 65536 * p → length parts ≤ total → length words ≡ part_len total p → (length (parts ++ words) == total) ≡ false
+part_fits : (total p : ℕ) (parts words : List ℕ) → length parts ≡ 65536 * p → length parts ≤ total → length words ≡ part_len total p →
+    (length (parts ++ words) == total) ≡ false
     → (length (parts ++ words) ≡ 65536 * (p + 1)) × (length (parts ++ words) ≤ total)
 part_fits total p parts words e le len ne =
     let all : length (parts ++ words) ≡ length parts + length words = length-append parts words in
@@ -104,9 +108,11 @@ more_keeps : (x : Scheme) (k : ServerInfo) (c : ClientState) (v p : ℕ) (words 
 more_keeps x k c v p words e s len le is =
     if_keeps c (length (c.parts ++ words) == hint_len x k.layout k.dimension) _ _
     (λ whole. record { good = record { number = s.number; known = s.known; hint = rw e (refl, refl); call = tt }; number = refl })
-    (λ other. record { good = record { number = s.number; known = s.known; hint = s.hint; call = rw e (part_fits (hint_len x k.layout k.dimension) p c.parts words len le is other) }; number = refl })
+    (λ other. record { good = record { number = s.number; known = s.known; hint = s.hint; call =
+        rw e (part_fits (hint_len x k.layout k.dimension) p c.parts words len le is other) }; number = refl })
 
-asked_part_keeps : (known : Option ServerInfo) (x : Scheme) (c : ClientState) (v p scheme version part : ℕ) (words : List ℕ) → c.known ≡ known → IsState c → CallFits (Sync x v p) known c.parts
+asked_part_keeps : (known : Option ServerInfo) (x : Scheme) (c : ClientState) (v p scheme version part : ℕ) (words : List ℕ) → c.known ≡ known → IsState c →
+    CallFits (Sync x v p) known c.parts
     → Keeps c (takes_asked_part known x c v p scheme version part words).state
 asked_part_keeps None x c v p scheme version part words e s fits = faulty_keeps c s
 asked_part_keeps (Some k) x c v p scheme version part words e s fits =
@@ -114,7 +120,8 @@ asked_part_keeps (Some k) x c v p scheme version part words e s fits =
     (λ is. more_keeps x k c v p words e s fits.0 fits.1 (is_part_len x (hint_len x k.layout k.dimension) v p scheme version part words is))
     (λ _. faulty_keeps c s)
 
-part_keeps : (call : Call) (c : ClientState) (scheme version part : ℕ) (words : List ℕ) → IsState c → CallFits call c.known c.parts → Keeps c (takes_part call c scheme version part words).state
+part_keeps : (call : Call) (c : ClientState) (scheme version part : ℕ) (words : List ℕ) → IsState c → CallFits call c.known c.parts →
+    Keeps c (takes_part call c scheme version part words).state
 part_keeps Idle c scheme version part words s fits = faulty_keeps c s
 part_keeps (Hello key) c scheme version part words s fits = faulty_keeps c s
 part_keeps (Sync x v p) c scheme version part words s fits = asked_part_keeps c.known x c v p scheme version part words refl s fits
@@ -124,7 +131,8 @@ part_keeps Publish c scheme version part words s fits = faulty_keeps c s
 
 -- ---- Answer
 
-answered_keeps : (known : Option ServerInfo) (hint : Option Hint) (c : ClientState) (i v m scheme version : ℕ) (words : List ℕ) → IsState c → Keeps c (answered known hint c i v m scheme version words).state
+answered_keeps : (known : Option ServerInfo) (hint : Option Hint) (c : ClientState) (i v m scheme version : ℕ) (words : List ℕ) → IsState c →
+    Keeps c (answered known hint c i v m scheme version words).state
 answered_keeps None hint c i v m scheme version words s = faulty_keeps c s
 answered_keeps (Some k) None c i v m scheme version words s = faulty_keeps c s
 answered_keeps (Some k) (Some h) c i v m scheme version words s =
@@ -140,7 +148,8 @@ answer_keeps Publish c scheme version words s = faulty_keeps c s
 
 -- ---- Stale
 
-same_rows : (k : ServerInfo) (version count : ℕ) (hint : Option Hint) → HintFits (Some k) hint → HintFits (Some (record k { version = version; layout = with_count k.layout count })) hint
+same_rows : (k : ServerInfo) (version count : ℕ) (hint : Option Hint) → HintFits (Some k) hint →
+    HintFits (Some (record k { version = version; layout = with_count k.layout count })) hint
 same_rows k version count None fits = tt
 same_rows k version count (Some h) fits = (fits.0 ∙ rows_stay h.scheme k count, fits.1)
   where
@@ -148,21 +157,24 @@ same_rows k version count (Some h) fits = (fits.0 ∙ rows_stay h.scheme k count
     rows_stay Simple k count = refl
     rows_stay Double k count = refl
 
-stale_known : (k : ServerInfo) (asked version count : ℕ) → IsKnown k → (not (version == asked) && (nat_lt 0 version && is_layout (with_count k.layout count))) ≡ true
+stale_known : (k : ServerInfo) (asked version count : ℕ) → IsKnown k →
+    (not (version == asked) && (nat_lt 0 version && is_layout (with_count k.layout count))) ≡ true
     → IsKnown (record k { version = version; layout = with_count k.layout count })
 stale_known k asked version count old h =
     let a = and_parts (not (version == asked)) (nat_lt 0 version && is_layout (with_count k.layout count)) h in
     let b = and_parts (nat_lt 0 version) (is_layout (with_count k.layout count)) a.1 in
     record { layout = layout_means (with_count k.layout count) b.1; low = old.low; high = old.high }
 
-staled_keeps : (known : Option ServerInfo) (c after : ClientState) (asked version count : ℕ) → c.known ≡ known → IsState c → after.number ≡ c.number → after.hint ≡ c.hint → Keeps c (staled known after c asked version count).state
+staled_keeps : (known : Option ServerInfo) (c after : ClientState) (asked version count : ℕ) → c.known ≡ known → IsState c → after.number ≡ c.number →
+    after.hint ≡ c.hint → Keeps c (staled known after c asked version count).state
 staled_keeps None c after asked version count e s en eh = faulty_keeps c s
 staled_keeps (Some k) c after asked version count e s en eh =
     let known : IsKnown k = let P : Option ServerInfo → Type 0 = KnownFits in subst P e s.known in
     let hint : HintFits (Some k) c.hint = let P : Option ServerInfo → Type 0 = λ o. HintFits o c.hint in subst P e s.hint in
     if_keeps c (not (version == asked) && (nat_lt 0 version && is_layout (with_count k.layout count))) _ (faulty c BadReply)
     (λ is. record {
-      good = record { number = rw en s.number; known = stale_known k asked version count known is; hint = rw eh (same_rows k version count c.hint hint); call = tt };
+      good = record { number = rw en s.number; known = stale_known k asked version count known is; hint = rw eh (same_rows k version count c.hint hint); call =
+          tt };
       number = en;
     })
     (λ _. faulty_keeps c s)
@@ -196,7 +208,8 @@ refused_keeps Publish c code s = ended_keeps c s
 -- ---- any frame
 
 pub takes_keeps : (c : ClientState) (f : Frame) → IsState c → Keeps c (reaction_to_reply c f).state
-takes_keeps c (frame.Welcome profile width record_len groups count version dimension seed) s = welcome_keeps c.call c profile (shape width record_len groups count) dimension version seed s s.call
+takes_keeps c (frame.Welcome profile width record_len groups count version dimension seed) s =
+    welcome_keeps c.call c profile (shape width record_len groups count) dimension version seed s s.call
 takes_keeps c (frame.HintPart scheme version part words) s = part_keeps c.call c scheme version part words s s.call
 takes_keeps c (frame.Answer scheme version words) s = answer_keeps c.call c scheme version words s
 takes_keeps c (frame.Stale version count) s = stale_keeps c.call c version count s

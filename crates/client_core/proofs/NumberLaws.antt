@@ -20,7 +20,8 @@ either : (n : ℕ) (b : Bool) (x y : Taken) → x.state.number ≡ n → y.state
 either n true x y p q = p
 either n false x y p q = q
 
-welcome_number : (k : Call) (c : ClientState) (profile : ℕ) (l : Shape) (n version : ℕ) (seed : List ℕ) → (takes_welcome k c profile l n version seed).state.number ≡ c.number
+welcome_number : (k : Call) (c : ClientState) (profile : ℕ) (l : Shape) (n version : ℕ) (seed : List ℕ) →
+    (takes_welcome k c profile l n version seed).state.number ≡ c.number
 welcome_number call.Idle c profile l n version seed = refl
 welcome_number (call.Hello key) c profile l n version seed = either c.number _ _ _ refl refl
 welcome_number (call.Sync s v p) c profile l n version seed = refl
@@ -28,9 +29,11 @@ welcome_number (call.Ask i x v m) c profile l n version seed = refl
 welcome_number (call.Edit i b) c profile l n version seed = refl
 welcome_number call.Publish c profile l n version seed = refl
 
-asked_part_number : (known : Option ServerInfo) (s : Scheme) (c : ClientState) (v p scheme version part : ℕ) (words : List ℕ) → (takes_asked_part known s c v p scheme version part words).state.number ≡ c.number
+asked_part_number : (known : Option ServerInfo) (s : Scheme) (c : ClientState) (v p scheme version part : ℕ) (words : List ℕ) →
+    (takes_asked_part known s c v p scheme version part words).state.number ≡ c.number
 asked_part_number None s c v p scheme version part words = refl
-asked_part_number (Some k) s c v p scheme version part words = either c.number _ (more_parts s k c v p (c.parts ++ words)) _ (either c.number _ _ _ refl refl) refl
+asked_part_number (Some k) s c v p scheme version part words =
+    either c.number _ (more_parts s k c v p (c.parts ++ words)) _ (either c.number _ _ _ refl refl) refl
 
 part_number : (k : Call) (c : ClientState) (scheme version part : ℕ) (words : List ℕ) → (takes_part k c scheme version part words).state.number ≡ c.number
 part_number call.Idle c scheme version part words = refl
@@ -40,7 +43,8 @@ part_number (call.Ask i x v m) c scheme version part words = refl
 part_number (call.Edit i b) c scheme version part words = refl
 part_number call.Publish c scheme version part words = refl
 
-answered_number : (known : Option ServerInfo) (hint : Option Hint) (c : ClientState) (i v m scheme version : ℕ) (words : List ℕ) → (answered known hint c i v m scheme version words).state.number ≡ c.number
+answered_number : (known : Option ServerInfo) (hint : Option Hint) (c : ClientState) (i v m scheme version : ℕ) (words : List ℕ) →
+    (answered known hint c i v m scheme version words).state.number ≡ c.number
 answered_number None hint c i v m scheme version words = refl
 answered_number (Some k) None c i v m scheme version words = refl
 answered_number (Some k) (Some h) c i v m scheme version words = either c.number _ _ _ refl refl
@@ -53,7 +57,8 @@ answer_number (call.Ask i x v m) c scheme version words = answered_number c.know
 answer_number (call.Edit i b) c scheme version words = refl
 answer_number call.Publish c scheme version words = refl
 
-staled_number : (known : Option ServerInfo) (later c : ClientState) (asked version count : ℕ) → later.number ≡ c.number → (staled known later c asked version count).state.number ≡ c.number
+staled_number : (known : Option ServerInfo) (later c : ClientState) (asked version count : ℕ) → later.number ≡ c.number →
+    (staled known later c asked version count).state.number ≡ c.number
 staled_number None later c asked version count e = refl
 staled_number (Some k) later c asked version count e = either c.number _ _ _ e refl
 
@@ -82,7 +87,8 @@ refused_number (call.Edit i b) c code = refl
 refused_number call.Publish c code = refl
 
 pub takes_number : (c : ClientState) (f : Frame) → (reaction_to_reply c f).state.number ≡ c.number
-takes_number c (frame.Welcome profile width record_len groups count version dimension seed) = welcome_number c.call c profile (shape width record_len groups count) dimension version seed
+takes_number c (frame.Welcome profile width record_len groups count version dimension seed) =
+    welcome_number c.call c profile (shape width record_len groups count) dimension version seed
 takes_number c (frame.HintPart scheme version part words) = part_number c.call c scheme version part words
 takes_number c (frame.Answer scheme version words) = answer_number c.call c scheme version words
 takes_number c (frame.Stale version count) = stale_number c.call c version count
@@ -129,8 +135,10 @@ all_above c (Accepted (Ask i) ∷ hs) =
 all_above c (Accepted (Edit i bytes) ∷ hs) = all_above (after c (Accepted (Edit i bytes))) hs
 all_above c (Accepted Publish ∷ hs) = all_above (after c (Accepted Publish)) hs
 all_above c (TurnedDown want ∷ hs) = all_above c hs
-all_above c (Lacking want ∷ hs) = lower c.number (after c (Lacking want)).number (numbers (after c (Lacking want)) hs) (calmly c want) (all_above (after c (Lacking want)) hs)
-all_above c (Reply f ∷ hs) = lower c.number (after c (Reply f)).number (numbers (after c (Reply f)) hs) (omega (arith, takes_number c f)) (all_above (after c (Reply f)) hs)
+all_above c (Lacking want ∷ hs) =
+    lower c.number (after c (Lacking want)).number (numbers (after c (Lacking want)) hs) (calmly c want) (all_above (after c (Lacking want)) hs)
+all_above c (Reply f ∷ hs) = lower c.number (after c (Reply f)).number (numbers (after c (Reply f)) hs) (omega (arith, takes_number c f))
+    (all_above (after c (Reply f)) hs)
 all_above c (Failing ∷ hs) = all_above (after c Failing) hs
 
 pub no_number_is_used_twice : NoNumberTwice

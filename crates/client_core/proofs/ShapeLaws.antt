@@ -87,12 +87,14 @@ sized f = ap (λ (x : ℕ). frame_shape (kind_of f) x) (payload_sized f)
 
 -- ---- calls
 
-asked_length : (known : Option ServerInfo) (hint : Option Hint) (seed : List ℕ) (number i : ℕ) → length (call_words known (scheme_held hint) seed number i) ≡ asked_count known (hint_name hint)
+asked_length : (known : Option ServerInfo) (hint : Option Hint) (seed : List ℕ) (number i : ℕ) →
+    length (call_words known (scheme_held hint) seed number i) ≡ asked_count known (hint_name hint)
 asked_length None hint seed number i = refl
 asked_length (Some k) None seed number i = length_query _ k.layout k.dimension k.seed seed number i
 asked_length (Some k) (Some h) seed number i = length_query h.scheme k.layout k.dimension k.seed seed number i
 
-call_shaped : (c : ClientState) (want : Want) → HasWholeKey want → shape_of (call_frame (state_after_call want c) (state_after_call want c).call) ≡ call_shape (outline c) (blank_call want)
+call_shaped : (c : ClientState) (want : Want) → HasWholeKey want → shape_of (call_frame (state_after_call want c) (state_after_call want c).call)
+    ≡ call_shape (outline c) (blank_call want)
 call_shaped c (Hello key) whole = sized (call_frame (state_after_call (Hello key) c) (call.Hello key)) ∙ ap (λ (x : ℕ). frame_shape 2 (2 + x)) whole
 call_shaped c (Sync scheme) whole = sized (call_frame (state_after_call (Sync scheme) c) (state_after_call (Sync scheme) c).call)
 call_shaped c (Ask i) whole =
@@ -124,7 +126,8 @@ either : (b : Bool) (x y : Taken) (v w : Reacted) → reacted x ≡ v → reacte
 either true x y v w p q = p
 either false x y v w p q = q
 
-welcome_reacts : (k : Call) (c : ClientState) (profile : ℕ) (l : Shape) (n version : ℕ) (seed : List ℕ) → reacted (takes_welcome k c profile l n version seed) ≡ after_welcome (awaited k) (outline c) profile l n version seed
+welcome_reacts : (k : Call) (c : ClientState) (profile : ℕ) (l : Shape) (n version : ℕ) (seed : List ℕ) →
+    reacted (takes_welcome k c profile l n version seed) ≡ after_welcome (awaited k) (outline c) profile l n version seed
 welcome_reacts call.Idle c profile l n version seed = refl
 welcome_reacts (call.Hello key) c profile l n version seed = either (is_welcome profile l n version) _ _ _ _ refl refl
 welcome_reacts (call.Sync s v p) c profile l n version seed = refl
@@ -132,7 +135,8 @@ welcome_reacts (call.Ask i s v m) c profile l n version seed = refl
 welcome_reacts (call.Edit i b) c profile l n version seed = refl
 welcome_reacts call.Publish c profile l n version seed = refl
 
-next_asked : (s : Scheme) (k : ServerInfo) (c : ClientState) (v p : ℕ) (words : List ℕ) → reacted (more_parts s k c v p words) ≡ after_good_part s k (outline c) v p (length words)
+next_asked : (s : Scheme) (k : ServerInfo) (c : ClientState) (v p : ℕ) (words : List ℕ) →
+    reacted (more_parts s k c v p words) ≡ after_good_part s k (outline c) v p (length words)
 next_asked s k c v p words =
     either (length words == hint_len s k.layout k.dimension) _ _ _ _ refl
     (ap (λ (x : FrameShape). more x) (sized (frame.HintAsk (scheme_byte s) v (p + 1))))
@@ -148,7 +152,8 @@ asked_part_reacts (Some k) s c v p scheme version part words =
     (next_asked s k c v p (c.parts ++ words) ∙ ap (λ (x : ℕ). after_good_part s k (outline c) v p x) (length-append c.parts words))
     refl
 
-part_reacts : (k : Call) (c : ClientState) (scheme version part : ℕ) (words : List ℕ) → reacted (takes_part k c scheme version part words) ≡ after_part (awaited k) (outline c) scheme version part (length words)
+part_reacts : (k : Call) (c : ClientState) (scheme version part : ℕ) (words : List ℕ) →
+    reacted (takes_part k c scheme version part words) ≡ after_part (awaited k) (outline c) scheme version part (length words)
 part_reacts call.Idle c scheme version part words = refl
 part_reacts (call.Hello key) c scheme version part words = refl
 part_reacts (call.Sync s v p) c scheme version part words = asked_part_reacts c.known s c v p scheme version part words
@@ -162,7 +167,8 @@ answered_reacts None hint c i v m scheme version words = refl
 answered_reacts (Some k) None c i v m scheme version words = refl
 answered_reacts (Some k) (Some h) c i v m scheme version words = either (is_answer h.scheme k v scheme version words) _ _ _ _ refl refl
 
-answer_reacts : (k : Call) (c : ClientState) (scheme version : ℕ) (words : List ℕ) → reacted (takes_answer k c scheme version words) ≡ after_answer (awaited k) (outline c) scheme version (length words)
+answer_reacts : (k : Call) (c : ClientState) (scheme version : ℕ) (words : List ℕ) →
+    reacted (takes_answer k c scheme version words) ≡ after_answer (awaited k) (outline c) scheme version (length words)
 answer_reacts call.Idle c scheme version words = refl
 answer_reacts (call.Hello key) c scheme version words = refl
 answer_reacts (call.Sync s v p) c scheme version words = refl
@@ -170,9 +176,11 @@ answer_reacts (call.Ask i s v m) c scheme version words = answered_reacts c.know
 answer_reacts (call.Edit i b) c scheme version words = refl
 answer_reacts call.Publish c scheme version words = refl
 
-staled_reacts : (known : Option ServerInfo) (dropped c : ClientState) (asked version count : ℕ) → reacted (staled known dropped c asked version count) ≡ after_asked_stale known (outline dropped) (outline c) asked version count
+staled_reacts : (known : Option ServerInfo) (dropped c : ClientState) (asked version count : ℕ) →
+    reacted (staled known dropped c asked version count) ≡ after_asked_stale known (outline dropped) (outline c) asked version count
 staled_reacts None dropped c asked version count = refl
-staled_reacts (Some k) dropped c asked version count = either (not (version == asked) && (nat_lt 0 version && is_layout (with_count k.layout count))) _ _ _ _ refl refl
+staled_reacts (Some k) dropped c asked version count =
+    either (not (version == asked) && (nat_lt 0 version && is_layout (with_count k.layout count))) _ _ _ _ refl refl
 
 stale_reacts : (k : Call) (c : ClientState) (version count : ℕ) → reacted (takes_stale k c version count) ≡ after_stale (awaited k) (outline c) version count
 stale_reacts call.Idle c version count = refl
@@ -199,7 +207,8 @@ refused_reacts (call.Edit i b) c code = refl
 refused_reacts call.Publish c code = refl
 
 reply_reacts : (c : ClientState) (f : Frame) → reacted (reaction_to_reply c f) ≡ after_reply (outline c) (blank_reply f)
-reply_reacts c (frame.Welcome profile width record_len groups count version dimension seed) = welcome_reacts c.call c profile (shape width record_len groups count) dimension version seed
+reply_reacts c (frame.Welcome profile width record_len groups count version dimension seed) =
+    welcome_reacts c.call c profile (shape width record_len groups count) dimension version seed
 reply_reacts c (frame.HintPart scheme version part words) = part_reacts c.call c scheme version part words
 reply_reacts c (frame.Answer scheme version words) = answer_reacts c.call c scheme version words
 reply_reacts c (frame.Stale version count) = stale_reacts c.call c version count
@@ -231,7 +240,8 @@ shapes_are c (h ∷ hs) whole =
     ∙ ap (λ (x : List FrameShape). shapes_at (outline c) (blank h) ++ x) (shapes_are (after c h) hs whole.1)
     ∙ ap (λ (x : Outline). shapes_at (outline c) (blank h) ++ shapes x (map blank hs)) (outline_is c h)
 
-same_shapes : (c d : ClientState) (hs gs : List Happening) → AllByRecursion KeyIsWhole hs → AllByRecursion KeyIsWhole gs → outline c ≡ outline d → map blank hs ≡ map blank gs
+same_shapes : (c d : ClientState) (hs gs : List Happening) → AllByRecursion KeyIsWhole hs → AllByRecursion KeyIsWhole gs → outline c ≡ outline d →
+    map blank hs ≡ map blank gs
     → map shape_of (frames c hs) ≡ map shape_of (frames d gs)
 same_shapes c d hs gs whole whole2 alike same =
     shapes_are c hs whole
@@ -254,7 +264,9 @@ ready (Some k) (Some h) = h.version == k.version
 refused : BlankCall → Outline → Option CallFault
 refused BlankHello x = if x.failed then Some Failed else (if is_some x.known then Some AlreadyWelcome else (if no_reply x.call then None else Some Busy))
 refused BlankAsk x =
-    if x.failed then Some Failed else (if ready x.known x.hint then (if no_reply x.call then (if nat_lt x.number (2 ^ 62) then None else Some SeedUsedUp) else Some Busy) else Some NotReady)
+    if x.failed then Some Failed
+        else (if ready x.known x.hint then (if no_reply x.call then (if nat_lt x.number (2 ^ 62) then None else Some SeedUsedUp) else Some Busy)
+        else Some NotReady)
 refused _ x = if x.failed then Some Failed else (if is_some x.known then (if no_reply x.call then None else Some Busy) else Some NotReady)
 
 idle_same : (k : Call) → is_idle k ≡ no_reply (awaited k)
@@ -280,7 +292,8 @@ refused_same c (Ask i) below = rw (lt-ltb i (known_count c.known) below, idle_sa
 refused_same c (Edit i bytes) below = rw (idle_same c.call) refl
 refused_same c Publish below = rw (idle_same c.call) refl
 
-same_refusal : (c d : ClientState) (want other : Want) → IndexIsBelow want c → IndexIsBelow other d → outline c ≡ outline d → blank_call want ≡ blank_call other → refusal want c ≡ refusal other d
+same_refusal : (c d : ClientState) (want other : Want) → IndexIsBelow want c → IndexIsBelow other d → outline c ≡ outline d →
+    blank_call want ≡ blank_call other → refusal want c ≡ refusal other d
 same_refusal c d want other below below2 alike same =
     refused_same c want below
     ∙ ap (λ (x : Outline). refused (blank_call want) x) alike

@@ -26,8 +26,10 @@ Ends _ _ = ⊥
 
 -- the first event of what a client is fed is one that its call can end with
 abbrev pub FirstEventEndsTheCall : Type 0
-FirstEventEndsTheCall = (old new : Client) (piece out : List ℕ) (event : Event) (later : List Event) (fault : Option ClientFault) → FeedsClient old piece out (event ∷ later) fault new → Ends old.state.call event
+FirstEventEndsTheCall = (old new : Client) (piece out : List ℕ) (event : Event) (later : List Event) (fault : Option ClientFault) →
+    FeedsClient old piece out (event ∷ later) fault new → Ends old.state.call event
 
 -- what a client is fed spends none of its numbers
 abbrev pub FeedingSpendsNoNumber : Type 0
-FeedingSpendsNoNumber = (old new : Client) (piece out : List ℕ) (events : List Event) (fault : Option ClientFault) → FeedsClient old piece out events fault new → new.state.number ≡ old.state.number
+FeedingSpendsNoNumber = (old new : Client) (piece out : List ℕ) (events : List Event) (fault : Option ClientFault) →
+    FeedsClient old piece out events fault new → new.state.number ≡ old.state.number

@@ -95,7 +95,8 @@ pub record Follows (k : Course) (out : List ℕ) (events : List Event) (fault : 
   pub state : new ≡ k.state
 
 -- memory was refused at a frame: what was given is that of the frames before it, and no number was spent
-pub record BreaksOff (c : ClientState) (frames : List Frame) (out : List ℕ) (events : List Event) (fault : Option ClientFault) (new : ClientState) : Type 0 where
+pub record BreaksOff (c : ClientState) (frames : List Frame) (out : List ℕ) (events : List Event) (fault : Option ClientFault)
+    (new : ClientState) : Type 0 where
   pub n : ℕ
   pub inside : n < length frames
   pub good : (takes_all c (take n frames)).fault ≡ None

@@ -49,7 +49,8 @@ numbers c (h ∷ hs) = numbers_at c h ++ numbers (after c h) hs
 
 -- they grow, whatever happens: no number is used twice, and none below the first
 pub record NoNumberTwice : Type 0 where
-  pub grows : (c : ClientState) (hs : List Happening) (i j : ℕ) → i < j → j < length (numbers c hs) → slice_index (numbers c hs) i < slice_index (numbers c hs) j
+  pub grows : (c : ClientState) (hs : List Happening) (i j : ℕ) → i < j → j < length (numbers c hs) →
+      slice_index (numbers c hs) i < slice_index (numbers c hs) j
   pub fresh : (c : ClientState) (hs : List Happening) (i : ℕ) → i < length (numbers c hs) → c.number ≤ slice_index (numbers c hs) i
 
 -- the replies are parts j, j + 1, .. of a version's hint, and these are their words, one after another
@@ -76,7 +77,8 @@ pub record IsMadeOfParts (c : ClientState) (s : Scheme) (k : ServerInfo) (v vers
 
 -- so it is after every sync
 abbrev pub SyncedHintIsMadeOfParts : Type 0
-SyncedHintIsMadeOfParts = (c : ClientState) (s : Scheme) (k : ServerInfo) (v version : ℕ) (replies : List Frame) → IsSyncedBy c s k v version replies → IsMadeOfParts c s k v version replies
+SyncedHintIsMadeOfParts = (c : ClientState) (s : Scheme) (k : ServerInfo) (v version : ℕ) (replies : List Frame) → IsSyncedBy c s k v version replies →
+    IsMadeOfParts c s k v version replies
 
 -- each reply is a part of these words, from part j on
 abbrev pub ArePartsOf : Scheme → List ℕ → ℕ → ℕ → List Frame → Type 0
@@ -86,5 +88,6 @@ ArePartsOf s whole v j (f ∷ fs) = (f ≡ frame.HintPart (scheme_byte s) v j (p
 -- where the parts are those of a hint, the hint held is that hint
 abbrev pub PartsOfAHintMakeIt : Type 0
 PartsOfAHintMakeIt = (c : ClientState) (s : Scheme) (k : ServerInfo) (v version : ℕ) (replies : List Frame) (hint : WordMatrix) →
-    IsSyncedBy c s k v version replies → hint.rows ≡ hint_rows s k.layout k.dimension → hint.cols ≡ k.dimension → IsWhole hint → ArePartsOf s hint.words v 0 replies →
+    IsSyncedBy c s k v version replies → hint.rows ≡ hint_rows s k.layout k.dimension → hint.cols ≡ k.dimension → IsWhole hint →
+        ArePartsOf s hint.words v 0 replies →
     (takes_all c replies).state.hint ≡ Some (record { scheme = s; version = v; matrix = hint })

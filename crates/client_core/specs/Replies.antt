@@ -38,7 +38,8 @@ ended c e = record { state = record c { call = Idle }; reaction = Reports e }
 
 -- a Welcome that a client accepts: the plan's profile, a layout and a dimension within the limits, a version
 abbrev pub is_welcome : ℕ → Shape → ℕ → ℕ → Bool
-is_welcome profile l dimension version = (profile == profile_of (plan_of l dimension [])) && (is_layout l && ((nat_le 1 dimension && nat_le dimension 1024) && nat_lt 0 version))
+is_welcome profile l dimension version =
+    (profile == profile_of (plan_of l dimension [])) && (is_layout l && ((nat_le 1 dimension && nat_le dimension 1024) && nat_lt 0 version))
 
 -- what it tells is known from then on
 abbrev pub welcomed : ClientState → ℕ → Shape → ℕ → ℕ → List ℕ → Taken
@@ -150,7 +151,8 @@ takes_refused _ c code = ended c (Refused code)
 
 -- what a frame leads to; the kinds that no reply has, and those that answer no call yet, are bad
 abbrev pub reaction_to_reply : ClientState → Frame → Taken
-reaction_to_reply c (frame.Welcome profile width record_len groups count version dimension seed) = takes_welcome c.call c profile (shape width record_len groups count) dimension version seed
+reaction_to_reply c (frame.Welcome profile width record_len groups count version dimension seed) =
+    takes_welcome c.call c profile (shape width record_len groups count) dimension version seed
 reaction_to_reply c (frame.HintPart scheme version part words) = takes_part c.call c scheme version part words
 reaction_to_reply c (frame.Answer scheme version words) = takes_answer c.call c scheme version words
 reaction_to_reply c (frame.Stale version count) = takes_stale c.call c version count

@@ -83,7 +83,8 @@ pub data BlankReply : Type 0 where
 
 -- a reply without its words
 abbrev pub blank_reply : Frame → BlankReply
-blank_reply (frame.Welcome profile width record_len groups count version dimension seed) = BlankWelcome profile (shape width record_len groups count) dimension version seed
+blank_reply (frame.Welcome profile width record_len groups count version dimension seed) =
+    BlankWelcome profile (shape width record_len groups count) dimension version seed
 blank_reply (frame.HintPart scheme version part words) = BlankPart scheme version part (length words)
 blank_reply (frame.Answer scheme version words) = BlankAnswer scheme version (length words)
 blank_reply (frame.Stale version count) = BlankStale version count

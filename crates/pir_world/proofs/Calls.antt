@@ -61,13 +61,16 @@ else_none : {A : Type 0} (b : Bool) (x : A) (y : Option A) → (if b then Some x
 else_none true x y e = absurd cc
 else_none false x y e = (refl, e)
 
-idle_phase : (x : Setting) (h : History) (st : Standing) (seed : List ℕ) (c : ClientState) (call : Call) (up down : List Frame) → call ≡ Idle → Phase x h st seed c call up down → (up ≡ []) × (down ≡ [])
+idle_phase : (x : Setting) (h : History) (st : Standing) (seed : List ℕ) (c : ClientState) (call : Call) (up down : List Frame) → call ≡ Idle →
+    Phase x h st seed c call up down → (up ≡ []) × (down ≡ [])
 idle_phase x h st seed c call up down e p = let P : Call → Type 0 = λ y. Phase x h st seed c y up down in subst P e p
 
-flight : (x : Setting) (h : History) (st : Standing) (seed : List ℕ) (c : ClientState) (call : Call) (up down : List Frame) → (up ≡ []) × (down ≡ []) → InFlight x h st seed c call (up ++ call_frame c call ∷ []) down
+flight : (x : Setting) (h : History) (st : Standing) (seed : List ℕ) (c : ClientState) (call : Call) (up down : List Frame) → (up ≡ []) × (down ≡ []) →
+    InFlight x h st seed c call (up ++ call_frame c call ∷ []) down
 flight x h st seed c call up down p = inl (rw p.0 refl, p.1)
 
-first_parts : (x : Setting) (h : History) (st : Standing) (s : Scheme) (k : Option ServerInfo) → GoodHistory x h → KnownIs x h st k → is_some k ≡ true → SyncIs x h s (known_version k) 0 k []
+first_parts : (x : Setting) (h : History) (st : Standing) (s : Scheme) (k : Option ServerInfo) → GoodHistory x h → KnownIs x h st k → is_some k ≡ true →
+    SyncIs x h s (known_version k) 0 k []
 first_parts x h st s None g k e = absurd cc
 first_parts x h st s (Some y) g k e = record {
   k = y;
@@ -95,7 +98,8 @@ module _ (x : Setting) (h : History) (seed : List ℕ) (l : Link) (g : GoodHisto
         known = i.known;
         hint = i.hint;
         call = refl;
-        phase = flight x h l.standing seed (state_after_call (want_hello reader_key) l.client) (Hello reader_key) l.up.frames l.down.frames (nothing_waits (idle_is l.client.call d.0));
+        phase = flight x h l.standing seed (state_after_call (want_hello reader_key) l.client) (Hello reader_key) l.up.frames l.down.frames
+            (nothing_waits (idle_is l.client.call d.0));
       }
 
   pub called_sync : (scheme : Scheme) → refusal (want_sync scheme) l.client ≡ None → LinkInv x h seed (link_called (want_sync scheme) l)
@@ -110,7 +114,8 @@ module _ (x : Setting) (h : History) (seed : List ℕ) (l : Link) (g : GoodHisto
         known = i.known;
         hint = tt;
         call = first_parts x h l.standing scheme l.client.known g i.known b.0;
-        phase = flight x h l.standing seed (state_after_call (want_sync scheme) l.client) (Sync scheme (known_version l.client.known) 0) l.up.frames l.down.frames (nothing_waits (idle_is l.client.call d.0));
+        phase = flight x h l.standing seed (state_after_call (want_sync scheme) l.client)
+            (Sync scheme (known_version l.client.known) 0) l.up.frames l.down.frames (nothing_waits (idle_is l.client.call d.0));
       }
 
   pub called_ask : (j : ℕ) → refusal (want_ask j) l.client ≡ None → LinkInv x h seed (link_called (want_ask j) l)
@@ -138,7 +143,9 @@ module _ (x : Setting) (h : History) (seed : List ℕ) (l : Link) (g : GoodHisto
           scheme_is = sym (ap scheme_held r.hint_is);
           version_is = r.version_is ∙ sym version;
         };
-        phase = flight x h l.standing seed (state_after_call (want_ask j) l.client) (Ask j (scheme_held l.client.hint) (known_version l.client.known) l.client.number) l.up.frames l.down.frames (nothing_waits (idle_is l.client.call d.0));
+        phase = flight x h l.standing seed (state_after_call (want_ask j) l.client)
+            (Ask j (scheme_held l.client.hint) (known_version l.client.known) l.client.number) l.up.frames l.down.frames
+            (nothing_waits (idle_is l.client.call d.0));
       }
 
 -- ---- a delivery to the client
@@ -147,17 +154,20 @@ pub record ReportedLink (x : Setting) (seeds : List (List ℕ)) (h : History) (k
   pub link : LinkInv x h (seed_of seeds k) l
   pub right : AllByRecursion (IsRight x seeds h) es
 
-module _ (law : RetrievalGivesTheRecord) (x : Setting) (seeds : List (List ℕ)) (k : ℕ) (h : History) (l : Link) (g : GoodHistory x h) (i : LinkInv x h (seed_of seeds k) l) where
+module _ (law : RetrievalGivesTheRecord) (x : Setting) (seeds : List (List ℕ)) (k : ℕ) (h : History) (l : Link) (g : GoodHistory x h)
+    (i : LinkInv x h (seed_of seeds k) l) where
   client_inv : ClientInv x h (seed_of seeds k) l.standing l.client
   client_inv = record { seed_is = i.seed_is; alive = i.alive; known = i.known; hint = i.hint; call = i.call }
 
   -- the link where these replies arrive and this is after them
   abbrev with_replies : List Frame → Wire → Link
-  with_replies fs b = record { client = (takes_all l.client fs).state; standing = l.standing; up = record { frames = l.up.frames ++ (takes_all l.client fs).sends; got = l.up.got }; down = b }
+  with_replies fs b = record { client = (takes_all l.client fs).state; standing = l.standing; up =
+      record { frames = l.up.frames ++ (takes_all l.client fs).sends; got = l.up.got }; down = b }
 
   no_reply : (fs : List Frame) (b : Wire) → fs ≡ [] → b.frames ≡ l.down.frames → ReportedLink x seeds h k (with_replies fs b) (reported_by k l.client fs)
   no_reply fs b e d = rw e (record {
-    link = record { seed_is = i.seed_is; alive = i.alive; unclosed = i.unclosed; known = i.known; hint = i.hint; call = i.call; phase = rw (append-nil, d) i.phase };
+    link = record { seed_is = i.seed_is; alive = i.alive; unclosed = i.unclosed; known = i.known; hint = i.hint; call = i.call; phase =
+        rw (append-nil, d) i.phase };
     right = tt;
   })
 
@@ -165,26 +175,32 @@ module _ (law : RetrievalGivesTheRecord) (x : Setting) (seeds : List (List ℕ))
   abbrev reported_one : Frame → List Entry
   reported_one r = reported_by k l.client (r ∷ [])
 
-  reported_one_is : (r : Frame) → fault_of (reaction_to_reply l.client r).reaction ≡ None → reported_one r ≡ reacts k l.client.call r (reaction_to_reply l.client r).reaction
+  reported_one_is : (r : Frame) → fault_of (reaction_to_reply l.client r).reaction ≡ None →
+      reported_one r ≡ reacts k l.client.call r (reaction_to_reply l.client r).reaction
   reported_one_is r e = ap (λ (b : Bool). reacts k l.client.call r (reaction_to_reply l.client r).reaction ++ cond b [] []) (ap is_some e) ∙ append-nil _
 
-  one_reply : (fs : List Frame) (b : Wire) (r : Frame) → fs ≡ r ∷ [] → b.frames ≡ [] → l.up.frames ≡ [] → IsReply x h l.standing (seed_of seeds k) l.client.call r
+  one_reply : (fs : List Frame) (b : Wire) (r : Frame) → fs ≡ r ∷ [] → b.frames ≡ [] → l.up.frames ≡ [] →
+      IsReply x h l.standing (seed_of seeds k) l.client.call r
       → ReportedLink x seeds h k (with_replies fs b) (reported_by k l.client fs)
   one_reply fs b r e d u p =
       let t = taken law x seeds k h l.standing l.client g client_inv r p in
       rw e (record {
-        link = record { seed_is = t.client.seed_is; alive = t.client.alive; unclosed = i.unclosed; known = t.client.known; hint = t.client.hint; call = t.client.call; phase = rw (u, d) t.phase };
+        link = record { seed_is = t.client.seed_is; alive = t.client.alive; unclosed = i.unclosed; known = t.client.known; hint = t.client.hint; call =
+            t.client.call; phase = rw (u, d) t.phase };
         right = subst (λ (es : List Entry). AllByRecursion (IsRight x seeds h) es) (sym (reported_one_is r t.no_fault)) t.right;
       })
 
-  reported_flight : (most : ℕ) (call : Call) → call ≡ l.client.call → InFlight x h l.standing (seed_of seeds k) l.client call l.up.frames l.down.frames → ReportedLink x seeds h k (link_reported most l) (reported_by k l.client (arrived l.down most))
+  reported_flight : (most : ℕ) (call : Call) → call ≡ l.client.call → InFlight x h l.standing (seed_of seeds k) l.client call l.up.frames l.down.frames →
+      ReportedLink x seeds h k (link_reported most l) (reported_by k l.client (arrived l.down most))
   reported_flight most call e (inl p) = let a = none_arrives l.down most p.1 in no_reply (arrived l.down most) (beyond l.down most) a.0 (a.1 ∙ sym p.1)
   reported_flight most call e (inr p) = elim (one_arrives l.down most p.1.0 p.1.1) [
     | inl a ↦ no_reply (arrived l.down most) (beyond l.down most) a.0 (a.1 ∙ sym p.1.1)
-    | inr a ↦ one_reply (arrived l.down most) (beyond l.down most) p.1.0 a.0 a.1 p.0 (subst (λ (y : Call). IsReply x h l.standing (seed_of seeds k) y p.1.0) e p.1.2)
+    | inr a ↦ one_reply (arrived l.down most) (beyond l.down most) p.1.0 a.0 a.1 p.0
+        (subst (λ (y : Call). IsReply x h l.standing (seed_of seeds k) y p.1.0) e p.1.2)
   ]
 
-  reported_phase : (most : ℕ) (call : Call) → call ≡ l.client.call → Phase x h l.standing (seed_of seeds k) l.client call l.up.frames l.down.frames → ReportedLink x seeds h k (link_reported most l) (reported_by k l.client (arrived l.down most))
+  reported_phase : (most : ℕ) (call : Call) → call ≡ l.client.call → Phase x h l.standing (seed_of seeds k) l.client call l.up.frames l.down.frames →
+      ReportedLink x seeds h k (link_reported most l) (reported_by k l.client (arrived l.down most))
   reported_phase most Idle e p = let a = none_arrives l.down most p.1 in no_reply (arrived l.down most) (beyond l.down most) a.0 (a.1 ∙ sym p.1)
   reported_phase most (Hello key) e p = reported_flight most (Hello key) e p
   reported_phase most (Sync scheme v q) e p = reported_flight most (Sync scheme v q) e p
@@ -196,14 +212,16 @@ module _ (law : RetrievalGivesTheRecord) (x : Setting) (seeds : List (List ℕ))
   reported_inv most = reported_phase most l.client.call refl i.phase
 
   -- no prefix of the replies on their way makes a fault
-  prefix_flight : (call : Call) (fs more : List Frame) → call ≡ l.client.call → Split l.down.frames fs more → InFlight x h l.standing (seed_of seeds k) l.client call l.up.frames l.down.frames → (takes_all l.client fs).fault ≡ None
+  prefix_flight : (call : Call) (fs more : List Frame) → call ≡ l.client.call → Split l.down.frames fs more →
+      InFlight x h l.standing (seed_of seeds k) l.client call l.up.frames l.down.frames → (takes_all l.client fs).fault ≡ None
   prefix_flight call fs more e (inl a) p = rw a.0 refl
   prefix_flight call fs more e (inr a) (inl p) = rw (a.0 ∙ p.1) refl
   prefix_flight call fs more e (inr a) (inr p) =
       let t = taken law x seeds k h l.standing l.client g client_inv p.1.0 (subst (λ (y : Call). IsReply x h l.standing (seed_of seeds k) y p.1.0) e p.1.2) in
       rw (a.0 ∙ p.1.1) t.no_fault
 
-  prefix_phase : (call : Call) (fs more : List Frame) → call ≡ l.client.call → Split l.down.frames fs more → Phase x h l.standing (seed_of seeds k) l.client call l.up.frames l.down.frames → (takes_all l.client fs).fault ≡ None
+  prefix_phase : (call : Call) (fs more : List Frame) → call ≡ l.client.call → Split l.down.frames fs more →
+      Phase x h l.standing (seed_of seeds k) l.client call l.up.frames l.down.frames → (takes_all l.client fs).fault ≡ None
   prefix_phase Idle fs more e (inl a) p = rw a.0 refl
   prefix_phase Idle fs more e (inr a) p = rw (a.0 ∙ p.1) refl
   prefix_phase (Hello key) fs more e a p = prefix_flight (Hello key) fs more e a p
@@ -226,11 +244,13 @@ known_then : (x : Setting) (h : History) (st st2 : Standing) (k : Option ServerI
 known_then x h st st2 None f k = tt
 known_then x h st st2 (Some y) f k = (f k.0, k.1)
 
-few_flight : (x : Setting) (h : History) (st : Standing) (seed : List ℕ) (c : ClientState) (call : Call) (up down : List Frame) → InFlight x h st seed c call up down → IsFew up × IsFew down
+few_flight : (x : Setting) (h : History) (st : Standing) (seed : List ℕ) (c : ClientState) (call : Call) (up down : List Frame) →
+    InFlight x h st seed c call up down → IsFew up × IsFew down
 few_flight x h st seed c call up down (inl p) = (inr (call_frame c call, p.0), inl p.1)
 few_flight x h st seed c call up down (inr p) = (inl p.0, inr (p.1.0, p.1.1))
 
-pub few_frames : (x : Setting) (h : History) (st : Standing) (seed : List ℕ) (c : ClientState) (call : Call) (up down : List Frame) → Phase x h st seed c call up down → IsFew up × IsFew down
+pub few_frames : (x : Setting) (h : History) (st : Standing) (seed : List ℕ) (c : ClientState) (call : Call) (up down : List Frame) →
+    Phase x h st seed c call up down → IsFew up × IsFew down
 few_frames x h st seed c Idle up down p = (inl p.0, inl p.1)
 few_frames x h st seed c (Hello key) up down p = few_flight x h st seed c (Hello key) up down p
 few_frames x h st seed c (Sync scheme v q) up down p = few_flight x h st seed c (Sync scheme v q) up down p
@@ -242,9 +262,11 @@ pub served_inv : (short : Bool) (most : ℕ) (x : Setting) (seeds : List (List �
     → ServedInv x seeds h seed (link_served x short k most h l) (turn_of x short k most h l).history (turn_of x short k most h l).log
 served_inv short most x seeds k h seed l i =
     let few = few_frames x h l.standing seed l.client l.client.call l.up.frames l.down.frames i.phase in
-    let s = served_link x seeds k h seed l.standing l.client short l.client.call l.up.frames (arrived l.up most) (beyond l.up most).frames l.down.frames (split_few l.up most few.0) i.unclosed i.seed_is i.known i.hint i.call i.phase in
+    let s = served_link x seeds k h seed l.standing l.client short l.client.call l.up.frames (arrived l.up most) (beyond l.up most).frames l.down.frames
+        (split_few l.up most few.0) i.unclosed i.seed_is i.known i.hint i.call i.phase in
     record {
-      link = record { seed_is = i.seed_is; alive = i.alive; unclosed = s.unclosed; known = known_then x h l.standing _ l.client.known s.reader i.known; hint = i.hint; call = i.call; phase = s.phase };
+      link = record { seed_is = i.seed_is; alive = i.alive; unclosed = s.unclosed; known = known_then x h l.standing _ l.client.known s.reader i.known; hint =
+          i.hint; call = i.call; phase = s.phase };
       history_is = s.history_is;
       right = s.right;
     }

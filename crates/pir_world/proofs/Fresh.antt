@@ -51,14 +51,17 @@ module _ (x : Setting) (seeds : List (List ℕ)) (h : History) where
   all_up_to (e ∷ es) p = (entry_up_to e p.0, all_up_to es p.1)
 
 -- of at most one frame
-one_fresh : (x : Setting) (short : Bool) (k : ℕ) (h : History) (st : Standing) (log : List Entry) (fs : List Frame) → IsFew fs → AllByRecursion (ReportedUpTo (current_version h)) log → AllByRecursion (IsFresh h log) (serves x short k h st fs).log
+one_fresh : (x : Setting) (short : Bool) (k : ℕ) (h : History) (st : Standing) (log : List Entry) (fs : List Frame) → IsFew fs →
+    AllByRecursion (ReportedUpTo (current_version h)) log → AllByRecursion (IsFresh h log) (serves x short k h st fs).log
 one_fresh x short k h st log fs (inl e) reported = rw e tt
-one_fresh x short k h st log fs (inr p) reported = rw p.1 (cond_both (is_closed st) _ _ (λ (t : Turn). AllByRecursion (IsFresh h log) t.log) (λ c. tt) (λ c. ((refl, reported), tt)))
+one_fresh x short k h st log fs (inr p) reported =
+    rw p.1 (cond_both (is_closed st) _ _ (λ (t : Turn). AllByRecursion (IsFresh h log) t.log) (λ c. tt) (λ c. ((refl, reported), tt)))
 
 pub fresh : RetrievalGivesTheRecord → AnswersAreFresh
 fresh law h records seeds steps s o run short k most l at =
     let inv = run_inv law (setting_in h) seeds (opening h records seeds) steps s run (opening_inv h records seeds o) in
     let i = inv.links k l at in
     let few = (few_frames (setting_in h) s.history l.standing (seed_of seeds k) l.client l.client.call l.up.frames l.down.frames i.phase).0 in
-    one_fresh (setting_in h) short k s.history l.standing s.log (arrived l.up most) (few_of_split l.up.frames (arrived l.up most) (beyond l.up most).frames few (split_few l.up most few))
+    one_fresh (setting_in h) short k s.history l.standing s.log (arrived l.up most)
+        (few_of_split l.up.frames (arrived l.up most) (beyond l.up most).frames few (split_few l.up most few))
     (all_up_to (setting_in h) seeds s.history s.log inv.entries)

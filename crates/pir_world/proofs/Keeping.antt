@@ -26,7 +26,8 @@ use Rattle.pir_world.proofs.Told.{Logged, logged_hello, logged_sync, logged_ask,
 
 module _ (x : Setting) (seeds : List (List ℕ)) (s : State) (inv : Inv x seeds s) where
   -- a client's link is replaced
-  at_one : (k : ℕ) (l m : Link) (h : History) (es : List Entry) → slice_get s.links k ≡ Some l → h ≡ s.history → LinkInv x s.history (seed_of seeds k) m → AllByRecursion (IsRight x seeds s.history) es
+  at_one : (k : ℕ) (l m : Link) (h : History) (es : List Entry) → slice_get s.links k ≡ Some l → h ≡ s.history → LinkInv x s.history (seed_of seeds k) m →
+      AllByRecursion (IsRight x seeds s.history) es
       → Logged x seeds s.history k m s.log es → ((j : ℕ) → k ≢ j → AllByRecursion (IsAside j) es) → Inv x seeds (with_link s h k m es)
   at_one k l m h es at e i right logged aside = rw e (record {
     history = inv.history;
@@ -54,7 +55,8 @@ module _ (x : Setting) (seeds : List (List ℕ)) (s : State) (inv : Inv x seeds 
   at_history h o g later right aside early = record {
     history = g;
     links = λ j y f. link_later x s.history h later (seed_of seeds j) y (inv.links j y f);
-    logs = λ j y f. log_aside x h (seed_of seeds j) j y s.log (Plain o ∷ []) (log_later x s.history h later (seed_of seeds j) j y s.log (inv.logs j y f)) (aside j, tt);
+    logs = λ j y f. log_aside x h (seed_of seeds j) j y s.log (Plain o ∷ []) (log_later x s.history h later (seed_of seeds j) j y s.log (inv.logs j y f))
+        (aside j, tt);
     entries = all_append (IsRight x seeds h) s.log (Plain o ∷ []) (entries_later x s.history h later seeds s.log inv.entries) (right, tt);
     earlier = each_more (HasEarlier x seeds h) [] s.log (Plain o ∷ []) (each_later x s.history h later seeds [] s.log inv.earlier) (early, tt);
   }
@@ -74,7 +76,8 @@ module _ (x : Setting) (seeds : List (List ℕ)) (s : State) (inv : Inv x seeds 
   call_inv k w l None at e called = let c = called e in at_one k l (link_called w l) s.history _ at refl c.0 (tt, (tt, tt)) c.1 (λ j ne. (ne, (ne, tt)))
 
   called_inv : (w : Want) (k : ℕ) (o : Option Link) → slice_get s.links k ≡ o
-      → ((l : Link) → LinkInv x s.history (seed_of seeds k) l → LogInv x s.history (seed_of seeds k) k l s.log → refusal w l.client ≡ None → Accepted k w l) → Inv x seeds (called_at s w k o)
+      → ((l : Link) → LinkInv x s.history (seed_of seeds k) l → LogInv x s.history (seed_of seeds k) k l s.log → refusal w l.client ≡ None → Accepted k w l) →
+          Inv x seeds (called_at s w k o)
   called_inv w k None at called = inv
   called_inv w k (Some l) at called = call_inv k w l (refusal w l.client) at refl (called l (inv.links k l at) (inv.logs k l at))
 
@@ -82,21 +85,25 @@ module _ (x : Setting) (seeds : List (List ℕ)) (s : State) (inv : Inv x seeds 
   served_at_inv short k most None at = inv
   served_at_inv short k most (Some l) at =
       let d = served_inv short most x seeds k s.history (seed_of seeds k) l (inv.links k l at) in
-      at_one k l (link_served x short k most s.history l) (turn_of x short k most s.history l).history (turn_of x short k most s.history l).log at d.history_is d.link d.right
-      (logged_served x seeds s.history k l s.log (inv.logs k l at) short most (inv.links k l at)) (λ j ne. served_asides j k ne x short _ (arrived l.up most) tt)
+      at_one k l (link_served x short k most s.history l) (turn_of x short k most s.history l).history
+          (turn_of x short k most s.history l).log at d.history_is d.link d.right
+      (logged_served x seeds s.history k l s.log (inv.logs k l at) short most (inv.links k l at))
+          (λ j ne. served_asides j k ne x short _ (arrived l.up most) tt)
 
   reported_at_inv : RetrievalGivesTheRecord → (k most : ℕ) (o : Option Link) → slice_get s.links k ≡ o → Inv x seeds (reported_at s k most o)
   reported_at_inv law k most None at = inv
   reported_at_inv law k most (Some l) at =
       let d = reported_inv law x seeds k s.history l inv.history (inv.links k l at) most in
       at_one k l (link_reported most l) s.history (reported_by k l.client (arrived l.down most)) at refl d.link d.right
-      (logged_reported x seeds s.history k l s.log (inv.logs k l at) law inv.history most (inv.links k l at)) (λ j ne. reported_aside j k ne l.client (arrived l.down most))
+      (logged_reported x seeds s.history k l s.log (inv.logs k l at) law inv.history most (inv.links k l at))
+          (λ j ne. reported_aside j k ne l.client (arrived l.down most))
 
   edit_inv : (i : ℕ) (bytes : List ℕ) → All (λ b. b < 2 ^ 8) bytes → Inv x seeds (edit_after x s i bytes)
   edit_inv i bytes small =
       cond_both (nat_lt i (length s.history.draft)) _ _ (λ t. Inv x seeds t)
       (λ t. cond_both (fits x.plan bytes) _ _ (λ t. Inv x seeds t)
-      (λ u. at_history (after_edit i bytes s.history) (Edited i) (good_edited x s.history i bytes (record { len = eqb-true _ _ u; each = small }) inv.history) (λ v records p. p) tt (λ j. tt) tt)
+      (λ u. at_history (after_edit i bytes s.history) (Edited i) (good_edited x s.history i bytes (record { len = eqb-true _ _ u; each = small }) inv.history)
+          (λ v records p. p) tt (λ j. tt) tt)
       (λ u. at_history s.history (EditRefused i _) inv.history (same_history s.history) tt (λ j. tt) tt))
       (λ t. at_history s.history (EditRefused i _) inv.history (same_history s.history) tt (λ j. tt) tt)
 
@@ -105,7 +112,8 @@ module _ (x : Setting) (seeds : List (List ℕ)) (s : State) (inv : Inv x seeds 
       cond_both s.history.marked _ _ (λ t. Inv x seeds t)
       (λ t. cond_both (current_version s.history + 1 == 2 ^ 64) _ _ (λ t. Inv x seeds t)
       (λ u. at_history s.history (PublishRefused _) inv.history (same_history s.history) tt (λ j. tt) tt)
-      (λ u. at_history (published s.history) (Published (current_version s.history + 1)) (good_published x s.history inv.history) (later_published s.history) (new_version s.history) (λ j. tt) tt))
+      (λ u. at_history (published s.history) (Published (current_version s.history + 1)) (good_published x s.history inv.history) (later_published s.history)
+          (new_version s.history) (λ j. tt) tt))
       (λ t. at_history s.history (PublishRefused _) inv.history (same_history s.history) tt (λ j. tt) tt)
     where
       new_version : (h : History) → IsRightOutcome (published h) (Published (current_version h + 1))
@@ -114,21 +122,30 @@ module _ (x : Setting) (seeds : List (List ℕ)) (s : State) (inv : Inv x seeds 
   pub after_inv : RetrievalGivesTheRecord → (short : Bool) (step : Step) → FitsStep step → Inv x seeds (after x short s step)
   after_inv law short (Edit i bytes) small = edit_inv i bytes small
   after_inv law short Publish small = publish_inv
-  after_inv law short (Hello k) small = called_inv (want_hello reader_key) k (slice_get s.links k) refl (λ l i g e. let n = called_hello x s.history (seed_of seeds k) l inv.history i e in (n, logged_hello x seeds s.history k l s.log g n))
-  after_inv law short (Sync k scheme) small = called_inv (want_sync scheme) k (slice_get s.links k) refl (λ l i g e. let n = called_sync x s.history (seed_of seeds k) l inv.history i scheme e in (n, logged_sync x seeds s.history k l s.log g scheme n))
-  after_inv law short (Ask k j) small = called_inv (want_ask j) k (slice_get s.links k) refl (λ l i g e. let n = called_ask x s.history (seed_of seeds k) l inv.history i j e in (n, logged_ask x seeds s.history k l s.log g j n))
+  after_inv law short (Hello k) small =
+      called_inv (want_hello reader_key) k (slice_get s.links k) refl (λ l i g e. let n = called_hello x s.history (seed_of seeds k) l inv.history i e in
+      (n, logged_hello x seeds s.history k l s.log g n))
+  after_inv law short (Sync k scheme) small =
+      called_inv (want_sync scheme) k (slice_get s.links k) refl (λ l i g e. let n = called_sync x s.history (seed_of seeds k) l inv.history i scheme e in
+      (n, logged_sync x seeds s.history k l s.log g scheme n))
+  after_inv law short (Ask k j) small =
+      called_inv (want_ask j) k (slice_get s.links k) refl (λ l i g e. let n = called_ask x s.history (seed_of seeds k) l inv.history i j e in
+      (n, logged_ask x seeds s.history k l s.log g j n))
   after_inv law short (ToServer k most) small = served_at_inv short k most (slice_get s.links k) refl
   after_inv law short (ToClient k most) small = reported_at_inv law k most (slice_get s.links k) refl
 
-pub step_inv : RetrievalGivesTheRecord → (x : Setting) (seeds : List (List ℕ)) (s : State) (step : Step) (t : State) → Steps x s step t → Inv x seeds s → Inv x seeds t
+pub step_inv : RetrievalGivesTheRecord → (x : Setting) (seeds : List (List ℕ)) (s : State) (step : Step) (t : State) → Steps x s step t → Inv x seeds s →
+    Inv x seeds t
 step_inv law x seeds s step t (f, inl e) inv = rw e (after_inv x seeds s inv law false step f)
 step_inv law x seeds s step t (f, inr e) inv = rw e (after_inv x seeds s inv law true step f)
 
-pub run_inv : RetrievalGivesTheRecord → (x : Setting) (seeds : List (List ℕ)) (s : State) (steps : List Step) (t : State) → Run x s steps t → Inv x seeds s → Inv x seeds t
+pub run_inv : RetrievalGivesTheRecord → (x : Setting) (seeds : List (List ℕ)) (s : State) (steps : List Step) (t : State) → Run x s steps t → Inv x seeds s →
+    Inv x seeds t
 run_inv law x seeds s [] t e inv = rw e inv
 run_inv law x seeds s (step ∷ steps) t r inv = run_inv law x seeds r.0 steps t r.2 (step_inv law x seeds s step r.0 r.1 inv)
 
-pub run_more : (x : Setting) (s : State) (steps : List Step) (t : State) (step : Step) (u : State) → Run x s steps t → Steps x t step u → Run x s (steps ++ step ∷ []) u
+pub run_more : (x : Setting) (s : State) (steps : List Step) (t : State) (step : Step) (u : State) → Run x s steps t → Steps x t step u →
+    Run x s (steps ++ step ∷ []) u
 run_more x s [] t step u e one = (u, subst (λ (a : State). Steps x a step u) e one, refl)
 run_more x s (y ∷ ys) t step u e one = (e.0, e.1, run_more x e.0 ys t step u e.2 one)
 

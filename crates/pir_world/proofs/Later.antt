@@ -80,22 +80,26 @@ good_published x h g = record {
 pub recount : (p : Plan) (n m : ℕ) (bytes : List ℕ) → IsRecord (shape_at p n) bytes → IsRecord (shape_at p m) bytes
 recount p n m bytes r = record { len = r.len; each = r.each }
 
-record_set : (p : Plan) (n : ℕ) (records : List (List ℕ)) (i j : ℕ) (bytes : List ℕ) → IsRecord (shape_at p n) bytes → IsRecord (shape_at p n) (record_at records j) → IsRecord (shape_at p n) (record_at (slice_set records i bytes) j)
+record_set : (p : Plan) (n : ℕ) (records : List (List ℕ)) (i j : ℕ) (bytes : List ℕ) → IsRecord (shape_at p n) bytes →
+    IsRecord (shape_at p n) (record_at records j) → IsRecord (shape_at p n) (record_at (slice_set records i bytes) j)
 record_set p n [] i j bytes new old = old
 record_set p n (r ∷ rs) zero zero bytes new old = new
 record_set p n (r ∷ rs) zero (suc j) bytes new old = old
 record_set p n (r ∷ rs) (suc i) zero bytes new old = old
 record_set p n (r ∷ rs) (suc i) (suc j) bytes new old = record_set p n rs i j bytes new old
 
-edited_records : (p : Plan) (records : List (List ℕ)) (i : ℕ) (bytes : List ℕ) → IsRecord (shape_at p (length records)) bytes → AreRecords p records → AreRecords p (slice_set records i bytes)
+edited_records : (p : Plan) (records : List (List ℕ)) (i : ℕ) (bytes : List ℕ) → IsRecord (shape_at p (length records)) bytes → AreRecords p records →
+    AreRecords p (slice_set records i bytes)
 edited_records p records i bytes fits r =
     let n = length-set records i bytes in
     record {
       plan = rw n r.plan;
-      each = λ j lt. recount p (length records) (length (slice_set records i bytes)) _ (record_set p (length records) records i j bytes fits (r.each j (omega (arith, lt, n))));
+      each = λ j lt. recount p (length records) (length (slice_set records i bytes)) _
+          (record_set p (length records) records i j bytes fits (r.each j (omega (arith, lt, n))));
     }
 
-pub good_edited : (x : Setting) (h : History) (i : ℕ) (bytes : List ℕ) → IsRecord (shape_at x.plan (length h.draft)) bytes → GoodHistory x h → GoodHistory x (after_edit i bytes h)
+pub good_edited : (x : Setting) (h : History) (i : ℕ) (bytes : List ℕ) → IsRecord (shape_at x.plan (length h.draft)) bytes → GoodHistory x h →
+    GoodHistory x (after_edit i bytes h)
 good_edited x h i bytes fits g = record {
   first = g.first;
   versions = λ v records p. g.versions v records p;
@@ -109,7 +113,8 @@ module _ (x : Setting) (h h2 : History) (later : IsLater h h2) where
   version_later v p = (p.0, later _ _ p.1)
 
   known_of_later : (y : ServerInfo) → IsKnownOf x h y → IsKnownOf x h2 y
-  known_of_later y k = record { records = k.records; version_is = later _ _ k.version_is; layout_is = k.layout_is; dimension_is = k.dimension_is; seed_is = k.seed_is }
+  known_of_later y k = record { records = k.records; version_is = later _ _ k.version_is; layout_is = k.layout_is; dimension_is = k.dimension_is; seed_is =
+      k.seed_is }
 
   known_later : (st : Standing) (k : Option ServerInfo) → KnownIs x h st k → KnownIs x h2 st k
   known_later st None k = tt
@@ -148,11 +153,13 @@ module _ (x : Setting) (h h2 : History) (later : IsLater h h2) where
   reply_later st seed (Edit i bytes) r q = q
   reply_later st seed Publish r q = q
 
-  flight_later : (st : Standing) (seed : List ℕ) (c : ClientState) (call : Call) (up down : List Frame) → InFlight x h st seed c call up down → InFlight x h2 st seed c call up down
+  flight_later : (st : Standing) (seed : List ℕ) (c : ClientState) (call : Call) (up down : List Frame) → InFlight x h st seed c call up down →
+      InFlight x h2 st seed c call up down
   flight_later st seed c call up down (inl p) = inl p
   flight_later st seed c call up down (inr p) = inr (p.0, (p.1.0, p.1.1, reply_later st seed call p.1.0 p.1.2))
 
-  phase_later : (st : Standing) (seed : List ℕ) (c : ClientState) (call : Call) (up down : List Frame) → Phase x h st seed c call up down → Phase x h2 st seed c call up down
+  phase_later : (st : Standing) (seed : List ℕ) (c : ClientState) (call : Call) (up down : List Frame) → Phase x h st seed c call up down →
+      Phase x h2 st seed c call up down
   phase_later st seed c Idle up down p = p
   phase_later st seed c (Hello key) up down p = flight_later st seed c (Hello key) up down p
   phase_later st seed c (Sync scheme v p) up down q = flight_later st seed c (Sync scheme v p) up down q
@@ -172,8 +179,12 @@ module _ (x : Setting) (h h2 : History) (later : IsLater h h2) where
   }
 
   end_later : (seed : List ℕ) (r : Retrieval) (reply : Frame) (e : Event) → IsRightEnd x h seed r reply e → IsRightEnd x h2 seed r reply e
-  end_later seed r reply e (inl a) = inl (record { records = a.records; version_is = later _ _ a.version_is; inside = a.inside; answer_is = a.answer_is; event_is = a.event_is; quiet = a.quiet; certain = a.certain })
-  end_later seed r reply e (inr (inl s)) = inr (inl (record { now = s.now; records = s.records; version_is = later _ _ s.version_is; later = s.later; reply_is = s.reply_is; event_is = s.event_is }))
+  end_later seed r reply e (inl a) =
+      inl (record { records = a.records; version_is = later _ _ a.version_is; inside = a.inside; answer_is = a.answer_is; event_is = a.event_is; quiet =
+      a.quiet; certain = a.certain })
+  end_later seed r reply e (inr (inl s)) =
+      inr (inl (record { now = s.now; records = s.records; version_is = later _ _ s.version_is; later = s.later; reply_is = s.reply_is; event_is =
+      s.event_is }))
   end_later seed r reply e (inr (inr p)) = inr (inr p)
 
   event_later : (e : Event) → IsRightEvent h e → IsRightEvent h2 e
@@ -194,7 +205,8 @@ module _ (x : Setting) (h h2 : History) (later : IsLater h h2) where
   outcome_later (PublishRefused fault) p = tt
   outcome_later (CallRefused k fault) p = tt
 
-  query_later : (scheme : Option Scheme) (version now : ℕ) (words : List ℕ) (reply : Option Frame) → IsRightQuery x h scheme version now words reply → IsRightQuery x h2 scheme version now words reply
+  query_later : (scheme : Option Scheme) (version now : ℕ) (words : List ℕ) (reply : Option Frame) → IsRightQuery x h scheme version now words reply →
+      IsRightQuery x h2 scheme version now words reply
   query_later None version now words reply p = p
   query_later (Some s) version now words reply p = record { records = p.records; version_is = later _ _ p.version_is; stale = p.stale; answered = p.answered }
 

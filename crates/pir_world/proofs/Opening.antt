@@ -41,7 +41,8 @@ link_of (s ∷ seeds) (suc k) l e = link_of seeds k l e
 opening_records : (h : Header) (bytes : List ℕ) → IsOpening h bytes → AreRecords (setting_in h).plan (records_in (shape_of h) bytes)
 opening_records h bytes o =
     let n : length (records_in (shape_of h) bytes) ≡ h.count = length-list_of h.count _ in
-    record { plan = rw n (record { layout = o.sound.sizes.layout; low = o.sound.sizes.low; high = o.sound.sizes.high }); each = λ i lt. rw n (one i (omega (arith, lt, n))) }
+    record { plan = rw n (record { layout = o.sound.sizes.layout; low = o.sound.sizes.low; high = o.sound.sizes.high }); each =
+        λ i lt. rw n (one i (omega (arith, lt, n))) }
   where
     one : (i : ℕ) → i < h.count → IsRecord (shape_of h) (record_at (records_in (shape_of h) bytes) i)
     one i lt =
@@ -49,7 +50,9 @@ opening_records h bytes o =
         let room : suc i * h.record_len ≤ h.count * h.record_len = mul-le-mul_right h.record_len lt in
         let size : length (take h.record_len (drop (i * h.record_len) bytes)) ≡ h.record_len =
         omega (arith, length-take h.record_len (drop (i * h.record_len) bytes), length-drop (i * h.record_len) bytes, o.sound.len, room) in
-        subst (λ (b : List ℕ). IsRecord (shape_of h) b) (sym e) (record { len = size; each = All-take (λ (b : ℕ). b < 2 ^ 8) h.record_len (drop (i * h.record_len) bytes) (All-drop (λ (b : ℕ). b < 2 ^ 8) (i * h.record_len) bytes o.bytes) })
+        subst (λ (b : List ℕ). IsRecord (shape_of h) b) (sym e)
+            (record { len = size; each =
+            All-take (λ (b : ℕ). b < 2 ^ 8) h.record_len (drop (i * h.record_len) bytes) (All-drop (λ (b : ℕ). b < 2 ^ 8) (i * h.record_len) bytes o.bytes) })
 
 pub opening_inv : (h : Header) (bytes : List ℕ) (seeds : List (List ℕ)) → IsOpening h bytes → Inv (setting_in h) seeds (opening h bytes seeds)
 opening_inv h bytes seeds o =
@@ -58,13 +61,15 @@ opening_inv h bytes seeds o =
       history = record {
         first = o.sound.version;
         versions = λ v records p. subst (λ (r : List (List ℕ)). AreRecords (setting_in h).plan r)
-            (only_one (records_in (shape_of h) bytes) records (current_version (opening h bytes seeds).history - v) (sym (records_at (opening h bytes seeds).history v p.0) ∙ p.1)) all;
+            (only_one (records_in (shape_of h) bytes) records (current_version (opening h bytes seeds).history - v)
+                (sym (records_at (opening h bytes seeds).history v p.0) ∙ p.1)) all;
         draft = all;
       };
       links = λ k l e. subst (λ (m : Link). LinkInv (setting_in h) (opening h bytes seeds).history (seed_of seeds k) m) (link_of seeds k l e)
           (record { seed_is = refl; alive = refl; unclosed = refl; known = tt; hint = tt; call = tt; phase = (refl, refl) });
       logs = λ k l e. subst (λ (m : Link). LogInv (setting_in h) (opening h bytes seeds).history (seed_of seeds k) k m []) (link_of seeds k l e)
-          (record { number = refl; hint = refl; sent = λ f z. absurd (let y : ◌≡◌ {A = List Frame} [] (f ∷ []) = z in cc); served = λ r z. absurd (let y : ◌≡◌ {A = List Frame} [] (r ∷ []) = z in cc) });
+          (record { number = refl; hint = refl; sent = λ f z. absurd (let y : ◌≡◌ {A = List Frame} [] (f ∷ []) = z in cc); served =
+              λ r z. absurd (let y : ◌≡◌ {A = List Frame} [] (r ∷ []) = z in cc) });
       entries = tt;
       earlier = tt;
     }
@@ -87,12 +92,14 @@ fresh_wire = record { unfinished = []; reader_is = refl; bytes = refl; got = ref
 fresh_end : (seed : List ℕ) → EndIs (fresh_side seed) new_session (fresh_link seed)
 fresh_end seed = record { client_is = refl; standing_is = refl; up = fresh_wire; down = fresh_wire }
 
-fresh_matched : (seeds : List (List ℕ)) (k : ℕ) (o : Option Session) → (k < length seeds → o ≡ Some new_session) → Matched (slice_get (map fresh_side seeds) k) o (slice_get (map fresh_link seeds) k)
+fresh_matched : (seeds : List (List ℕ)) (k : ℕ) (o : Option Session) → (k < length seeds → o ≡ Some new_session) →
+    Matched (slice_get (map fresh_side seeds) k) o (slice_get (map fresh_link seeds) k)
 fresh_matched [] k o e = tt
 fresh_matched (s ∷ seeds) zero o e = rw (e (omega arith)) (fresh_end s)
 fresh_matched (s ∷ seeds) (suc k) o e = fresh_matched seeds k o (λ lt. e (omega (arith, lt)))
 
-pub opening_parts : (h : Header) (bytes : List ℕ) (seeds : List (List ℕ)) (core : Core) (ends : List Side) (os : List Outcome) → core.store ≡ held_of h bytes → StandsFor core.store (opened h.version (records_in (shape_of h) bytes)) → ends ≡ map fresh_side seeds
+pub opening_parts : (h : Header) (bytes : List ℕ) (seeds : List (List ℕ)) (core : Core) (ends : List Side) (os : List Outcome) → core.store ≡ held_of h bytes →
+    StandsFor core.store (opened h.version (records_in (shape_of h) bytes)) → ends ≡ map fresh_side seeds
     → ((id : ℕ) → id < length seeds → session_of core.sessions id ≡ Some new_session) → os ≡ [] → IsParts (setting_in h) core ends os (opening h bytes seeds)
 opening_parts h bytes seeds core ends os held stands e at none = record {
   setting_is = ap (λ (s : StoreState). setting_of s) held;
@@ -101,6 +108,7 @@ opening_parts h bytes seeds core ends os held stands e at none = record {
   outcomes_are = none;
 }
 
-pub opening_run : (h : Header) (bytes : List ℕ) (seeds : List (List ℕ)) (w : Kept) → IsOpening h bytes → w.header ≡ h → w.records ≡ bytes → w.seeds ≡ seeds → w.steps ≡ [] → IsParts (setting_in h) w.core w.ends w.outcomes (opening h bytes seeds)
+pub opening_run : (h : Header) (bytes : List ℕ) (seeds : List (List ℕ)) (w : Kept) → IsOpening h bytes → w.header ≡ h → w.records ≡ bytes → w.seeds ≡ seeds →
+    w.steps ≡ [] → IsParts (setting_in h) w.core w.ends w.outcomes (opening h bytes seeds)
     → IsRunOf w (opening h bytes seeds)
 opening_run h bytes seeds w o a b d e parts = record { opens = rw (a, b) o; run = rw (a, b, d, e) refl; parts = rw a parts }

@@ -50,18 +50,21 @@ met_at e None l p = absurd p
 met_at e (Some y) None p = absurd p
 met_at e (Some y) (Some m) p = (y, m, refl, refl, p)
 
-pub met : (x : Setting) (core : Core) (ends : List Side) (os : List Outcome) (s : State) (k : ℕ) (e : Side) → IsParts x core ends os s → slice_get ends k ≡ Some e → Met core k e s
+pub met : (x : Setting) (core : Core) (ends : List Side) (os : List Outcome) (s : State) (k : ℕ) (e : Side) → IsParts x core ends os s →
+    slice_get ends k ≡ Some e → Met core k e s
 met x core ends os s k e p at =
     let P : Option Side → Type 0 = λ o. Matched o (session_of core.sessions k) (slice_get s.links k) in
     let q = met_at e (session_of core.sessions k) (slice_get s.links k) (subst P at (p.ends_are k)) in
     record { session = q.0; link = q.1; session_is = q.2; link_is = q.3; end_is = q.4 }
 
 -- one end, its session and its link are replaced
-one_replaced : (x : Setting) (core core2 : Core) (ends : List Side) (os : List Outcome) (s : State) (k : ℕ) (e e2 : Side) (l l2 : Link) (y2 : Session) → IsParts x core ends os s → slice_get ends k ≡ Some e → slice_get s.links k ≡ Some l
+one_replaced : (x : Setting) (core core2 : Core) (ends : List Side) (os : List Outcome) (s : State) (k : ℕ) (e e2 : Side) (l l2 : Link) (y2 : Session) →
+    IsParts x core ends os s → slice_get ends k ≡ Some e → slice_get s.links k ≡ Some l
     → session_of core2.sessions k ≡ Some y2 → ((other : ℕ) → other ≢ k → session_of core2.sessions other ≡ session_of core.sessions other) → EndIs e2 y2 l2
     → (j : ℕ) → Matched (slice_get (slice_set ends k e2) j) (session_of core2.sessions j) (slice_get (slice_set s.links k l2) j)
 one_replaced x core core2 ends os s k e e2 l l2 y2 p at lat yat others i j = elim (cases_eq j k) [
-  | inl same ↦ subst (λ (n : ℕ). Matched (slice_get (slice_set ends k e2) n) (session_of core2.sessions n) (slice_get (slice_set s.links k l2) n)) (sym same) (rw (get_same ends k e2 e at, yat, get_same s.links k l2 l lat) i)
+  | inl same ↦ subst (λ (n : ℕ). Matched (slice_get (slice_set ends k e2) n) (session_of core2.sessions n) (slice_get (slice_set s.links k l2) n)) (sym same)
+      (rw (get_same ends k e2 e at, yat, get_same s.links k l2 l lat) i)
   | inr other ↦ rw (get_other ends k j e2 other, others j other, get_other s.links k j l2 other) (p.ends_are j)
 ]
 
@@ -80,13 +83,15 @@ reacts_events k c reply (Asks scheme version part) e = refl
 reacts_events k c reply (Reports event) e = append-nil _ ∙ reports_event k c reply event
 reacts_events k c reply (Fails fault) e = absurd cc
 
-one_reported : (k : ℕ) (c : ClientState) (r : Frame) → fault_of (reaction_to_reply c r).reaction ≡ None → outcomes_of (reported_by k c (r ∷ [])) ≡ map (Reported k) (takes_all c (r ∷ [])).events
+one_reported : (k : ℕ) (c : ClientState) (r : Frame) → fault_of (reaction_to_reply c r).reaction ≡ None →
+    outcomes_of (reported_by k c (r ∷ [])) ≡ map (Reported k) (takes_all c (r ∷ [])).events
 one_reported k c r e =
     ap (λ (b : Bool). outcomes_of (reacts k c.call r (reaction_to_reply c r).reaction ++ cond b [] [])) (ap is_some e)
     ∙ ap (λ (es : List Entry). outcomes_of es) (append-nil (reacts k c.call r (reaction_to_reply c r).reaction))
     ∙ reacts_events k c.call r (reaction_to_reply c r).reaction e
 
-few_reported : (k : ℕ) (c : ClientState) (fs : List Frame) → IsFew fs → (takes_all c fs).fault ≡ None → outcomes_of (reported_by k c fs) ≡ map (Reported k) (takes_all c fs).events
+few_reported : (k : ℕ) (c : ClientState) (fs : List Frame) → IsFew fs → (takes_all c fs).fault ≡ None →
+    outcomes_of (reported_by k c fs) ≡ map (Reported k) (takes_all c fs).events
 few_reported k c fs (inl e) good = rw e refl
 few_reported k c fs (inr p) good =
     let g : (takes_all c (p.0 ∷ [])).fault ≡ None = subst (λ (f : List Frame). (takes_all c f).fault ≡ None) p.1 good in
@@ -106,9 +111,12 @@ serves_silent x short k t (f ∷ fs) e = serves_silent x short k (turn_more x sh
 
 -- ---- the three kinds of step at a client
 
-module _ (x : Setting) (core : Core) (ends : List Side) (os : List Outcome) (s : State) (k : ℕ) (e e2 : Side) (p : IsParts x core ends os s) (at : slice_get ends k ≡ Some e) where
-  pub parts_reported : RetrievalGivesTheRecord → (seeds : List (List ℕ)) (most : ℕ) (out : List ℕ) (events : List Event) (fault : Option ClientFault) → Inv x seeds s → TakesDelivery most e out events fault e2
-      → (fault ≡ Some Memory) ⊎ ((fault ≡ None) × IsParts x core (slice_set ends k e2) (os ++ map (Reported k) events) (reported_at s k most (slice_get s.links k)))
+module _ (x : Setting) (core : Core) (ends : List Side) (os : List Outcome) (s : State) (k : ℕ) (e e2 : Side) (p : IsParts x core ends os s)
+    (at : slice_get ends k ≡ Some e) where
+  pub parts_reported : RetrievalGivesTheRecord → (seeds : List (List ℕ)) (most : ℕ) (out : List ℕ) (events : List Event) (fault : Option ClientFault) →
+      Inv x seeds s → TakesDelivery most e out events fault e2
+      → (fault ≡ Some Memory) ⊎ ((fault ≡ None)
+          × IsParts x core (slice_set ends k e2) (os ++ map (Reported k) events) (reported_at s k most (slice_get s.links k)))
   parts_reported law seeds most out events fault inv d =
       let m = met x core ends os s k e p at in
       let i = inv.links k m.link m.link_is in
@@ -117,16 +125,20 @@ module _ (x : Setting) (core : Core) (ends : List Side) (os : List Outcome) (s :
         | inr t ↦ inr (t.0, go m i t.1)
       ]
     where
-      go : (m : Met core k e s) → LinkInv x s.history (seed_of seeds k) m.link → EndReported e2 m.session m.link most events → IsParts x core (slice_set ends k e2) (os ++ map (Reported k) events) (reported_at s k most (slice_get s.links k))
+      go : (m : Met core k e s) → LinkInv x s.history (seed_of seeds k) m.link → EndReported e2 m.session m.link most events →
+          IsParts x core (slice_set ends k e2) (os ++ map (Reported k) events) (reported_at s k most (slice_get s.links k))
       go m i t =
           let few = (few_frames x s.history m.link.standing (seed_of seeds k) m.link.client m.link.client.call m.link.up.frames m.link.down.frames i.phase).1 in
           let arrives = few_of_split m.link.down.frames (arrived m.link.down most) _ few (split_few m.link.down most few) in
-          let events_reported : outcomes_of (reported_by k m.link.client (arrived m.link.down most)) ≡ map (Reported k) events = few_reported k m.link.client (arrived m.link.down most) arrives t.good ∙ ap (λ (es : List Event). map (Reported k) es) (sym t.events_are) in
+          let events_reported : outcomes_of (reported_by k m.link.client (arrived m.link.down most)) ≡ map (Reported k) events =
+              few_reported k m.link.client (arrived m.link.down most) arrives t.good ∙ ap (λ (es : List Event). map (Reported k) es) (sym t.events_are) in
           rw m.link_is (record {
             setting_is = p.setting_is;
             store_is = p.store_is;
-            ends_are = one_replaced x core core ends os s k e e2 m.link (link_reported most m.link) m.session p at m.link_is m.session_is (λ j ne. refl) t.end_is;
-            outcomes_are = outcomes_more s.log (reported_by k m.link.client (arrived m.link.down most)) os (map (Reported k) events) p.outcomes_are events_reported;
+            ends_are = one_replaced x core core ends os s k e e2 m.link (link_reported most m.link) m.session p at m.link_is m.session_is
+                (λ j ne. refl) t.end_is;
+            outcomes_are = outcomes_more s.log (reported_by k m.link.client (arrived m.link.down most)) os
+                (map (Reported k) events) p.outcomes_are events_reported;
           })
 
   pub parts_served : (core2 : Core) (seeds : List (List ℕ)) (most : ℕ) → Inv x seeds s
@@ -138,7 +150,8 @@ module _ (x : Setting) (core : Core) (ends : List Side) (os : List Outcome) (s :
       let m = met x core ends os s k e p at in
       let r = f s.history m.session p.store_is m.session_is in
       let fed = subst (λ (y : Setting). Fed y s.history m.session (prefix most e.up) (Ok tt) core2.store r.0 [] r.2.replies) p.setting_is r.2.fed in
-      let t = served_end x seeds k s.history m.link (inv.links k m.link m.link_is) e e2 m.session r.0 core2.store most r.2.replies m.end_is fed r.2.client r.2.up r.2.down in
+      let t = served_end x seeds k s.history m.link (inv.links k m.link m.link_is) e e2 m.session r.0 core2.store most r.2.replies m.end_is fed r.2.client
+          r.2.up r.2.down in
       let silent_ : outcomes_of (turn_of x t.short k most s.history m.link).log ≡ [] = serves_silent x t.short k _ (arrived m.link.up most) refl in (
         t.short,
         rw m.link_is (record {
@@ -154,24 +167,29 @@ module _ (x : Setting) (core : Core) (ends : List Side) (os : List Outcome) (s :
   refused None = []
   refused (Some fault) = CallRefused k fault ∷ []
 
-  accepted_end : (w : Want) (session : Session) (l : Link) → EndIs e session l → (bytes : List ℕ) → Accepts e.client.state w e2.client.state bytes → e2.client.reader ≡ e.client.reader → e2.up ≡ e.up ++ bytes → e2.down ≡ e.down
+  accepted_end : (w : Want) (session : Session) (l : Link) → EndIs e session l → (bytes : List ℕ) → Accepts e.client.state w e2.client.state bytes →
+      e2.client.reader ≡ e.client.reader → e2.up ≡ e.up ++ bytes → e2.down ≡ e.down
       → (refusal w l.client ≡ None) × EndIs e2 session (link_called w l)
   accepted_end w session l i bytes a reader up down =
       let c : ClientState = state_after_call w l.client in
       let state : e2.client.state ≡ c = a.state ∙ ap (λ (y : ClientState). state_after_call w y) i.client_is in
       let fits : IsFrame (call_frame c c.call) = subst (λ (y : ClientState). IsFrame (call_frame y y.call)) state a.fits in
       let written : e2.up ≡ e.up ++ flat_map encoding (call_frame c c.call ∷ []) =
-      up ∙ ap (λ (b : List ℕ). e.up ++ b) (a.written ∙ ap (λ (y : ClientState). encoding (call_frame y y.call)) state ∙ sym (append-nil (encoding (call_frame c c.call)))) in (
+      up ∙ ap (λ (b : List ℕ). e.up ++ b) (a.written ∙ ap (λ (y : ClientState). encoding (call_frame y y.call)) state
+          ∙ sym (append-nil (encoding (call_frame c c.call)))) in (
         ap (λ (y : ClientState). refusal w y) (sym i.client_is) ∙ a.may,
         record {
           client_is = state;
           standing_is = i.standing_is;
-          up = subst (λ (b : List ℕ). Carries session.unfinished b (sent l.up (call_frame c c.call ∷ []))) (sym written) (carries_more session.unfinished e.up l.up (call_frame c c.call ∷ []) (fits, tt) i.up);
-          down = subst (λ (b : List ℕ). Carries e2.client.reader b l.down) (sym down) (subst (λ (r : Option (List ℕ)). Carries r e.down l.down) (sym reader) i.down);
+          up = subst (λ (b : List ℕ). Carries session.unfinished b (sent l.up (call_frame c c.call ∷ []))) (sym written)
+              (carries_more session.unfinished e.up l.up (call_frame c c.call ∷ []) (fits, tt) i.up);
+          down = subst (λ (b : List ℕ). Carries e2.client.reader b l.down) (sym down)
+              (subst (λ (r : Option (List ℕ)). Carries r e.down l.down) (sym reader) i.down);
         },
       )
 
-  pub parts_called : (w : Want) (o : Option CallFault) → MakesCall w e o e2 → IsParts x core (slice_set ends k e2) (os ++ refused o) (called_at s w k (slice_get s.links k))
+  pub parts_called : (w : Want) (o : Option CallFault) → MakesCall w e o e2 →
+      IsParts x core (slice_set ends k e2) (os ++ refused o) (called_at s w k (slice_get s.links k))
   parts_called w None c =
       let m = met x core ends os s k e p at in
       let t = accepted_end w m.session m.link m.end_is c.0 c.1 c.2 c.3 c.4 in
@@ -179,7 +197,8 @@ module _ (x : Setting) (core : Core) (ends : List Side) (os : List Outcome) (s :
         setting_is = p.setting_is;
         store_is = p.store_is;
         ends_are = one_replaced x core core ends os s k e e2 m.link (link_called w m.link) m.session p at m.link_is m.session_is (λ j ne. refl) t.1;
-        outcomes_are = outcomes_more s.log (Called k w None ∷ Sent k (call_frame (link_called w m.link).client (link_called w m.link).client.call) ∷ []) os [] p.outcomes_are refl;
+        outcomes_are = outcomes_more s.log (Called k w None ∷ Sent k (call_frame (link_called w m.link).client (link_called w m.link).client.call) ∷ []) os []
+            p.outcomes_are refl;
       })
   parts_called w (Some fault) c =
       let m = met x core ends os s k e p at in
@@ -194,7 +213,8 @@ module _ (x : Setting) (core : Core) (ends : List Side) (os : List Outcome) (s :
 
 -- ---- the publisher's steps
 
-pub parts_plain : (x : Setting) (core core2 : Core) (ends : List Side) (os : List Outcome) (s : State) (h : History) (o : Outcome) → IsParts x core ends os s → setting_of core2.store ≡ x → StandsFor core2.store h → core2.sessions ≡ core.sessions
+pub parts_plain : (x : Setting) (core core2 : Core) (ends : List Side) (os : List Outcome) (s : State) (h : History) (o : Outcome) → IsParts x core ends os s →
+    setting_of core2.store ≡ x → StandsFor core2.store h → core2.sessions ≡ core.sessions
     → IsParts x core2 ends (os ++ o ∷ []) (with_history s h o)
 parts_plain x core core2 ends os s h o p setting stands same = record {
   setting_is = setting;

@@ -47,9 +47,14 @@ reader_key_is : is_reader_key (replicate 32 0) ≡ true
 unfolding is_reader_key
 reader_key_is = refl
 
-welcomed : (short : Bool) (x : Setting) (h : History) (seed : List ℕ) (st : Standing) → Replied x h seed st (Hello reader_key) (frame.Hello client_profile reader_key) (served_or short x h st (frame.Hello client_profile reader_key))
-welcomed false x h seed st = rw reader_key_is (record { history_is = refl; unclosed = refl; reader = λ e. refl; reply = (_, refl, (refl, (current_version h, h.current, newest h, refl))); right = tt })
-welcomed true x h seed st = rw reader_key_is (record { history_is = refl; unclosed = refl; reader = λ e. refl; reply = (_, refl, (refl, (current_version h, h.current, newest h, refl))); right = tt })
+welcomed : (short : Bool) (x : Setting) (h : History) (seed : List ℕ) (st : Standing) →
+    Replied x h seed st (Hello reader_key) (frame.Hello client_profile reader_key) (served_or short x h st (frame.Hello client_profile reader_key))
+welcomed false x h seed st =
+    rw reader_key_is (record { history_is = refl; unclosed = refl; reader = λ e. refl; reply =
+    (_, refl, (refl, (current_version h, h.current, newest h, refl))); right = tt })
+welcomed true x h seed st =
+    rw reader_key_is (record { history_is = refl; unclosed = refl; reader = λ e. refl; reply =
+    (_, refl, (refl, (current_version h, h.current, newest h, refl))); right = tt })
 
 -- a scheme's byte names it
 byte_names : (s : Scheme) → scheme_of_byte (scheme_byte s) ≡ Some s
@@ -57,7 +62,8 @@ byte_names Simple = refl
 byte_names Double = refl
 
 -- a right reply is one to the query that names its scheme
-right_query : (x : Setting) (h : History) (s : Scheme) (v now : ℕ) (words : List ℕ) (reply : Option Frame) → IsRightReply x h s v now words reply → IsServed x h now (frame.Query (scheme_byte s) v words) reply
+right_query : (x : Setting) (h : History) (s : Scheme) (v now : ℕ) (words : List ℕ) (reply : Option Frame) → IsRightReply x h s v now words reply →
+    IsServed x h now (frame.Query (scheme_byte s) v words) reply
 right_query x h s v now words reply r = let P : Option Scheme → Type 0 = λ o. IsRightQuery x h o v now words reply in subst P (sym (byte_names s)) r
 
 -- ---- a part of the hint
@@ -67,17 +73,25 @@ unfolding has_part
 part_there x s records p lt = lt-ltb _ _ lt
 
 module _ (x : Setting) (h : History) (seed : List ℕ) (s : Scheme) (v p : ℕ) where
-  now : (short : Bool) → (v == current_version h) ≡ true → has_part x s h.current p ≡ true → Replied x h seed Reader (Sync s v p) (frame.HintAsk (scheme_byte s) v p) (served_or short x h Reader (frame.HintAsk (scheme_byte s) v p))
+  now : (short : Bool) → (v == current_version h) ≡ true → has_part x s h.current p ≡ true →
+      Replied x h seed Reader (Sync s v p) (frame.HintAsk (scheme_byte s) v p) (served_or short x h Reader (frame.HintAsk (scheme_byte s) v p))
   now false t in_ =
       let e : v ≡ current_version h = eqb-true v (current_version h) t in
-      rw (byte_names s, t, in_) (record { history_is = refl; unclosed = refl; reader = λ e. e; reply = (_, refl, inr (inr (h.current, now_is h v e, rw e refl))); right = tt })
+      rw (byte_names s, t, in_)
+          (record { history_is = refl; unclosed = refl; reader = λ e. e; reply = (_, refl, inr (inr (h.current, now_is h v e, rw e refl))); right = tt })
   now true t in_ = rw (byte_names s, t, in_) (record { history_is = refl; unclosed = refl; reader = λ e. e; reply = (_, refl, inl refl); right = tt })
 
-  old : (short : Bool) → (v == current_version h) ≡ false → v < current_version h → Replied x h seed Reader (Sync s v p) (frame.HintAsk (scheme_byte s) v p) (served_or short x h Reader (frame.HintAsk (scheme_byte s) v p))
-  old false t lt = rw (byte_names s, t) (record { history_is = refl; unclosed = refl; reader = λ e. e; reply = (_, refl, inr (inl (current_version h, h.current, newest h, lt, refl))); right = tt })
-  old true t lt = rw (byte_names s, t) (record { history_is = refl; unclosed = refl; reader = λ e. e; reply = (_, refl, inr (inl (current_version h, h.current, newest h, lt, refl))); right = tt })
+  old : (short : Bool) → (v == current_version h) ≡ false → v < current_version h →
+      Replied x h seed Reader (Sync s v p) (frame.HintAsk (scheme_byte s) v p) (served_or short x h Reader (frame.HintAsk (scheme_byte s) v p))
+  old false t lt = rw (byte_names s, t)
+      (record { history_is = refl; unclosed = refl; reader = λ e. e; reply = (_, refl, inr (inl (current_version h, h.current, newest h, lt, refl))); right =
+      tt })
+  old true t lt = rw (byte_names s, t)
+      (record { history_is = refl; unclosed = refl; reader = λ e. e; reply = (_, refl, inr (inl (current_version h, h.current, newest h, lt, refl))); right =
+      tt })
 
-  replied_sync : (short : Bool) (known : Option ServerInfo) (parts : List ℕ) → SyncIs x h s v p known parts → Replied x h seed Reader (Sync s v p) (frame.HintAsk (scheme_byte s) v p) (served_or short x h Reader (frame.HintAsk (scheme_byte s) v p))
+  replied_sync : (short : Bool) (known : Option ServerInfo) (parts : List ℕ) → SyncIs x h s v p known parts →
+      Replied x h seed Reader (Sync s v p) (frame.HintAsk (scheme_byte s) v p) (served_or short x h Reader (frame.HintAsk (scheme_byte s) v p))
   replied_sync short known parts i = elim (cases_Bool (v == current_version h)) [
     | inl t ↦
         let e : i.records ≡ h.current = one_version h v i.records h.current i.version_is (now_is h v (eqb-true v (current_version h) t)) in
@@ -88,7 +102,8 @@ module _ (x : Setting) (h : History) (seed : List ℕ) (s : Scheme) (v p : ℕ) 
 -- ---- a query
 
 -- the words of a client's query, where what it knows is the version's
-pub asked_is : (x : Setting) (h : History) (y : ServerInfo) (records : List (List ℕ)) (seed : List ℕ) (r : Retrieval) → IsKnownOf x h y → HasVersion h y.version records →
+pub asked_is : (x : Setting) (h : History) (y : ServerInfo) (records : List (List ℕ)) (seed : List ℕ) (r : Retrieval) → IsKnownOf x h y →
+    HasVersion h y.version records →
     call_words (Some y) r.scheme seed r.number r.index ≡ asked_words x.plan records seed r
 asked_is x h y records seed r k p =
     let same : k.records ≡ records = one_version h y.version k.records records k.version_is p in
@@ -102,7 +117,8 @@ module _ (x : Setting) (h : History) (seed : List ℕ) (i : ℕ) (s : Scheme) (v
   words_fit = eq-eqb _ _ (length_query s (shape_at x.plan (length records)) x.plan.dimension x.plan.seed seed n i)
 
   -- the words that are asked, under a short name
-  answer_now : (short : Bool) (words : List ℕ) → words ≡ asked_words x.plan records seed retrieval → (v == current_version h) ≡ true → records ≡ h.current → (length words == words_asked x s h.current) ≡ true →
+  answer_now : (short : Bool) (words : List ℕ) → words ≡ asked_words x.plan records seed retrieval → (v == current_version h) ≡ true → records ≡ h.current →
+      (length words == words_asked x s h.current) ≡ true →
       Replied x h seed Reader (Ask i s v n) (frame.Query (scheme_byte s) v words) (served_or short x h Reader (frame.Query (scheme_byte s) v words))
   answer_now false words w t same fit =
       let e : v ≡ current_version h = eqb-true v (current_version h) t in
@@ -111,7 +127,8 @@ module _ (x : Setting) (h : History) (seed : List ℕ) (i : ℕ) (s : Scheme) (v
         unclosed = refl;
         reader = λ e. e;
         reply = (_, refl, inr (inr (h.current, now_is h v e, rw (e, w, same) refl)));
-        right = right_query x h s v (current_version h) words _ (record { records = h.current; version_is = newest h; stale = λ ne. absurd (ne e); answered = λ same. inl refl });
+        right = right_query x h s v (current_version h) words _
+            (record { records = h.current; version_is = newest h; stale = λ ne. absurd (ne e); answered = λ same. inl refl });
       })
   answer_now true words w t same fit =
       let e : v ≡ current_version h = eqb-true v (current_version h) t in
@@ -120,10 +137,12 @@ module _ (x : Setting) (h : History) (seed : List ℕ) (i : ℕ) (s : Scheme) (v
         unclosed = refl;
         reader = λ e. e;
         reply = (_, refl, inl refl);
-        right = right_query x h s v (current_version h) words _ (record { records = h.current; version_is = newest h; stale = λ ne. absurd (ne e); answered = λ same. inr refl });
+        right = right_query x h s v (current_version h) words _
+            (record { records = h.current; version_is = newest h; stale = λ ne. absurd (ne e); answered = λ same. inr refl });
       })
 
-  answer_old : (short : Bool) (words : List ℕ) → (v == current_version h) ≡ false → Replied x h seed Reader (Ask i s v n) (frame.Query (scheme_byte s) v words) (served_or short x h Reader (frame.Query (scheme_byte s) v words))
+  answer_old : (short : Bool) (words : List ℕ) → (v == current_version h) ≡ false →
+      Replied x h seed Reader (Ask i s v n) (frame.Query (scheme_byte s) v words) (served_or short x h Reader (frame.Query (scheme_byte s) v words))
   answer_old false words t =
       let ne : v ≡ current_version h → ⊥ = eqb-false v (current_version h) t in
       rw (byte_names s, t) (record {
@@ -131,7 +150,8 @@ module _ (x : Setting) (h : History) (seed : List ℕ) (i : ℕ) (s : Scheme) (v
         unclosed = refl;
         reader = λ e. e;
         reply = (_, refl, inr (inl (current_version h, h.current, newest h, before_now h v records there ne, refl)));
-        right = right_query x h s v (current_version h) words _ (record { records = h.current; version_is = newest h; stale = λ other. refl; answered = λ same. absurd (ne same) });
+        right = right_query x h s v (current_version h) words _
+            (record { records = h.current; version_is = newest h; stale = λ other. refl; answered = λ same. absurd (ne same) });
       })
   answer_old true words t =
       let ne : v ≡ current_version h → ⊥ = eqb-false v (current_version h) t in
@@ -140,20 +160,24 @@ module _ (x : Setting) (h : History) (seed : List ℕ) (i : ℕ) (s : Scheme) (v
         unclosed = refl;
         reader = λ e. e;
         reply = (_, refl, inr (inl (current_version h, h.current, newest h, before_now h v records there ne, refl)));
-        right = right_query x h s v (current_version h) words _ (record { records = h.current; version_is = newest h; stale = λ other. refl; answered = λ same. absurd (ne same) });
+        right = right_query x h s v (current_version h) words _
+            (record { records = h.current; version_is = newest h; stale = λ other. refl; answered = λ same. absurd (ne same) });
       })
 
-  pub replied_ask : (short : Bool) (words : List ℕ) → words ≡ asked_words x.plan records seed retrieval → Replied x h seed Reader (Ask i s v n) (frame.Query (scheme_byte s) v words) (served_or short x h Reader (frame.Query (scheme_byte s) v words))
+  pub replied_ask : (short : Bool) (words : List ℕ) → words ≡ asked_words x.plan records seed retrieval →
+      Replied x h seed Reader (Ask i s v n) (frame.Query (scheme_byte s) v words) (served_or short x h Reader (frame.Query (scheme_byte s) v words))
   replied_ask short words w = elim (cases_Bool (v == current_version h)) [
     | inl t ↦
         let same : records ≡ h.current = one_version h v records h.current there (now_is h v (eqb-true v (current_version h) t)) in
-        answer_now short words w t same (ap (λ (z : List ℕ). length z == words_asked x s h.current) w ∙ ap (λ (r : List (List ℕ)). length (asked_words x.plan records seed retrieval) == words_asked x s r) (sym same) ∙ words_fit)
+        answer_now short words w t same (ap (λ (z : List ℕ). length z == words_asked x s h.current) w
+            ∙ ap (λ (r : List (List ℕ)). length (asked_words x.plan records seed retrieval) == words_asked x s r) (sym same) ∙ words_fit)
     | inr t ↦ answer_old short words t
   ]
 
 -- ---- what a delivery to the server leaves of a link
 
-pub record ServedLink (x : Setting) (seeds : List (List ℕ)) (h : History) (seed : List ℕ) (st : Standing) (c : ClientState) (call : Call) (t : Turn) (up down : List Frame) : Type 0 where
+pub record ServedLink (x : Setting) (seeds : List (List ℕ)) (h : History) (seed : List ℕ) (st : Standing) (c : ClientState) (call : Call) (t : Turn)
+    (up down : List Frame) : Type 0 where
   pub history_is : t.history ≡ h
   pub unclosed : is_closed t.standing ≡ false
   pub reader : st ≡ Reader → t.standing ≡ Reader
@@ -165,7 +189,8 @@ module _ (x : Setting) (seeds : List (List ℕ)) (k : ℕ) (h : History) (seed :
       → ServedLink x seeds h seed st c call (serves x short k h st fs) up (down ++ (serves x short k h st fs).replies)
   nothing_comes short call fs up down o e p = rw e (record { history_is = refl; unclosed = o; reader = λ x. x; phase = rw append-nil p; right = tt })
 
-  flight_phase : (s : Standing) (call : Call) (up down : List Frame) (r : Frame) → up ≡ [] → down ≡ r ∷ [] → IsReply x h s seed call r → Phase x h s seed c call up down
+  flight_phase : (s : Standing) (call : Call) (up down : List Frame) (r : Frame) → up ≡ [] → down ≡ r ∷ [] → IsReply x h s seed call r →
+      Phase x h s seed c call up down
   flight_phase s Idle up down r e d p = absurd p
   flight_phase s (Hello key) up down r e d p = inr (e, (r, d, p))
   flight_phase s (Sync scheme v q) up down r e d p = inr (e, (r, d, p))
@@ -174,7 +199,8 @@ module _ (x : Setting) (seeds : List (List ℕ)) (k : ℕ) (h : History) (seed :
   flight_phase s Publish up down r e d p = absurd p
 
   frame_comes : (short : Bool) (call : Call) (fs up down : List Frame) → is_closed st ≡ false → fs ≡ call_frame c call ∷ [] → up ≡ [] → down ≡ []
-      → Replied x h seed st call (call_frame c call) (served_or short x h st (call_frame c call)) → ServedLink x seeds h seed st c call (serves x short k h st fs) up (down ++ (serves x short k h st fs).replies)
+      → Replied x h seed st call (call_frame c call) (served_or short x h st (call_frame c call)) →
+          ServedLink x seeds h seed st c call (serves x short k h st fs) up (down ++ (serves x short k h st fs).replies)
   frame_comes short call fs up down o e u d r = rw (e, o, d) (record {
     history_is = r.history_is;
     unclosed = r.unclosed;
@@ -184,7 +210,8 @@ module _ (x : Setting) (seeds : List (List ℕ)) (k : ℕ) (h : History) (seed :
   })
 
   served_flight : (short : Bool) (call : Call) (up fs up2 down : List Frame) → Split up fs up2 → is_closed st ≡ false
-      → Replied x h seed st call (call_frame c call) (served_or short x h st (call_frame c call)) → InFlight x h st seed c call up down → Phase x h st seed c call up down
+      → Replied x h seed st call (call_frame c call) (served_or short x h st (call_frame c call)) → InFlight x h st seed c call up down →
+          Phase x h st seed c call up down
       → ServedLink x seeds h seed st c call (serves x short k h st fs) up2 (down ++ (serves x short k h st fs).replies)
   served_flight short call up fs up2 down (inl a) o r p ph = nothing_comes short call fs up2 down o a.0 (rw a.1 ph)
   served_flight short call up fs up2 down (inr a) o r (inl p) ph = frame_comes short call fs up2 down o (a.0 ∙ p.0) a.1 p.1 r
@@ -200,7 +227,8 @@ module _ (x : Setting) (seeds : List (List ℕ)) (k : ℕ) (h : History) (seed :
 
   -- the words of an ask are those of its retrieval's query
   pub ask_words : (j : ℕ) (scheme : Scheme) (v n : ℕ) → c.seed ≡ seed → KnownIs x h st c.known → HintIs x h c.hint → AskIs c j scheme v
-      → (records : List (List ℕ)) × HasVersion h v records × (call_words c.known scheme c.seed n j ≡ asked_words x.plan records seed (record { index = j; scheme = scheme; version = v; number = n }))
+      → (records : List (List ℕ)) × HasVersion h v records
+          × (call_words c.known scheme c.seed n j ≡ asked_words x.plan records seed (record { index = j; scheme = scheme; version = v; number = n }))
   ask_words j scheme v n s known hint i =
       let y = known_is c.known i.k known i.known_is in
       let there = hint_version c.hint i.hint v hint i.hint_is i.version_is in
@@ -212,27 +240,34 @@ module _ (x : Setting) (seeds : List (List ℕ)) (k : ℕ) (h : History) (seed :
       (there.0, there.1, w)
 
   -- the outstanding call's frame is served
-  replied : (short : Bool) (call : Call) → (call ≡ Idle → ⊥) → c.seed ≡ seed → KnownIs x h st c.known → HintIs x h c.hint → CallIs x h c call → Replied x h seed st call (call_frame c call) (served_or short x h st (call_frame c call))
+  replied : (short : Bool) (call : Call) → (call ≡ Idle → ⊥) → c.seed ≡ seed → KnownIs x h st c.known → HintIs x h c.hint → CallIs x h c call →
+      Replied x h seed st call (call_frame c call) (served_or short x h st (call_frame c call))
   replied short Idle busy s known hint i = absurd (busy refl)
   replied short (Hello key) busy s known hint i = rw i (welcomed short x h seed st)
   replied short (Sync scheme v p) busy s known hint i =
-      subst (λ (y : Standing). Replied x h seed y (Sync scheme v p) (frame.HintAsk (scheme_byte scheme) v p) (served_or short x h y (frame.HintAsk (scheme_byte scheme) v p)))
+      subst (λ (y : Standing). Replied x h seed y (Sync scheme v p) (frame.HintAsk (scheme_byte scheme) v p)
+          (served_or short x h y (frame.HintAsk (scheme_byte scheme) v p)))
       (sym (known_is c.known i.k known i.known_is).0) (replied_sync x h seed scheme v p short c.known c.parts i)
   replied short (Ask j scheme v n) busy s known hint i =
       let y = known_is c.known i.k known i.known_is in
       let w = ask_words j scheme v n s known hint i in
-      subst (λ (z : Standing). Replied x h seed z (Ask j scheme v n) (frame.Query (scheme_byte scheme) v (call_words c.known scheme c.seed n j)) (served_or short x h z (frame.Query (scheme_byte scheme) v (call_words c.known scheme c.seed n j))))
+      subst (λ (z : Standing). Replied x h seed z (Ask j scheme v n) (frame.Query (scheme_byte scheme) v (call_words c.known scheme c.seed n j))
+          (served_or short x h z (frame.Query (scheme_byte scheme) v (call_words c.known scheme c.seed n j))))
       (sym y.0) (replied_ask x h seed j scheme v n w.0 w.1 short (call_words c.known scheme c.seed n j) w.2)
   replied short (Edit j bytes) busy s known hint i = absurd i
   replied short Publish busy s known hint i = absurd i
 
   -- what the server makes of the frames that come of a link, which are none or all
-  pub served_link : (short : Bool) (call : Call) (up fs up2 down : List Frame) → Split up fs up2 → is_closed st ≡ false → c.seed ≡ seed → KnownIs x h st c.known → HintIs x h c.hint → CallIs x h c call
+  pub served_link : (short : Bool) (call : Call) (up fs up2 down : List Frame) → Split up fs up2 → is_closed st ≡ false → c.seed ≡ seed →
+      KnownIs x h st c.known → HintIs x h c.hint → CallIs x h c call
       → Phase x h st seed c call up down → ServedLink x seeds h seed st c call (serves x short k h st fs) up2 (down ++ (serves x short k h st fs).replies)
   served_link short Idle up fs up2 down (inl a) o s known hint i p = nothing_comes short Idle fs up2 down o a.0 (a.1 ∙ p.0, p.1)
   served_link short Idle up fs up2 down (inr a) o s known hint i p = nothing_comes short Idle fs up2 down o (a.0 ∙ p.0) (a.1, p.1)
-  served_link short (Hello key) up fs up2 down a o s known hint i p = served_flight short (Hello key) up fs up2 down a o (replied short (Hello key) (λ e. (cc)) s known hint i) p p
-  served_link short (Sync scheme v q) up fs up2 down a o s known hint i p = served_flight short (Sync scheme v q) up fs up2 down a o (replied short (Sync scheme v q) (λ e. (cc)) s known hint i) p p
-  served_link short (Ask j z v n) up fs up2 down a o s known hint i p = served_flight short (Ask j z v n) up fs up2 down a o (replied short (Ask j z v n) (λ e. (cc)) s known hint i) p p
+  served_link short (Hello key) up fs up2 down a o s known hint i p =
+      served_flight short (Hello key) up fs up2 down a o (replied short (Hello key) (λ e. (cc)) s known hint i) p p
+  served_link short (Sync scheme v q) up fs up2 down a o s known hint i p =
+      served_flight short (Sync scheme v q) up fs up2 down a o (replied short (Sync scheme v q) (λ e. (cc)) s known hint i) p p
+  served_link short (Ask j z v n) up fs up2 down a o s known hint i p =
+      served_flight short (Ask j z v n) up fs up2 down a o (replied short (Ask j z v n) (λ e. (cc)) s known hint i) p p
   served_link short (Edit j bytes) up fs up2 down a o s known hint i p = absurd p
   served_link short Publish up fs up2 down a o s known hint i p = absurd p

@@ -63,7 +63,8 @@ IsPartBefore (Sync s v p) reply scheme version part =
 IsPartBefore _ reply scheme version part = ⊥
 
 -- what a good reply leads to
-pub record IsTaken (x : Setting) (seeds : List (List ℕ)) (k : ℕ) (h : History) (st : Standing) (c : ClientState) (call : Call) (reply : Frame) (t : Taken) : Type 0 where
+pub record IsTaken (x : Setting) (seeds : List (List ℕ)) (k : ℕ) (h : History) (st : Standing) (c : ClientState) (call : Call) (reply : Frame)
+    (t : Taken) : Type 0 where
   pub client : ClientInv x h (seed_of seeds k) st t.state
   pub no_fault : fault_of t.reaction ≡ None
   pub phase : Phase x h st (seed_of seeds k) t.state t.state.call (sends_of t.reaction) []
@@ -81,7 +82,8 @@ plan_accepted p n l ok e = rw e (layout_accepted (shape_at p n) ok.layout)
 welcome_good : (p : Plan) (n v : ℕ) → IsPlan p n → 0 < v → is_welcome (profile_of p) (shape p.width p.record_len p.groups n) p.dimension v ≡ true
 welcome_good p n v ok lt =
     and_from (is_layout (shape_at p n)) _ (layout_accepted (shape_at p n) ok.layout)
-    (and_from (nat_le 1 p.dimension && nat_le p.dimension 1024) (nat_lt 0 v) (and_from _ _ (le-leb 1 p.dimension ok.low) (le-leb p.dimension 1024 ok.high)) (lt-ltb 0 v lt))
+    (and_from (nat_le 1 p.dimension && nat_le p.dimension 1024) (nat_lt 0 v) (and_from _ _ (le-leb 1 p.dimension ok.low) (le-leb p.dimension 1024 ok.high))
+        (lt-ltb 0 v lt))
 
 matrix_same : (m : WordMatrix) (r c : ℕ) (w : List ℕ) → r ≡ m.rows → c ≡ m.cols → w ≡ m.words → record { rows = r; cols = c; words = w } ≡ m
 matrix_same m r c w a b d = rw (a, b, d) refl
@@ -90,7 +92,8 @@ hint_list_is : (x : Setting) (s : Scheme) (records : List (List ℕ)) → hint_w
 unfolding hint_words
 hint_list_is x s records = refl
 
-length-hint : (x : Setting) (s : Scheme) (records : List (List ℕ)) → length (hint_words x s records) ≡ hint_len s (shape_at x.plan (length records)) x.plan.dimension
+length-hint : (x : Setting) (s : Scheme) (records : List (List ℕ)) →
+    length (hint_words x s records) ≡ hint_len s (shape_at x.plan (length records)) x.plan.dimension
 length-hint x s records =
     let z = hint_sizes s x.plan records in
     ap length (hint_list_is x s records) ∙ z.whole ∙ ap (λ (n : ℕ). n * (hint_matrix s x.plan records).cols) z.rows
@@ -110,22 +113,27 @@ hint_long x s records ok =
 
 part_length : (x : Setting) (s : Scheme) (records : List (List ℕ)) (p : ℕ) → length (part_words x s records p) ≡ part_len (length (hint_words x s records)) p
 unfolding part_words
-part_length x s records p = length-take 65536 (drop (65536 * p) (hint_words x s records)) ∙ ap (λ (n : ℕ). min 65536 n) (length-drop (65536 * p) (hint_words x s records))
+part_length x s records p = length-take 65536 (drop (65536 * p) (hint_words x s records))
+    ∙ ap (λ (n : ℕ). min 65536 n) (length-drop (65536 * p) (hint_words x s records))
 
-parts_more : (x : Setting) (s : Scheme) (records : List (List ℕ)) (p : ℕ) → take (65536 * p) (hint_words x s records) ++ part_words x s records p ≡ take (65536 * (p + 1)) (hint_words x s records)
+parts_more : (x : Setting) (s : Scheme) (records : List (List ℕ)) (p : ℕ) →
+    take (65536 * p) (hint_words x s records) ++ part_words x s records p ≡ take (65536 * (p + 1)) (hint_words x s records)
 unfolding part_words
 parts_more x s records p = let e : 65536 * (p + 1) ≡ 65536 * p + 65536 = omega arith in rw e (sym (take-add (65536 * p) 65536 (hint_words x s records)))
 
-pub known_some : (x : Setting) (h : History) (st : Standing) (o : Option ServerInfo) (y : ServerInfo) → KnownIs x h st o → o ≡ Some y → (st ≡ Reader) × IsKnownOf x h y
+pub known_some : (x : Setting) (h : History) (st : Standing) (o : Option ServerInfo) (y : ServerInfo) → KnownIs x h st o → o ≡ Some y → (st ≡ Reader)
+    × IsKnownOf x h y
 known_some x h st o y k e = let P : Option ServerInfo → Type 0 = λ z. KnownIs x h st z in subst P e k
 
 -- ---- each kind of reply
 
-module _ (law : RetrievalGivesTheRecord) (x : Setting) (seeds : List (List ℕ)) (k : ℕ) (h : History) (st : Standing) (c : ClientState) (g : GoodHistory x h) (i : ClientInv x h (seed_of seeds k) st c) where
+module _ (law : RetrievalGivesTheRecord) (x : Setting) (seeds : List (List ℕ)) (k : ℕ) (h : History) (st : Standing) (c : ClientState) (g : GoodHistory x h)
+    (i : ClientInv x h (seed_of seeds k) st c) where
   plan_ok : (v : ℕ) (records : List (List ℕ)) → HasVersion h v records → IsPlan x.plan (length records)
   plan_ok v records p = (g.versions v records p).plan
 
-  welcomed : (key : List ℕ) (v : ℕ) (records : List (List ℕ)) → HasVersion h v records → st ≡ Reader → IsTaken x seeds k h st c (Hello key) (welcome_frame x v records)
+  welcomed : (key : List ℕ) (v : ℕ) (records : List (List ℕ)) → HasVersion h v records → st ≡ Reader →
+      IsTaken x seeds k h st c (Hello key) (welcome_frame x v records)
       (takes_welcome (Hello key) c (profile_of x.plan) (shape x.plan.width x.plan.record_len x.plan.groups (length records)) x.plan.dimension v x.plan.seed)
   welcomed key v records p reader = rw (welcome_good x.plan (length records) v (plan_ok v records p) (version_positive x h v records g p)) (record {
     client = record {
@@ -156,7 +164,8 @@ module _ (law : RetrievalGivesTheRecord) (x : Setting) (seeds : List (List ℕ))
     next = λ f first e2. tt;
   }
 
-  refused_ask : (j : ℕ) (s : Scheme) (v n : ℕ) → IsTaken x seeds k h st c (Ask j s v n) (refused refusal.Memory) (takes_refused (Ask j s v n) c (code_of refusal.Memory))
+  refused_ask : (j : ℕ) (s : Scheme) (v n : ℕ) →
+      IsTaken x seeds k h st c (Ask j s v n) (refused refusal.Memory) (takes_refused (Ask j s v n) c (code_of refusal.Memory))
   refused_ask j s v n = record {
     client = record { seed_is = i.seed_is; alive = i.alive; known = i.known; hint = i.hint; call = tt };
     no_fault = refl;
@@ -172,12 +181,15 @@ module _ (law : RetrievalGivesTheRecord) (x : Setting) (seeds : List (List ℕ))
     count_same : (n : ℕ) → with_count y.layout n ≡ shape_at x.plan n
     count_same n = ap (λ (l : Shape). with_count l n) known.1.layout_is
 
-    stale_good : (v now : ℕ) (records : List (List ℕ)) → HasVersion h now records → v < now → (not (now == v) && (nat_lt 0 now && is_layout (with_count y.layout (length records)))) ≡ true
+    stale_good : (v now : ℕ) (records : List (List ℕ)) → HasVersion h now records → v < now →
+        (not (now == v) && (nat_lt 0 now && is_layout (with_count y.layout (length records)))) ≡ true
     stale_good v now records p lt =
         let ne : (now == v) ≡ false = ne_eqb now v (λ e. omega (arith, lt, e)) in
-        rw ne (and_from _ _ (lt-ltb 0 now (version_positive x h now records g p)) (plan_accepted x.plan (length records) _ (plan_ok now records p) (count_same (length records))))
+        rw ne (and_from _ _ (lt-ltb 0 now (version_positive x h now records g p))
+            (plan_accepted x.plan (length records) _ (plan_ok now records p) (count_same (length records))))
 
-    reported_of : (now : ℕ) (records : List (List ℕ)) → HasVersion h now records → IsKnownOf x h (record y { version = now; layout = with_count y.layout (length records) })
+    reported_of : (now : ℕ) (records : List (List ℕ)) → HasVersion h now records →
+        IsKnownOf x h (record y { version = now; layout = with_count y.layout (length records) })
     reported_of now records p = record {
       records = records;
       version_is = p;
@@ -215,7 +227,8 @@ module _ (law : RetrievalGivesTheRecord) (x : Setting) (seeds : List (List ℕ))
     -- the layout is that of the version asked
     layout_of : (v : ℕ) (records : List (List ℕ)) → y.version ≡ v → HasVersion h v records → y.layout ≡ shape_at x.plan (length records)
     layout_of v records e p =
-        let same : known.1.records ≡ records = one_version h v known.1.records records (let P : ℕ → Type 0 = λ n. HasVersion h n known.1.records in subst P e known.1.version_is) p in
+        let same : known.1.records ≡ records =
+            one_version h v known.1.records records (let P : ℕ → Type 0 = λ n. HasVersion h n known.1.records in subst P e known.1.version_is) p in
         known.1.layout_is ∙ ap (λ (r : List (List ℕ)). shape_at x.plan (length r)) same
 
     module _ (s : Scheme) (v p : ℕ) (r : SyncIs x h s v p c.known c.parts) (e : y.version ≡ v) where
@@ -226,9 +239,11 @@ module _ (law : RetrievalGivesTheRecord) (x : Setting) (seeds : List (List ℕ))
       layout_is = layout_of v r.records e r.version_is
 
       total_is : total ≡ length (hint_words x s r.records)
-      total_is = ap (λ (l : Shape). hint_len s l y.dimension) layout_is ∙ ap (hint_len s (shape_at x.plan (length r.records))) known.1.dimension_is ∙ sym (length-hint x s r.records)
+      total_is = ap (λ (l : Shape). hint_len s l y.dimension) layout_is ∙ ap (hint_len s (shape_at x.plan (length r.records))) known.1.dimension_is
+          ∙ sym (length-hint x s r.records)
 
-      made : (words : List ℕ) → words ≡ hint_words x s r.records → record { rows = hint_rows s y.layout y.dimension; cols = y.dimension; words = words } ≡ hint_matrix s x.plan r.records
+      made : (words : List ℕ) → words ≡ hint_words x s r.records → record { rows = hint_rows s y.layout y.dimension; cols = y.dimension; words = words }
+          ≡ hint_matrix s x.plan r.records
       made words all =
           let z = hint_sizes s x.plan r.records in
           matrix_same (hint_matrix s x.plan r.records) (hint_rows s y.layout y.dimension) y.dimension words
@@ -248,7 +263,8 @@ module _ (law : RetrievalGivesTheRecord) (x : Setting) (seeds : List (List ℕ))
       more words all (inl t) =
           let size : length words ≡ length (hint_words x s r.records) = eqb-true _ _ t ∙ total_is in
           let same : length (take (65536 * (p + 1)) (hint_words x s r.records)) ≡ length (hint_words x s r.records) = sym (ap length all) ∙ size in
-          let whole : words ≡ hint_words x s r.records = all ∙ take_all (65536 * (p + 1)) (hint_words x s r.records) (omega (arith, length-take (65536 * (p + 1)) (hint_words x s r.records), same)) in
+          let whole : words ≡ hint_words x s r.records = all
+              ∙ take_all (65536 * (p + 1)) (hint_words x s r.records) (omega (arith, length-take (65536 * (p + 1)) (hint_words x s r.records), same)) in
           rw t (record {
             client = record { seed_is = i.seed_is; alive = i.alive; known = i.known; hint = (r.records, r.version_is, made words whole); call = tt };
             no_fault = refl;
@@ -261,7 +277,8 @@ module _ (law : RetrievalGivesTheRecord) (x : Setting) (seeds : List (List ℕ))
           })
       more words all (inr t) =
           let ne : length words ≡ length (hint_words x s r.records) → ⊥ = λ q. eqb-false _ _ t (q ∙ sym total_is) in
-          let less : 65536 * (p + 1) < length (hint_words x s r.records) = omega (arith, length-take (65536 * (p + 1)) (hint_words x s r.records), ap length all, ne) in
+          let less : 65536 * (p + 1) < length (hint_words x s r.records) =
+              omega (arith, length-take (65536 * (p + 1)) (hint_words x s r.records), ap length all, ne) in
           rw t (record {
             client = record {
               seed_is = i.seed_is;
@@ -288,12 +305,15 @@ module _ (law : RetrievalGivesTheRecord) (x : Setting) (seeds : List (List ℕ))
           ap (λ (o : Option ServerInfo). takes_asked_part o s c v p (scheme_byte s) v p (part_words x s r.records p)) at
           ∙ ap (λ (b : Bool). cond b (more_parts s y c v p (c.parts ++ part_words x s r.records p)) (faulty c BadReply)) part_good
 
-      part_came : IsTaken x seeds k h st c (Sync s v p) (frame.HintPart (scheme_byte s) v p (part_words x s r.records p)) (takes_part (Sync s v p) c (scheme_byte s) v p (part_words x s r.records p))
+      part_came : IsTaken x seeds k h st c (Sync s v p) (frame.HintPart (scheme_byte s) v p (part_words x s r.records p))
+          (takes_part (Sync s v p) c (scheme_byte s) v p (part_words x s r.records p))
       part_came =
           subst (λ (t : Taken). IsTaken x seeds k h st c (Sync s v p) (frame.HintPart (scheme_byte s) v p (part_words x s r.records p)) t) (sym part_step)
-          (more (c.parts ++ part_words x s r.records p) (ap (λ (w : List ℕ). w ++ part_words x s r.records p) r.parts_are ∙ parts_more x s r.records p) (cases_Bool (length (c.parts ++ part_words x s r.records p) == total)))
+          (more (c.parts ++ part_words x s r.records p) (ap (λ (w : List ℕ). w ++ part_words x s r.records p) r.parts_are ∙ parts_more x s r.records p)
+              (cases_Bool (length (c.parts ++ part_words x s r.records p) == total)))
 
-    module _ (j : ℕ) (s : Scheme) (v n : ℕ) (records : List (List ℕ)) (p : HasVersion h v records) (lt : j < y.layout.count) (e : y.version ≡ v) (hint : Hint) (held : c.hint ≡ Some hint) (se : hint.scheme ≡ s) (ve : hint.version ≡ v) where
+    module _ (j : ℕ) (s : Scheme) (v n : ℕ) (records : List (List ℕ)) (p : HasVersion h v records) (lt : j < y.layout.count) (e : y.version ≡ v) (hint : Hint)
+        (held : c.hint ≡ Some hint) (se : hint.scheme ≡ s) (ve : hint.version ≡ v) where
       abbrev asked : Retrieval
       asked = record { index = j; scheme = s; version = v; number = n }
 
@@ -309,7 +329,8 @@ module _ (law : RetrievalGivesTheRecord) (x : Setting) (seeds : List (List ℕ))
           f.2 ∙ ap (λ (r : List (List ℕ)). hint_matrix hint.scheme x.plan r) (one_version h v f.0 records (subst (λ (w : ℕ). HasVersion h w f.0) ve f.1) p)
           ∙ ap (λ (t : Scheme). hint_matrix t x.plan records) se
 
-      read_is : event_of j v (record_of y.layout (reading hint.scheme y.layout hint.matrix c.seed n j answer)) ≡ event_of j v (record_read x.plan records (seed_of seeds k) asked)
+      read_is : event_of j v (record_of y.layout (reading hint.scheme y.layout hint.matrix c.seed n j answer))
+          ≡ event_of j v (record_read x.plan records (seed_of seeds k) asked)
       read_is = rw (shape_is, hint_right, se, i.seed_is) refl
 
       words_good : is_answer hint.scheme y v (scheme_byte s) v answer ≡ true
@@ -318,7 +339,8 @@ module _ (law : RetrievalGivesTheRecord) (x : Setting) (seeds : List (List ℕ))
           (and_from (v == v) _ (eq-eqb v v refl)
           (eq-eqb _ _ (length-answer s x.plan records (asked_words x.plan records (seed_of seeds k) asked)))))
 
-      answer_right : IsAnswered x h (seed_of seeds k) asked (frame.Answer (scheme_byte s) v answer) (event_of j v (record_of y.layout (reading hint.scheme y.layout hint.matrix c.seed n j answer)))
+      answer_right : IsAnswered x h (seed_of seeds k) asked (frame.Answer (scheme_byte s) v answer)
+          (event_of j v (record_of y.layout (reading hint.scheme y.layout hint.matrix c.seed n j answer)))
       answer_right =
           let r = g.versions v records p in
           let inside : j < length records = omega (arith, lt, ap (λ (l : Shape). l.count) shape_is) in
@@ -328,15 +350,21 @@ module _ (law : RetrievalGivesTheRecord) (x : Setting) (seeds : List (List ℕ))
             inside = inside;
             answer_is = refl;
             event_is = read_is;
-            quiet = λ q. read_is ∙ ap (event_of j v) (law s x.plan records (seed_of seeds k) n j (shape_of_layout (shape_at x.plan (length records)) r.plan.layout) inside (r.each j inside) (inl q));
-            certain = λ q. read_is ∙ ap (event_of j v) (law s x.plan records (seed_of seeds k) n j (shape_of_layout (shape_at x.plan (length records)) r.plan.layout) inside (r.each j inside) (inr q));
+            quiet = λ q. read_is ∙ ap (event_of j v)
+                (law s x.plan records (seed_of seeds k) n j (shape_of_layout (shape_at x.plan (length records)) r.plan.layout) inside (r.each j inside)
+                (inl q));
+            certain = λ q. read_is ∙ ap (event_of j v)
+                (law s x.plan records (seed_of seeds k) n j (shape_of_layout (shape_at x.plan (length records)) r.plan.layout) inside (r.each j inside)
+                (inr q));
           }
 
-      answer_step : takes_answer (Ask j s v n) c (scheme_byte s) v answer ≡ ended c (event_of j v (record_of y.layout (reading hint.scheme y.layout hint.matrix c.seed n j answer)))
+      answer_step : takes_answer (Ask j s v n) c (scheme_byte s) v answer
+          ≡ ended c (event_of j v (record_of y.layout (reading hint.scheme y.layout hint.matrix c.seed n j answer)))
       answer_step =
           ap (λ (o : Option ServerInfo). answered o c.hint c j v n (scheme_byte s) v answer) at
           ∙ ap (λ (o : Option Hint). answered (Some y) o c j v n (scheme_byte s) v answer) held
-          ∙ ap (λ (b : Bool). cond b (ended c (event_of j v (record_of y.layout (reading hint.scheme y.layout hint.matrix c.seed n j answer)))) (faulty c BadReply)) words_good
+          ∙ ap (λ (b : Bool). cond b (ended c (event_of j v (record_of y.layout (reading hint.scheme y.layout hint.matrix c.seed n j answer))))
+              (faulty c BadReply)) words_good
 
       answer_came : IsTaken x seeds k h st c (Ask j s v n) (frame.Answer (scheme_byte s) v answer) (takes_answer (Ask j s v n) c (scheme_byte s) v answer)
       answer_came = subst (λ (t : Taken). IsTaken x seeds k h st c (Ask j s v n) (frame.Answer (scheme_byte s) v answer) t) (sym answer_step) (record {
@@ -353,24 +381,31 @@ module _ (law : RetrievalGivesTheRecord) (x : Setting) (seeds : List (List ℕ))
   by_call : (f : Call → Taken) (call : Call) (r : Frame) → c.call ≡ call → IsTaken x seeds k h st c call r (f call) → IsTaken x seeds k h st c call r (f c.call)
   by_call f call r e t = subst (λ (a : Call). IsTaken x seeds k h st c call r (f a)) (sym e) t
 
-  reply_taken : (call : Call) (r : Frame) → c.call ≡ call → CallIs x h c call → IsReply x h st (seed_of seeds k) call r → IsTaken x seeds k h st c call r (reaction_to_reply c r)
+  reply_taken : (call : Call) (r : Frame) → c.call ≡ call → CallIs x h c call → IsReply x h st (seed_of seeds k) call r →
+      IsTaken x seeds k h st c call r (reaction_to_reply c r)
   reply_taken Idle r e a p = absurd p
   reply_taken (Hello key) r e a p =
-      rw p.1.3 (by_call (λ (q : Call). takes_welcome q c (profile_of x.plan) (shape x.plan.width x.plan.record_len x.plan.groups (length p.1.1)) x.plan.dimension p.1.0 x.plan.seed) (Hello key) (welcome_frame x p.1.0 p.1.1) e (welcomed key p.1.0 p.1.1 p.1.2 p.0))
+      rw p.1.3 (by_call (λ (q : Call). takes_welcome q c (profile_of x.plan)
+          (shape x.plan.width x.plan.record_len x.plan.groups (length p.1.1)) x.plan.dimension p.1.0 x.plan.seed) (Hello key) (welcome_frame x p.1.0 p.1.1) e
+          (welcomed key p.1.0 p.1.1 p.1.2 p.0))
   reply_taken (Sync s v m) r e a (inl p) =
-      rw p (by_call (λ (q : Call). takes_refused q c (code_of refusal.Memory)) (Sync s v m) (refused refusal.Memory) e (refused_sync s v m (code_of refusal.Memory)))
+      rw p (by_call (λ (q : Call). takes_refused q c (code_of refusal.Memory)) (Sync s v m) (refused refusal.Memory) e
+          (refused_sync s v m (code_of refusal.Memory)))
   reply_taken (Sync s v m) r e a (inr (inl p)) =
       let known = known_some x h st c.known a.k i.known a.known_is in
-      rw p.4 (by_call (λ (q : Call). takes_stale q c p.0 (length p.1)) (Sync s v m) (frame.Stale p.0 (length p.1)) e (stale_sync a.k a.known_is known s v m p.0 p.1 p.2 p.3))
+      rw p.4 (by_call (λ (q : Call). takes_stale q c p.0 (length p.1)) (Sync s v m) (frame.Stale p.0 (length p.1)) e
+          (stale_sync a.k a.known_is known s v m p.0 p.1 p.2 p.3))
   reply_taken (Sync s v m) r e a (inr (inr p)) =
       let known = known_some x h st c.known a.k i.known a.known_is in
       let same : p.0 ≡ a.records = one_version h v p.0 a.records p.1 a.version_is in
-      rw (p.2, same) (by_call (λ (q : Call). takes_part q c (scheme_byte s) v m (part_words x s a.records m)) (Sync s v m) (frame.HintPart (scheme_byte s) v m (part_words x s a.records m)) e (part_came a.k a.known_is known s v m a a.asked))
+      rw (p.2, same) (by_call (λ (q : Call). takes_part q c (scheme_byte s) v m (part_words x s a.records m)) (Sync s v m)
+          (frame.HintPart (scheme_byte s) v m (part_words x s a.records m)) e (part_came a.k a.known_is known s v m a a.asked))
   reply_taken (Ask j s v n) r e a (inl p) =
       rw p (by_call (λ (q : Call). takes_refused q c (code_of refusal.Memory)) (Ask j s v n) (refused refusal.Memory) e (refused_ask j s v n))
   reply_taken (Ask j s v n) r e a (inr (inl p)) =
       let known = known_some x h st c.known a.k i.known a.known_is in
-      rw p.4 (by_call (λ (q : Call). takes_stale q c p.0 (length p.1)) (Ask j s v n) (frame.Stale p.0 (length p.1)) e (stale_ask a.k a.known_is known j s v n p.0 p.1 p.2 p.3))
+      rw p.4 (by_call (λ (q : Call). takes_stale q c p.0 (length p.1)) (Ask j s v n) (frame.Stale p.0 (length p.1)) e
+          (stale_ask a.k a.known_is known j s v n p.0 p.1 p.2 p.3))
   reply_taken (Ask j s v n) r e a (inr (inr p)) =
       let known = known_some x h st c.known a.k i.known a.known_is in
       let w : List ℕ = given_words x.plan p.0 (seed_of seeds k) (record { index = j; scheme = s; version = v; number = n }) in

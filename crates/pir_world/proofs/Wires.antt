@@ -12,7 +12,8 @@ none_arrives w most e =
     let P : List Frame → Type 0 = λ fs. (whole fs (reach w most) ≡ []) × ((unread fs (reach w most)).frames ≡ []) in
     subst P (sym e) (refl, refl)
 
-pub one_arrives : (w : Wire) (most : ℕ) (f : Frame) → w.frames ≡ f ∷ [] → ((arrived w most ≡ []) × ((beyond w most).frames ≡ f ∷ [])) ⊎ ((arrived w most ≡ f ∷ []) × ((beyond w most).frames ≡ []))
+pub one_arrives : (w : Wire) (most : ℕ) (f : Frame) → w.frames ≡ f ∷ [] → ((arrived w most ≡ []) × ((beyond w most).frames ≡ f ∷ []))
+    ⊎ ((arrived w most ≡ f ∷ []) × ((beyond w most).frames ≡ []))
 one_arrives w most f e =
     let n : ℕ = reach w most in
     let P : List Frame → Type 0 = λ fs. ((whole fs n ≡ []) × ((unread fs n).frames ≡ f ∷ [])) ⊎ ((whole fs n ≡ f ∷ []) × ((unread fs n).frames ≡ [])) in

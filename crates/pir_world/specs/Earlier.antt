@@ -62,7 +62,8 @@ pub record IsServedLast (k : ℕ) (f reply : Frame) (first log : List Entry) : T
   pub sent : IsSentLast k f first before
   pub aside : AllByRecursion (IsAside k) since
 
--- A retrieval was asked for last: its number is the count of the asks accepted before, its scheme and its version are those of the hint held then, and these are its query's words on the records of that version.
+-- A retrieval was asked for last: its number is the count of the asks accepted before, its scheme and its version are
+-- those of the hint held then, and these are its query's words on the records of that version.
 pub record IsAsked (x : Setting) (h : History) (seed : List ℕ) (k : ℕ) (r : Retrieval) (query : Frame) (log : List Entry) : Type 0 where
   pub before : List Entry
   pub log_is : log ≡ before ++ Called k (Ask r.index) None ∷ []
@@ -86,7 +87,9 @@ IsAskForPart k scheme version part log =
     ⊎ ((first : List Entry) × (p : ℕ) × (words : List ℕ) × (part ≡ p + 1) ×
     IsServedLast k (frame.HintAsk scheme version p) (frame.HintPart scheme version p words) first log)
 
--- What came before an entry: each frame sent is that of a call that was accepted last, or asks for the next part of a hint; each frame served was sent; each retrieval that ended was asked for and served, and each other event came of a reply to the last frame.
+-- What came before an entry: each frame sent is that of a call that was accepted last, or asks for the next part of a
+-- hint; each frame served was sent; each retrieval that ended was asked for and served, and each other event came of
+-- a reply to the last frame.
 abbrev pub HasEarlier : Setting → List (List ℕ) → History → List Entry → Entry → Type 0
 HasEarlier x seeds h before (Sent k (frame.Query scheme version words)) =
     (r : Retrieval) × IsAsked x h (seed_of seeds k) k r (frame.Query scheme version words) before

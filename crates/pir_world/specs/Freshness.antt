@@ -32,7 +32,10 @@ abbrev pub IsFresh : History → List Entry → Entry → Type 0
 IsFresh h before (Served k f now reply) = (now ≡ current_version h) × AllByRecursion (ReportedUpTo now) before
 IsFresh h before _ = Unit {0}
 
--- So it is at every delivery to the server in every run. An answer is of the version that is current when its query is served, so it is never older than a version that anybody had been told of before.
+-- So it is at every delivery to the server in every run. An answer is of the version that is current when its query
+-- is served, so it is never older than a version that anybody had been told of before.
 abbrev pub AnswersAreFresh : Type 0
-AnswersAreFresh = (h : Header) (records : List ℕ) (seeds : List (List ℕ)) (steps : List Step) (s : State) → IsOpening h records → Run (setting_in h) (opening h records seeds) steps s →
-    (short : Bool) (k most : ℕ) (l : Link) → slice_get s.links k ≡ Some l → AllByRecursion (IsFresh s.history s.log) (turn_of (setting_in h) short k most s.history l).log
+AnswersAreFresh = (h : Header) (records : List ℕ) (seeds : List (List ℕ)) (steps : List Step) (s : State) → IsOpening h records →
+    Run (setting_in h) (opening h records seeds) steps s →
+    (short : Bool) (k most : ℕ) (l : Link) → slice_get s.links k ≡ Some l →
+        AllByRecursion (IsFresh s.history s.log) (turn_of (setting_in h) short k most s.history l).log

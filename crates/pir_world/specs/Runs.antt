@@ -96,7 +96,8 @@ pub record Retrieval : Type 0 where
   pub version : ℕ
   pub number : ℕ
 
--- A client was called, and why the call was refused, if it was; it sent a frame; a frame was served while `now` was the current version; a reply ended a retrieval with an event; any other outcome.
+-- A client was called, and why the call was refused, if it was; it sent a frame; a frame was served while `now` was
+-- the current version; a reply ended a retrieval with an event; any other outcome.
 pub data Entry : Type 0 where
   Called : (client : ℕ) (want : Want) (refusal : Option CallFault) → Entry
   Sent : (client : ℕ) (frame : Frame) → Entry
@@ -147,7 +148,8 @@ turn_more x short k t f =
     if is_closed t.standing then t
     else (
     let o = served_or short x t.history t.standing f in
-    record { history = o.history; standing = o.standing; replies = t.replies ++ option_to_list o.reply; log = t.log ++ Served k f (current_version t.history) o.reply ∷ [] })
+    record { history = o.history; standing = o.standing; replies = t.replies ++ option_to_list o.reply; log =
+        t.log ++ Served k f (current_version t.history) o.reply ∷ [] })
 
 <<<<<<< HEAD
 -- frames are served one after another
@@ -212,7 +214,8 @@ reacts k c reply (Fails fault) = Plain (Failed k fault) ∷ []
 -- what client k reports and sends at replies, one after another, up to a fault
 abbrev pub reported_by : ℕ → ClientState → List Frame → List Entry
 reported_by k c [] = []
-reported_by k c (f ∷ fs) = reacts k c.call f (reaction_to_reply c f).reaction ++ cond (is_some (fault_of (reaction_to_reply c f).reaction)) [] (reported_by k (reaction_to_reply c f).state fs)
+reported_by k c (f ∷ fs) = reacts k c.call f (reaction_to_reply c f).reaction ++ cond (is_some (fault_of (reaction_to_reply c f).reaction)) []
+    (reported_by k (reaction_to_reply c f).state fs)
 
 -- the link after an accepted call
 abbrev pub link_called : Want → Link → Link

@@ -61,7 +61,8 @@ pub record TakesDelivery (most : ℕ) (old : Side) (out : List ℕ) (events : Li
   pub down : new.down ≡ rest most old.down
 
 -- a delivery to the server: its replies wait after the other bytes
-pub record ServesDelivery (most : ℕ) (h : History) (before : StoreState) (old : Side) (session : Session) (after : StoreState) (new : Side) (then_ : Session) : Type 0 where
+pub record ServesDelivery (most : ℕ) (h : History) (before : StoreState) (old : Side) (session : Session) (after : StoreState) (new : Side)
+    (then_ : Session) : Type 0 where
   pub replies : List ℕ
   pub fed : Fed (setting_of before) h session (prefix most old.up) (Ok tt) after then_ [] replies
   pub client : new.client ≡ old.client
@@ -71,7 +72,8 @@ pub record ServesDelivery (most : ℕ) (h : History) (before : StoreState) (old 
 -- a call: its frame waits after the other bytes, or it is refused and nothing changes
 abbrev pub MakesCall : Want → Side → Option CallFault → Side → Type 0
 MakesCall want old None new =
-    (bytes : List ℕ) × Accepts old.client.state want new.client.state bytes × (new.client.reader ≡ old.client.reader) × (new.up ≡ old.up ++ bytes) × (new.down ≡ old.down)
+    (bytes : List ℕ) × Accepts old.client.state want new.client.state bytes × (new.client.reader ≡ old.client.reader) × (new.up ≡ old.up ++ bytes)
+        × (new.down ≡ old.down)
 MakesCall want old (Some fault) new = (refusal want old.client.state ≡ Some fault) × (new ≡ old)
 
 -- a wire by its bytes: what the reader has of the next frame, and then what waits, encode the frames on their way

@@ -8,7 +8,8 @@ use Rattle.pir_world.specs.Runs.{State, Run, opening, setting_in}
 use Rattle.pir_world.specs.Headlines.{IsOpening}
 use Rattle.pir_world.specs.Sides.{Side, IsParts}
 
--- the snapshot and the seeds it was opened with, the server, the clients' ends, the steps made and the outcomes, in order, and whether memory was refused in a step
+-- the snapshot and the seeds it was opened with, the server, the clients' ends, the steps made and the outcomes, in
+-- order, and whether memory was refused in a step
 pub record Kept : Type 0 where
   pub header : Header
   pub records : List ℕ

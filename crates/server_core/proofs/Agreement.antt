@@ -19,14 +19,16 @@ use Rattle.server_core.proofs.Runs.{not_both}
 
 -- ---- frames after a closing one
 
-dropped : (x : Setting) (h : History) (st : Standing) (more : List Frame) (h2 : History) (st2 : Standing) (rs : List Frame) → (h2 ≡ h) × (st2 ≡ st) × (rs ≡ []) → is_closed st ≡ true → ServesAll x h st more h2 st2 rs
+dropped : (x : Setting) (h : History) (st : Standing) (more : List Frame) (h2 : History) (st2 : Standing) (rs : List Frame) → (h2 ≡ h) × (st2 ≡ st)
+    × (rs ≡ []) → is_closed st ≡ true → ServesAll x h st more h2 st2 rs
 dropped x h st [] h2 st2 rs s shut = s
 dropped x h Closed (f ∷ fs) h2 st2 rs s shut = s
 dropped x h Stranger (f ∷ fs) h2 st2 rs s shut = not_both Stranger shut refl
 dropped x h Reader (f ∷ fs) h2 st2 rs s shut = not_both Reader shut refl
 dropped x h Publisher (f ∷ fs) h2 st2 rs s shut = not_both Publisher shut refl
 
-drops_all : (x : Setting) (h : History) (st : Standing) (fs more : List Frame) (h2 : History) (st2 : Standing) (rs : List Frame) → ServesAll x h st fs h2 st2 rs → is_closed st2 ≡ true → ServesAll x h st (fs ++ more) h2 st2 rs
+drops_all : (x : Setting) (h : History) (st : Standing) (fs more : List Frame) (h2 : History) (st2 : Standing) (rs : List Frame) →
+    ServesAll x h st fs h2 st2 rs → is_closed st2 ≡ true → ServesAll x h st (fs ++ more) h2 st2 rs
 drops_all x h st [] more h2 st2 rs s shut = dropped x h st more h2 st2 rs s (sym (ap is_closed s.1) ∙ shut)
 drops_all x h Closed (g ∷ fs) more h2 st2 rs s shut = s
 drops_all x h Stranger (g ∷ fs) more h2 st2 rs s shut = (s.0, s.1, s.2, s.3, drops_all x s.0.history s.0.standing fs more h2 st2 s.1 s.4 shut)
@@ -34,7 +36,8 @@ drops_all x h Reader (g ∷ fs) more h2 st2 rs s shut = (s.0, s.1, s.2, s.3, dro
 drops_all x h Publisher (g ∷ fs) more h2 st2 rs s shut = (s.0, s.1, s.2, s.3, drops_all x s.0.history s.0.standing fs more h2 st2 s.1 s.4 shut)
 
 -- so the course of more frames is that of the ones that close
-closing_course : (x : Setting) (h : History) (st : Standing) (fs gs more : List Frame) (h2 : History) (st2 : Standing) (rs : List Frame) → ServesAll x h st fs h2 st2 rs → is_closed st2 ≡ true → lacks_memory rs ≡ false → gs ≡ fs ++ more
+closing_course : (x : Setting) (h : History) (st : Standing) (fs gs more : List Frame) (h2 : History) (st2 : Standing) (rs : List Frame) →
+    ServesAll x h st fs h2 st2 rs → is_closed st2 ≡ true → lacks_memory rs ≡ false → gs ≡ fs ++ more
     → record { history = h2; standing = st2; replies = rs } ≡ course_of x h st gs
 closing_course x h st fs gs more h2 st2 rs s shut lacks e =
     decided x h st gs h2 st2 rs (subst (λ (y : List Frame). ServesAll x h st y h2 st2 rs) (sym e) (drops_all x h st fs more h2 st2 rs s shut)) lacks
@@ -61,7 +64,8 @@ memory_or (Err Memory) = inl refl
 memory_or (Err Failed) = inr (λ e. let bad : Err Failed ≡ Err Memory = e in cc)
 
 -- after frames that leave the session open
-after_open : (answer : Result (Unit {0}) ReadFault) (h2 : History) (middle after : Standing) (reported more replies : List Frame) → AfterReading answer middle after more → replies ≡ reported ++ more
+after_open : (answer : Result (Unit {0}) ReadFault) (h2 : History) (middle after : Standing) (reported more replies : List Frame) →
+    AfterReading answer middle after more → replies ≡ reported ++ more
     → record { history = h2; standing = after; replies = replies } ≡ at_end answer (record { history = h2; standing = middle; replies = reported })
 after_open (Ok d) h2 middle after reported more replies e all = rw (e.0, all, e.1, append-nil reported) refl
 after_open (Err TooLong) h2 middle after reported more replies e all = rw (e.0, all, e.1) refl
@@ -71,16 +75,19 @@ after_open (Err Memory) h2 middle after reported more replies e all = absurd e
 after_open (Err Failed) h2 middle after reported more replies e all = absurd e
 
 -- after any frames
-after_frames : (answer : Result (Unit {0}) ReadFault) (h2 : History) (middle after : Standing) (reported more replies : List Frame) → EndsPiece answer middle after more → replies ≡ reported ++ more
+after_frames : (answer : Result (Unit {0}) ReadFault) (h2 : History) (middle after : Standing) (reported more replies : List Frame) →
+    EndsPiece answer middle after more → replies ≡ reported ++ more
     → record { history = h2; standing = after; replies = replies }
-    ≡ cond (is_closed middle) (record { history = h2; standing = middle; replies = reported }) (at_end answer (record { history = h2; standing = middle; replies = reported }))
+    ≡ cond (is_closed middle) (record { history = h2; standing = middle; replies = reported })
+        (at_end answer (record { history = h2; standing = middle; replies = reported }))
 after_frames answer h2 Closed after reported more replies e all = rw (e.0, all, e.1, append-nil reported) refl
 after_frames answer h2 Stranger after reported more replies e all = after_open answer h2 Stranger after reported more replies e all
 after_frames answer h2 Reader after reported more replies e all = after_open answer h2 Reader after reported more replies e all
 after_frames answer h2 Publisher after reported more replies e all = after_open answer h2 Publisher after reported more replies e all
 
 -- refused memory is passed over only where the frames before it closed the session
-closed_before : (middle after : Standing) (more : List Frame) → EndsPiece (Err Memory) middle after more → (is_closed middle ≡ true) × (after ≡ middle) × (more ≡ [])
+closed_before : (middle after : Standing) (more : List Frame) → EndsPiece (Err Memory) middle after more → (is_closed middle ≡ true) × (after ≡ middle)
+    × (more ≡ [])
 closed_before Closed after more e = (refl, e.0, e.1)
 closed_before Stranger after more e = absurd e
 closed_before Reader after more e = absurd e
@@ -91,7 +98,8 @@ record Silent (x : Setting) (h : History) (st : Standing) (frames : List Frame) 
   shut : is_closed after ≡ true
   serves : ServesAll x h st frames h2 after replies
 
-silent : (x : Setting) (h : History) (old : Session) (piece : List ℕ) (h2 : History) (new : Session) (replies : List Frame) (s : ServesPiece x h old piece h2 new replies) → s.answer ≡ Err Memory → Silent x h old.standing s.frames h2 new.standing replies
+silent : (x : Setting) (h : History) (old : Session) (piece : List ℕ) (h2 : History) (new : Session) (replies : List Frame)
+    (s : ServesPiece x h old piece h2 new replies) → s.answer ≡ Err Memory → Silent x h old.standing s.frames h2 new.standing replies
 silent x h old piece h2 new replies s m =
     let c = closed_before s.middle new.standing s.more (subst (λ (y : Result (Unit {0}) ReadFault). EndsPiece y s.middle new.standing s.more) m s.ends) in
     let same : replies ≡ s.reported = s.all ∙ ap (λ (y : List Frame). s.reported ++ y) c.2 ∙ append-nil s.reported in
@@ -99,39 +107,50 @@ silent x h old piece h2 new replies s m =
 
 -- ---- a piece
 
-by_course : (x : Setting) (h : History) (st : Standing) (frames : List Frame) (answer : Result (Unit {0}) ReadFault) (c : Course) → c ≡ course_of x h st frames → cond (is_closed c.standing) c (at_end answer c) ≡ course_of_piece x h st frames answer
+by_course : (x : Setting) (h : History) (st : Standing) (frames : List Frame) (answer : Result (Unit {0}) ReadFault) (c : Course) →
+    c ≡ course_of x h st frames → cond (is_closed c.standing) c (at_end answer c) ≡ course_of_piece x h st frames answer
 by_course x h st frames answer c e = ap (λ (y : Course). cond (is_closed y.standing) y (at_end answer y)) e
 
 closed_alone : (c : Course) (answer : Result (Unit {0}) ReadFault) → is_closed c.standing ≡ true → c ≡ cond (is_closed c.standing) c (at_end answer c)
 closed_alone c answer shut = rw shut refl
 
-piece_decided : FeedsDecide → FeedsBegin → (x : Setting) (h : History) (old : Session) (piece : List ℕ) (h2 : History) (new : Session) (replies : List Frame) (answer : Result (Unit {0}) ReadFault) (frames : List Frame) (rest : Option (List ℕ)) → ServesPiece x h old piece h2 new replies
+piece_decided : FeedsDecide → FeedsBegin →
+    (x : Setting) (h : History) (old : Session) (piece : List ℕ) (h2 : History) (new : Session) (replies : List Frame) (answer : Result (Unit {0}) ReadFault)
+    (frames : List Frame) (rest : Option (List ℕ)) → ServesPiece x h old piece h2 new replies
     → lacks_memory replies ≡ false → Feeds old.unfinished piece answer frames rest → answer ≢ Err Memory
-    → (record { history = h2; standing = new.standing; replies = replies } ≡ course_of_piece x h old.standing frames answer) × (is_closed new.standing ≡ false → new.unfinished ≡ rest)
+    → (record { history = h2; standing = new.standing; replies = replies } ≡ course_of_piece x h old.standing frames answer)
+        × (is_closed new.standing ≡ false → new.unfinished ≡ rest)
 piece_decided decide begin x h old piece h2 new replies answer frames rest s lacks reads clear =
     elim (memory_or s.answer) [
       | inl m ↦
           let q = silent x h old piece h2 new replies s m in
           let b = begin old.unfinished piece answer s.answer frames s.frames rest new.unfinished reads s.reads clear in
           let c : Course = record { history = h2; standing = new.standing; replies = replies } in
-          let e : c ≡ course_of x h old.standing frames = closing_course x h old.standing s.frames frames b.0 h2 new.standing replies q.serves q.shut lacks b.1 in
+          let e : c ≡ course_of x h old.standing frames =
+              closing_course x h old.standing s.frames frames b.0 h2 new.standing replies q.serves q.shut lacks b.1 in
           (closed_alone c answer q.shut ∙ by_course x h old.standing frames answer c e, λ open_. not_both new.standing q.shut open_)
       | inr pure ↦
           let d = decide old.unfinished piece s.answer answer s.frames frames new.unfinished rest s.reads reads pure clear in
           let c : Course = record { history = h2; standing = s.middle; replies = s.reported } in
-          let e : c ≡ course_of x h old.standing frames = rw (← d.1) (decided x h old.standing s.frames h2 s.middle s.reported s.serves (reported_clear replies s.reported s.more s.all lacks)) in
+          let e : c ≡ course_of x h old.standing frames =
+              rw (← d.1) (decided x h old.standing s.frames h2 s.middle s.reported s.serves (reported_clear replies s.reported s.more s.all lacks)) in
           let f : record { history = h2; standing = new.standing; replies = replies } ≡ cond (is_closed s.middle) c (at_end answer c) =
-          after_frames answer h2 s.middle new.standing s.reported s.more replies (subst (λ (y : Result (Unit {0}) ReadFault). EndsPiece y s.middle new.standing s.more) d.0 s.ends) s.all in
+          after_frames answer h2 s.middle new.standing s.reported s.more replies
+              (subst (λ (y : Result (Unit {0}) ReadFault). EndsPiece y s.middle new.standing s.more) d.0 s.ends) s.all in
           (f ∙ by_course x h old.standing frames answer c e, λ open_. d.2)
     ]
 
-served_open : (x : Setting) (h : History) (old : Session) (piece : List ℕ) (h2 : History) (new : Session) (replies : List Frame) → is_closed old.standing ≡ false → MatchBool (is_closed old.standing) ((h2 ≡ h) × (new ≡ old) × (replies ≡ [])) (ServesPiece x h old piece h2 new replies)
+served_open : (x : Setting) (h : History) (old : Session) (piece : List ℕ) (h2 : History) (new : Session) (replies : List Frame) →
+    is_closed old.standing ≡ false → MatchBool (is_closed old.standing) ((h2 ≡ h) × (new ≡ old) × (replies ≡ [])) (ServesPiece x h old piece h2 new replies)
     → ServesPiece x h old piece h2 new replies
-served_open x h old piece h2 new replies open_ f = subst (λ (b : Bool). MatchBool b ((h2 ≡ h) × (new ≡ old) × (replies ≡ [])) (ServesPiece x h old piece h2 new replies)) open_ f
+served_open x h old piece h2 new replies open_ f =
+    subst (λ (b : Bool). MatchBool b ((h2 ≡ h) × (new ≡ old) × (replies ≡ [])) (ServesPiece x h old piece h2 new replies)) open_ f
 
-served_closed : (x : Setting) (h : History) (old : Session) (piece : List ℕ) (h2 : History) (new : Session) (replies : List Frame) → is_closed old.standing ≡ true → MatchBool (is_closed old.standing) ((h2 ≡ h) × (new ≡ old) × (replies ≡ [])) (ServesPiece x h old piece h2 new replies)
+served_closed : (x : Setting) (h : History) (old : Session) (piece : List ℕ) (h2 : History) (new : Session) (replies : List Frame) →
+    is_closed old.standing ≡ true → MatchBool (is_closed old.standing) ((h2 ≡ h) × (new ≡ old) × (replies ≡ [])) (ServesPiece x h old piece h2 new replies)
     → (h2 ≡ h) × (new ≡ old) × (replies ≡ [])
-served_closed x h old piece h2 new replies shut f = subst (λ (b : Bool). MatchBool b ((h2 ≡ h) × (new ≡ old) × (replies ≡ [])) (ServesPiece x h old piece h2 new replies)) shut f
+served_closed x h old piece h2 new replies shut f =
+    subst (λ (b : Bool). MatchBool b ((h2 ≡ h) × (new ≡ old) × (replies ≡ [])) (ServesPiece x h old piece h2 new replies)) shut f
 
 pub pieces_decide : FeedsDecide → FeedsBegin → PiecesDecide
 pieces_decide decide begin x h old piece done h2 new replies answer frames rest open_ f lacks reads clear =
@@ -147,7 +166,9 @@ same_course : (h2 h3 : History) (new new2 : Session) (replies replies2 : List Fr
     → (is_closed new.standing ≡ false → new.unfinished ≡ new2.unfinished) → (h2 ≡ h3) × IsAlike new new2 × (replies ≡ replies2)
 same_course h2 h3 new new2 replies replies2 e u = (ap (λ (c : Course). c.history) e, (ap (λ (c : Course). c.standing) e, u), ap (λ (c : Course). c.replies) e)
 
-both_served : FeedsDecide → FeedsBegin → FeedsAgree → (x : Setting) (h : History) (old : Session) (piece : List ℕ) (h2 h3 : History) (new new2 : Session) (replies replies2 : List Frame) → ServesPiece x h old piece h2 new replies → ServesPiece x h old piece h3 new2 replies2
+both_served : FeedsDecide → FeedsBegin → FeedsAgree →
+    (x : Setting) (h : History) (old : Session) (piece : List ℕ) (h2 h3 : History) (new new2 : Session) (replies replies2 : List Frame) →
+    ServesPiece x h old piece h2 new replies → ServesPiece x h old piece h3 new2 replies2
     → lacks_memory replies ≡ false → lacks_memory replies2 ≡ false → (h2 ≡ h3) × IsAlike new new2 × (replies ≡ replies2)
 both_served decide begin agree x h old piece h2 h3 new new2 replies replies2 s t lacks lacks2 =
     elim (memory_or t.answer) [
@@ -164,16 +185,20 @@ both_served decide begin agree x h old piece h2 h3 new new2 replies replies2 s t
         | inl m ↦
             let q = silent x h old piece h2 new replies s m in
             let r = silent x h old piece h3 new2 replies2 t n in
-            let same : course h2 new.standing replies ≡ course h3 new2.standing replies2 = elim (agree old.unfinished piece s.answer t.answer s.frames t.frames new.unfinished new2.unfinished s.reads t.reads) [
-              | inl e ↦ decided x h old.standing s.frames h2 new.standing replies q.serves lacks ∙ sym (closing_course x h old.standing t.frames s.frames e.0 h3 new2.standing replies2 r.serves r.shut lacks2 e.1)
-              | inr e ↦ closing_course x h old.standing s.frames t.frames e.0 h2 new.standing replies q.serves q.shut lacks e.1 ∙ sym (decided x h old.standing t.frames h3 new2.standing replies2 r.serves lacks2)
+            let same : course h2 new.standing replies ≡ course h3 new2.standing replies2 =
+                elim (agree old.unfinished piece s.answer t.answer s.frames t.frames new.unfinished new2.unfinished s.reads t.reads) [
+              | inl e ↦ decided x h old.standing s.frames h2 new.standing replies q.serves lacks
+                  ∙ sym (closing_course x h old.standing t.frames s.frames e.0 h3 new2.standing replies2 r.serves r.shut lacks2 e.1)
+              | inr e ↦ closing_course x h old.standing s.frames t.frames e.0 h2 new.standing replies q.serves q.shut lacks e.1
+                  ∙ sym (decided x h old.standing t.frames h3 new2.standing replies2 r.serves lacks2)
             ] in
             same_course h2 h3 new new2 replies replies2 same (λ open_. not_both new.standing q.shut open_)
       ]
     ]
 
 same_session : (a b : Session) → a.standing ≡ b.standing → a.unfinished ≡ b.unfinished → b ≡ a
-same_session a b e f = let g : record { standing = b.standing; unfinished = b.unfinished } ≡ record { standing = a.standing; unfinished = a.unfinished } = rw (e, f) refl in g
+same_session a b e f = let g : record { standing = b.standing; unfinished = b.unfinished } ≡ record { standing = a.standing; unfinished = a.unfinished } =
+    rw (e, f) refl in g
 
 pub pieces_agree : FeedsDecide → FeedsBegin → FeedsAgree → PiecesAgree
 pieces_agree decide begin agree x h old old2 piece done done2 h2 h3 new new2 replies replies2 like f g lacks lacks2 =
@@ -188,7 +213,8 @@ pieces_agree decide begin agree x h old old2 piece done done2 h2 h3 new new2 rep
     by_standing false open_ =
         let a = served_open x h old piece h2 new replies open_ f in
         let c = served_open x h old2 piece h3 new2 replies2 (sym (ap is_closed like.0) ∙ open_) g in
-        both_served decide begin agree x h old piece h2 h3 new new2 replies replies2 a (subst (λ (y : Session). ServesPiece x h y piece h3 new2 replies2) (same_session old old2 like.0 (like.1 open_)) c) lacks lacks2
+        both_served decide begin agree x h old piece h2 h3 new new2 replies replies2 a
+            (subst (λ (y : Session). ServesPiece x h y piece h3 new2 replies2) (same_session old old2 like.0 (like.1 open_)) c) lacks lacks2
 
 -- ---- pieces one after another
 

@@ -56,7 +56,8 @@ stales st h =
     record { reply = f; reply2 = f; first = refl; second = refl; alike = refl; kind = refl; len = refl }
 
 answers : (x : Setting) (st : Standing) (h : History) (s : Scheme) (words others : List ℕ)
-    → Alike st h (replies_with (Answer (scheme_byte s) (current_version h) (answer_words s x.plan h.current words)) st h) (replies_with (Answer (scheme_byte s) (current_version h) (answer_words s x.plan h.current others)) st h)
+    → Alike st h (replies_with (Answer (scheme_byte s) (current_version h) (answer_words s x.plan h.current words)) st h)
+        (replies_with (Answer (scheme_byte s) (current_version h) (answer_words s x.plan h.current others)) st h)
 answers x st h s words others =
     let a = answer_words s x.plan h.current words in
     let b = answer_words s x.plan h.current others in
@@ -68,10 +69,12 @@ answers x st h s words others =
       second = refl;
       alike = (b, refl, sym same);
       kind = refl;
-      len = payload_sized (Answer (scheme_byte s) (current_version h) a) ∙ ap (λ (n : ℕ). 9 + 4 * n) same ∙ sym (payload_sized (Answer (scheme_byte s) (current_version h) b));
+      len = payload_sized (Answer (scheme_byte s) (current_version h) a) ∙ ap (λ (n : ℕ). 9 + 4 * n) same
+          ∙ sym (payload_sized (Answer (scheme_byte s) (current_version h) b));
     }
 
-asked : (x : Setting) (st : Standing) (h : History) (s : Option Scheme) (version : ℕ) (words others : List ℕ) → length words ≡ length others → Alike st h (query_asked x h st s version words) (query_asked x h st s version others)
+asked : (x : Setting) (st : Standing) (h : History) (s : Option Scheme) (version : ℕ) (words others : List ℕ) → length words ≡ length others →
+    Alike st h (query_asked x h st s version words) (query_asked x h st s version others)
 asked x st h None version words others e = refusals st h refusal.BadScheme
 asked x st h (Some s) version words others e =
     rw e (either st h (version == current_version h) _ _ _ _

@@ -26,7 +26,8 @@ each_append (g ∷ rs) more all others = (all.0, each_append rs more all.1 other
 -- ---- a piece's frames and its end
 
 -- the frames closed the session
-pub closed_by_frames : (x : Setting) (h : History) (st : Standing) (frames : List Frame) (answer : Result (Unit {0}) ReadFault) (store : StoreState) (after : Standing) (before new : List ℕ) → is_closed after ≡ true
+pub closed_by_frames : (x : Setting) (h : History) (st : Standing) (frames : List Frame) (answer : Result (Unit {0}) ReadFault) (store : StoreState)
+    (after : Standing) (before new : List ℕ) → is_closed after ≡ true
     → ServedAll x h st frames store after before new → ServedFrames x h st frames answer store after before new
 closed_by_frames x h st frames answer store after before new shut a =
     record {
@@ -40,7 +41,8 @@ closed_by_frames x h st frames answer store after before new shut a =
     }
 
 -- they left it open
-pub ended : (x : Setting) (h : History) (st : Standing) (frames : List Frame) (answer : Result (Unit {0}) ReadFault) (store : StoreState) (middle after : Standing) (before bytes new : List ℕ) → is_closed middle ≡ false
+pub ended : (x : Setting) (h : History) (st : Standing) (frames : List Frame) (answer : Result (Unit {0}) ReadFault) (store : StoreState)
+    (middle after : Standing) (before bytes new : List ℕ) → is_closed middle ≡ false
     → ServedAll x h st frames store middle before bytes → Ended answer middle after bytes new → ServedFrames x h st frames answer store after before new
 ended x h st frames answer store middle after before bytes new open_ a e =
     record {
@@ -53,12 +55,14 @@ ended x h st frames answer store middle after before bytes new open_ a e =
       each = e.each;
     }
 
-pub stopped_before : (x : Setting) (h : History) (st : Standing) (frames : List Frame) (answer : Result (Unit {0}) ReadFault) (store : StoreState) (before new : List ℕ)
+pub stopped_before : (x : Setting) (h : History) (st : Standing) (frames : List Frame) (answer : Result (Unit {0}) ReadFault) (store : StoreState)
+    (before new : List ℕ)
     → BrokenOff x h st frames store before new → StoppedFrames x h st frames answer store before new
 stopped_before x h st frames answer store before new b =
     record { count = b.count; middle = b.after; stop = inl b.within; goes_on = b.goes_on; frames_are = b.served_all }
 
-pub stopped_after : (x : Setting) (h : History) (st : Standing) (frames : List Frame) (answer : Result (Unit {0}) ReadFault) (store : StoreState) (middle : Standing) (before bytes new : List ℕ) → is_closed middle ≡ false
+pub stopped_after : (x : Setting) (h : History) (st : Standing) (frames : List Frame) (answer : Result (Unit {0}) ReadFault) (store : StoreState)
+    (middle : Standing) (before bytes new : List ℕ) → is_closed middle ≡ false
     → ServedAll x h st frames store middle before bytes → IsErr answer → new ≡ bytes → StoppedFrames x h st frames answer store before new
 stopped_after x h st frames answer store middle before bytes new open_ a err same =
     record {
@@ -71,28 +75,36 @@ stopped_after x h st frames answer store middle before bytes new open_ a err sam
 
 -- ---- a piece
 
-pub fed_closed : (x : Setting) (h : History) (old : Session) (piece : List ℕ) (d : Unit {0}) (store : StoreState) (before : List ℕ) → is_closed old.standing ≡ true → setting_of store ≡ x → StandsFor store h → Fed x h old piece (Ok d) store old before before
+pub fed_closed : (x : Setting) (h : History) (old : Session) (piece : List ℕ) (d : Unit {0}) (store : StoreState) (before : List ℕ) →
+    is_closed old.standing ≡ true → setting_of store ≡ x → StandsFor store h → Fed x h old piece (Ok d) store old before before
 fed_closed x h old piece d store before shut s i =
     record { history = h; replies = []; setting_is = s; store_is = i; course = rw shut (refl, refl, refl); written = sym (append-nil before); each = tt }
 
-pub fed_well : (x : Setting) (h : History) (old : Session) (piece : List ℕ) (d : Unit {0}) (store : StoreState) (after : Standing) (u : Option (List ℕ)) (before new : List ℕ) (answer : Result (Unit {0}) ReadFault) (frames : List Frame) → is_closed old.standing ≡ false
-    → Feeds old.unfinished piece answer frames u → ServedFrames x h old.standing frames answer store after before new → Fed x h old piece (Ok d) store (record { standing = after; unfinished = u }) before new
+pub fed_well : (x : Setting) (h : History) (old : Session) (piece : List ℕ) (d : Unit {0}) (store : StoreState) (after : Standing) (u : Option (List ℕ))
+    (before new : List ℕ) (answer : Result (Unit {0}) ReadFault) (frames : List Frame) → is_closed old.standing ≡ false
+    → Feeds old.unfinished piece answer frames u → ServedFrames x h old.standing frames answer store after before new →
+        Fed x h old piece (Ok d) store (record { standing = after; unfinished = u }) before new
 fed_well x h old piece d store after u before new answer frames open_ reads s =
     let a = s.frames_are in
-    let p : ServesPiece x h old piece a.history (record { standing = after; unfinished = u }) (a.replies ++ s.more) = record { answer = answer; frames = frames; middle = s.middle; reported = a.replies; more = s.more; reads = reads; serves = a.serves; ends = s.ends; all = refl } in
+    let p : ServesPiece x h old piece a.history (record { standing = after; unfinished = u }) (a.replies ++ s.more) =
+        record { answer = answer; frames = frames; middle = s.middle; reported = a.replies; more = s.more; reads = reads; serves = a.serves; ends = s.ends;
+        all = refl } in
     record {
       history = a.history;
       replies = a.replies ++ s.more;
       setting_is = a.setting_is;
       store_is = a.store_is;
       course = rw open_ p;
-      written = s.written ∙ ap (λ (y : List ℕ). y ++ flat_map encoding s.more) a.written ∙ append_assoc before (flat_map encoding a.replies) (flat_map encoding s.more)
+      written = s.written ∙ ap (λ (y : List ℕ). y ++ flat_map encoding s.more) a.written
+          ∙ append_assoc before (flat_map encoding a.replies) (flat_map encoding s.more)
           ∙ ap (λ (y : List ℕ). before ++ y) (sym (flat_map-append encoding a.replies s.more));
       each = each_append a.replies s.more a.each s.each;
     }
 
-pub fed_short : (x : Setting) (h : History) (old : Session) (piece : List ℕ) (e : AllocError) (store : StoreState) (u : Option (List ℕ)) (before new : List ℕ) (answer : Result (Unit {0}) ReadFault) (frames : List Frame) → is_closed old.standing ≡ false
-    → Feeds old.unfinished piece answer frames u → StoppedFrames x h old.standing frames answer store before new → Fed x h old piece (Err e) store (record { standing = Closed; unfinished = u }) before new
+pub fed_short : (x : Setting) (h : History) (old : Session) (piece : List ℕ) (e : AllocError) (store : StoreState) (u : Option (List ℕ)) (before new : List ℕ)
+    (answer : Result (Unit {0}) ReadFault) (frames : List Frame) → is_closed old.standing ≡ false
+    → Feeds old.unfinished piece answer frames u → StoppedFrames x h old.standing frames answer store before new →
+        Fed x h old piece (Err e) store (record { standing = Closed; unfinished = u }) before new
 fed_short x h old piece e store u before new answer frames open_ reads s =
     let a = s.frames_are in
     record {
@@ -100,14 +112,16 @@ fed_short x h old piece e store u before new answer frames open_ reads s =
       replies = a.replies;
       setting_is = a.setting_is;
       store_is = a.store_is;
-      course = (open_, record { answer = answer; frames = frames; count = s.count; middle = s.middle; reads = reads; stop = s.stop; serves = a.serves; goes_on = s.goes_on; shut = refl });
+      course = (open_, record { answer = answer; frames = frames; count = s.count; middle = s.middle; reads = reads; stop = s.stop; serves = a.serves;
+          goes_on = s.goes_on; shut = refl });
       written = a.written;
       each = a.each;
     }
 
 -- ---- an open session's stream has not failed
 
-reading_goes_on : (answer : Result (Unit {0}) ReadFault) (middle after : Standing) (more : List Frame) → AfterReading answer middle after more → (after ≡ Closed → ⊥) → (d : Unit {0}) × (answer ≡ Ok d)
+reading_goes_on : (answer : Result (Unit {0}) ReadFault) (middle after : Standing) (more : List Frame) → AfterReading answer middle after more →
+    (after ≡ Closed → ⊥) → (d : Unit {0}) × (answer ≡ Ok d)
 reading_goes_on (Ok d) middle after more r open_ = (d, refl)
 reading_goes_on (Err TooLong) middle after more r open_ = absurd (open_ r.0)
 reading_goes_on (Err UnknownKind) middle after more r open_ = absurd (open_ r.0)
@@ -115,10 +129,12 @@ reading_goes_on (Err BadPayload) middle after more r open_ = absurd (open_ r.0)
 reading_goes_on (Err Memory) middle after more r open_ = absurd r
 reading_goes_on (Err Failed) middle after more r open_ = absurd r
 
-open_means : (answer : Result (Unit {0}) ReadFault) (middle after : Standing) (more : List Frame) → EndsPiece answer middle after more → is_closed after ≡ false → (d : Unit {0}) × (answer ≡ Ok d)
+open_means : (answer : Result (Unit {0}) ReadFault) (middle after : Standing) (more : List Frame) → EndsPiece answer middle after more →
+    is_closed after ≡ false → (d : Unit {0}) × (answer ≡ Ok d)
 open_means answer middle after more e open_ = by_middle (is_closed middle) refl e
   where
-    by_middle : (b : Bool) → b ≡ is_closed middle → MatchBool b ((after ≡ middle) × (more ≡ [])) (AfterReading answer middle after more) → (d : Unit {0}) × (answer ≡ Ok d)
+    by_middle : (b : Bool) → b ≡ is_closed middle → MatchBool b ((after ≡ middle) × (more ≡ [])) (AfterReading answer middle after more) → (d : Unit {0})
+        × (answer ≡ Ok d)
     by_middle true is r = absurd (let bad : true ≡ false = is ∙ ap is_closed (sym r.0) ∙ open_ in cc)
     by_middle false is r = reading_goes_on answer middle after more r (λ shut. let bad : true ≡ false = sym (ap is_closed shut) ∙ open_ in cc)
 
@@ -126,7 +142,8 @@ reads_on : (old : Option (List ℕ)) (piece : List ℕ) (d : Unit {0}) (frames :
 reads_on None piece d frames u f n = let bad : Ok d ≡ Err Failed = f.0 in cc
 reads_on (Some bytes) piece d frames u f n = let bad : Some f.0 ≡ None = sym f.2 ∙ n in cc
 
-pub stays_live : (old : Option (List ℕ)) (piece : List ℕ) (answer : Result (Unit {0}) ReadFault) (frames : List Frame) (u : Option (List ℕ)) (x : Setting) (h : History) (st : Standing) (store : StoreState) (after : Standing) (before new : List ℕ)
+pub stays_live : (old : Option (List ℕ)) (piece : List ℕ) (answer : Result (Unit {0}) ReadFault) (frames : List Frame) (u : Option (List ℕ)) (x : Setting)
+    (h : History) (st : Standing) (store : StoreState) (after : Standing) (before new : List ℕ)
     → Feeds old piece answer frames u → ServedFrames x h st frames answer store after before new → IsLive after u
 stays_live old piece answer frames u x h st store after before new f s open_ =
     let m = open_means answer s.middle after s.more s.ends open_ in
@@ -144,13 +161,16 @@ on_err (Ok x) p f = tt
 on_err (Err x) p f = f p
 
 -- a fault is told
-pub reported : (answer : Result (Unit {0}) ReadFault) (middle : Standing) (r : Result Standing AllocError) (out new : List ℕ) → ((after : Standing) → after ≡ Closed → AfterReading answer middle after (refused refusal.BadFrame ∷ []))
-    → IfOk r (λ after. after ≡ Closed) → OnOk r (new ≡ out ++ encoding (refused refusal.BadFrame)) → OnOk r (IsFrame (refused refusal.BadFrame)) → IfOk r (λ after. Ended answer middle after out new)
+pub reported : (answer : Result (Unit {0}) ReadFault) (middle : Standing) (r : Result Standing AllocError) (out new : List ℕ) →
+    ((after : Standing) → after ≡ Closed → AfterReading answer middle after (refused refusal.BadFrame ∷ []))
+    → IfOk r (λ after. after ≡ Closed) → OnOk r (new ≡ out ++ encoding (refused refusal.BadFrame)) → OnOk r (IsFrame (refused refusal.BadFrame)) →
+        IfOk r (λ after. Ended answer middle after out new)
 reported answer middle (Ok after) out new f shut written fits =
     record {
       more = refused refusal.BadFrame ∷ [];
       ends = f after shut;
-      written = written ∙ ap (λ (y : List ℕ). out ++ y) (sym (flat_map-cons encoding (refused refusal.BadFrame) [] ∙ append-nil (encoding (refused refusal.BadFrame))));
+      written = written ∙ ap (λ (y : List ℕ). out ++ y)
+          (sym (flat_map-cons encoding (refused refusal.BadFrame) [] ∙ append-nil (encoding (refused refusal.BadFrame))));
       each = (fits, tt);
     }
 reported answer middle (Err e) out new f shut written fits = tt

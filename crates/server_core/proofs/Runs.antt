@@ -18,12 +18,14 @@ pub not_both : {P : Type 0} (st : Standing) → is_closed st ≡ true → is_clo
 not_both st shut open_ = absurd (let bad : true ≡ false = sym shut ∙ open_ in cc)
 
 -- one more frame
-serves_more : (x : Setting) (h : History) (st : Standing) (fs : List Frame) (h2 : History) (st2 : Standing) (rs : List Frame) (f : Frame) (o : Outcome) → ServesAll x h st fs h2 st2 rs → is_closed st2 ≡ false → IsOutcome x h2 st2 f o
+serves_more : (x : Setting) (h : History) (st : Standing) (fs : List Frame) (h2 : History) (st2 : Standing) (rs : List Frame) (f : Frame) (o : Outcome) →
+    ServesAll x h st fs h2 st2 rs → is_closed st2 ≡ false → IsOutcome x h2 st2 f o
     → ServesAll x h st (fs ++ f ∷ []) o.history o.standing (rs ++ option_to_list o.reply)
 serves_more x h st [] h2 st2 rs f o s open_ one =
     opens x h st h2 st2 rs f o s open_ one (sym (ap is_closed s.1) ∙ open_)
   where
-    opens : (x : Setting) (h : History) (st : Standing) (h2 : History) (st2 : Standing) (rs : List Frame) (f : Frame) (o : Outcome) → (h2 ≡ h) × (st2 ≡ st) × (rs ≡ []) → is_closed st2 ≡ false → IsOutcome x h2 st2 f o → is_closed st ≡ false
+    opens : (x : Setting) (h : History) (st : Standing) (h2 : History) (st2 : Standing) (rs : List Frame) (f : Frame) (o : Outcome) → (h2 ≡ h) × (st2 ≡ st)
+        × (rs ≡ []) → is_closed st2 ≡ false → IsOutcome x h2 st2 f o → is_closed st ≡ false
         → ServesAll x h st (f ∷ []) o.history o.standing (rs ++ option_to_list o.reply)
     opens x h Closed h2 st2 rs f o s open_ one e = absurd (let bad : true ≡ false = e in cc)
     opens x h Stranger h2 st2 rs f o s open_ one e = (o, [], rw (← s.0, ← s.1) one, rw s.2 (sym (append-nil (option_to_list o.reply))), (refl, refl, refl))
@@ -31,14 +33,18 @@ serves_more x h st [] h2 st2 rs f o s open_ one =
     opens x h Publisher h2 st2 rs f o s open_ one e = (o, [], rw (← s.0, ← s.1) one, rw s.2 (sym (append-nil (option_to_list o.reply))), (refl, refl, refl))
 serves_more x h Closed (g ∷ fs) h2 st2 rs f o s open_ one = not_both st2 (ap is_closed s.1) open_
 serves_more x h Stranger (g ∷ fs) h2 st2 rs f o s open_ one =
-    (s.0, s.1 ++ option_to_list o.reply, s.2, rw s.3 (append_assoc (option_to_list s.0.reply) s.1 (option_to_list o.reply)), serves_more x s.0.history s.0.standing fs h2 st2 s.1 f o s.4 open_ one)
+    (s.0, s.1 ++ option_to_list o.reply, s.2, rw s.3 (append_assoc (option_to_list s.0.reply) s.1 (option_to_list o.reply)),
+        serves_more x s.0.history s.0.standing fs h2 st2 s.1 f o s.4 open_ one)
 serves_more x h Reader (g ∷ fs) h2 st2 rs f o s open_ one =
-    (s.0, s.1 ++ option_to_list o.reply, s.2, rw s.3 (append_assoc (option_to_list s.0.reply) s.1 (option_to_list o.reply)), serves_more x s.0.history s.0.standing fs h2 st2 s.1 f o s.4 open_ one)
+    (s.0, s.1 ++ option_to_list o.reply, s.2, rw s.3 (append_assoc (option_to_list s.0.reply) s.1 (option_to_list o.reply)),
+        serves_more x s.0.history s.0.standing fs h2 st2 s.1 f o s.4 open_ one)
 serves_more x h Publisher (g ∷ fs) h2 st2 rs f o s open_ one =
-    (s.0, s.1 ++ option_to_list o.reply, s.2, rw s.3 (append_assoc (option_to_list s.0.reply) s.1 (option_to_list o.reply)), serves_more x s.0.history s.0.standing fs h2 st2 s.1 f o s.4 open_ one)
+    (s.0, s.1 ++ option_to_list o.reply, s.2, rw s.3 (append_assoc (option_to_list s.0.reply) s.1 (option_to_list o.reply)),
+        serves_more x s.0.history s.0.standing fs h2 st2 s.1 f o s.4 open_ one)
 
 -- a frame that is dropped
-drops_more : (x : Setting) (h : History) (st : Standing) (fs : List Frame) (h2 : History) (st2 : Standing) (rs : List Frame) (f : Frame) → ServesAll x h st fs h2 st2 rs → is_closed st2 ≡ true → ServesAll x h st (fs ++ f ∷ []) h2 st2 rs
+drops_more : (x : Setting) (h : History) (st : Standing) (fs : List Frame) (h2 : History) (st2 : Standing) (rs : List Frame) (f : Frame) →
+    ServesAll x h st fs h2 st2 rs → is_closed st2 ≡ true → ServesAll x h st (fs ++ f ∷ []) h2 st2 rs
 drops_more x h Closed [] h2 st2 rs f s shut = s
 drops_more x h Closed (g ∷ fs) h2 st2 rs f s shut = s
 drops_more x h Stranger [] h2 st2 rs f s shut = not_both st2 shut (ap is_closed s.1)
@@ -49,7 +55,8 @@ drops_more x h Reader (g ∷ fs) h2 st2 rs f s shut = (s.0, s.1, s.2, s.3, drops
 drops_more x h Publisher (g ∷ fs) h2 st2 rs f s shut = (s.0, s.1, s.2, s.3, drops_more x s.0.history s.0.standing fs h2 st2 s.1 f s.4 shut)
 
 -- what a call on a store says of the history
-outcome_of : (x : Setting) (h : History) (st : Standing) (f : Frame) (store : StoreState) (st2 : Standing) (before after : List ℕ) → Serves x h st f store st2 before after
+outcome_of : (x : Setting) (h : History) (st : Standing) (f : Frame) (store : StoreState) (st2 : Standing) (before after : List ℕ) →
+    Serves x h st f store st2 before after
     → (o : Outcome) × IsOutcome x h st f o × HasOutcome x o store st2 before after
 outcome_of x h st f store st2 before after (inl s) = (outcome_of_frame x h st f, inl refl, s)
 outcome_of x h st f store st2 before after (inr s) = (refuses refusal.Memory st h, inr (s.0, refl), s.1)
@@ -64,26 +71,34 @@ each_with [] (Some f) all one = (one, tt)
 each_with (g ∷ rs) r all one = (all.0, each_with rs r all.1 one)
 
 -- the next frame of an open session
-pub serves_one : (x : Setting) (h : History) (st : Standing) (fs : List Frame) (i : ℕ) (store1 : StoreState) (st1 : Standing) (old out1 : List ℕ) (store2 : StoreState) (st2 : Standing) (out2 : List ℕ) → i < length fs → (f : Frame) → f ≡ get_or fs i f → is_closed st1 ≡ false
+pub serves_one : (x : Setting) (h : History) (st : Standing) (fs : List Frame) (i : ℕ) (store1 : StoreState) (st1 : Standing) (old out1 : List ℕ)
+    (store2 : StoreState) (st2 : Standing) (out2 : List ℕ) → i < length fs → (f : Frame) → f ≡ get_or fs i f → is_closed st1 ≡ false
     → ServedAll x h st (take i fs) store1 st1 old out1 → ((h1 : History) → StandsFor store1 h1 → Serves (setting_of store1) h1 st1 f store2 st2 out1 out2)
     → ServedAll x h st (take (i + 1) fs) store2 st2 old out2
 serves_one x h st fs i store1 st1 old out1 store2 st2 out2 lt f is_f open_ a step =
-    let s = outcome_of x a.history st1 f store2 st2 out1 out2 (subst (λ (y : Setting). Serves y a.history st1 f store2 st2 out1 out2) a.setting_is (step a.history a.store_is)) in
-    let m : ServesAll x h st (take i fs ++ f ∷ []) s.0.history s.0.standing (a.replies ++ option_to_list s.0.reply) = serves_more x h st (take i fs) a.history st1 a.replies f s.0 a.serves open_ s.1 in
-    let n : ServesAll x h st (take i fs ++ f ∷ []) s.0.history st2 (a.replies ++ option_to_list s.0.reply) = subst (λ (y : Standing). ServesAll x h st (take i fs ++ f ∷ []) s.0.history y (a.replies ++ option_to_list s.0.reply)) (sym s.2.standing_is) m in
+    let s = outcome_of x a.history st1 f store2 st2 out1 out2
+        (subst (λ (y : Setting). Serves y a.history st1 f store2 st2 out1 out2) a.setting_is (step a.history a.store_is)) in
+    let m : ServesAll x h st (take i fs ++ f ∷ []) s.0.history s.0.standing (a.replies ++ option_to_list s.0.reply) =
+        serves_more x h st (take i fs) a.history st1 a.replies f s.0 a.serves open_ s.1 in
+    let n : ServesAll x h st (take i fs ++ f ∷ []) s.0.history st2 (a.replies ++ option_to_list s.0.reply) =
+        subst (λ (y : Standing). ServesAll x h st (take i fs ++ f ∷ []) s.0.history y (a.replies ++ option_to_list s.0.reply)) (sym s.2.standing_is) m in
     record {
       history = s.0.history;
       replies = a.replies ++ option_to_list s.0.reply;
       setting_is = s.2.setting_is;
       store_is = s.2.store_is;
-      serves = subst (λ (y : List Frame). ServesAll x h st y s.0.history st2 (a.replies ++ option_to_list s.0.reply)) (sym (take_more fs i f lt ∙ ap (λ (y : Frame). take i fs ++ y ∷ []) (sym is_f))) n;
-      written = s.2.reply_is ∙ ap (λ (y : List ℕ). y ++ reply_bytes s.0.reply) a.written ∙ append_assoc old (flat_map encoding a.replies) (reply_bytes s.0.reply)
-          ∙ ap (λ (y : List ℕ). old ++ y) (ap (λ (y : List ℕ). flat_map encoding a.replies ++ y) (sym (encodes s.0.reply)) ∙ sym (flat_map-append encoding a.replies (option_to_list s.0.reply)));
+      serves = subst (λ (y : List Frame). ServesAll x h st y s.0.history st2 (a.replies ++ option_to_list s.0.reply))
+          (sym (take_more fs i f lt ∙ ap (λ (y : Frame). take i fs ++ y ∷ []) (sym is_f))) n;
+      written = s.2.reply_is ∙ ap (λ (y : List ℕ). y ++ reply_bytes s.0.reply) a.written
+          ∙ append_assoc old (flat_map encoding a.replies) (reply_bytes s.0.reply)
+          ∙ ap (λ (y : List ℕ). old ++ y) (ap (λ (y : List ℕ). flat_map encoding a.replies ++ y) (sym (encodes s.0.reply))
+              ∙ sym (flat_map-append encoding a.replies (option_to_list s.0.reply)));
       each = each_with a.replies s.0.reply a.each s.2.reply_fits;
     }
 
 -- the next frame of a closed one
-pub drops_one : (x : Setting) (h : History) (st : Standing) (fs : List Frame) (i : ℕ) (store1 : StoreState) (st1 : Standing) (old out1 : List ℕ) → i < length fs → is_closed st1 ≡ true
+pub drops_one : (x : Setting) (h : History) (st : Standing) (fs : List Frame) (i : ℕ) (store1 : StoreState) (st1 : Standing) (old out1 : List ℕ) →
+    i < length fs → is_closed st1 ≡ true
     → ServedAll x h st (take i fs) store1 st1 old out1 → ServedAll x h st (take (i + 1) fs) store1 st1 old out1
 drops_one x h st fs i store1 st1 old out1 lt shut a =
     record {
@@ -91,7 +106,8 @@ drops_one x h st fs i store1 st1 old out1 lt shut a =
       replies = a.replies;
       setting_is = a.setting_is;
       store_is = a.store_is;
-      serves = subst (λ (y : List Frame). ServesAll x h st y a.history st1 a.replies) (sym (take_more fs i Publish lt)) (drops_more x h st (take i fs) a.history st1 a.replies (get_or fs i Publish) a.serves shut);
+      serves = subst (λ (y : List Frame). ServesAll x h st y a.history st1 a.replies) (sym (take_more fs i Publish lt))
+          (drops_more x h st (take i fs) a.history st1 a.replies (get_or fs i Publish) a.serves shut);
       written = a.written;
       each = a.each;
     }

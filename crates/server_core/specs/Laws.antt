@@ -16,28 +16,38 @@ use Rattle.server_core.specs.Sessions.{Session, FeedsSession, Fed}
 abbrev pub IsAlike : Session → Session → Type 0
 IsAlike a b = (a.standing ≡ b.standing) × (is_closed a.standing ≡ false → a.unfinished ≡ b.unfinished)
 
--- What a piece leads to in an open session is the course of the frames that the session's own stream completes with it, served on the history, and of the end of its reading.
+-- What a piece leads to in an open session is the course of the frames that the session's own stream completes with
+-- it, served on the history, and of the end of its reading.
 abbrev pub PiecesDecide : Type 0
-PiecesDecide = (x : Setting) (h : History) (old : Session) (piece : List ℕ) (done : Unit {0}) (h2 : History) (new : Session) (replies : List Frame) (answer : Result (Unit {0}) ReadFault) (frames : List Frame) (rest : Option (List ℕ))
-    → is_closed old.standing ≡ false → FeedsSession x h old piece (Ok done) h2 new replies → lacks_memory replies ≡ false → Feeds old.unfinished piece answer frames rest → answer ≢ Err Memory
-    → (record { history = h2; standing = new.standing; replies = replies } ≡ course_of_piece x h old.standing frames answer) × (is_closed new.standing ≡ false → new.unfinished ≡ rest)
+PiecesDecide = (x : Setting) (h : History) (old : Session) (piece : List ℕ) (done : Unit {0}) (h2 : History) (new : Session) (replies : List Frame)
+    (answer : Result (Unit {0}) ReadFault) (frames : List Frame) (rest : Option (List ℕ))
+    → is_closed old.standing ≡ false → FeedsSession x h old piece (Ok done) h2 new replies → lacks_memory replies ≡ false →
+        Feeds old.unfinished piece answer frames rest → answer ≢ Err Memory
+    → (record { history = h2; standing = new.standing; replies = replies } ≡ course_of_piece x h old.standing frames answer)
+        × (is_closed new.standing ≡ false → new.unfinished ≡ rest)
 
--- The setting, the history, a session and a piece of its stream decide the history after the piece, the session then and the replies, where none of these is refused for lack of memory.
+-- The setting, the history, a session and a piece of its stream decide the history after the piece, the session then
+-- and the replies, where none of these is refused for lack of memory.
 abbrev pub PiecesAgree : Type 0
-PiecesAgree = (x : Setting) (h : History) (old old2 : Session) (piece : List ℕ) (done done2 : Unit {0}) (after after2 : History) (new new2 : Session) (replies replies2 : List Frame)
-    → IsAlike old old2 → FeedsSession x h old piece (Ok done) after new replies → FeedsSession x h old2 piece (Ok done2) after2 new2 replies2 → lacks_memory replies ≡ false → lacks_memory replies2 ≡ false
+PiecesAgree = (x : Setting) (h : History) (old old2 : Session) (piece : List ℕ) (done done2 : Unit {0}) (after after2 : History) (new new2 : Session)
+    (replies replies2 : List Frame)
+    → IsAlike old old2 → FeedsSession x h old piece (Ok done) after new replies → FeedsSession x h old2 piece (Ok done2) after2 new2 replies2 →
+        lacks_memory replies ≡ false → lacks_memory replies2 ≡ false
     → (after ≡ after2) × IsAlike new new2 × (replies ≡ replies2)
 
--- A session's pieces one after another, each with the history on which it is served, whatever others did between them: the history after each and its replies, and the session after them all. Memory is never refused.
+-- A session's pieces one after another, each with the history on which it is served, whatever others did between
+-- them: the history after each and its replies, and the session after them all. Memory is never refused.
 abbrev pub FeedsInTurn : Setting → Session → List (History × List ℕ) → List (History × List Frame) → Session → Type 0
 FeedsInTurn x old [] outcomes new = (outcomes ≡ []) × (new ≡ old)
 FeedsInTurn x old (fed ∷ later) outcomes new =
     (done : Unit {0}) × (after : History) × (between : Session) × (replies : List Frame) × (others : List (History × List Frame))
-    × FeedsSession x fed.0 old fed.1 (Ok done) after between replies × (lacks_memory replies ≡ false) × (outcomes ≡ (after, replies) ∷ others) × FeedsInTurn x between later others new
+    × FeedsSession x fed.0 old fed.1 (Ok done) after between replies × (lacks_memory replies ≡ false) × (outcomes ≡ (after, replies) ∷ others)
+        × FeedsInTurn x between later others new
 
 -- All that a session is told, and what it does to the history, is decided by its own pieces and by the histories on which they are served.
 abbrev pub SessionsNeverMeet : Type 0
-SessionsNeverMeet = (x : Setting) (pieces : List (History × List ℕ)) (old old2 : Session) (outcomes outcomes2 : List (History × List Frame)) (new new2 : Session)
+SessionsNeverMeet = (x : Setting) (pieces : List (History × List ℕ)) (old old2 : Session) (outcomes outcomes2 : List (History × List Frame))
+    (new new2 : Session)
     → IsAlike old old2 → FeedsInTurn x old pieces outcomes new → FeedsInTurn x old2 pieces outcomes2 new2 → (outcomes ≡ outcomes2) × IsAlike new new2
 
 -- What two feeds have in common: what they wrote, the session then, and the history after them.
@@ -48,10 +58,14 @@ pub record SameFeed (before after before2 after2 : List ℕ) (new new2 : Session
   pub session : IsAlike new new2
   pub history : end ≡ end2
 
--- Where memory is refused to none of them, what a feed writes, the session after it and the history after it are decided by the piece, by that session's standing and unfinished bytes before it, by the history and by the setting, whatever other sessions there are.
+-- Where memory is refused to none of them, what a feed writes, the session after it and the history after it are
+-- decided by the piece, by that session's standing and unfinished bytes before it, by the history and by the setting,
+-- whatever other sessions there are.
 abbrev pub FeedsAreAlike : Type 0
-FeedsAreAlike = (x : Setting) (h : History) (old old2 : Session) (piece : List ℕ) (done done2 : Unit {0}) (store store2 : StoreState) (new new2 : Session) (before after before2 after2 : List ℕ)
-    → (f : Fed x h old piece (Ok done) store new before after) → (g : Fed x h old2 piece (Ok done2) store2 new2 before2 after2) → IsAlike old old2 → lacks_memory f.replies ≡ false → lacks_memory g.replies ≡ false
+FeedsAreAlike = (x : Setting) (h : History) (old old2 : Session) (piece : List ℕ) (done done2 : Unit {0}) (store store2 : StoreState) (new new2 : Session)
+    (before after before2 after2 : List ℕ)
+    → (f : Fed x h old piece (Ok done) store new before after) → (g : Fed x h old2 piece (Ok done2) store2 new2 before2 after2) → IsAlike old old2 →
+        lacks_memory f.replies ≡ false → lacks_memory g.replies ≡ false
     → SameFeed before after before2 after2 new new2 f.history g.history
 
 -- replies alike: the same, but for the words of an answer, of which there are as many
@@ -69,7 +83,8 @@ pub record AnsweredAlike (x : Setting) (h : History) (st : Standing) (query othe
   pub kind : kind_of reply ≡ kind_of reply2
   pub len : length (payload_of reply) ≡ length (payload_of reply2)
 
--- The reply to a query is, but for an answer's words, a function of the setting, the history, the standing, and the query's scheme, version and word count: the words decide nothing else.
+-- The reply to a query is, but for an answer's words, a function of the setting, the history, the standing, and the
+-- query's scheme, version and word count: the words decide nothing else.
 abbrev pub RepliesHoldNoIndex : Type 0
 RepliesHoldNoIndex = (x : Setting) (h : History) (st : Standing) (scheme version : ℕ) (words others : List ℕ) → length words ≡ length others
     → AnsweredAlike x h st (Query scheme version words) (Query scheme version others)

@@ -75,7 +75,8 @@ FeedsSession x h old piece (Ok done) h2 new replies =
 FeedsSession x h old piece (Err e) h2 new replies = (is_closed old.standing ≡ false) × BreaksOff x h old piece h2 new replies
 
 -- A store was fed a session's piece: it stands for the history after it in the same setting, and the replies are written.
-pub record Fed (x : Setting) (h : History) (old : Session) (piece : List ℕ) (result : Result (Unit {0}) AllocError) (store : StoreState) (new : Session) (before after : List ℕ) : Type 0 where
+pub record Fed (x : Setting) (h : History) (old : Session) (piece : List ℕ) (result : Result (Unit {0}) AllocError) (store : StoreState) (new : Session)
+    (before after : List ℕ) : Type 0 where
   pub history : History
   pub replies : List Frame
   pub setting_is : setting_of store ≡ x
@@ -92,7 +93,8 @@ pub record Ended (answer : Result (Unit {0}) ReadFault) (middle after : Standing
   pub each : AllByRecursion IsFrame more
 
 -- a piece's frames and its end, served by a store
-pub record ServedFrames (x : Setting) (h : History) (st : Standing) (frames : List Frame) (answer : Result (Unit {0}) ReadFault) (store : StoreState) (after : Standing) (before new : List ℕ) : Type 0 where
+pub record ServedFrames (x : Setting) (h : History) (st : Standing) (frames : List Frame) (answer : Result (Unit {0}) ReadFault) (store : StoreState)
+    (after : Standing) (before new : List ℕ) : Type 0 where
   pub middle : Standing
   pub bytes : List ℕ
   pub more : List Frame
@@ -102,7 +104,8 @@ pub record ServedFrames (x : Setting) (h : History) (st : Standing) (frames : Li
   pub each : AllByRecursion IsFrame more
 
 -- memory was refused after some of a piece's frames
-pub record StoppedFrames (x : Setting) (h : History) (st : Standing) (frames : List Frame) (answer : Result (Unit {0}) ReadFault) (store : StoreState) (before new : List ℕ) : Type 0 where
+pub record StoppedFrames (x : Setting) (h : History) (st : Standing) (frames : List Frame) (answer : Result (Unit {0}) ReadFault) (store : StoreState)
+    (before new : List ℕ) : Type 0 where
   pub count : ℕ
   pub middle : Standing
   pub stop : IsStop answer frames count
