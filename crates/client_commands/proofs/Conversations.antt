@@ -101,14 +101,14 @@ pub asked_and_retrieved : {V : Type 0} →
     (items : V → List ℕ) (i : ℕ) (old mid : ClientState) (new : Client) (result : Result V CallFault) (e : Event) (index version : ℕ) (bytes : List ℕ) →
     IsOk result
     → IfOk result (λ v. Accepts old (Ask i) mid (items v)) → e ≡ Retrieved index version bytes → Ends mid.call e → EndedWith mid.call e new → (index ≡ i)
-        × Asked i (Retrieved index version bytes) new
+    × Asked i (Retrieved index version bytes) new
 asked_and_retrieved items i old mid new (Err fault) e index version bytes ok a is ends came = absurd cc
 asked_and_retrieved items i old mid new (Ok v) e index version bytes ok a is ends came =
     let asked : mid.call ≡ call.Ask i (scheme_held old.hint) (known_version old.known) old.number = ap (λ (c : ClientState). c.call) a.state in
     let here : Ends mid.call (Retrieved index version bytes) = let P : Event → Type 0 = λ x. Ends mid.call x in subst P is ends in
     let own : Ends (call.Ask i (scheme_held old.hint) (known_version old.known) old.number) (Retrieved index version bytes) = let P : Call →
-        Type 0 = λ x. Ends x (Retrieved index version bytes) in subst P asked here in
+    Type 0 = λ x. Ends x (Retrieved index version bytes) in subst P asked here in
     let left : EndedWith mid.call (Retrieved index version bytes) new = let P : Event → Type 0 = λ x. EndedWith mid.call x new in subst P is came in
     let ended : EndedWith (call.Ask i (scheme_held old.hint) (known_version old.known) old.number) (Retrieved index version bytes) new = let P : Call →
-        Type 0 = λ x. EndedWith x (Retrieved index version bytes) new in subst P asked left in
+    Type 0 = λ x. EndedWith x (Retrieved index version bytes) new in subst P asked left in
     (own.0, (scheme_held old.hint, known_version old.known, old.number, ended))

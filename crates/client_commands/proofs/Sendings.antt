@@ -28,7 +28,7 @@ Went old new frame = (said : List ℕ) × Appends old new (encoding frame ++ sai
 pub call_went : {V : Type 0} → (items : V → List ℕ) (want : Want) (old new : ClientState) (result : Result V CallFault) (before after : Option (List ℕ)) →
     IsOk result
     → IfOk result (λ v. Accepts old want new (items v)) → IfOk result (λ v. (said : List ℕ) × Appends before after (items v ++ said)) →
-        Went before after (frame_of want old)
+    Went before after (frame_of want old)
 call_went items want old new (Err fault) before after ok a s = absurd cc
 call_went items want old new (Ok v) before after ok a s =
     (s.0, subst (λ (x : List ℕ). Appends before after (x ++ s.0)) (accepted_bytes want old new (items v) a) s.1)
@@ -48,7 +48,7 @@ more_went first second third a b c p q =
       subst (Appends a c)
           (append_assoc (encoding first) (p.0 ++ (encoding second ++ p.1)) beyond
           ∙ ap (λ (x : List ℕ). encoding first ++ x) (append_assoc p.0 (encoding second ++ p.1) beyond
-              ∙ ap (λ (x : List ℕ). p.0 ++ x) (append_assoc (encoding second) p.1 beyond)))
+          ∙ ap (λ (x : List ℕ). p.0 ++ x) (append_assoc (encoding second) p.1 beyond)))
           sent,
     )
 

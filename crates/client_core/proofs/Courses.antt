@@ -76,7 +76,7 @@ adds_at state k_state f state2 out out2 events events2 fault e a = let P : Clien
 pub next : (c : ClientState) (fs : List Frame) (i : ℕ) (f : Frame) (state state2 : ClientState) (out out2 : List ℕ) (events events2 : List Event) →
     i < length fs → f ≡ get_or fs i f
     → SoFar c (takes_all c (take i fs)) state out events → Adds state f state2 out out2 events events2 None → Keeps state state2 →
-        SoFar c (takes_all c (take (i + 1) fs)) state2 out2 events2
+    SoFar c (takes_all c (take (i + 1) fs)) state2 out2 events2
 next c fs i f state state2 out out2 events events2 lt e s a keeps =
     let n = course_next c fs i f lt e s.good in
     let b = adds_at state (takes_all c (take i fs)).state f state2 out out2 events events2 None s.state_is a in
@@ -92,13 +92,13 @@ next c fs i f state state2 out out2 events events2 lt e s a keeps =
 pub bad : (c : ClientState) (fs : List Frame) (i : ℕ) (f : Frame) (state state2 : ClientState) (out out2 : List ℕ) (events events2 : List Event)
     (x : ClientFault) → i < length fs → f ≡ get_or fs i f
     → SoFar c (takes_all c (take i fs)) state out events → Adds state f state2 out out2 events events2 (Some x) →
-        Follows (takes_all c fs) out2 events2 (Some x) state2
+    Follows (takes_all c fs) out2 events2 (Some x) state2
 bad c fs i f state state2 out out2 events events2 x lt e s a =
     let k = takes_all c (take i fs) in
     let n = course_next c fs i f lt e s.good in
     let b = adds_at state k.state f state2 out out2 events events2 (Some x) s.state_is a in
     let here : (takes_all c (take (i + 1) fs)).fault ≡ Some x = ap (λ (y : Course). y.fault) n ∙ sym b.fault_is in
     let all : takes_all c fs ≡ runs (takes_all c (take (i + 1) fs)) (drop (i + 1) fs) =
-        ap (λ (y : List Frame). takes_all c y) (sym (take-append-drop (i + 1) fs)) ∙ runs_append (start c) (take (i + 1) fs) (drop (i + 1) fs) in
+    ap (λ (y : List Frame). takes_all c y) (sym (take-append-drop (i + 1) fs)) ∙ runs_append (start c) (take (i + 1) fs) (drop (i + 1) fs) in
     let whole : takes_all c fs ≡ goes_on k (reaction_to_reply k.state f) = all ∙ fault_stays (takes_all c (take (i + 1) fs)) (drop (i + 1) fs) x here ∙ n in
     rw whole (record { gives = gives_more k f state2 out out2 events events2 (Some x) s.gives b; fault_is = b.fault_is; state = b.state_is })

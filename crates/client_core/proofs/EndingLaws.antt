@@ -185,7 +185,7 @@ Leads call c = (e : Event) → Ends c.call e → Ends call e
 
 on_reaction : (call : Call) (here : Call) (c : ClientState) (sends : List Frame) (r : Reaction) (fs : List Frame) (event : Event) (later : List Event)
     → ((c : ClientState) (sends : List Frame) (o : Option ClientFault) → (o ≡ None → Leads call c) → (runs (course c sends [] o) fs).events ≡ event ∷ later →
-        Ends call event)
+    Ends call event)
     → by_reaction here c.call r → ((e : Event) → Ends here e → Ends call e)
     → (runs (course c (sends ++ sends_of r) ([] ++ events_of r) (fault_of r)) fs).events ≡ event ∷ later → Ends call event
 on_reaction call here c sends (Asks s v p) fs event later again by leads h = again c (sends ++ sends_of (Asks s v p)) None (λ _ e x. leads e (by e x)) h
@@ -207,7 +207,7 @@ first_of call [] event later c sends o leads h = absurd (let bad : ◌≡◌ {A 
 first_of call (f ∷ fs) event later c sends (Some x) leads h = first_of call fs event later c sends (Some x) leads h
 first_of call (f ∷ fs) event later c sends None leads h =
     on_reaction call c.call (reaction_to_reply c f).state sends (reaction_to_reply c f).reaction fs event later (first_of call fs event later) (reacts c f)
-        (leads refl) h
+    (leads refl) h
 
 first_ends : (c : ClientState) (frames : List Frame) (event : Event) (later : List Event) → (takes_all c frames).events ≡ event ∷ later → Ends c.call event
 first_ends c frames event later h = first_of c.call frames event later c [] None (λ _ e x. x) h

@@ -120,7 +120,7 @@ open_happened old new piece out events fault f memory = by f.takes
         let q : Went (start old.state) (takes_all old.state f.frames) f.frames = went f.frames (start old.state) refl in
         let g : Gone old.state (ends_with (takes_all old.state f.frames) f.answer) =
         fails_or_not old.state (takes_all old.state f.frames) (codec_fault f.answer)
-            (record { happenings = q.happenings; fed = q.fed; sends = q.sends; state = q.state }) in
+        (record { happenings = q.happenings; fed = q.fed; sends = q.sends; state = q.state }) in
         record {
           happenings = g.happenings;
           fed = g.fed;
@@ -141,9 +141,11 @@ piece_happened old new piece out events fault f memory = by old.state.failed f
 
 call_happened : (old new : ClientState) (want : Want) (bytes : List ℕ) → Accepts old want new bytes →
     (bytes ≡ flat_map encoding (frames_at old (Accepted want))) × (new ≡ after old (Accepted want))
-call_happened old new want bytes a =
-    (a.written ∙ ap (λ (y : ClientState). encoding (call_frame y y.call)) a.state
-        ∙ sym (append-nil (encoding (call_frame (after old (Accepted want)) (after old (Accepted want)).call))), a.state)
+call_happened old new want bytes a = (
+  a.written ∙ ap (λ (y : ClientState). encoding (call_frame y y.call)) a.state
+      ∙ sym (append-nil (encoding (call_frame (after old (Accepted want)) (after old (Accepted want)).call))),
+  a.state,
+)
 
 refusal_happened : (old new : ClientState) (want : Want) (fault : CallFault) → Refuses old want fault new → (new ≡ after old (TurnedDown want))
     ⊎ (new ≡ after old (Lacking want))

@@ -35,7 +35,7 @@ data Leads (s : Scheme) (k : ServerInfo) (c : ClientState) (v p : ℕ) (f : Fram
       → reaction_to_reply c f ≡ ended (record c { hint = Some (hint_made s k v (c.parts ++ words)); parts = [] }) (Synced s v) → Leads s k c v p f
   More : (words : List ℕ) → f ≡ frame.HintPart (scheme_byte s) v p words
       → reaction_to_reply c f ≡ record { state = record c { call = Sync s v (p + 1); parts = c.parts ++ words }; reaction = Asks s v (p + 1) } →
-          Leads s k c v p f
+      Leads s k c v p f
   Bad : (state : ClientState) → reaction_to_reply c f ≡ record { state = state; reaction = Fails BadReply } → Leads s k c v p f
   Reported : (state : ClientState) (version : ℕ) → state.call ≡ Idle → reaction_to_reply c f ≡ record { state = state; reaction = Reports (Stale version) } →
       Leads s k c v p f
@@ -52,23 +52,23 @@ part_is s scheme version part v p words a b d = cc
 part_leads : (s : Scheme) (k : ServerInfo) (c : ClientState) (v p scheme version part : ℕ) (words : List ℕ) →
     reaction_to_reply c (frame.HintPart scheme version part words) ≡ takes_asked_part (Some k) s c v p scheme version part words
     → (b : Bool) → is_part s (hint_len s k.layout k.dimension) v p scheme version part words ≡ b → (w : Bool) →
-        (length (c.parts ++ words) == hint_len s k.layout k.dimension) ≡ w → Leads s k c v p (frame.HintPart scheme version part words)
+    (length (c.parts ++ words) == hint_len s k.layout k.dimension) ≡ w → Leads s k c v p (frame.HintPart scheme version part words)
 part_leads s k c v p scheme version part words e false h w whole =
     bad_part s k c v p (frame.HintPart scheme version part words) (e
-        ∙ ap (λ (x : Bool). cond x (more_parts s k c v p (c.parts ++ words)) (faulty c BadReply)) h)
+    ∙ ap (λ (x : Bool). cond x (more_parts s k c v p (c.parts ++ words)) (faulty c BadReply)) h)
 part_leads s k c v p scheme version part words e true h w whole =
     let a = and_parts (scheme == scheme_byte s) ((version == v) && ((part == p) && (length words == part_len (hint_len s k.layout k.dimension) p))) h in
     let b = and_parts (version == v) ((part == p) && (length words == part_len (hint_len s k.layout k.dimension) p)) a.1 in
     let d = and_parts (part == p) (length words == part_len (hint_len s k.layout k.dimension) p) b.1 in
     let is = part_is s scheme version part v p words (eqb-true scheme (scheme_byte s) a.0) (eqb-true version v b.0) (eqb-true part p d.0) in
     let t : reaction_to_reply c (frame.HintPart scheme version part words) ≡ more_parts s k c v p (c.parts ++ words) = e
-        ∙ ap (λ (x : Bool). cond x (more_parts s k c v p (c.parts ++ words)) (faulty c BadReply)) h in
+    ∙ ap (λ (x : Bool). cond x (more_parts s k c v p (c.parts ++ words)) (faulty c BadReply)) h in
     go w whole is t
   where
     go : (w : Bool) → (length (c.parts ++ words) == hint_len s k.layout k.dimension) ≡ w →
         frame.HintPart scheme version part words ≡ frame.HintPart (scheme_byte s) v p words
         → reaction_to_reply c (frame.HintPart scheme version part words) ≡ more_parts s k c v p (c.parts ++ words) →
-            Leads s k c v p (frame.HintPart scheme version part words)
+        Leads s k c v p (frame.HintPart scheme version part words)
     go true whole is t = Whole words is (eqb-true (length (c.parts ++ words)) (hint_len s k.layout k.dimension) whole) (t ∙ ap (λ (x : Bool). cond x
         (ended (record c { hint = Some (hint_made s k v (c.parts ++ words)); parts = [] }) (Synced s v))
         (record { state = record c { call = Sync s v (p + 1); parts = c.parts ++ words }; reaction = Asks s v (p + 1) })) whole)
@@ -91,7 +91,7 @@ stale_leads s k c v p version count e false h = bad_part s k c v p (frame.Stale 
 leads : (s : Scheme) (k : ServerInfo) (c : ClientState) (v p : ℕ) (f : Frame) → c.known ≡ Some k → c.call ≡ Sync s v p → Leads s k c v p f
 leads s k c v p (frame.Welcome profile width record_len groups count version dimension seed) e a =
     bad_part s k c v p (frame.Welcome profile width record_len groups count version dimension seed)
-        (ap (λ (x : Call). takes_welcome x c profile (shape width record_len groups count) dimension version seed) a)
+    (ap (λ (x : Call). takes_welcome x c profile (shape width record_len groups count) dimension version seed) a)
 leads s k c v p (frame.HintPart scheme version part words) e a =
     part_leads s k c v p scheme version part words
     (ap (λ (x : Call). takes_part x c scheme version part words) a ∙ ap (λ (x : Option ServerInfo). takes_asked_part x s c v p scheme version part words) e)
@@ -130,7 +130,7 @@ ends_here : (c : ClientState) (sends : List Frame) (events : List Event) (fs : L
 ends_here c sends events [] a none = refl
 ends_here c sends events (g ∷ gs) a none =
     let t : runs (at c sends events) (g ∷ gs) ≡ runs (goes_on (at c sends events) (faulty c BadReply)) gs =
-        ap (λ (x : Taken). runs (goes_on (at c sends events) x) gs) (idle_bad c g a) in
+    ap (λ (x : Taken). runs (goes_on (at c sends events) x) gs) (idle_bad c g a) in
     bad_ends (at c sends events) (record c { failed = true }) gs (g ∷ gs ≡ []) (ap (λ (x : Course). x.fault) (sym t) ∙ none)
 
 -- what a sync leads to that has come to part p
@@ -148,7 +148,7 @@ not_synced : (s : Scheme) (c : ClientState) (sends : List Frame) (e : Event) (fs
 not_synced s c sends e fs version P a none reported other =
     let nil : fs ≡ [] = ends_here c sends (e ∷ []) fs a none in
     let t : (runs (at c sends (e ∷ [])) []).events ≡ Synced s version ∷ [] = let Q : List Frame →
-        Type 0 = λ x. (runs (at c sends (e ∷ [])) x).events ≡ Synced s version ∷ [] in subst Q nil reported in
+    Type 0 = λ x. (runs (at c sends (e ∷ [])) x).events ≡ Synced s version ∷ [] in subst Q nil reported in
     other (let u : e ∷ [] ≡ Synced s version ∷ [] = t in cc)
 
 synced_same : (s : Scheme) (v version : ℕ) → Synced s v ≡ Synced s version → version ≡ v
@@ -180,7 +180,7 @@ synced_from : (s : Scheme) (k : ServerInfo) (c : ClientState) (v p version : ℕ
 synced_from s k c v p version sends [] e a none reported = absurd (let x : [] ≡ Synced s version ∷ [] = reported in cc)
 synced_from s k c v p version sends (f ∷ fs) e a none reported =
     go (λ (words : List ℕ). synced_from s k (further s c v p words) v (p + 1) version (sends ++ (frame.HintAsk (scheme_byte s) v (p + 1) ∷ [])) fs e refl)
-        (leads s k c v p f e a)
+    (leads s k c v p f e a)
   where
     go : ((words : List ℕ) → (runs (at (further s c v p words) (sends ++ (frame.HintAsk (scheme_byte s) v (p + 1) ∷ [])) []) fs).fault ≡ None
         → (runs (at (further s c v p words) (sends ++ (frame.HintAsk (scheme_byte s) v (p + 1) ∷ [])) []) fs).events ≡ Synced s version ∷ []
@@ -189,9 +189,9 @@ synced_from s k c v p version sends (f ∷ fs) e a none reported =
     go later (Whole words is len t) = whole_made s k c v p version sends f fs words is len t none reported
     go later (More words is t) =
         let r : runs (at c sends []) (f ∷ fs) ≡ runs (at (further s c v p words) (sends ++ (frame.HintAsk (scheme_byte s) v (p + 1) ∷ [])) []) fs =
-            ap (λ (x : Taken). runs (goes_on (at c sends []) x) fs) t in
+        ap (λ (x : Taken). runs (goes_on (at c sends []) x) fs) t in
         let m : Made s k (further s c v p words) v (p + 1) version (sends ++ (frame.HintAsk (scheme_byte s) v (p + 1) ∷ [])) fs =
-            later words (ap (λ (x : Course). x.fault) (sym r) ∙ none) (ap (λ (x : Course). x.events) (sym r) ∙ reported) in
+        later words (ap (λ (x : Course). x.fault) (sym r) ∙ none) (ap (λ (x : Course). x.events) (sym r) ∙ reported) in
         record {
           words = words ++ m.words;
           parts = (words, m.words, is, refl, m.parts);
@@ -201,18 +201,18 @@ synced_from s k c v p version sends (f ∷ fs) e a none reported =
         }
     go later (Bad state t) =
         let r : runs (at c sends []) (f ∷ fs) ≡ runs (goes_on (at c sends []) (record { state = state; reaction = Fails BadReply })) fs =
-            ap (λ (x : Taken). runs (goes_on (at c sends []) x) fs) t in
+        ap (λ (x : Taken). runs (goes_on (at c sends []) x) fs) t in
         bad_ends (at c sends []) state fs (Made s k c v p version sends (f ∷ fs)) (ap (λ (x : Course). x.fault) (sym r) ∙ none)
     go later (Reported state other idle t) =
         let r : runs (at c sends []) (f ∷ fs) ≡ runs (at state (sends ++ []) (Stale other ∷ [])) fs =
-            ap (λ (x : Taken). runs (goes_on (at c sends []) x) fs) t in
+        ap (λ (x : Taken). runs (goes_on (at c sends []) x) fs) t in
         not_synced s state (sends ++ []) (Stale other) fs version (Made s k c v p version sends (f ∷ fs)) idle (ap (λ (x : Course). x.fault) (sym r) ∙ none)
-            (ap (λ (x : Course). x.events) (sym r) ∙ reported) (λ (x : Stale other ≡ Synced s version). absurd (cc))
+        (ap (λ (x : Course). x.events) (sym r) ∙ reported) (λ (x : Stale other ≡ Synced s version). absurd (cc))
     go later (Turned state code idle t) =
         let r : runs (at c sends []) (f ∷ fs) ≡ runs (at state (sends ++ []) (Refused code ∷ [])) fs =
-            ap (λ (x : Taken). runs (goes_on (at c sends []) x) fs) t in
+        ap (λ (x : Taken). runs (goes_on (at c sends []) x) fs) t in
         not_synced s state (sends ++ []) (Refused code) fs version (Made s k c v p version sends (f ∷ fs)) idle (ap (λ (x : Course). x.fault) (sym r) ∙ none)
-            (ap (λ (x : Course). x.events) (sym r) ∙ reported) (λ (x : Refused code ≡ Synced s version). absurd (cc))
+        (ap (λ (x : Course). x.events) (sym r) ∙ reported) (λ (x : Refused code ≡ Synced s version). absurd (cc))
 
 pub synced_is_made : SyncedHintIsMadeOfParts
 synced_is_made c s k v version replies by =
@@ -245,9 +245,11 @@ prefix_of : (s : Scheme) (whole : List ℕ) (v j : ℕ) (fs : List Frame) (words
 prefix_of s whole v j [] words e u = (drop (65536 * j) whole, ap (λ (x : List ℕ). x ++ drop (65536 * j) whole) e)
 prefix_of s whole v j (f ∷ fs) words e u =
     let r = prefix_of s whole v (j + 1) fs e.1 e.4 u.1 in
-    let here : e.0 ≡ part_of whole j = parts_same s v j f e.0 (part_of whole j) e.2 u.0 in
-    (r.0, ap (λ (x : List ℕ). x ++ r.0) e.3 ∙ append_assoc e.0 e.1 r.0 ∙ ap (λ (x : List ℕ). e.0 ++ x) r.1
-        ∙ ap (λ (x : List ℕ). x ++ drop (65536 * (j + 1)) whole) here ∙ part_and_rest whole j)
+    let here : e.0 ≡ part_of whole j = parts_same s v j f e.0 (part_of whole j) e.2 u.0 in (
+      r.0,
+      ap (λ (x : List ℕ). x ++ r.0) e.3 ∙ append_assoc e.0 e.1 r.0 ∙ ap (λ (x : List ℕ). e.0 ++ x) r.1
+          ∙ ap (λ (x : List ℕ). x ++ drop (65536 * (j + 1)) whole) here ∙ part_and_rest whole j,
+    )
 
 all_of_it : (words rest whole : List ℕ) → words ++ rest ≡ whole → length words ≡ length whole → words ≡ whole
 all_of_it words [] whole e len = sym (append-nil words) ∙ e
@@ -263,7 +265,7 @@ parts_make_it c s k v version replies hint by rows cols is_whole of =
     let m : IsMadeOfParts c s k v version replies = synced_is_made c s k v version replies by in
     let r = prefix_of s hint.words v 0 replies m.words m.parts of in
     let len : length m.words ≡ length hint.words = m.count ∙ ap (λ (x : ℕ). x * k.dimension) (sym rows) ∙ ap (λ (x : ℕ). hint.rows * x) (sym cols)
-        ∙ sym is_whole in
+    ∙ sym is_whole in
     let same : m.words ≡ hint.words = all_of_it m.words r.0 hint.words r.1 len in
     m.hint ∙ made m.words same
   where

@@ -108,8 +108,16 @@ more_keeps : (x : Scheme) (k : ServerInfo) (c : ClientState) (v p : ℕ) (words 
 more_keeps x k c v p words e s len le is =
     if_keeps c (length (c.parts ++ words) == hint_len x k.layout k.dimension) _ _
     (λ whole. record { good = record { number = s.number; known = s.known; hint = rw e (refl, refl); call = tt }; number = refl })
-    (λ other. record { good = record { number = s.number; known = s.known; hint = s.hint; call =
-        rw e (part_fits (hint_len x k.layout k.dimension) p c.parts words len le is other) }; number = refl })
+    (λ other. record {
+      good = record {
+        number = s.number;
+        known = s.known;
+        hint = s.hint;
+        call =
+            rw e (part_fits (hint_len x k.layout k.dimension) p c.parts words len le is other);
+      };
+      number = refl;
+    })
 
 asked_part_keeps : (known : Option ServerInfo) (x : Scheme) (c : ClientState) (v p scheme version part : ℕ) (words : List ℕ) → c.known ≡ known → IsState c →
     CallFits (Sync x v p) known c.parts
@@ -173,8 +181,13 @@ staled_keeps (Some k) c after asked version count e s en eh =
     let hint : HintFits (Some k) c.hint = let P : Option ServerInfo → Type 0 = λ o. HintFits o c.hint in subst P e s.hint in
     if_keeps c (not (version == asked) && (nat_lt 0 version && is_layout (with_count k.layout count))) _ (faulty c BadReply)
     (λ is. record {
-      good = record { number = rw en s.number; known = stale_known k asked version count known is; hint = rw eh (same_rows k version count c.hint hint); call =
-          tt };
+      good = record {
+        number = rw en s.number;
+        known = stale_known k asked version count known is;
+        hint = rw eh (same_rows k version count c.hint hint);
+        call =
+            tt;
+      };
       number = en;
     })
     (λ _. faulty_keeps c s)

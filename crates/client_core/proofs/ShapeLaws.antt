@@ -265,8 +265,8 @@ refused : BlankCall → Outline → Option CallFault
 refused BlankHello x = if x.failed then Some Failed else (if is_some x.known then Some AlreadyWelcome else (if no_reply x.call then None else Some Busy))
 refused BlankAsk x =
     if x.failed then Some Failed
-        else (if ready x.known x.hint then (if no_reply x.call then (if nat_lt x.number (2 ^ 62) then None else Some SeedUsedUp) else Some Busy)
-        else Some NotReady)
+    else (if ready x.known x.hint then (if no_reply x.call then (if nat_lt x.number (2 ^ 62) then None else Some SeedUsedUp) else Some Busy)
+    else Some NotReady)
 refused _ x = if x.failed then Some Failed else (if is_some x.known then (if no_reply x.call then None else Some Busy) else Some NotReady)
 
 idle_same : (k : Call) → is_idle k ≡ no_reply (awaited k)

@@ -89,5 +89,5 @@ ArePartsOf s whole v j (f ∷ fs) = (f ≡ frame.HintPart (scheme_byte s) v j (p
 abbrev pub PartsOfAHintMakeIt : Type 0
 PartsOfAHintMakeIt = (c : ClientState) (s : Scheme) (k : ServerInfo) (v version : ℕ) (replies : List Frame) (hint : WordMatrix) →
     IsSyncedBy c s k v version replies → hint.rows ≡ hint_rows s k.layout k.dimension → hint.cols ≡ k.dimension → IsWhole hint →
-        ArePartsOf s hint.words v 0 replies →
+    ArePartsOf s hint.words v 0 replies →
     (takes_all c replies).state.hint ≡ Some (record { scheme = s; version = v; matrix = hint })

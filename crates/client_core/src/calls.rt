@@ -1,7 +1,6 @@
 //! What a call asks of the client, and the bytes that it sends.
 
-ghost use Rattle.std.specs.Prelude.{◌≡◌, ◌≤◌, ◌<◌, ◌+◌, ◌^◌, None, Some, IfOk, IfErr, MatchResult,
-    length};
+ghost use Rattle.std.specs.Prelude.{◌≡◌, ◌≤◌, ◌<◌, ◌+◌, ◌^◌, None, Some, IfOk, IfErr, MatchResult, length};
 ghost use Rattle.frame_codec.specs.Frames.{IsFrame, payload_size, payload_limit, encoding};
 ghost use Rattle.pir_schemes.specs.Schemes.{scheme_byte};
 ghost use Rattle.pir_schemes.specs.Retrievals.{query_words};
@@ -168,10 +167,10 @@ pub(crate) fn query_bytes<K: Kernel>(
     ensures bytes { IfOk result (λ v. v.items ≡
         encoding (Frame.Query (scheme_byte scheme) known.now.version
         (query_words scheme known.now.layout known.now.dimension known.now.seed seed.now number
-            index))) }
+        index))) }
     ensures frame { IfOk result (λ _. IsFrame (Frame.Query (scheme_byte scheme) known.now.version
         (query_words scheme known.now.layout known.now.dimension known.now.seed seed.now number
-            index))) }
+        index))) }
     ensures memory { IfErr result (λ e. e ≡ CallFault.Memory) }
 {
     let n = known.dimension;

@@ -1,7 +1,6 @@
 //! The client.
 
-ghost use Rattle.std.specs.Prelude.{◌≡◌, ◌≤◌, ◌<◌, ◌^◌, [], List, ℕ, None, Some, IfOk, IfErr,
-    MatchResult, length};
+ghost use Rattle.std.specs.Prelude.{◌≡◌, ◌≤◌, ◌<◌, ◌^◌, [], List, ℕ, None, Some, IfOk, IfErr, MatchResult, length};
 ghost use Rattle.frame_codec.specs.Frames.{encoding};
 ghost use Rattle.frame_codec.specs.declared.frame.Frame.{Frame};
 ghost use Rattle.pir_schemes.specs.Schemes.{scheme_byte};
@@ -12,7 +11,7 @@ ghost use Rattle.client_core.specs.Calls.{Want, Accepts, Refuses};
 ghost use Rattle.client_core.specs.Feeding.{Client, FeedsClient};
 
 use crate::calls::{
-    edit_bytes, may_ask, may_change, may_hello, query_bytes, scheme_of, encoded, spend_number,
+    edit_bytes, encoded, may_ask, may_change, may_hello, query_bytes, scheme_of, spend_number,
 };
 use crate::parts::Parts;
 use crate::state::{Call, CallFault, ClientFault, ClientState, Event};
@@ -146,9 +145,9 @@ impl<K: Kernel> ClientCore<K> {
             (Want.Ask index) self.new.state bytes.items) }
         ensures query { IfOk result (λ bytes. (k : ServerInfo) × (self.old.state.known ≡ Some k)
             × (bytes.items ≡ encoding
-                (Frame.Query (scheme_byte (scheme_held self.old.state.hint)) k.version
+            (Frame.Query (scheme_byte (scheme_held self.old.state.hint)) k.version
             (query_words (scheme_held self.old.state.hint) k.layout k.dimension k.seed
-                self.old.state.seed self.old.state.number index)))) }
+            self.old.state.seed self.old.state.number index)))) }
         ensures refused { IfErr result
             (λ e. Refuses self.old.state (Want.Ask index) e self.new.state) }
         ensures reader { self.new.reader ≡ self.old.reader }

@@ -1,11 +1,9 @@
 //! What comes of a reply: a function for each kind.
 
-ghost use Rattle.std.specs.Prelude.{◌≡◌, ◌≤◌, ◌<◌, ◌*◌, ◌^◌, ◌++◌, [], length, IfOk, IfErr, OnOk,
-    OnErr, IfSome, IfNone, MatchOption, true, false};
+ghost use Rattle.std.specs.Prelude.{◌≡◌, ◌≤◌, ◌<◌, ◌*◌, ◌^◌, ◌++◌, [], length, IfOk, IfErr, OnOk, OnErr, IfSome, IfNone, MatchOption, true, false};
 ghost use Rattle.digit_pack.specs.Layout.{shape, IsLayout};
 ghost use Rattle.pir_schemes.specs.Plans.{record_of};
-ghost use Rattle.pir_schemes.specs.Retrievals.{hint_rows as rows_of_hint,
-    answer_count as words_of_answer, reading};
+ghost use Rattle.pir_schemes.specs.Retrievals.{hint_rows as rows_of_hint, answer_count as words_of_answer, reading};
 ghost use Rattle.client_core.specs.States.{IsState, IsKnown, is_layout};
 ghost use Rattle.client_core.specs.Replies.{
   faulty,
@@ -24,7 +22,7 @@ ghost use Rattle.client_core.specs.Replies.{
 };
 
 use crate::parts::Parts;
-use crate::state::{Call, ClientFault, ClientState, Event, Hint, ServerInfo, Reaction};
+use crate::state::{Call, ClientFault, ClientState, Event, Hint, Reaction, ServerInfo};
 use digit_pack::Layout;
 use frame_codec::{Bytes, Bytes32, Words};
 use matrix_u32::{Kernel, Matrix};
@@ -57,7 +55,7 @@ fn ends(state: &mut ClientState, event: Event) -> Reaction
 fn layout_of(width: u32, record_len: usize, groups: usize, count: usize) -> Option<Layout>
     ensures { MatchOption result (is_layout (shape width record_len groups count) ≡ false)
         (λ l. (is_layout (shape width record_len groups count) ≡ true) ×
-            (l ≡ shape width record_len groups count) × IsLayout l) }
+        (l ≡ shape width record_len groups count) × IsLayout l) }
 {
     match Layout::new(width, record_len, groups, count) {
         Ok(layout) => Some(layout),
@@ -216,8 +214,8 @@ fn read_answer<K: Kernel>(
         words_of_answer hint.now.scheme known.now.layout known.now.dimension }
     ensures { IfOk result (λ e. e ≡ event_of index version
         (record_of known.now.layout
-            (reading hint.now.scheme known.now.layout hint.now.matrix seed.now number index
-            words.now))) }
+        (reading hint.now.scheme known.now.layout hint.now.matrix seed.now number index
+        words.now))) }
 {
     match recover(
         alloc,
@@ -317,11 +315,16 @@ pub(crate) fn take_stale(
 }
 
 // What is known after Stale, where it may name this version and count.
-fn reported_of(known: &Option<ServerInfo>, asked: u64, version: u64, count: u32) -> Option<ServerInfo>
+fn reported_of(
+    known: &Option<ServerInfo>,
+    asked: u64,
+    version: u64,
+    count: u32,
+) -> Option<ServerInfo>
     ensures { (after c : ClientState) → MatchOption result
         (staled known.now after c asked version count ≡ faulty c ClientFault.BadReply)
         (λ k. staled known.now after c asked version count ≡
-            ended (record after { known = Some k }) (Event.Stale version)) }
+        ended (record after { known = Some k }) (Event.Stale version)) }
 {
     let Some(known) = known else {
         return None;

@@ -1,14 +1,12 @@
 //! Replies taken one after another.
 
-ghost use Rattle.std.specs.Prelude.{◌≡◌, ◌++◌, ◌⊎◌, [], IfOk, OnOk, OnErr, true, false, length,
-    None};
+ghost use Rattle.std.specs.Prelude.{◌≡◌, ◌++◌, ◌⊎◌, [], IfOk, OnOk, OnErr, true, false, length, None};
 ghost use Rattle.std.specs.List.{flat_map, AllByRecursion};
 ghost use Rattle.frame_codec.specs.declared.frame.Frame.{Frame};
 ghost use Rattle.frame_codec.specs.Frames.{IsFrame, encoding};
 ghost use Rattle.client_core.specs.States.{IsState, Keeps};
 ghost use Rattle.client_core.specs.Replies.{reaction_to_reply};
-ghost use Rattle.client_core.specs.Feeding.{sends_of, events_of, fault_of, takes_all, ends_with,
-    codec_fault, Follows, BreaksOff};
+ghost use Rattle.client_core.specs.Feeding.{sends_of, events_of, fault_of, takes_all, ends_with, codec_fault, Follows, BreaksOff};
 
 use crate::replies::{
     Sizes, take_answer, take_done, take_other, take_part, take_refused, take_stale, take_welcome,

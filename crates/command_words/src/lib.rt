@@ -8,8 +8,8 @@ mod words;
 
 pub use bad_line::BadLine;
 pub use failure::Failure;
-pub use options::{key_at, number_at, option, text_at, bytes32_at, word};
-pub use words::{decimal, publisher_key, record_bytes, bytes32_from_hex};
+pub use options::{bytes32_at, key_at, number_at, option, text_at, word};
+pub use words::{bytes32_from_hex, decimal, publisher_key, record_bytes};
 
 #[cfg(test)]
 mod tests;

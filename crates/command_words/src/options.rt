@@ -1,7 +1,6 @@
 //! Options and words of a command, and their values.
 
-ghost use Rattle.std.specs.Prelude.{◌≡◌, ◌≢◌, ◌≤◌, true, None, Some, replicate, Ok, IfOk, IfErr,
-    MatchOption};
+ghost use Rattle.std.specs.Prelude.{◌≡◌, ◌≢◌, ◌≤◌, true, None, Some, replicate, Ok, IfOk, IfErr, MatchOption};
 ghost use Rattle.std.specs.Str.Parse.{IsNumeral, digits_value};
 ghost use Rattle.clap.specs.declared.builder.action.ArgAction.{ArgAction};
 ghost use Rattle.clap.specs.Matches.{first_value, found_of};
@@ -9,7 +8,7 @@ ghost use Rattle.hex.specs.Hex.{decode_of};
 ghost use Rattle.command_words.specs.Values.{IsNoNumber, IsNoBytes32, IsNoKey};
 
 use crate::bad_line::BadLine;
-use crate::words::{decimal, publisher_key, bytes32_from_hex};
+use crate::words::{bytes32_from_hex, decimal, publisher_key};
 use clap::{Arg, ArgAction, ArgMatches};
 use std::alloc::Global;
 

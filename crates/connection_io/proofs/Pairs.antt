@@ -42,8 +42,12 @@ wrote : {R W : Type 0} (remaining : R → Option (List ℕ)) (contents : W → O
 wrote remaining contents a bytes b s = subst (λ (x : List ℕ). Wrote remaining contents a x b) s.1 (wrote_parts remaining contents a s.0 b s.2)
 
 pub moved_none : {R W : Type 0} (remaining : R → Option (List ℕ)) (contents : W → Option (List ℕ)) (a : Pair R W) → Moved remaining contents a [] [] a
-moved_none remaining contents a = record { taken = Consumes-nil (remaining a.reader.now); given = Appends-nil (contents a.writer.now); same_reader = refl;
-    same_writer = refl }
+moved_none remaining contents a = record {
+  taken = Consumes-nil (remaining a.reader.now);
+  given = Appends-nil (contents a.writer.now);
+  same_reader = refl;
+  same_writer = refl;
+}
 
 -- a read of some bytes, or of none
 pub moved_read : {R W : Type 0} (remaining : R → Option (List ℕ)) (contents : W → Option (List ℕ)) (a b c : Pair R W) (read out piece : List ℕ) (room : ℕ) →
@@ -116,11 +120,11 @@ pub finally_taken : {R W : Type 0} (remaining : R → Option (List ℕ)) (conten
     → Consumes (remaining old) (remaining new) read
 finally_taken remaining contents a b read out old new i is e =
     subst (λ r. Consumes (remaining r) (remaining new) read) is
-        (subst (λ r. Consumes (remaining a.reader.now) (remaining r) read) (sym (e (sym i.same_reader))) i.taken)
+    (subst (λ r. Consumes (remaining a.reader.now) (remaining r) read) (sym (e (sym i.same_reader))) i.taken)
 
 pub finally_given : {R W : Type 0} (remaining : R → Option (List ℕ)) (contents : W → Option (List ℕ)) (a b : Pair R W) (read out : List ℕ) (old new : W) →
     Moved remaining contents a read out b → a.writer.now ≡ old → (a.writer.ghost_name ≡ b.writer.ghost_name → new ≡ b.writer.now)
     → Appends (contents old) (contents new) out
 finally_given remaining contents a b read out old new i is e =
     subst (λ w. Appends (contents w) (contents new) out) is
-        (subst (λ w. Appends (contents a.writer.now) (contents w) out) (sym (e (sym i.same_writer))) i.given)
+    (subst (λ w. Appends (contents a.writer.now) (contents w) out) (sym (e (sym i.same_writer))) i.given)

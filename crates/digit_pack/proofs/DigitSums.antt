@@ -59,7 +59,7 @@ number_below w (suc n) f h =
     let p : 2 ^ (w * suc n) ≡ 2 ^ (w * n) * 2 ^ w = ap (λ k. 2 ^ k) e ∙ pow-add 2 (w * n) w in
     let low : sum_below n (λ t. f t * 2 ^ (w * t)) < 2 ^ (w * n) = number_below w n f (λ t l. h t (omega arith)) in
     let step : f n * 2 ^ (w * n) + sum_below n (λ t. f t * 2 ^ (w * t)) < 2 ^ (w * n) * 2 ^ w =
-        mul-add-lt (f n) (2 ^ (w * n)) _ (2 ^ w) (h n (omega arith)) low in
+    mul-add-lt (f n) (2 ^ (w * n)) _ (2 ^ w) (h n (omega arith)) low in
     omega (arith, p, step)
 
 -- the top digit, and the others

@@ -91,7 +91,7 @@ small_digits l bytes h =
     All-from_get_or (λ d. d < 1024) (record_digits l bytes) 0 (λ k p.
     let inside : k < digits_per_record l = omega (arith, p, length-record_digits l bytes) in
     let is : slice_index (record_digits l bytes) k ≡ digit l.width (number_of 8 bytes) k =
-        at-list_of (digits_per_record l) (λ t. digit l.width (number_of 8 bytes) t) k inside in
+    at-list_of (digits_per_record l) (λ t. digit l.width (number_of 8 bytes) t) k inside in
     let ten : l.width ≤ 10 = omega arith in
     let fits : 2 ^ l.width ≤ 2 ^ 10 = pow-le-pow_right (lit< tt) ten in
     omega (arith, is, digit-lt l.width (number_of 8 bytes) k, fits))

@@ -59,7 +59,7 @@ pub entry-record : (l : Shape) (records : List (List ℕ)) (i d : ℕ) → IsSha
 entry-record l records i d s p q =
     entry-matrix_of (digit_rows l) (digit_cols l) (digit_at l records) _ _ (row_inside l i d s.groups q) (column_inside l i s.groups p)
     ∙ ap (λ k. digit l.width (number_of 8 (record_at records (i / l.groups * l.groups + k))) ((i % l.groups * digits_per_record l + d) % digits_per_record l))
-        (div-mul-add (i % l.groups) (digits_per_record l) d q)
+    (div-mul-add (i % l.groups) (digits_per_record l) d q)
     ∙ ap (λ k. digit l.width (number_of 8 (record_at records k)) ((i % l.groups * digits_per_record l + d) % digits_per_record l)) (div-add-mod' i l.groups)
     ∙ ap (λ k. digit l.width (number_of 8 (record_at records i)) k) (mod-mul-add (i % l.groups) (digits_per_record l) d q)
 

@@ -82,8 +82,11 @@ unpack_packed m whole s =
 pub small_unpacked : (rows cols : ℕ) (words : List ℕ) → IsSmall (unpacked rows cols words)
 small_unpacked rows cols words = record {
   each = λ i j p q.
-      omega (arith, entry-matrix_of rows cols (λ i j. digit 10 (slice_index words (i * packed_cols cols + j / 3)) (j % 3)) i j p q,
-          digit-lt 10 (slice_index words (i * packed_cols cols + j / 3)) (j % 3));
+      omega (
+        arith,
+        entry-matrix_of rows cols (λ i j. digit 10 (slice_index words (i * packed_cols cols + j / 3)) (j % 3)) i j p q,
+        digit-lt 10 (slice_index words (i * packed_cols cols + j / 3)) (j % 3),
+      );
 }
 
 pub whole_unpacked : (rows cols : ℕ) (words : List ℕ) → IsWhole (unpacked rows cols words)
@@ -183,7 +186,7 @@ set_packed m words i j v k w whole s same p q ke h =
     let count : length words ≡ m.rows * n = ap length same ∙ length-list_of (m.rows * n) (λ k. packed_word m (k / n) (k % n)) in
     let inside : k < length words = omega (arith, count, place_inside m.rows m.cols i j p q) in
     let was : slice_index words k ≡ packed_word m i (j / 3) = ap (slice_index words) ke ∙ ap (λ ws. slice_index ws (i * n + j / 3)) same
-        ∙ at-packed m i j p q in
+    ∙ at-packed m i j p q in
     let new : w ≡ packed_word (with_entry m i j v) i (j / 3) = word_replaced m i j v w whole s p q (subst (λ y. IsReplaced y (j % 3) v w) was h) in
     words_are (slice_set words k w) (m.rows * n) (λ t. packed_word (with_entry m i j v) (t / n) (t % n)) (length-set words k w ∙ count) (λ t l.
     let low : t % n < n = mod_below t n wide in
@@ -207,10 +210,10 @@ pub zeros_packed : (rows cols n : ℕ) → n ≡ packed_cols cols →
 zeros_packed rows cols n e =
     let m : WordMatrix = record { rows = rows; cols = cols; words = replicate (rows * cols) 0 } in
     let none : (i j : ℕ) → entry_or_zero m i j ≡ 0 =
-        λ i j. ⊎_elim (λ l. within m i j l ∙ zero_at (rows * cols) (i * cols + j)) (λ g. past m i j g) (cases_lt j cols) in
+    λ i j. ⊎_elim (λ l. within m i j l ∙ zero_at (rows * cols) (i * cols + j)) (λ g. past m i j g) (cases_lt j cols) in
     ap (λ n. replicate (rows * n) 0) e
     ∙ words_are (replicate (rows * packed_cols cols) 0) (rows * packed_cols cols) (λ t. packed_word m (t / packed_cols cols) (t % packed_cols cols))
-        (length-replicate (rows * packed_cols cols) 0) (λ t l.
+    (length-replicate (rows * packed_cols cols) 0) (λ t l.
     let i : ℕ = t / packed_cols cols in
     let u : ℕ = t % packed_cols cols in
     omega (arith, zero_at (rows * packed_cols cols) t, none i (3 * u), none i (3 * u + 1), none i (3 * u + 2)))

@@ -31,18 +31,18 @@ fits_decided l w len k digits ew el ek ok small e =
     let n : ℕ = k - 1 in
     let over : ℕ = 8 * len - w * (k - 1) in
     let t : (0 < k) × (w * (k - 1) < 8 * len) × (8 * len ≤ w * (k - 1) + w) =
-        top_begins_inside w len k (omega arith) (omega arith) (ek ∙ ap (λ y. (8 * l.record_len + y - 1) / y) (sym ew)
-        ∙ ap (λ y. (8 * y + w - 1) / w) (sym el)) in
+    top_begins_inside w len k (omega arith) (omega arith) (ek ∙ ap (λ y. (8 * l.record_len + y - 1) / y) (sym ew)
+    ∙ ap (λ y. (8 * y + w - 1) / w) (sym el)) in
     let size : 1 * 2 ^ over % 2 ^ 32 ≡ 2 ^ over = one_shl over 32 (omega arith) in
     let at : w * n + over ≡ 8 * len = omega arith in
     let place : l.width * n + over ≡ 8 * l.record_len = ap (λ y. y * n + over) (sym ew) ∙ at ∙ ap (λ y. 8 * y) el in
     let both : ((slice_index digits n < 2 ^ over → number_of l.width digits < 2 ^ (l.width * n + over))
-        × (2 ^ over ≤ slice_index digits n → 2 ^ (l.width * n + over) ≤ number_of l.width digits)) =
+    × (2 ^ over ≤ slice_index digits n → 2 ^ (l.width * n + over) ≤ number_of l.width digits)) =
     top_decides l.width digits n over small (omega arith) in (
       (λ h. subst (λ b. number_of l.width digits < 2 ^ b) place (both.0 (omega (arith, size, h)))),
       (λ h f.
           let above : 2 ^ (8 * l.record_len) ≤ number_of l.width digits =
-              subst (λ b. 2 ^ b ≤ number_of l.width digits) place (both.1 (omega (arith, size, h))) in
+          subst (λ b. 2 ^ b ≤ number_of l.width digits) place (both.1 (omega (arith, size, h))) in
           absurd (omega (arith, above, f))),
     )
 

@@ -39,9 +39,9 @@ unfolding window sum_below
 window_is w digits first small =
     let x : ℕ = number_of w digits / 2 ^ (w * first) in
     let d : (u : ℕ) → digit w x u ≡ slice_index digits (first + u) = λ u. digit-shifted w (number_of w digits) first u
-        ∙ digit-number w digits (first + u) small in
+    ∙ digit-number w digits (first + u) small in
     let zero_is : digit w x 0 * 2 ^ (w * 0) ≡ slice_index digits first = ap (λ k. digit w x 0 * 2 ^ k) (mul-zero w)
-        ∙ omega (arith, d 0, ap (slice_index digits) (add-zero first)) in
+    ∙ omega (arith, d 0, ap (slice_index digits) (add-zero first)) in
     let one_is : digit w x 1 * 2 ^ (w * 1) ≡ slice_index digits (first + 1) * 2 ^ w = ap (λ k. digit w x 1 * 2 ^ k) (mul-one w) ∙ ap (λ y. y * 2 ^ w) (d 1) in
     let two_is : digit w x 2 * 2 ^ (w * 2) ≡ slice_index digits (first + 2) * 2 ^ (w * 2) = ap (λ y. y * 2 ^ (w * 2)) (d 2) in
     omega (arith, zero_is, one_is, two_is, sum_of_digits w 3 x)

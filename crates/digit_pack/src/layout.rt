@@ -1,7 +1,6 @@
 //! Where the digits of records stand.
 
-ghost use Rattle.std.specs.Prelude.{◌≡◌, ◌+◌, ◌*◌, ◌/◌, ◌%◌, ◌^◌, ◌<◌, ◌≤◌, IfOk, IfErr,
-    MatchResult, length, slice_index, All};
+ghost use Rattle.std.specs.Prelude.{◌≡◌, ◌+◌, ◌*◌, ◌/◌, ◌%◌, ◌^◌, ◌<◌, ◌≤◌, IfOk, IfErr, MatchResult, length, slice_index, All};
 ghost use Rattle.lane_kernels.specs.Digit.{digit};
 ghost use Rattle.digit_pack.specs.Digits.{number_of};
 ghost use Rattle.digit_pack.specs.Layout.{
@@ -69,15 +68,23 @@ impl Model for Layout {
 
     ghost Value = { Shape };
 
-    ghost view = { λ l. record { width = l.width; record_len = l.record_len; groups = l.groups;
-        count = l.count } };
+    ghost view = { λ l. record {
+      width = l.width;
+      record_len = l.record_len;
+      groups = l.groups;
+      count = l.count;
+    } };
 
     ghost inverse = { λ s.
         record { width = s.width; record_len = s.record_len; groups = s.groups; count = s.count } };
 
     ghost invariant = { λ l.
-        IsLayout (record { width = l.width; record_len = l.record_len; groups = l.groups; count =
-        l.count }) };
+        IsLayout (record {
+          width = l.width;
+          record_len = l.record_len;
+          groups = l.groups;
+          count = l.count;
+        }) };
 }
 
 impl Layout {

@@ -1,7 +1,6 @@
 //! Bytes as digits, and digits as bytes.
 
-ghost use Rattle.std.specs.Prelude.{◌≡◌, ℕ, ◌+◌, ◌*◌, ◌%◌, ◌/◌, ◌^◌, ◌≤◌, ◌<◌, length, slice_index,
-    All};
+ghost use Rattle.std.specs.Prelude.{◌≡◌, ℕ, ◌+◌, ◌*◌, ◌%◌, ◌/◌, ◌^◌, ◌≤◌, ◌<◌, length, slice_index, All};
 ghost use Rattle.lane_kernels.specs.Digit.{digit, split_count};
 ghost use Rattle.digit_pack.specs.Digits.{digits_of, number_of, joined};
 ghost use Rattle.digit_pack.specs.Windows.{window};

@@ -1,8 +1,7 @@
 //! Stores of digits.
 
 ghost use Rattle.std.specs.Prelude.{◌≡◌, ◌<◌, ◌≤◌, ◌*◌, ◌⊎◌, IfOk, IfErr, length};
-ghost use Rattle.matrix_u32.specs.Matrix.{WordMatrix, IsWhole, entry, times_vector, with_entry,
-    zero_matrix};
+ghost use Rattle.matrix_u32.specs.Matrix.{WordMatrix, IsWhole, entry, times_vector, with_entry, zero_matrix};
 
 use matrix_u32::{Kernel, Matrix, MatrixError};
 use std::alloc::Global;

@@ -22,7 +22,7 @@ pub one_part : (f : ℕ → List ℕ) (prefix : List ℕ) (n : ℕ) → (prefix 
 one_part f prefix n =
     append_assoc prefix (flat_map f (range_with_len 0 n)) (f n)
     ∙ ap (λ l. prefix ++ l) (ap (λ k. flat_map f (range_with_len 0 n) ++ f k) (omega arith) ∙ sym (parts_more f 0 n)
-        ∙ ap (λ k. flat_map f (range_with_len 0 k)) (sym (add-one n)))
+    ∙ ap (λ k. flat_map f (range_with_len 0 k)) (sym (add-one n)))
 
 -- the digits times a query's words, as a column, is the query's words as a row times the digits transposed
 pub column_is_row : (d : WordMatrix) (c : List ℕ) → length c ≡ d.cols →
@@ -32,8 +32,8 @@ column_is_row d c e =
     same-matrix_of 1 d.rows (λ i j. entry a j i) (λ i j. dot (row (one_row c) i) (column (transpose d) j)) (λ i j p q.
     let at : j * 1 + i ≡ j = omega arith in
     let prefix : row (one_row c) i ≡ c =
-        same-list_of (length c) _ (λ k. slice_index c k) (λ k _. ap (slice_index c) (omega (arith, zero_times i (length c) p)))
-        ∙ list_of-at c (length c) refl in
+    same-list_of (length c) _ (λ k. slice_index c k) (λ k _. ap (slice_index c) (omega (arith, zero_times i (length c) p)))
+    ∙ list_of-at c (length c) refl in
     ap (slice_index (times_vector d c)) at ∙ at-list_of d.rows (λ i. dot (row d i) c) j q
     ∙ ap (λ y. dot (row d j) y) (sym (list_of-at c d.cols e))
     ∙ dot_comm d.cols (λ t. entry d j t) (λ t. slice_index c t)

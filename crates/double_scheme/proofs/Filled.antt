@@ -23,7 +23,7 @@ one_filled rows cols i j v f m p q e h = record {
       (λ same.
       let both : (r ≡ i) × (c ≡ j) = same_from_place r c i j cols b q same in
       ap (λ r. entry (with_entry m i j v) r c) both.0 ∙ ap (entry (with_entry m i j v) i) both.1
-          ∙ entry_set m i j v h.whole (omega (arith, h.rows_are)) inside ∙ e
+      ∙ entry_set m i j v h.whole (omega (arith, h.rows_are)) inside ∙ e
       ∙ ap (λ r. f r j) (sym both.0) ∙ ap (f r) (sym both.1))
       (λ apart.
       entry_kept m i j v r c inside here (λ x. apart (ap (λ r. r * cols + c) x.0 ∙ ap (λ c. i * cols + c) x.1))

@@ -42,7 +42,7 @@ length-answer_of l digits hint a2 words e =
     let first = first_answer_of l.width digits (take (digit_cols l) words) in
     let one : first.rows ≡ split_count l.width = mul_one (split_count l.width) in
     after_prefix (product first a2).words (λ d. part_answer_of hint first (part_of_query l words d)) (a2.cols * split_count l.width)
-        (words_of_part l.width a2.cols) (digits_per_record l)
+    (words_of_part l.width a2.cols) (digits_per_record l)
     (length-hint l.width first a2 one) (λ k. length-part l.width a2.cols hint first (part_of_query l words k) e one)
   where
     mul_one : (n : ℕ) → 1 * n ≡ n

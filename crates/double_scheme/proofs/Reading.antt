@@ -17,7 +17,7 @@ unfolding reading
 small_reading l hint seed number answer ok =
     All-from_get_or (λ d. d < 2 ^ l.width) (reading l hint seed number answer) 0 (λ k _.
     each-list_of (λ d. d < 2 ^ l.width) (digits_per_record l) (digit_read l hint seed number answer) 0 (pow_pos l.width)
-        (λ k. nearest-lt l.width _ (omega (arith, ok.width.1))) k)
+    (λ k. nearest-lt l.width _ (omega (arith, ok.width.1))) k)
 
 pub length-reading : (l : Shape) (hint : WordMatrix) (seed : List ℕ) (number : ℕ) (answer : List ℕ) →
     length (reading l hint seed number answer) ≡ digits_per_record l

@@ -47,7 +47,7 @@ module _ (l : Shape) (records : List (List ℕ)) (a1 a2 : WordMatrix) (seed : Li
       length (part_answer_of (server_hint_of l.width (digit_matrix l records) a1) f c) ≡ words_of_part l.width a2.cols
   length-part_answer f c e =
       let one : length (times_vector (server_hint_of l.width (digit_matrix l records) a1) c) ≡ a1.cols * split_count l.width =
-          length-list_of (a1.cols * split_count l.width) _ in
+      length-list_of (a1.cols * split_count l.width) _ in
       let two : length (times_vector f c) ≡ split_count l.width = length-list_of f.rows _ ∙ e in
       length-append (times_vector (server_hint_of l.width (digit_matrix l records) a1) c) (times_vector f c)
       ∙ ap (λ k. k + length (times_vector f c)) (one ∙ ap (λ n. n * split_count l.width) (sym cols)) ∙ ap (λ k. a2.cols * split_count l.width + k) two
@@ -64,16 +64,16 @@ module _ (l : Shape) (records : List (List ℕ)) (a1 a2 : WordMatrix) (seed : Li
 
   answer_part_is : (d : ℕ) → d < digits_per_record l →
       answer_part l.width a2.cols
-          (answer_of l (digit_matrix l records) (server_hint_of l.width (digit_matrix l records) a1) a2 (query_of l a1 a2 seed number i)) d
+      (answer_of l (digit_matrix l records) (server_hint_of l.width (digit_matrix l records) a1) a2 (query_of l a1 a2 seed number i)) d
       ≡ part_answer_of (server_hint_of l.width (digit_matrix l records) a1)
-          (first_answer_of l.width (digit_matrix l records) (first_query_of l a1 seed number i)) (part_query_of l a2 seed number i d)
+      (first_answer_of l.width (digit_matrix l records) (first_query_of l a1 seed number i)) (part_query_of l a2 seed number i d)
   unfolding answer_of
   answer_part_is d p =
       let hint = server_hint_of l.width (digit_matrix l records) a1 in
       let words = query_of l a1 a2 seed number i in
       let first = first_answer_of l.width (digit_matrix l records) (take (digit_cols l) words) in
       block_after (product first a2).words (λ k. part_answer_of hint first (part_of_query l words k)) (a2.cols * split_count l.width)
-          (words_of_part l.width a2.cols) (digits_per_record l) d
+      (words_of_part l.width a2.cols) (digits_per_record l) d
       (length-hint_part_words first (omega arith)) (λ k. length-part_answer first (part_of_query l words k) (omega arith)) p
       ∙ ap (part_answer_of hint first) (part d p)
       ∙ ap (λ f. part_answer_of hint f (part_query_of l a2 seed number i d)) first_answer
@@ -83,7 +83,7 @@ module _ (l : Shape) (records : List (List ℕ)) (a1 a2 : WordMatrix) (seed : Li
       ≡ answer_count l a2.cols
   length-answer =
       length-answer_of l (digit_matrix l records) (server_hint_of l.width (digit_matrix l records) a1) a2 (query_of l a1 a2 seed number i)
-          (ap (λ n. n * split_count l.width) (sym cols))
+      (ap (λ n. n * split_count l.width) (sym cols))
 
   -- the rows of the prefix of an answer are the rows of the first answer's hint
   hint_row : (k : ℕ) → row
@@ -150,9 +150,9 @@ module _ (l : Shape) (records : List (List ℕ)) (a1 a2 : WordMatrix) (seed : Li
       let answer = answer_of l m (server_hint_of w m a1) a2 (query_of l a1 a2 seed number i) in
       let s2 = part_secret seed number a2.cols d in
       ap (λ x. nearest w (stripped x (row_read w a2.cols (client_hint_of (server_hint_of w m a1) a2) s2 (answer_part w a2.cols answer d))
-          (secret seed number a2.cols))) gives.word
+      (secret seed number a2.cols))) gives.word
       ∙ ap (λ y. nearest w (stripped (slice_index (times_vector m (first_query_of l a1 seed number i)) r) y (secret seed number a2.cols))) gives.row
       ∙ ap (λ n. nearest w (stripped (slice_index (times_vector m (first_query_of l a1 seed number i)) r) (row (product m a1) r) (secret seed number n))) cols
       ∙ quiet_law w m a1 (secret seed number a1.cols) (query_noise seed number a1.rows) r (column_of l i) s.small place.0 (sym rows1)
-          (omega (arith, place.1)) small_digit (quiet.first d q)
+      (omega (arith, place.1)) small_digit (quiet.first d q)
       ∙ at

@@ -64,7 +64,7 @@ pub hint_digit_of : QuietMatrixRowGivesItsEntry → DigitsAreSmall → (w : ℕ)
     w < 32 → a2.rows ≡ d.rows → r < d.rows → k < a1.cols * split_count w →
     IsQuiet w (row (server_hint_of w d a1) k) e →
     second_digit w (product (server_hint_of w d a1) a2) s2
-        (hint_part_words w a1.cols (part_answer_of (server_hint_of w d a1) (first_answer_of w d c) (cipher w a2 s2 e r))) k
+    (hint_part_words w a1.cols (part_answer_of (server_hint_of w d a1) (first_answer_of w d c) (cipher w a2 s2 e r))) k
     ≡ entry (server_hint_of w d a1) k r
 hint_digit_of quiet_law small w d a1 a2 c s2 e r k low rows2 p inside quiet =
     let hint = server_hint_of w d a1 in
@@ -104,7 +104,7 @@ row_read_of quiet_law join_law small stands w d a1 a2 c s2 e r pos low rows1 row
     ap (λ y. list_of a1.cols (second_word w (product hint a2) s2 y)) (take_at one two (a1.cols * split_count w) size)
     ∙ same-list_of a1.cols _ (λ k. dot (row d r) (column a1 k)) (λ k l.
     second_word_of quiet_law join_law small stands w (product (transpose a1) (transpose d)) a2 (product hint a2) s2 one e r k pos low (sym rows2)
-        (omega arith) l
+    (omega arith) l
     (rw (entry-product_transposed a1 d k r rows1 l p) (dot-lt (row d r) (column a1 k)))
     (λ j m. quiet j m) (λ j m. refl) refl
     ∙ entry-product_transposed a1 d k r rows1 l p)

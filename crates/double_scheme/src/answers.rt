@@ -3,8 +3,7 @@
 ghost use Rattle.std.specs.Prelude.{◌≡◌, ◌+◌, ◌*◌, ◌≤◌, IfOk, length, take, drop};
 ghost use Rattle.lane_kernels.specs.Digit.{split_count};
 ghost use Rattle.digit_pack.specs.Layout.{digit_rows, digit_cols};
-ghost use Rattle.double_scheme.specs.Double.{first_answer_of, part_answer_of, query_count,
-    answer_count, answer_of};
+ghost use Rattle.double_scheme.specs.Double.{first_answer_of, part_answer_of, query_count, answer_count, answer_of};
 
 use crate::hints::decompose;
 use crate::queries::append;

@@ -79,7 +79,7 @@ pub fn setup<K: Kernel, S: DigitStore + Drop>(
     ensures client { IfOk result (λ hints. hints.1 ≡ client_hint_of (S.digits hints.0) a2.now) }
     ensures server_sizes { IfOk result (λ hints.
         ((S.digits hints.0).rows ≡ a2.now.cols * split_count w) ×
-            ((S.digits hints.0).cols ≡ hint.now.rows)) }
+        ((S.digits hints.0).cols ≡ hint.now.rows)) }
     ensures client_sizes { IfOk result (λ hints. (hints.1.rows ≡ a2.now.cols * split_count w) ×
         (hints.1.cols ≡ a2.now.cols)) }
 {

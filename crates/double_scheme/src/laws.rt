@@ -1,8 +1,7 @@
 //! Laws of DoublePIR, over the definitions alone. A caller that calls one of these functions has its law at
 //! hand in its proof; the call costs nothing.
 
-ghost use Rattle.double_scheme.specs.Laws.{QuietPartGivesItsRow, QuietRetrievalReadsTheRecord,
-    CertainShapeIsQuiet};
+ghost use Rattle.double_scheme.specs.Laws.{QuietPartGivesItsRow, QuietRetrievalReadsTheRecord, CertainShapeIsQuiet};
 
 /// Under the records' own hints, where the retrieval is quiet in both layers, the second layer's words of
 /// part d round, each to its digit, to a column of the server's hint and of the first answer's digits: that of

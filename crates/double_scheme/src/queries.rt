@@ -39,7 +39,7 @@ fn part_query<K: Kernel>(
     requires cols { a2.now.cols ≤ 1024 }
     ensures { IfOk result (λ v. v.items ≡
         cipher w a2.now (part_secret seed.now number a2.now.cols d)
-            (part_noise seed.now number a2.now.rows d) place) }
+        (part_noise seed.now number a2.now.rows d) place) }
 {
     let n = a2.cols();
     let rows = a2.rows();

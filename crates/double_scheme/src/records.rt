@@ -1,12 +1,10 @@
 //! How an answer is read.
 
-ghost use Rattle.std.specs.Prelude.{◌≡◌, ◌+◌, ◌*◌, ◌^◌, ◌<◌, ◌≤◌, ◌↔◌, IfOk, IsTrue, All, length,
-    drop};
+ghost use Rattle.std.specs.Prelude.{◌≡◌, ◌+◌, ◌*◌, ◌^◌, ◌<◌, ◌≤◌, ◌↔◌, IfOk, IsTrue, All, length, drop};
 ghost use Rattle.matrix_u32.specs.Sum.{list_of};
 ghost use Rattle.lane_kernels.specs.Digit.{split_count};
 ghost use Rattle.digit_pack.specs.Layout.{digits_per_record};
-ghost use Rattle.double_scheme.specs.Double.{words_of_part, answer_count, answer_hint, second_word,
-    part_read, digit_read, reading};
+ghost use Rattle.double_scheme.specs.Double.{words_of_part, answer_count, answer_hint, second_word, part_read, digit_read, reading};
 ghost use Rattle.double_scheme.specs.Recovery.{ReadsRecord, GivesQuietRecord};
 
 use crate::answers::part_of;
@@ -91,7 +89,7 @@ fn read_part<K: Kernel>(
     requires part { length part.now ≡ words_of_part w client_hint.now.cols }
     ensures { IfOk result (λ digit. digit ≡
         part_read w client_hint.now.cols client_hint.now first_hint.now first_secret.now
-            part_secret.now part.now) }
+        part_secret.now part.now) }
 {
     let prefix = client_hint.rows();
     let mut digits = vec![in alloc; 0; split_count(w)]?;
@@ -255,8 +253,7 @@ pub fn recover<K: Kernel>(
     requires cols { client_hint.now.cols ≤ 1024 }
     requires record { i < layout.now.count }
     ensures reading { ReadsRecord layout.now client_hint.now seed.now number answer.now result }
-    ensures quiet { GivesQuietRecord layout.now client_hint.now seed.now number i answer.now result
-        }
+    ensures quiet { GivesQuietRecord layout.now client_hint.now seed.now number i answer.now result }
 {
     laws::quiet_retrieval_reads_the_record();
     digit_pack::laws::pack_unpacks();

@@ -41,7 +41,7 @@ only_bytes (suc n) (b ∷ bytes) fits le =
     let low : (b + 256 * r) % 256 ≡ b = omega arith in
     let high : (b + 256 * r) / 256 ≡ r = omega arith in
     let rest : bytes_low_first 1 n (b + 256 * r) ≡ take n bytes = shifted_bytes 0 n (b + 256 * r) ∙ ap (λ (y : ℕ). bytes_low_first 0 n y) high
-        ∙ only_bytes n bytes (IsBytes-rest b bytes fits) (omega arith) in
+    ∙ only_bytes n bytes (IsBytes-rest b bytes fits) (omega arith) in
     ap (λ (y : ℕ). bytes_low_first 0 (suc n) y) e ∙ ap (λ (y : ℕ). y ∷ bytes_low_first 1 n (b + 256 * r)) low ∙ ap (λ (ys : List ℕ). b ∷ ys) rest
 
 -- n bytes are below 256 ^ n
@@ -89,8 +89,12 @@ words_none a = append-nil a
 
 pub words_more : (a ws : List ℕ) (i : ℕ) → i < length ws → a ++ word_bytes (take (i + 1) ws) ≡ (a ++ word_bytes (take i ws)) ++ number_bytes 4 (get_or ws i 0)
 unfolding word_bytes
-words_more a ws i lt = rw (take_more ws i 0 lt, flat_map-append (number_bytes 4) (take i ws) (get_or ws i 0 ∷ []),
-    flat_map-cons (number_bytes 4) (get_or ws i 0) [], append-nil (number_bytes 4 (get_or ws i 0)))
+words_more a ws i lt = rw (
+  take_more ws i 0 lt,
+  flat_map-append (number_bytes 4) (take i ws) (get_or ws i 0 ∷ []),
+  flat_map-cons (number_bytes 4) (get_or ws i 0) [],
+  append-nil (number_bytes 4 (get_or ws i 0)),
+)
     (sym (append_assoc a (flat_map (number_bytes 4) (take i ws)) (number_bytes 4 (get_or ws i 0))))
 
 pub word_bytes-cons : (w : ℕ) (ws : List ℕ) → word_bytes (w ∷ ws) ≡ number_bytes 4 w ++ word_bytes ws
@@ -130,7 +134,7 @@ unfolding word_bytes words_in
 words_encode zero bytes fits len = sym (nil_from_length bytes len)
 words_encode (suc n) bytes fits len =
     ap (λ (x : List ℕ). number_bytes 4 (number_in 4 bytes) ++ x)
-        (words_encode n (drop 4 bytes) (IsBytes-drop 4 bytes fits) (omega (arith, length-drop 4 bytes)))
+    (words_encode n (drop 4 bytes) (IsBytes-drop 4 bytes fits) (omega (arith, length-drop 4 bytes)))
     ∙ prefix 4 bytes fits (omega arith)
 
 pub words_small : (n : ℕ) (bytes : List ℕ) → IsBytes bytes → length bytes ≡ 4 * n → All (λ w. w < 2 ^ 32) (words_in n bytes)
@@ -138,9 +142,9 @@ unfolding words_in
 words_small zero bytes fits len = λ i d lt. absurd (omega arith)
 words_small (suc n) bytes fits len =
     λ i d lt. elim i as (λ i. i < suc (length (words_in n (drop 4 bytes))) → get_or (number_in 4 bytes ∷ words_in n (drop 4 bytes)) i d < 2 ^ 32) [
-  | zero ↦ λ _. number_in-lt 4 bytes fits (omega arith)
-  | suc i ↦ λ lt. words_small n (drop 4 bytes) (IsBytes-drop 4 bytes fits) (omega (arith, length-drop 4 bytes)) i d (omega arith)
-] lt
+      | zero ↦ λ _. number_in-lt 4 bytes fits (omega arith)
+      | suc i ↦ λ lt. words_small n (drop 4 bytes) (IsBytes-drop 4 bytes fits) (omega (arith, length-drop 4 bytes)) i d (omega arith)
+    ] lt
 
 pub words_back : (ws : List ℕ) → AllByRecursion (λ w. w < 2 ^ 32) ws → words_in (length ws) (word_bytes ws) ≡ ws
 unfolding word_bytes words_in

@@ -33,8 +33,13 @@ scheme_words_length scheme version words = omega (arith, length-append (number_b
 pub payload_sized : (f : Frame) → length (payload_of f) ≡ payload_size f
 unfolding payload_of
 payload_sized (Load record_len groups width records) =
-    omega (arith, length-append (number_bytes 2 record_len) (number_bytes 2 groups ++ (width ∷ records)),
-    length-append (number_bytes 2 groups) (width ∷ records), length-number 2 record_len, length-number 2 groups)
+    omega (
+      arith,
+      length-append (number_bytes 2 record_len) (number_bytes 2 groups ++ (width ∷ records)),
+      length-append (number_bytes 2 groups) (width ∷ records),
+      length-number 2 record_len,
+      length-number 2 groups,
+    )
 payload_sized (Hello profile key) = omega (arith, length-append (number_bytes 2 profile) key, length-number 2 profile)
 payload_sized (HintAsk scheme version part) =
     omega (arith, length-append (number_bytes 8 version) (number_bytes 4 part), length-number 8 version, length-number 4 part)
@@ -44,8 +49,14 @@ payload_sized Publish = refl
 payload_sized Bye = refl
 payload_sized (Welcome profile width record_len groups count version dimension seed) = omega (arith, length-append {A = ℕ}, length-number)
 payload_sized (HintPart scheme version part words) =
-    omega (arith, length-append (number_bytes 8 version) (number_bytes 4 part ++ word_bytes words), length-append (number_bytes 4 part) (word_bytes words),
-    length-number 8 version, length-number 4 part, length-words words)
+    omega (
+      arith,
+      length-append (number_bytes 8 version) (number_bytes 4 part ++ word_bytes words),
+      length-append (number_bytes 4 part) (word_bytes words),
+      length-number 8 version,
+      length-number 4 part,
+      length-words words,
+    )
 payload_sized (Answer scheme version words) = scheme_words_length scheme version words
 payload_sized (Stale version count) =
     omega (arith, length-append (number_bytes 8 version) (number_bytes 4 count), length-number 8 version, length-number 4 count)
@@ -83,7 +94,7 @@ number_first n bytes fits le x more e rest = rw (e, rest) (prefix n bytes fits l
 pub number_alone : (n : ℕ) (bytes : List ℕ) → IsBytes bytes → length bytes ≡ n → (x : ℕ) → x ≡ number_in n bytes → number_bytes n x ≡ bytes
 number_alone n bytes fits len x e =
     sym (append-nil (number_bytes n x))
-        ∙ number_first n bytes fits (omega arith) x [] e (sym (nil_from_length (drop n bytes) (omega (arith, length-drop n bytes))))
+    ∙ number_first n bytes fits (omega arith) x [] e (sym (nil_from_length (drop n bytes) (omega (arith, length-drop n bytes))))
 
 -- one byte at the beginning
 pub byte_first : (bytes : List ℕ) → 1 ≤ length bytes → get_or bytes 0 0 ∷ drop 1 bytes ≡ bytes
@@ -98,9 +109,9 @@ pub is_load : (bytes : List ℕ) → IsBytes bytes → 5 ≤ length bytes → (r
 unfolding payload_of
 is_load bytes fits le record_len groups records small small2 e e2 er all =
     let width : get_or bytes 4 0 ∷ records ≡ drop 2 (drop 2 bytes) = ap (λ (x : List ℕ). get_or bytes 4 0 ∷ x) er ∙ sym (drop_more bytes 4 0 (omega arith))
-        ∙ sym (drop-drop 2 2 bytes) in
+    ∙ sym (drop-drop 2 2 bytes) in
     let tail : number_bytes 2 groups ++ (get_or bytes 4 0 ∷ records) ≡ drop 2 bytes =
-        number_first 2 (drop 2 bytes) (IsBytes-drop 2 bytes fits) (omega (arith, length-drop 2 bytes)) groups (get_or bytes 4 0 ∷ records) e2 width in
+    number_first 2 (drop 2 bytes) (IsBytes-drop 2 bytes fits) (omega (arith, length-drop 2 bytes)) groups (get_or bytes 4 0 ∷ records) e2 width in
     record {
       kind = refl;
       payload = number_first 2 bytes fits (omega arith) record_len (number_bytes 2 groups ++ (get_or bytes 4 0 ∷ records)) e tail;
@@ -129,7 +140,7 @@ unfolding payload_of
 is_hint_ask bytes fits len version part small small2 e e2 =
     let e3 : part ≡ number_in 4 (drop 8 (drop 1 bytes)) = e2 ∙ ap (number_in 4) (sym (drop-drop 8 1 bytes)) in
     let tail : number_bytes 8 version ++ number_bytes 4 part ≡ drop 1 bytes =
-        is_version_number (drop 1 bytes) (IsBytes-drop 1 bytes fits) (omega (arith, length-drop 1 bytes)) version part e e3 in
+    is_version_number (drop 1 bytes) (IsBytes-drop 1 bytes fits) (omega (arith, length-drop 1 bytes)) version part e e3 in
     record { kind = refl; payload = ap (λ (x : List ℕ). get_or bytes 0 0 ∷ x) tail ∙ byte_first bytes (omega arith); fields = (fits 0, small, small2) }
 
 pub is_edit : (bytes : List ℕ) → IsBytes bytes → 4 ≤ length bytes → (index : ℕ) (content : List ℕ) → index < 2 ^ 32 → index ≡ number_in 4 bytes →
@@ -156,7 +167,7 @@ number_at : (i n j : ℕ) (bytes : List ℕ) → IsBytes bytes → i + n ≡ j �
     more ≡ drop j bytes → number_bytes n x ++ more ≡ drop i bytes
 number_at i n j bytes fits place le x more e rest =
     number_first n (drop i bytes) (IsBytes-drop i bytes fits) (omega (arith, length-drop i bytes)) x more e (rest ∙ ap (λ (k : ℕ). drop k bytes) (sym place)
-        ∙ sym (drop-drop n i bytes))
+    ∙ sym (drop-drop n i bytes))
 
 pub is_welcome : (bytes : List ℕ) → IsBytes bytes → length bytes ≡ 53 → (profile record_len groups count version dimension : ℕ) (seed : List ℕ) →
     WelcomeFields bytes profile record_len groups count version dimension seed
@@ -166,17 +177,17 @@ unfolding payload_of
 is_welcome bytes fits len profile record_len groups count version dimension seed w sp sr sg sc sv sd all =
     let at19 : number_bytes 2 dimension ++ seed ≡ drop 19 bytes = number_at 19 2 21 bytes fits refl (omega arith) dimension seed w.dimension_is w.seed_is in
     let at11 : number_bytes 8 version ++ (number_bytes 2 dimension ++ seed) ≡ drop 11 bytes =
-        number_at 11 8 19 bytes fits refl (omega arith) version (number_bytes 2 dimension ++ seed) w.version_is at19 in
+    number_at 11 8 19 bytes fits refl (omega arith) version (number_bytes 2 dimension ++ seed) w.version_is at19 in
     let at7 : number_bytes 4 count ++ (number_bytes 8 version ++ (number_bytes 2 dimension ++ seed)) ≡ drop 7 bytes =
-        number_at 7 4 11 bytes fits refl (omega arith) count _ w.count_is at11 in
+    number_at 7 4 11 bytes fits refl (omega arith) count _ w.count_is at11 in
     let at5 : number_bytes 2 groups ++ (number_bytes 4 count ++ (number_bytes 8 version ++ (number_bytes 2 dimension ++ seed))) ≡ drop 5 bytes =
-        number_at 5 2 7 bytes fits refl (omega arith) groups _ w.groups_is at7 in
+    number_at 5 2 7 bytes fits refl (omega arith) groups _ w.groups_is at7 in
     let at3 : number_bytes 2 record_len
-        ++ (number_bytes 2 groups ++ (number_bytes 4 count ++ (number_bytes 8 version ++ (number_bytes 2 dimension ++ seed)))) ≡ drop 3 bytes =
-        number_at 3 2 5 bytes fits refl (omega arith) record_len _ w.record_len_is at5 in
+    ++ (number_bytes 2 groups ++ (number_bytes 4 count ++ (number_bytes 8 version ++ (number_bytes 2 dimension ++ seed)))) ≡ drop 3 bytes =
+    number_at 3 2 5 bytes fits refl (omega arith) record_len _ w.record_len_is at5 in
     let at2 : get_or bytes 2 0 ∷
-        (number_bytes 2 record_len ++ (number_bytes 2 groups ++ (number_bytes 4 count ++ (number_bytes 8 version ++ (number_bytes 2 dimension ++ seed)))))
-        ≡ drop 2 bytes = ap (λ (x : List ℕ). get_or bytes 2 0 ∷ x) at3 ∙ sym (drop_more bytes 2 0 (omega arith)) in
+    (number_bytes 2 record_len ++ (number_bytes 2 groups ++ (number_bytes 4 count ++ (number_bytes 8 version ++ (number_bytes 2 dimension ++ seed)))))
+    ≡ drop 2 bytes = ap (λ (x : List ℕ). get_or bytes 2 0 ∷ x) at3 ∙ sym (drop_more bytes 2 0 (omega arith)) in
     record {
       kind = refl;
       payload = number_first 2 bytes fits (omega arith) profile _ w.profile_is at2;
@@ -190,7 +201,7 @@ unfolding payload_of
 is_hint_part bytes fits le version part words small small2 e e2 ew all =
     let at9 : number_bytes 4 part ++ word_bytes words ≡ drop 9 bytes = number_at 9 4 13 bytes fits refl le part (word_bytes words) e2 ew in
     let at1 : number_bytes 8 version ++ (number_bytes 4 part ++ word_bytes words) ≡ drop 1 bytes =
-        number_at 1 8 9 bytes fits refl (omega arith) version (number_bytes 4 part ++ word_bytes words) e at9 in
+    number_at 1 8 9 bytes fits refl (omega arith) version (number_bytes 4 part ++ word_bytes words) e at9 in
     record { kind = refl; payload = ap (λ (x : List ℕ). get_or bytes 0 0 ∷ x) at1 ∙ byte_first bytes (omega arith); fields = (fits 0, small, small2, all) }
 
 -- a scheme, a version and words that are all
@@ -200,7 +211,7 @@ pub is_scheme_words : (bytes : List ℕ) → IsBytes bytes → 9 ≤ length byte
 is_scheme_words bytes fits le version words e ew =
     let rest : word_bytes words ≡ drop 8 (drop 1 bytes) = ew ∙ sym (drop-drop 8 1 bytes) in
     ap (λ (x : List ℕ). get_or bytes 0 0 ∷ x)
-        (number_first 8 (drop 1 bytes) (IsBytes-drop 1 bytes fits) (omega (arith, length-drop 1 bytes)) version (word_bytes words) e rest)
+    (number_first 8 (drop 1 bytes) (IsBytes-drop 1 bytes fits) (omega (arith, length-drop 1 bytes)) version (word_bytes words) e rest)
     ∙ byte_first bytes (omega arith)
 
 pub is_query : (bytes : List ℕ) (scheme version : ℕ) (words : List ℕ) → scheme ∷ (number_bytes 8 version ++ word_bytes words) ≡ bytes →

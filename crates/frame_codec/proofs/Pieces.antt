@@ -52,8 +52,16 @@ fills old piece first beyond size new rest p a s b = record {
         | inl lt ↦ absurd (let u = used_up old piece first beyond size new rest a b lt in omega (arith, an.size, ap length u.1))
         | inr ge ↦
             let len : length_at new ≡ length_at first = same_length size first beyond new rest b (omega arith) in
-            nil_from_length more (omega (arith, ap length an.after, length-drop (length_at new) (drop 5 new), length-drop 5 new, within ge, (s.known ge).1,
-                len, an.size))
+            nil_from_length more (omega (
+              arith,
+              ap length an.after,
+              length-drop (length_at new) (drop 5 new),
+              length-drop 5 new,
+              within ge,
+              (s.known ge).1,
+              len,
+              an.size,
+            ))
       ]
 
   until : IsPartial new → rest ≡ []

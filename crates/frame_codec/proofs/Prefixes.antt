@@ -60,7 +60,7 @@ header f more fits =
     let n : ℕ = length (payload_of f) in
     let le : length (payload_of f) ≤ 16777216 = fits.short in
     let fourth : drop 4 (encoding f ++ more) ≡ kind_of f ∷ (payload_of f ++ more) = ap (drop 4) (encoding_first f more)
-        ∙ drop_number 4 (length (payload_of f)) (kind_of f ∷ (payload_of f ++ more)) in
+    ∙ drop_number 4 (length (payload_of f)) (kind_of f ∷ (payload_of f ++ more)) in
     record {
       size = omega (arith, length-append (encoding f) more, encoded_length f);
       len = ap (number_in 4) (encoding_first f more) ∙ number_back 4 (length (payload_of f)) (kind_of f ∷ (payload_of f ++ more)) (omega (arith, le));
@@ -84,8 +84,12 @@ announced bytes f more fits e =
       size = omega (arith, h.size, h.len);
       len = omega (arith, h.len, fits.short);
       kind = ap is_kind h.kind ∙ kinds_are f;
-      stands = record { kind = sym h.kind; payload = sym (rw (h.len, h.beyond) (take_at (payload_of f) more (length (payload_of f)) refl)); fields =
-          fits.fields };
+      stands = record {
+        kind = sym h.kind;
+        payload = sym (rw (h.len, h.beyond) (take_at (payload_of f) more (length (payload_of f)) refl));
+        fields =
+            fits.fields;
+      };
       after = sym (rw (h.len, h.beyond) (drop_at (payload_of f) more (length (payload_of f)) refl));
     })
 
@@ -99,12 +103,12 @@ pub whole_frame : (bytes : List ℕ) (f : Frame) → IsBytes bytes → 5 + lengt
     → IsFrame f × (bytes ≡ encoding f ++ drop (length_at bytes) (drop 5 bytes))
 whole_frame bytes f fits size len stands =
     let n : length (payload_of f) ≡ length_at bytes = ap length stands.payload
-        ∙ length-take-le (length_at bytes) (drop 5 bytes) (omega (arith, length-drop 5 bytes)) in
+    ∙ length-take-le (length_at bytes) (drop 5 bytes) (omega (arith, length-drop 5 bytes)) in
     let rest : List ℕ = drop (length_at bytes) (drop 5 bytes) in (
       record { fields = stands.fields; short = omega (arith, n, len) },
       sym (encoding_first f (drop (length_at bytes) (drop 5 bytes))
           ∙ rw (n, stands.kind, stands.payload)
-              (ap (λ (x : List ℕ). number_bytes 4 (length_at bytes) ++ (kind_at bytes ∷ x)) (take-append-drop (length_at bytes) (drop 5 bytes)))
+          (ap (λ (x : List ℕ). number_bytes 4 (length_at bytes) ++ (kind_at bytes ∷ x)) (take-append-drop (length_at bytes) (drop 5 bytes)))
           ∙ five bytes fits (omega arith)),
     )
 
@@ -194,16 +198,23 @@ frame_within bytes more size h =
     let len : length_at bytes ≡ length (payload_of f) = sym (number_ahead 4 bytes more (omega arith)) ∙ ap length_at h.3 ∙ (header h.0 h.1 h.2).len in
     let long : length (encoding f) ≤ length bytes = omega (arith, encoded_length f, len) in
     let here : take (length (encoding f)) bytes ≡ encoding f = sym (take-append-le (length (encoding f)) bytes more long)
-        ∙ ap (take (length (encoding f))) h.3 ∙ take_at (encoding f) h.1 (length (encoding f)) refl in
-    (f, drop (length (encoding f)) bytes, h.2, sym (take-append-drop (length (encoding f)) bytes)
-        ∙ ap (λ (x : List ℕ). x ++ drop (length (encoding f)) bytes) here)
+    ∙ ap (take (length (encoding f))) h.3 ∙ take_at (encoding f) h.1 (length (encoding f)) refl in (
+      f,
+      drop (length (encoding f)) bytes,
+      h.2,
+      sym (take-append-drop (length (encoding f)) bytes)
+          ∙ ap (λ (x : List ℕ). x ++ drop (length (encoding f)) bytes) here,
+    )
 
 -- a fault stays where it stands, whatever comes after
 pub fault_ahead : (fault : ReadFault) (bytes more : List ℕ) → HasFault fault bytes → HasFault fault (bytes ++ more)
 fault_ahead TooLong bytes more h = (omega (arith, length-append bytes more, h.0), omega (arith, number_ahead 4 bytes more h.0, h.1))
-fault_ahead UnknownKind bytes more h =
-    (omega (arith, length-append bytes more, h.0), omega (arith, number_ahead 4 bytes more (omega (arith, h.0)), h.1), ap is_kind (kind_ahead bytes more h.0)
-    ∙ h.2)
+fault_ahead UnknownKind bytes more h = (
+  omega (arith, length-append bytes more, h.0),
+  omega (arith, number_ahead 4 bytes more (omega (arith, h.0)), h.1),
+  ap is_kind (kind_ahead bytes more h.0)
+      ∙ h.2,
+)
 fault_ahead BadPayload bytes more h = (
   omega (arith, length-append bytes more, number_ahead 4 bytes more (omega (arith, h.0)), h.0),
   omega (arith, number_ahead 4 bytes more (omega (arith, h.0)), h.1),

@@ -18,8 +18,10 @@ pub begins_none : (bytes : List ℕ) → Begins bytes [] bytes
 begins_none bytes = record { whole = refl; each = tt }
 
 pub begins_one : (bytes : List ℕ) (f : Frame) (more : List ℕ) → IsFrame f → bytes ≡ encoding f ++ more → Begins bytes (f ∷ []) more
-begins_one bytes f more fits e = record { whole = e ∙ ap (λ (x : List ℕ). x ++ more) (sym (append-nil (encoding f)) ∙ sym (flat_map-cons encoding f []));
-    each = (fits, tt) }
+begins_one bytes f more fits e = record {
+  whole = e ∙ ap (λ (x : List ℕ). x ++ more) (sym (append-nil (encoding f)) ∙ sym (flat_map-cons encoding f []));
+  each = (fits, tt);
+}
 
 -- frames, and then those of the rest
 pub begins_both : (bytes : List ℕ) (fs gs : List Frame) (rest more : List ℕ) → Begins bytes fs rest → Begins rest gs more → Begins bytes (fs ++ gs) more
@@ -68,9 +70,9 @@ reads_pieces (piece ∷ pieces) old frames rest p f =
     let read : Reads (old ++ piece) f.0 f.1 = rw same first in
     let later : Reads (f.1 ++ joined_pieces pieces) f.2 rest = reads_pieces pieces f.1 f.2 rest read.partial f.5 in
     let whole : old ++ joined_pieces (piece ∷ pieces) ≡ (old ++ piece) ++ joined_pieces pieces =
-        ap (λ (x : List ℕ). old ++ x) (flat_map-cons (λ (x : List ℕ). x) piece pieces) ∙ sym (append_assoc old piece (joined_pieces pieces)) in
+    ap (λ (x : List ℕ). old ++ x) (flat_map-cons (λ (x : List ℕ). x) piece pieces) ∙ sym (append_assoc old piece (joined_pieces pieces)) in
     rw (whole, f.6) (reads_on ((old ++ piece) ++ joined_pieces pieces) f.0 f.2 (f.1 ++ joined_pieces pieces) rest
-        (begins_ahead (old ++ piece) f.0 f.1 (joined_pieces pieces) read.begins) later)
+    (begins_ahead (old ++ piece) f.0 f.1 (joined_pieces pieces) read.begins) later)
   where
     some_same : (x y : List ℕ) → Some x ≡ Some y → x ≡ y
     some_same x y e = cc
@@ -82,7 +84,7 @@ pub stops_after : (pieces : List (List ℕ)) (frames : List Frame) (rest piece :
     FeedsAll [] pieces frames rest → Feeds (Some rest) piece (Err fault) last new → Stops (joined_pieces pieces ++ piece) (frames ++ last) fault
 stops_after pieces frames rest piece fault last new f s =
     stops_on (joined_pieces pieces ++ piece) frames last (rest ++ piece) fault
-        (begins_ahead (joined_pieces pieces) frames rest piece (reads_all pieces frames rest f).begins) s.0
+    (begins_ahead (joined_pieces pieces) frames rest piece (reads_all pieces frames rest f).begins) s.0
 
 pub same_frames : (pieces others : List (List ℕ)) (frames more : List Frame) (rest end : List ℕ) → FeedsAll [] pieces frames rest →
     FeedsAll [] others more end → joined_pieces pieces ≡ joined_pieces others → (frames ≡ more) × (rest ≡ end)
@@ -90,4 +92,4 @@ same_frames pieces others frames more rest end f g e =
     let a = reads_all pieces frames rest f in
     let b = reads_all others more end g in
     one_reading (joined_pieces pieces) frames more rest end a.begins (subst (λ (x : List ℕ). Begins x more end) (sym e) b.begins) a.partial.no_frame
-        b.partial.no_frame
+    b.partial.no_frame

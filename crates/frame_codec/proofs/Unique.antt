@@ -59,8 +59,12 @@ number_alone_back n x h = ap (number_in n) (sym (append-nil (number_bytes n x)))
 frame_back : (f : Frame) → HasFields f → frame_of (kind_of f) (payload_of f) ≡ f
 unfolding frame_of payload_of welcome_in
 frame_back (Load record_len groups width records) fits =
-    rw (number_back 2 record_len (number_bytes 2 groups ++ (width ∷ records)) fits.0, drop_number 2 record_len (number_bytes 2 groups ++ (width ∷ records)),
-        number_back 2 groups (width ∷ records) fits.1, drop_number 2 groups (width ∷ records)) refl
+    rw (
+      number_back 2 record_len (number_bytes 2 groups ++ (width ∷ records)) fits.0,
+      drop_number 2 record_len (number_bytes 2 groups ++ (width ∷ records)),
+      number_back 2 groups (width ∷ records) fits.1,
+      drop_number 2 groups (width ∷ records),
+    ) refl
 frame_back (Query scheme version words) fits =
     rw (number_back 8 version (word_bytes words) fits.1, drop_number 8 version (word_bytes words), words_all_back words fits.2) refl
 frame_back (Hello profile key) fits = rw (number_back 2 profile key fits.0, drop_number 2 profile key) refl
@@ -75,7 +79,7 @@ frame_back (Welcome profile width record_len groups count version dimension seed
     let p7 : List ℕ = number_bytes 4 count ++ (number_bytes 8 version ++ (number_bytes 2 dimension ++ seed)) in
     let p5 : List ℕ = number_bytes 2 groups ++ (number_bytes 4 count ++ (number_bytes 8 version ++ (number_bytes 2 dimension ++ seed))) in
     let p3 : List ℕ = number_bytes 2 record_len
-        ++ (number_bytes 2 groups ++ (number_bytes 4 count ++ (number_bytes 8 version ++ (number_bytes 2 dimension ++ seed)))) in
+    ++ (number_bytes 2 groups ++ (number_bytes 4 count ++ (number_bytes 8 version ++ (number_bytes 2 dimension ++ seed)))) in
     rw (
       number_back 2 profile (width ∷ p3) fits.0,
       drop_number 2 profile (width ∷ p3),
@@ -92,8 +96,13 @@ frame_back (Welcome profile width record_len groups count version dimension seed
     ) refl
 frame_back (HintPart scheme version part words) fits =
     let p9 : List ℕ = number_bytes 4 part ++ word_bytes words in
-    rw (number_back 8 version p9 fits.1, drop_number 8 version p9, number_back 4 part (word_bytes words) fits.2, drop_number 4 part (word_bytes words),
-        words_all_back words fits.3) refl
+    rw (
+      number_back 8 version p9 fits.1,
+      drop_number 8 version p9,
+      number_back 4 part (word_bytes words) fits.2,
+      drop_number 4 part (word_bytes words),
+      words_all_back words fits.3,
+    ) refl
 frame_back (Answer scheme version words) fits =
     rw (number_back 8 version (word_bytes words) fits.1, drop_number 8 version (word_bytes words), words_all_back words fits.2) refl
 frame_back (Stale version count) fits =
@@ -166,8 +175,13 @@ nothing_bad Failed h = h
 no_fault_ahead : (fault : ReadFault) (rest later : List ℕ) (more : List Frame) → AllByRecursion IsFrame more → rest ++ later ≡ flat_map encoding more →
     HasFault fault rest → ⊥
 no_fault_ahead fault rest later [] all e h = nothing_bad fault (subst (HasFault fault) e (fault_ahead fault rest later h))
-no_fault_ahead fault rest later (m ∷ ms) all e h = fault_of_frame fault (rest ++ later) (fault_ahead fault rest later h) (m, flat_map encoding ms, all.0, e
-    ∙ flat_map-cons encoding m ms)
+no_fault_ahead fault rest later (m ∷ ms) all e h = fault_of_frame fault (rest ++ later) (fault_ahead fault rest later h) (
+  m,
+  flat_map encoding ms,
+  all.0,
+  e
+      ∙ flat_map-cons encoding m ms,
+)
 
 nothing_whole : HasFrame [] → ⊥
 nothing_whole h = let a = announced [] h.0 h.1 h.2 h.3 in omega (arith, a.size)
@@ -187,12 +201,12 @@ pub reads_sent : (old piece later : List ℕ) (sent : List Frame) (answer : Resu
 reads_sent old piece later sent (Ok d) frames new all e f =
     let b = f.1.begins in
     let whole : flat_map encoding frames ++ (f.0 ++ later) ≡ flat_map encoding sent ++ [] = sym (append_assoc (flat_map encoding frames) f.0 later)
-        ∙ ap (λ (x : List ℕ). x ++ later) (sym b.whole) ∙ e ∙ sym (append-nil (flat_map encoding sent)) in
+    ∙ ap (λ (x : List ℕ). x ++ later) (sym b.whole) ∙ e ∙ sym (append-nil (flat_map encoding sent)) in
     let m = one_prefix frames sent (f.0 ++ later) [] b.each all whole nothing_whole in
     (m.0, m.1, m.3, rw f.2 (m.2 ∙ append-nil (flat_map encoding m.0)))
 reads_sent old piece later sent (Err fault) frames new all e f =
     let b = f.0.1 in
     let whole : flat_map encoding frames ++ (f.0.0 ++ later) ≡ flat_map encoding sent ++ [] = sym (append_assoc (flat_map encoding frames) f.0.0 later)
-        ∙ ap (λ (x : List ℕ). x ++ later) (sym b.whole) ∙ e ∙ sym (append-nil (flat_map encoding sent)) in
+    ∙ ap (λ (x : List ℕ). x ++ later) (sym b.whole) ∙ e ∙ sym (append-nil (flat_map encoding sent)) in
     let m = one_prefix frames sent (f.0.0 ++ later) [] b.each all whole nothing_whole in
     (m.0, m.1, m.3, stops_on_way fault new f.0.0 later m.0 m.3 (m.2 ∙ append-nil (flat_map encoding m.0)) f.0.2)

@@ -31,8 +31,8 @@ payload_of Publish = []
 payload_of Bye = []
 payload_of (Welcome profile width record_len groups count version dimension seed) =
     number_bytes 2 profile ++
-        (width ∷ (number_bytes 2 record_len
-        ++ (number_bytes 2 groups ++ (number_bytes 4 count ++ (number_bytes 8 version ++ (number_bytes 2 dimension ++ seed))))))
+    (width ∷ (number_bytes 2 record_len
+    ++ (number_bytes 2 groups ++ (number_bytes 4 count ++ (number_bytes 8 version ++ (number_bytes 2 dimension ++ seed))))))
 payload_of (HintPart scheme version part words) = scheme ∷ (number_bytes 8 version ++ (number_bytes 4 part ++ word_bytes words))
 payload_of (Answer scheme version words) = scheme ∷ (number_bytes 8 version ++ word_bytes words)
 payload_of (Stale version count) = number_bytes 8 version ++ number_bytes 4 count
@@ -66,7 +66,7 @@ HasFields Publish = Unit {0}
 HasFields Bye = Unit {0}
 HasFields (Welcome profile width record_len groups count version dimension seed) =
     (profile < 2 ^ 16) × (width < 2 ^ 8) × (record_len < 2 ^ 16) × (groups < 2 ^ 16) × (count < 2 ^ 32) × (version < 2 ^ 64) × (dimension < 2 ^ 16)
-        × (length seed ≡ 32) × All (λ b. b < 2 ^ 8) seed
+    × (length seed ≡ 32) × All (λ b. b < 2 ^ 8) seed
 HasFields (HintPart scheme version part words) = (scheme < 2 ^ 8) × (version < 2 ^ 64) × (part < 2 ^ 32) × All (λ w. w < 2 ^ 32) words
 HasFields (Answer scheme version words) = (scheme < 2 ^ 8) × (version < 2 ^ 64) × All (λ w. w < 2 ^ 32) words
 HasFields (Stale version count) = (version < 2 ^ 64) × (count < 2 ^ 32)

@@ -5,10 +5,10 @@
 #![tactic(auto)]
 
 mod frame;
-mod prefix;
 pub mod laws;
 mod numbers;
 mod payload;
+mod prefix;
 mod reader;
 mod refusal;
 #[cfg(test)]

@@ -1,7 +1,6 @@
 //! The frame that a kind and a payload make: one function a kind.
 
-ghost use Rattle.std.specs.Prelude.{◌≡◌, ◌≤◌, ◌<◌, ◌+◌, ◌*◌, ◌^◌, ◌∷◌, ◌++◌, ℕ, All, length, IfOk,
-    OnErr, IfSome, IfNone};
+ghost use Rattle.std.specs.Prelude.{◌≡◌, ◌≤◌, ◌<◌, ◌+◌, ◌*◌, ◌^◌, ◌∷◌, ◌++◌, ℕ, All, length, IfOk, OnErr, IfSome, IfNone};
 ghost use Rattle.frame_codec.specs.declared.frame.Frame.{Frame};
 ghost use Rattle.frame_codec.specs.Numbers.{number_bytes, word_bytes};
 ghost use Rattle.frame_codec.specs.Frames.{IsPayload, Stands};

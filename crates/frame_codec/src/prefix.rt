@@ -3,8 +3,7 @@
 ghost use Rattle.std.specs.Prelude.{◌≡◌, ◌<◌, ℕ, List, ◌++◌, IfOk, IfErr, IfSome, IfNone, length};
 ghost use Rattle.frame_codec.specs.declared.frame.Frame.{Frame};
 ghost use Rattle.frame_codec.specs.Frames.{IsFrame, encoding};
-ghost use Rattle.frame_codec.specs.Streams.{Begins, HasFault, HasFrame, IsPartial, IsReadable, Reads,
-    Stops, StopsAt, is_kind};
+ghost use Rattle.frame_codec.specs.Streams.{Begins, HasFault, HasFrame, IsPartial, IsReadable, Reads, Stops, StopsAt, is_kind};
 
 use crate::frame::Frame;
 use crate::numbers::u32_at;
@@ -50,7 +49,7 @@ pub fn frame_len(bytes: &[u8]) -> Result<usize, ReadFault>
 pub fn frame_at<'a>(alloc: Global, bytes: &'a [u8]) -> Result<Option<(Frame, &'a [u8])>, ReadFault>
     ensures whole { IfOk result (λ o. IfSome o (λ found.
         IsFrame found.0 × (bytes.now ≡ encoding found.0 ++ found.1.now) ×
-            (length found.1.now < length bytes.now))) }
+        (length found.1.now < length bytes.now))) }
     ensures partial { IfOk result (λ o. IfNone o (IsPartial bytes.now)) }
     ensures fault { IfErr result (λ fault. StopsAt fault bytes.now) }
     ensures memory { IfErr result (λ fault. fault ≡ ReadFault.Memory → HasFrame bytes.now) }

@@ -1,7 +1,6 @@
 //! Frames out of a stream that comes in pieces.
 
-ghost use Rattle.std.specs.Prelude.{◌≡◌, ◌↔◌, IsTrue, List, [], ◌∷◌, ◌++◌, None, Some, IfOk, IfErr,
-    IfSome, IfNone, vec_capacity};
+ghost use Rattle.std.specs.Prelude.{◌≡◌, ◌↔◌, IsTrue, List, [], ◌∷◌, ◌++◌, None, Some, IfOk, IfErr, IfSome, IfNone, vec_capacity};
 ghost use Rattle.frame_codec.specs.declared.frame.Frame.{Frame};
 ghost use Rattle.frame_codec.specs.Frames.{IsFrame, encoding};
 ghost use Rattle.frame_codec.specs.Streams.{Feeds, Advances, Fills, IsPartial, StopsAt, TopsUp};
@@ -139,7 +138,7 @@ fn finish<'a>(
     ensures whole { IfOk result (λ o. IfSome o (λ rest. (frame : Frame) ×
         (out.new.items ≡ out.old.items ++ frame ∷ [])
         × IsFrame frame × (pending.old.items ++ piece.now ≡ encoding frame ++ rest.now) ×
-            (pending.new.items ≡ []))) }
+        (pending.new.items ≡ []))) }
     ensures room { IfOk result (λ o. IfSome o (λ _. vec_capacity pending.new ≡ 0)) }
     ensures partial { IfOk result (λ o. IfNone o ((out.new.items ≡ out.old.items) ×
         (pending.new.items ≡ pending.old.items ++ piece.now) × IsPartial pending.new.items)) }

@@ -1,9 +1,7 @@
 //! The encoding of a frame.
 
-ghost use Rattle.std.specs.Prelude.{◌≡◌, ◌≤◌, ◌<◌, ◌+◌, ◌*◌, ◌^◌, ◌∷◌, ◌++◌, All, length, vec_len,
-    vec_capacity, IsOk, OnOk, OnErr};
-ghost use Rattle.frame_codec.specs.Frames.{HasFields, IsFrame, encoding, payload_of, payload_size,
-    kind_of, payload_limit};
+ghost use Rattle.std.specs.Prelude.{◌≡◌, ◌≤◌, ◌<◌, ◌+◌, ◌*◌, ◌^◌, ◌∷◌, ◌++◌, All, length, vec_len, vec_capacity, IsOk, OnOk, OnErr};
+ghost use Rattle.frame_codec.specs.Frames.{HasFields, IsFrame, encoding, payload_of, payload_size, kind_of, payload_limit};
 ghost use Rattle.frame_codec.specs.Numbers.{number_bytes, word_bytes};
 ghost use Rattle.frame_codec.specs.declared.frame.Frame.TheVariants.{Load};
 

@@ -94,7 +94,7 @@ pub all_written : (r : ℕ) (s0 s c0 c a2 : WordMatrix) (w col : ℕ) (words : L
     IsUpdatedTo r s0 s c0 c a2 w col words → s ≡ with_column s0 col (digits_of_words w words)
 all_written r s0 s c0 c a2 w col words all count h =
     matrix_by_entries s s0.rows s0.cols (λ i j. if j == col then slice_index (digits_of_words w words) i
-        else entry s0 i j) h.server_rows h.server_cols h.server_whole (λ i j p q.
+    else entry s0 i j) h.server_rows h.server_cols h.server_whole (λ i j p q.
     ⊎_elim
     (λ e.
     ap (λ j. entry s i j) e ∙ h.written i (omega arith) p
@@ -107,7 +107,7 @@ pub all_moved : (r : ℕ) (s0 s c0 c a2 : WordMatrix) (w col : ℕ) (words : Lis
     IsUpdatedTo r s0 s c0 c a2 w col words → c ≡ moved_hint c0 s0 s a2 col
 all_moved r s0 s c0 c a2 w col words all high h =
     matrix_by_entries c c0.rows c0.cols (λ i k. (entry c0 i k + (entry s i col + (2 ^ 32 - entry s0 i col)) * entry a2 col k) % 2 ^ 32) h.client_rows
-        h.client_cols h.client_whole (λ i k p q.
+    h.client_cols h.client_whole (λ i k p q.
     h.moved i k (omega arith) p q
     ∙ ap (λ y. (entry c0 i k + (y + (2 ^ 32 - entry s0 i col)) * entry a2 col k) % 2 ^ 32) (sym (h.written i (omega arith) (omega arith))))
 
@@ -137,7 +137,7 @@ server_follows w s d a1 i digits words some fits is h =
     ∙ ap (λ x. digit w x (r % split_count w)) word)
     (λ apart.
     let kept : row d j ≡ row changed j =
-        same-list_of d.cols (λ c. entry d j c) (λ c. entry changed j c) (λ c l. sym (with_row-other d i j c digits q apart l)) in
+    same-list_of d.cols (λ c. entry d j c) (λ c. entry changed j c) (λ c l. sym (with_row-other d i j c digits q apart l)) in
     if_elsewhere j i (slice_index new r) (entry (server_hint_of w d a1) r j) apart
     ∙ entry-matrix_of (a1.cols * split_count w) d.rows (decomposed_at w (product (transpose a1) (transpose d))) r j p q
     ∙ ap (λ x. digit w x (r % split_count w)) (entry-product_transposed a1 d k j (sym fits) low q ∙ ap (λ x. dot x (column a1 k)) kept ∙ sym right))

@@ -21,10 +21,10 @@ row_follows d a i j old new k whole e p q is small ke =
     let change : RowChange d a i j new = row_change d a i j new whole e p q (omega arith) in
     let more : List ℕ = plus_scaled (row (product d a) i) (row a j) k in
     same-matrix_of d.rows a.cols (λ r c. if r == i then slice_index more c else entry (product d a) r c)
-        (λ r c. dot (row (with_entry d i j new) r) (column a c)) (λ r c l m.
+    (λ r c. dot (row (with_entry d i j new) r) (column a c)) (λ r c l m.
     let here : slice_index more c ≡ (entry (product d a) i c + k * entry a j c) % 2 ^ 32 =
     at-list_of (length (row (product d a) i)) (λ c. (slice_index (row (product d a) i) c + k * slice_index (row a j) c) % 2 ^ 32) c
-        (omega (arith, m, length-row (product d a) i))
+    (omega (arith, m, length-row (product d a) i))
     ∙ ap (λ y. (y + k * slice_index (row a j) c) % 2 ^ 32) (row_index (product d a) i c m)
     ∙ ap (λ y. (entry (product d a) i c + k * y) % 2 ^ 32) (row_index a j c m) in
     let times : k * entry a j c ≡ (new + (2 ^ 32 - entry d i j)) % 2 ^ 32 * entry a j c =

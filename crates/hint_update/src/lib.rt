@@ -9,8 +9,7 @@
 ghost use Rattle.std.specs.Prelude.{◌≡◌, ℕ, ◌+◌, ◌-◌, ◌*◌, ◌%◌, ◌^◌, ◌<◌, ◌≤◌, length};
 ghost use Rattle.matrix_u32.specs.Matrix.{entry, plus_scaled, with_row, row as row_of};
 ghost use Rattle.lane_kernels.specs.Digit.{split_count};
-ghost use Rattle.hint_update.specs.Updates.{FollowsDigit, FollowsRow, with_column, digits_of_words,
-    moved_hint};
+ghost use Rattle.hint_update.specs.Updates.{FollowsDigit, FollowsRow, with_column, digits_of_words, moved_hint};
 
 mod log;
 
@@ -40,7 +39,7 @@ pub fn update_simple<K: Kernel>(
     ensures follows { FollowsDigit hint.old hint.new a1.now row col old new }
     ensures changed { (k : ℕ) → k < a1.now.cols →
         entry hint.new row k ≡
-            (entry hint.old row k + (new + (2 ^ 32 - old)) * entry a1.now col k) % 2 ^ 32 }
+        (entry hint.old row k + (new + (2 ^ 32 - old)) * entry a1.now col k) % 2 ^ 32 }
     ensures others { hint.new ≡ with_row hint.old row (row_of hint.new row) }
 {
     let _rows = hint.rows();
@@ -86,7 +85,7 @@ pub fn update_double<K: Kernel, S: DigitStore>(
         ≡ with_column (S.digits server_hint.old) row (digits_of_words w words.now) }
     ensures client { client_hint.new
         ≡ moved_hint client_hint.old (S.digits server_hint.old)
-            (S.digits server_hint.new) a2.now row }
+        (S.digits server_hint.new) a2.now row }
 {
     let count = split_count(w);
     let _rows = client_hint.rows();

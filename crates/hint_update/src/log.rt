@@ -1,9 +1,7 @@
 //! The rows that the latest publications changed.
 
-ghost use Rattle.std.specs.Prelude.{◌≡◌, ◌+◌, ◌-◌, ◌^◌, ◌<◌, ◌≤◌, ◌↔◌, [], length, take, IfOk,
-    IfSome, IsNone, IfNone, map, flat_map};
-ghost use Rattle.hint_update.specs.Logs.{Log, with_publication, ReachesBack, lists_since,
-    AreRowsOf};
+ghost use Rattle.std.specs.Prelude.{◌≡◌, ◌+◌, ◌-◌, ◌^◌, ◌<◌, ◌≤◌, ◌↔◌, [], length, take, IfOk, IfSome, IsNone, IfNone, map, flat_map};
+ghost use Rattle.hint_update.specs.Logs.{Log, with_publication, ReachesBack, lists_since, AreRowsOf};
 
 use std::alloc::{AllocError, Global};
 use std::collections::VecDeque;
@@ -28,8 +26,11 @@ impl Model for DeltaLog {
 
     ghost Value = { Log };
 
-    ghost view = { λ l. record { version = l.version; lists = map
-        (λ rows. rows.items) l.lists.items } };
+    ghost view = { λ l. record {
+      version = l.version;
+      lists = map
+          (λ rows. rows.items) l.lists.items;
+    } };
 
     ghost invariant = { λ l. (length l.lists.items ≤ 16) × (16 ≤ deque_capacity l.lists) };
 }

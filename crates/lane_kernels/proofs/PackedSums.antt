@@ -61,7 +61,7 @@ shifted_chunk : (n at : ℕ) (s ws xs ys zs : List ℕ) → length s ≡ n
     (zip2 (λ x y. (x * y) % 2 ^ 32) (zip2 (λ x y. x / 2 ^ y) (chunk at n ws) (replicate n 10)) (chunk at n ys)))
     (zip2 (λ x y. (x * y) % 2 ^ 32) (zip2 (λ x y. x / 2 ^ y) (chunk at n ws) (replicate n 20)) (chunk at n zs)))) % 2 ^ 32
     ≡ (sum_l s + sum_below n (λ k. shifted_products (slice_index ws (at + k)) (slice_index xs (at + k)) (slice_index ys (at + k)) (slice_index zs (at + k)))) %
-        2 ^ 32
+    2 ^ 32
 shifted_chunk n at s ws xs ys zs long pw px py pz =
     let vs = range_with_len 0 n in
     let lv = length-range_with_len 0 n in
@@ -74,7 +74,7 @@ shifted_chunk n at s ws xs ys zs long pw px py pz =
     let high = zip2_of_maps mul _ _ vs (zip2_of_maps shr _ _ vs w (splat_is_map vs n 20 lv)) (chunk_is_map at n zs pz) in
     let new = zip2_of_maps add _ _ vs (list_is_map n s long) (zip2_of_maps add _ _ vs (zip2_of_maps add _ _ vs low middle) high) in
     lanes_add n s _ _ _ long new (λ k h. shifted_lane (slice_index s k) (slice_index ws (at + k)) (slice_index xs (at + k)) (slice_index ys (at + k))
-        (slice_index zs (at + k)))
+    (slice_index zs (at + k)))
 
 pub shifted_more : (n i k : ℕ) (s ws xs ys zs : List ℕ) → length s ≡ n → i < k
     → k * n ≤ length ws → k * n ≤ length xs → k * n ≤ length ys → k * n ≤ length zs
@@ -83,7 +83,7 @@ pub shifted_more : (n i k : ℕ) (s ws xs ys zs : List ℕ) → length s ≡ n �
     (zip2 (λ x y. (x * y) % 2 ^ 32) (get_or (first_chunks n k ws) i []) (get_or (first_chunks n k xs) i []))
     (zip2 (λ x y. (x * y) % 2 ^ 32) (zip2 (λ x y. x / 2 ^ y) (get_or (first_chunks n k ws) i []) (replicate n 10)) (get_or (first_chunks n k ys) i [])))
     (zip2 (λ x y. (x * y) % 2 ^ 32) (zip2 (λ x y. x / 2 ^ y) (get_or (first_chunks n k ws) i []) (replicate n 20)) (get_or (first_chunks n k zs) i [])))) % 2 ^
-        32
+    32
     ≡ sum_below ((i + 1) * n) (λ t. shifted_products (slice_index ws t) (slice_index xs t) (slice_index ys t) (slice_index zs t)) % 2 ^ 32
 shifted_more n i k s ws xs ys zs long below fw fx fy fz so_far =
     let room : i * n + n ≤ k * n = row_fits i n k n below (omega arith) in
@@ -166,7 +166,7 @@ part_sum packed x row start count ws xs ys zs long most w is ys-is zs-is =
     let e2 = rw (p1, p2) at (zs-is t (omega arith)) in
     rw (here, e0, get_or-take count ys t 0 h, get_or-take count zs t 0 h)
     (shifted_word (slice_index packed (row + (start + t))) (slice_index x at) (slice_index x (at + 1)) (slice_index x (at + 2)) (slice_index ys t)
-        (slice_index zs t) e1 e2)))
+    (slice_index zs t) e1 e2)))
 
 -- one more part of a row
 pub parts_more : (packed x : List ℕ) (row start count old new : ℕ) → old ≡ sum_below start (λ t. products_at packed x row t) % 2 ^ 32

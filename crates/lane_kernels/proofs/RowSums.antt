@@ -11,20 +11,20 @@ use Rattle.lane_kernels.specs.Rows.{plus_four}
 
 pub plus_rows-four : (out : List ℕ) (n : ℕ) (f : ℕ → ℕ) (b : WordMatrix) (start : ℕ) → length out ≡ b.cols
     → plus_four (plus_rows out n f b start) (row b (start + n)) (row b (start + n + 1)) (row b (start + n + 2)) (row b (start + n + 3)) (f n) (f (n + 1))
-        (f (n + 2)) (f (n + 3))
+    (f (n + 2)) (f (n + 3))
     ≡ plus_rows out (n + 4) f b start
 plus_rows-four out n f b start wide =
     let before = plus_rows out n f b start in
     let long : length before ≡ length out = plus_rows-length out n f b start in
     let place = start + n in
     words_are (plus_four before (row b place) (row b (place + 1)) (row b (place + 2)) (row b (place + 3)) (f n) (f (n + 1)) (f (n + 2)) (f (n + 3)))
-        (length out) _
+    (length out) _
     (length-map-range_with_len _ 0 (length before) ∙ long) (λ q h.
     let col : q < b.cols = omega arith in
     let g : ℕ → ℕ = λ k. f k * entry b (start + k) q in
     let now = get_or-map-range_with_len (λ j. (slice_index before j + f n * slice_index (row b place) j + f (n + 1) * slice_index (row b (place + 1)) j
     + f (n + 2) * slice_index (row b (place + 2)) j + f (n + 3) * slice_index (row b (place + 3)) j) % 2 ^ 32) 0 (length before) q q 0 (omega (arith, long))
-        (omega arith) in
+    (omega arith) in
     let was = plus_rows-index out n f b start q h in
     let w0 = row_index b place q col in
     let w1 = row_index b (place + 1) q col in

@@ -1,7 +1,6 @@
 //! The kernel over lanes.
 
-ghost use Rattle.std.specs.Prelude.{◌≡◌, ℕ, ◌<◌, ◌≤◌, ◌+◌, ◌*◌, ◌%◌, ◌^◌, ◌∷◌, [], length,
-    slice_index};
+ghost use Rattle.std.specs.Prelude.{◌≡◌, ℕ, ◌<◌, ◌≤◌, ◌+◌, ◌*◌, ◌%◌, ◌^◌, ◌∷◌, [], length, slice_index};
 ghost use Rattle.matrix_u32.specs.Sum.{dot};
 ghost use Rattle.matrix_u32.specs.Matrix.{row, product, times_vector, plus_scaled, zero_matrix};
 ghost use Rattle.matrix_u32.specs.Blocks.{plus_rows, SoFar};

@@ -5,8 +5,7 @@
 //! modulo 2^32: what stands above a digit in one term is taken off by the next. So the vector alone is
 //! prepared, once for all rows.
 
-ghost use Rattle.std.specs.Prelude.{◌≡◌, ℕ, ◌∷◌, [], ◌<◌, ◌≤◌, ◌+◌, ◌*◌, ◌%◌, ◌^◌, length,
-    slice_index, slice_range, All};
+ghost use Rattle.std.specs.Prelude.{◌≡◌, ℕ, ◌∷◌, [], ◌<◌, ◌≤◌, ◌+◌, ◌*◌, ◌%◌, ◌^◌, length, slice_index, slice_range, All};
 ghost use Rattle.matrix_u32.specs.Matrix.{times_vector};
 ghost use Rattle.lane_kernels.specs.Packed.{packed_cols, unpacked};
 ghost use Rattle.lane_kernels.specs.Carried.{shifted_sum, thirds, IsCarried, RowsSoFar};

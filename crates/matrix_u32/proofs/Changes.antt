@@ -57,12 +57,12 @@ row_change d a i j word whole e p q small = record {
       let second = entry-product_sum d a i k p l (sym e) in
       first
       ∙ change_mod _ _ (entry d i j) word (2 ^ 32 - entry d i j) (entry a j k) (sums
-          ∙ ap (λ y. sum_below d.cols (λ t. entry d i t * entry a t k) + y * entry a j k) here) (omega arith)
+      ∙ ap (λ y. sum_below d.cols (λ t. entry d i t * entry a t k) + y * entry a j k) here) (omega arith)
       ∙ ap (λ y. (y + (word + (2 ^ 32 - entry d i j)) * entry a j k) % 2 ^ 32) (sym second);
   other_rows = λ r k b x l.
       entry-product_sum (with_entry d i j word) a r k b l (sym e)
       ∙ ap (λ y. y % 2 ^ 32) (sum_same d.cols _ (λ t. entry d r t * entry a t k)
-          (λ t m. ap (λ y. y * entry a t k) (entry_kept d i j word r t q m (λ b. x b.0))))
+      (λ t m. ap (λ y. y * entry a t k) (entry_kept d i j word r t q m (λ b. x b.0))))
       ∙ sym (entry-product_sum d a r k b l (sym e));
 }
 

@@ -40,7 +40,7 @@ pub both_ways : (n m : ℕ) (x : ℕ → ℕ) (a : ℕ → ℕ → ℕ) (s : ℕ
     sum_below m (λ j. (sum_below n (λ k. x k * a k j) % 2 ^ 32) * s j) % 2 ^ 32 ≡ sum_below n (λ k. x k * (sum_below m (λ j. a k j * s j) % 2 ^ 32)) % 2 ^ 32
 both_ways n m x a s =
     sum_congruent m _ (λ j. sum_below n (λ k. x k * a k j * s j)) (λ j _. mul-mod_first _ _ _
-        ∙ ap (λ t. t % 2 ^ 32) (sym (sum_scale_right n (s j) (λ k. x k * a k j))))
+    ∙ ap (λ t. t % 2 ^ 32) (sym (sum_scale_right n (s j) (λ k. x k * a k j))))
     ∙ ap (λ t. t % 2 ^ 32) (sum_swap m n (λ j k. x k * a k j * s j))
     ∙ sym (sum_congruent n _ (λ k. sum_below m (λ j. x k * a k j * s j)) (λ k _.
     mul-mod_second _ _ _ ∙ ap (λ t. t % 2 ^ 32) (sym (sum_scale m (x k) (λ j. a k j * s j)) ∙ sum_same m _ _ (λ j _. omega arith))))
@@ -70,7 +70,7 @@ dot-times_vector x a s e =
     ap (λ y. dot y (times_vector a s)) (sym (list_of-at x a.rows e))
     ∙ dot-lists_of a.rows (λ k. slice_index x k) (λ k. dot (row a k) s)
     ∙ ap (λ t. t % 2 ^ 32) (sum_same a.rows _ _
-        (λ k _. ap (λ t. slice_index x k * t) (dot-list_of a.cols (λ j. entry a k j) (λ j. slice_index s j) s (λ j _. refl))))
+    (λ k _. ap (λ t. slice_index x k * t) (dot-list_of a.cols (λ j. entry a k j) (λ j. slice_index s j) s (λ j _. refl))))
     ∙ sym (both_ways a.rows a.cols (λ k. slice_index x k) (λ k j. entry a k j) (λ j. slice_index s j))
     ∙ ap (λ t. t % 2 ^ 32) (sum_same a.cols _ _ (λ j _. ap (λ t. t * slice_index s j)
     (sym (dot-lists_of a.rows (λ k. slice_index x k) (λ k. entry a k j)) ∙ ap (λ y. dot y (column a j)) (list_of-at x a.rows e))))
@@ -141,7 +141,7 @@ pub entry-product_sum : (a b : WordMatrix) (i j : ℕ) → i < a.rows → j < b.
     entry (product a b) i j ≡ sum_below a.cols (λ k. entry a i k * entry b k j) % 2 ^ 32
 entry-product_sum a b i j p q e =
     entry-product a b i j p q
-        ∙ dot-list_of a.cols (λ k. entry a i k) (λ k. entry b k j) (column b j) (λ k l. at-list_of b.rows (λ i. entry b i j) k (omega arith))
+    ∙ dot-list_of a.cols (λ k. entry a i k) (λ k. entry b k j) (column b j) (λ k l. at-list_of b.rows (λ i. entry b i j) k (omega arith))
 
 -- a matrix with the right word at each place
 pub matrix_is : (m : WordMatrix) (rows cols : ℕ) (f : ℕ → ℕ → ℕ) → m.rows ≡ rows → m.cols ≡ cols → length m.words ≡ rows * cols →

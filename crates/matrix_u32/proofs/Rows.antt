@@ -128,7 +128,7 @@ block_row a b m start count i f words below factors is so_far =
     let old = row_index m i q here ∙ so_far.rest i q (omega arith) below h in
     let more = sum_below-add start count (λ k. entry a i k * entry b k q) in
     let each = sum_same count (λ k. f k * entry b (start + k) q) (λ k. entry a i (start + k) * entry b (start + k) q)
-        (λ k p. ap (λ n. n * entry b (start + k) q) (factors k p)) in
+    (λ k p. ap (λ n. n * entry b (start + k) q) (factors k p)) in
     new ∙ sum ∙ omega (arith, old, more, each) in
     record {
       rows = so_far.rows;

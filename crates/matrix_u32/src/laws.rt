@@ -1,8 +1,7 @@
 //! Laws of products, over the definitions alone. A caller that calls one of these functions has its law at
 //! hand in its proof; the call costs nothing.
 
-ghost use Rattle.matrix_u32.specs.Laws.{ProductIsAssociative, ProductTransposes,
-    ChangedWordChangesItsRow};
+ghost use Rattle.matrix_u32.specs.Laws.{ProductIsAssociative, ProductTransposes, ChangedWordChangesItsRow};
 
 /// (A B) s = A (B s), for every vector s.
 pub fn product_is_associative()

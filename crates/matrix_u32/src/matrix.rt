@@ -91,11 +91,11 @@ impl Matrix {
     pub fn from_words(rows: usize, cols: usize, words: Vec<u32>) -> Result<Matrix, MatrixError>
         ensures words { IfOk result (λ m.
             (m ≡ record { rows = rows; cols = cols; words = words.items }) × IsWhole m ×
-                (rows * cols ≤ most_words)) }
+            (rows * cols ≤ most_words)) }
         ensures refused { IfErr result (λ e.
             ((e ≡ MatrixError.TooLarge) × (most_words < rows * cols))
             ⊎ ((e ≡ MatrixError.WrongCount) × (rows * cols ≤ most_words) ×
-                (length words.items ≢ rows * cols))) }
+            (length words.items ≢ rows * cols))) }
     {
         let wanted = word_count(rows, cols)?;
         if words.len() != wanted {

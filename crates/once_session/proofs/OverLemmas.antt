@@ -18,7 +18,7 @@ one_more {C = C} does a turns mid b serve_chunk new c go t =
 pub end_found : {C : Type 0} (does : C → Call → C → Type 0) (turns count : ℕ) (old : Work) (a : C) (answer : Result (Unit {0}) OnceFault) (b : C) →
     count < turns
     → (m : C) → does a (Read 65536 []) m → (out : List ℕ) → WritesWorkReplies does answer m out b → Finishes answer old.unfinished out →
-        EndsWorkTurns does turns count old a answer b
+    EndsWorkTurns does turns count old a answer b
 end_found does turns count old a (Ok d) b lt m r out w f = (lt, inr (record { middle = m; reads = r; out = out; writes = w; finishes = f }))
 end_found does turns count old a (Err fault.BadInput) b lt m r out w f = (lt, inr (record { middle = m; reads = r; out = out; writes = w; finishes = f }))
 end_found does turns count old a (Err fault.Read) b lt m r out w f = absurd f
@@ -29,22 +29,22 @@ end_found does turns count old a (Err fault.TurnsUsedUp) b lt m r out w f = absu
 -- a piece at which a reply failed
 pub piece_failed : {C : Type 0} (does : C → Call → C → Type 0) (turns count : ℕ) (old : Work) (a : C) (e : OnceFault) (b : C) → count < turns
     → (serve_chunk : CallTurn) (stage : Stage) (codec : Option (List ℕ)) → IsServeFault e → TakesWorkPiece does old a (Err e) serve_chunk stage codec b →
-        EndsWorkTurns does turns count old a (Err e) b
+    EndsWorkTurns does turns count old a (Err e) b
 piece_failed does turns count old a e b lt serve_chunk stage codec (inl is) t =
     subst (λ k. EndsWorkTurns does turns count old a (Err k) b) (sym is)
-        (lt, inl (serve_chunk, stage, codec, subst (λ k. TakesWorkPiece does old a (Err k) serve_chunk stage codec b) is t))
+    (lt, inl (serve_chunk, stage, codec, subst (λ k. TakesWorkPiece does old a (Err k) serve_chunk stage codec b) is t))
 piece_failed does turns count old a e b lt serve_chunk stage codec (inr is) t =
     subst (λ k. EndsWorkTurns does turns count old a (Err k) b) (sym is)
-        (lt, inl (serve_chunk, stage, codec, subst (λ k. TakesWorkPiece does old a (Err k) serve_chunk stage codec b) is t))
+    (lt, inl (serve_chunk, stage, codec, subst (λ k. TakesWorkPiece does old a (Err k) serve_chunk stage codec b) is t))
 
 -- one that ended the work
 pub piece_ended : {C : Type 0} (does : C → Call → C → Type 0) (turns count : ℕ) (old : Work) (a : C) (answer : Result (Unit {0}) OnceFault) (b : C) →
     count < turns
     → (serve_chunk : CallTurn) (stage : Stage) (codec : Option (List ℕ)) → OnOk answer (is_done stage ≡ true) →
-        IfErr answer (λ e. (e ≡ fault.BadInput) × (is_done stage ≡ false)) → goes_on stage ≡ false
+    IfErr answer (λ e. (e ≡ fault.BadInput) × (is_done stage ≡ false)) → goes_on stage ≡ false
     → TakesWorkPiece does old a (Ok tt) serve_chunk stage codec b → EndsWorkTurns does turns count old a answer b
 piece_ended does turns count old a (Ok d) b lt serve_chunk stage codec well ill over t =
     (lt, inl (record { serve_chunk = serve_chunk; stage = stage; codec = codec; takes = t; over = over; well_is = well }))
 piece_ended does turns count old a (Err e) b lt serve_chunk stage codec well ill over t =
     subst (λ k. EndsWorkTurns does turns count old a (Err k) b) (sym ill.0)
-        (lt, inl (record { serve_chunk = serve_chunk; stage = stage; codec = codec; takes = t; over = over; well_is = ill.1 }))
+    (lt, inl (record { serve_chunk = serve_chunk; stage = stage; codec = codec; takes = t; over = over; well_is = ill.1 }))

@@ -46,17 +46,17 @@ moved_by remaining contents a b c read out bytes (Err fault.TurnsUsedUp) i s = m
 moved_turn : {R W : Type 0} (remaining : R → Option (List ℕ)) (contents : W → Option (List ℕ)) (a b c : Pair R W) (read out : List ℕ) (old : Work)
     (answer : Result (Unit {0}) OnceFault) (serve_chunk : CallTurn) (new : Stage) (codec : Option (List ℕ)) → Moved remaining contents a read out b
     → TakesWorkPiece (PairDoes remaining contents) old b answer serve_chunk new codec c →
-        Moved remaining contents a (read ++ serve_chunk.piece) (out ++ serve_chunk.output) c
+    Moved remaining contents a (read ++ serve_chunk.piece) (out ++ serve_chunk.output) c
 moved_turn remaining contents a b c read out old answer serve_chunk new codec i t =
     moved_by remaining contents a t.middle c (read ++ serve_chunk.piece) out serve_chunk.output answer
-        (moved_read remaining contents a b t.middle read out serve_chunk.piece 65536 i t.reads.read) t.writes
+    (moved_read remaining contents a b t.middle read out serve_chunk.piece 65536 i t.reads.read) t.writes
 
 one_more : {R W : Type 0} (remaining : R → Option (List ℕ)) (contents : W → Option (List ℕ)) (a : Pair R W) (count : ℕ) (mid : Work) (b : Pair R W)
     (serve_chunk : CallTurn) (new : Work) (c : Pair R W)
     → SoFar remaining contents a count mid b → LeavesOpen (PairDoes remaining contents) mid b serve_chunk new c → SoFar remaining contents a (count + 1) new c
 one_more remaining contents a count mid b serve_chunk new c i t =
     let turned = subst (λ (r : List ℕ). Turns (Ok tt) mid.stage (r ++ serve_chunk.piece) new.stage (Some new.unfinished) serve_chunk.output)
-        (rest_is i.read i.out mid i.waits) t.takes.turned in
+    (rest_is i.read i.out mid i.waits) t.takes.turned in
     record {
       read = i.read ++ serve_chunk.piece;
       out = i.out ++ serve_chunk.output;
@@ -71,7 +71,7 @@ one_more remaining contents a count mid b serve_chunk new c i t =
 many_more : {R W : Type 0} (remaining : R → Option (List ℕ)) (contents : W → Option (List ℕ)) (a : Pair R W) (count : ℕ) (mid : Work) (b : Pair R W)
     (turns : List CallTurn) (new : Work) (c : Pair R W) (total : ℕ)
     → total ≡ count + length turns → SoFar remaining contents a count mid b → WorkGoesOn (PairDoes remaining contents) mid b turns new c →
-        SoFar remaining contents a total new c
+    SoFar remaining contents a total new c
 many_more {R = R} {W = W} remaining contents a count mid b [] new c total e i g =
     let S : ℕ → Work × Pair R W → Type 0 = λ n p. SoFar remaining contents a n p.0 p.1 in
     let same : count ≡ total = omega (arith, e) in
@@ -106,10 +106,10 @@ by_piece remaining contents turns a count mid b answer given serve_chunk new cod
 over_by : {R W : Type 0} (remaining : R → Option (List ℕ)) (contents : W → Option (List ℕ)) (a : Pair R W) (count : ℕ) (mid : Work) (b : Pair R W)
     (well : Bool) (c : Pair R W) (i : SoFar remaining contents a count mid b)
     → (e : EndsByPiece (PairDoes remaining contents) mid b well c) →
-        IsOutput (i.read ++ e.serve_chunk.piece) (i.out ++ e.serve_chunk.output) (remaining c.reader.now) well
+    IsOutput (i.read ++ e.serve_chunk.piece) (i.out ++ e.serve_chunk.output) (remaining c.reader.now) well
 over_by remaining contents a count mid b well c i e =
     let turned = subst (λ (r : List ℕ). Turns (Ok tt) mid.stage (r ++ e.serve_chunk.piece) e.stage e.codec e.serve_chunk.output)
-        (rest_is i.read i.out mid i.waits) e.takes.turned in
+    (rest_is i.read i.out mid i.waits) e.takes.turned in
     ends_on i.read i.out e.serve_chunk.piece e.serve_chunk.output mid.stage e.stage (Some mid.unfinished) (remaining c.reader.now) well i.waits
     (turned_off mid.stage e.stage (i.waits.rest ++ e.serve_chunk.piece) e.serve_chunk.output e.codec e.over turned) e.well_is
 
@@ -128,7 +128,7 @@ end_stays remaining contents b c bytes (Err fault.TurnsUsedUp) s e = subst IsAtE
 by_end : {R W : Type 0} (remaining : R → Option (List ℕ)) (contents : W → Option (List ℕ)) (turns : ℕ) (a : Pair R W) (count : ℕ) (mid : Work) (b : Pair R W)
     (answer : Result (Unit {0}) OnceFault) (c : Pair R W)
     → count < turns → SoFar remaining contents a count mid b → EndsByEnd (PairDoes remaining contents) mid b answer c →
-        Whole remaining contents turns a answer c
+    Whole remaining contents turns a answer c
 by_end remaining contents turns a count mid b answer c lt i e =
     let m = moved_end remaining contents a b e.middle i.read i.out 65536 i.moved e.reads in
     let last = moved_by remaining contents a e.middle c i.read i.out e.out answer m e.writes in
@@ -146,11 +146,11 @@ by_end remaining contents turns a count mid b answer c lt i e =
 by_fault : {R W : Type 0} (remaining : R → Option (List ℕ)) (contents : W → Option (List ℕ)) (turns : ℕ) (a : Pair R W) (count : ℕ) (mid : Work)
     (b : Pair R W) (e : OnceFault) (c : Pair R W)
     → IsServeFault e → count < turns → SoFar remaining contents a count mid b → BreaksOffWork (PairDoes remaining contents) mid b e c →
-        Whole remaining contents turns a (Err e) c
+    Whole remaining contents turns a (Err e) c
 by_fault remaining contents turns a count mid b e c is lt i (inl p) =
     let serve_chunk : CallTurn = p.0 in
     let turned = subst (λ (r : List ℕ). Turns (Err e) mid.stage (r ++ serve_chunk.piece) p.1 p.2 serve_chunk.output)
-        (rest_is i.read i.out mid i.waits) p.3.turned in
+    (rest_is i.read i.out mid i.waits) p.3.turned in
     by_piece remaining contents turns a count mid b (Err e) (Err e) serve_chunk p.1 p.2 c lt i p.3
     (turn_served turns e i.read i.out serve_chunk.piece serve_chunk.output mid.stage p.1 (Some mid.unfinished) p.2 (remaining c.reader.now) i.waits is turned)
 by_fault remaining contents turns a count mid b e c is lt i (inr p) = by_end remaining contents turns a count mid b (Err e) c lt i p
@@ -158,14 +158,14 @@ by_fault remaining contents turns a count mid b e c is lt i (inr p) = by_end rem
 ended : {R W : Type 0} (remaining : R → Option (List ℕ)) (contents : W → Option (List ℕ)) (turns : ℕ) (a : Pair R W) (count : ℕ) (mid : Work) (b : Pair R W)
     (answer : Result (Unit {0}) OnceFault) (c : Pair R W)
     → SoFar remaining contents a count mid b → EndsWorkTurns (PairDoes remaining contents) turns count mid b answer c →
-        Whole remaining contents turns a answer c
+    Whole remaining contents turns a answer c
 ended remaining contents turns a count mid b (Ok d) c i (lt, inl e) =
     by_piece remaining contents turns a count mid b (Ok tt) (Ok d) e.serve_chunk e.stage e.codec c lt i e.takes
-        (over_by remaining contents a count mid b true c i e)
+    (over_by remaining contents a count mid b true c i e)
 ended remaining contents turns a count mid b (Ok d) c i (lt, inr e) = by_end remaining contents turns a count mid b (Ok d) c lt i e
 ended remaining contents turns a count mid b (Err fault.BadInput) c i (lt, inl e) =
     by_piece remaining contents turns a count mid b (Ok tt) (Err fault.BadInput) e.serve_chunk e.stage e.codec c lt i e.takes
-        (over_by remaining contents a count mid b false c i e)
+    (over_by remaining contents a count mid b false c i e)
 ended remaining contents turns a count mid b (Err fault.BadInput) c i (lt, inr e) = by_end remaining contents turns a count mid b (Err fault.BadInput) c lt i e
 ended remaining contents turns a count mid b (Err fault.Read) c i e = record {
   read = i.read;
@@ -207,7 +207,7 @@ whole_over remaining contents turns a answer b (inr t) =
       going = refl;
     } in
     ended remaining contents turns a (length t.before) t.work t.middle answer b
-        (many_more remaining contents a 0 fresh_work a t.before t.work t.middle (length t.before) (omega arith) first t.go_on) t.ends
+    (many_more remaining contents a 0 fresh_work a t.before t.work t.middle (length t.before) (omega arith) first t.go_on) t.ends
 
 -- what a caller knows that joined a reader and a writer
 pub finally_answered : {R W : Type 0} (remaining : R → Option (List ℕ)) (contents : W → Option (List ℕ)) (turns : ℕ) (a : Pair R W)
@@ -215,7 +215,7 @@ pub finally_answered : {R W : Type 0} (remaining : R → Option (List ℕ)) (con
     → ServesWorkOver (PairDoes remaining contents) turns a answer b → a.reader.now ≡ r → a.writer.now ≡ w
     → (a.reader.ghost_name ≡ b.reader.ghost_name → x ≡ b.reader.now) → (a.writer.ghost_name ≡ b.writer.ghost_name → y ≡ b.writer.now)
     → (read : List ℕ) × (out : List ℕ) × Consumes (remaining r) (remaining x) read × Appends (contents w) (contents y) out × (length read ≤ 65536 * turns)
-        × ServesStream turns answer read out (remaining x)
+    × ServesStream turns answer read out (remaining x)
 finally_answered remaining contents turns a answer b r x w y o first last reader writer =
     let k = whole_over remaining contents turns a answer b o in
     let left : b.reader.now ≡ x = sym (reader (sym k.moved.same_reader)) in (

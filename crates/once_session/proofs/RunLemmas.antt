@@ -116,8 +116,14 @@ breaks_on read out piece more st codec left w t =
 -- every turn was used
 pub waits_served : (read out : List ℕ) (st : Stage) (codec : Option (List ℕ)) → WaitsForMore stage.Fresh read st codec out → goes_on st ≡ true →
     IsOnceReply read out
-waits_served read out st codec w going = record { frames = w.frames; rest = w.rest; reads = w.reads; open_still = ap goes_on (sym w.stage_is) ∙ going; out_is =
-    w.out_is }
+waits_served read out st codec w going = record {
+  frames = w.frames;
+  rest = w.rest;
+  reads = w.reads;
+  open_still = ap goes_on (sym w.stage_is) ∙ going;
+  out_is =
+      w.out_is;
+}
 
 -- the stream's end is after a frame, or within one
 shut_output : (read out more : List ℕ) (st : Stage) (codec left : Option (List ℕ)) (well : Bool) (w : WaitsForMore stage.Fresh read st codec out) →
@@ -206,7 +212,7 @@ nothing_served turns left = record { frames = []; rest = []; begins = begins_non
 pub finish_cut : (e : OnceFault) (rest : List ℕ) (n : ℕ) → (rest ≡ [] → ⊥) → IsServeFault e → Finishes (Err e) rest (take n (encoding (Refused 1)))
 finish_cut e rest n some (inl is) =
     subst (λ x. Finishes (Err x) rest (take n (encoding (Refused 1)))) (sym is)
-        (subst (IsPrefixOf (take n (encoding (Refused 1)))) (some_reply rest some) (prefix_taken n (encoding (Refused 1))))
+    (subst (IsPrefixOf (take n (encoding (Refused 1)))) (some_reply rest some) (prefix_taken n (encoding (Refused 1))))
 finish_cut e rest n some (inr is) =
     subst (λ x. Finishes (Err x) rest (take n (encoding (Refused 1)))) (sym is)
-        (subst (IsPrefixOf (take n (encoding (Refused 1)))) (some_reply rest some) (prefix_taken n (encoding (Refused 1))))
+    (subst (IsPrefixOf (take n (encoding (Refused 1)))) (some_reply rest some) (prefix_taken n (encoding (Refused 1))))

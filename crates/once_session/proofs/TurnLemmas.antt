@@ -83,7 +83,7 @@ ill_rest stage.Bad rest g some = refl
 -- what is owed where the stream can't be read on
 owed_at : (old : Stage) (frames : List Frame) (rest : List ℕ) → goes_on (stage_after old frames) ≡ true → (rest ≡ [] → ⊥) →
     encodings (replies_to old frames) ++ encoding (Refused 1) ≡ encodings (replies_to old frames)
-        ++ cond (goes_on (stage_after old frames)) (rest_reply rest) []
+    ++ cond (goes_on (stage_after old frames)) (rest_reply rest) []
 owed_at old frames rest going some =
     ap (λ (b : List ℕ). encodings (replies_to old frames) ++ b) (sym (refused_rest rest some) ∙ ap (λ b. cond b (rest_reply rest) []) (sym going))
 
@@ -108,7 +108,7 @@ turn_refused old new stream frames rest fault codec out begins stops judged goin
 -- and here the refusal, or nothing of it, was written in part
 pub turn_cut : (old : Stage) (stream : List ℕ) (frames : List Frame) (rest : List ℕ) (fault : ReadFault) (n : ℕ) → Begins stream frames rest →
     StopsAt fault rest → goes_on (stage_after old frames) ≡ true → ((n ≡ 0) ⊎ IsJudged fault) →
-        Breaks old stream (encodings (replies_to old frames) ++ take n (encoding (Refused 1)))
+    Breaks old stream (encodings (replies_to old frames) ++ take n (encoding (Refused 1)))
 turn_cut old stream frames rest fault n begins stops going (inl none) = record {
   frames = frames;
   rest = rest;

@@ -66,7 +66,7 @@ pub record EndsByEnd {C : Type 0} (does : C → Call → C → Type 0) (old : Wo
 abbrev pub BreaksOffWork : {C : Type 0} → (C → Call → C → Type 0) → Work → C → OnceFault → C → Type 0
 BreaksOffWork does old a e b =
     ((serve_chunk : CallTurn) × (stage : Stage) × (codec : Option (List ℕ)) × TakesWorkPiece does old a (Err e) serve_chunk stage codec b)
-        ⊎ EndsByEnd does old a (Err e) b
+    ⊎ EndsByEnd does old a (Err e) b
 
 -- the last turn after so many, of which there may be `turns`
 abbrev pub EndsWorkTurns : {C : Type 0} → (C → Call → C → Type 0) → ℕ → ℕ → Work → C → Result (Unit {0}) OnceFault → C → Type 0

@@ -1,11 +1,9 @@
 //! The stream: pieces in, replies out.
 
-ghost use Rattle.std.specs.Prelude.{◌≡◌, ◌≤◌, ◌<◌, ◌++◌, ◌⊎◌, ℕ, List, [], ◌∷◌, length, take, true,
-    false, IsTrue, ◌↔◌, Some, None, Ok, Err, OnOk, OnErr, IfOk, IfErr, unwrap_or};
+ghost use Rattle.std.specs.Prelude.{◌≡◌, ◌≤◌, ◌<◌, ◌++◌, ◌⊎◌, ℕ, List, [], ◌∷◌, length, take, true, false, IsTrue, ◌↔◌, Some, None, Ok, Err, OnOk, OnErr, IfOk, IfErr, unwrap_or};
 ghost use Rattle.connection_io.specs.Calls.{Sends};
 ghost use Rattle.frame_codec.specs.Frames.{encoding, payload_size, payload_limit};
-ghost use Rattle.once_session.specs.Courses.{next, HasTable, FitsWorkReply, replies_to, stage_after,
-    work_reply_bytes, reply, encodings};
+ghost use Rattle.once_session.specs.Courses.{next, HasTable, FitsWorkReply, replies_to, stage_after, work_reply_bytes, reply, encodings};
 ghost use Rattle.once_session.specs.Outputs.{IsServeFault, IsPrefixOf, IsJudged, goes_on, Turns};
 ghost use Rattle.once_session.specs.OnceTurns.{SendsBefore, WritesWorkReplies};
 ghost use Rattle.frame_codec.specs.declared.frame.Frame.TheVariants.{Refused};
@@ -73,7 +71,7 @@ fn serve_frame<K: Kernel, C: Connection>(
         (Sends C.does connection.old (work_reply_bytes (reply stage.old frame.now)) connection.new) }
     ensures prefix { IfErr result (λ e. (n : ℕ)
         × SendsBefore C.does e connection.old
-            (take n (work_reply_bytes (reply stage.old frame.now))) connection.new) }
+        (take n (work_reply_bytes (reply stage.old frame.now))) connection.new) }
     ensures fault { IfErr result IsServeFault }
 {
     let Ok(Step { reply, moves }) = step_of(alloc, kernel, stage, frame) else {
@@ -94,8 +92,7 @@ fn send_reply<C: Connection>(
     ensures all { OnOk result
         (Sends C.does connection.old (work_reply_bytes reply.now) connection.new) }
     ensures prefix { IfErr result (λ e. (n : ℕ)
-        × SendsBefore C.does e connection.old (take n (work_reply_bytes reply.now)) connection.new)
-            }
+        × SendsBefore C.does e connection.old (take n (work_reply_bytes reply.now)) connection.new) }
     ensures fault { IfErr result IsServeFault }
 {
     match reply {

@@ -1,7 +1,6 @@
 //! The whole stream, read in pieces.
 
-ghost use Rattle.std.specs.Prelude.{◌≡◌, ◌≤◌, ◌*◌, ℕ, List, [], length, Some, OnOk, OnErr, IfErr,
-    true, false};
+ghost use Rattle.std.specs.Prelude.{◌≡◌, ◌≤◌, ◌*◌, ℕ, List, [], length, Some, OnOk, OnErr, IfErr, true, false};
 ghost use Rattle.std.specs.Io.KnownBytes.{Appends, Consumes};
 ghost use Rattle.frame_codec.specs.Streams.{IsPartial};
 ghost use Rattle.once_session.specs.Outputs.{Finishes, ServesStream, is_done};
@@ -21,7 +20,7 @@ use std::io::{Read, Write};
 fn finish<C: Connection>(alloc: Global, codec: &Reader, connection: &mut C) -> Result<(), OnceFault>
     ensures { (rest : List ℕ) → codec.now ≡ Some rest → (out : List ℕ)
         × WritesWorkReplies C.does result connection.old out connection.new ×
-            Finishes result rest out }
+        Finishes result rest out }
 {
     if codec.is_between_frames() {
         return Ok(());

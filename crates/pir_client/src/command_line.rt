@@ -6,9 +6,7 @@ ghost use Rattle.pir_client.specs.Tasks.{TaskFits, ReadsGet, ReadsPut, ReadsPubl
 
 use clap::{ArgMatches, Command};
 use client_core::Scheme;
-use command_words::{
-    BadLine, key_at, number_at, option, record_bytes, text_at, bytes32_at, word,
-};
+use command_words::{BadLine, bytes32_at, key_at, number_at, option, record_bytes, text_at, word};
 use std::alloc::{AllocError, Global};
 
 /// The numbers of retrievals are below this one.

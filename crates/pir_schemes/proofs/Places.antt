@@ -67,7 +67,7 @@ unmarked Double l n public seed number k =
     let a2 = second_public l n public in
     if nat_lt k (digit_cols l) then plain a1 (secret seed number a1.cols) (query_noise seed number a1.rows) k
     else plain a2 (part_secret seed number a2.cols ((k - digit_cols l) / digit_rows l)) (part_noise seed number a2.rows ((k - digit_cols l) / digit_rows l))
-        ((k - digit_cols l) % digit_rows l)
+    ((k - digit_cols l) % digit_rows l)
 
 simple_word : (l : Shape) (n : ℕ) (public seed : List ℕ) (number i k : ℕ) → k < digit_cols l →
     slice_index (query_words Simple l n public seed number i) k ≡ marked l.width (is_place Simple l i k) (unmarked Simple l n public seed number k)

@@ -12,7 +12,7 @@ use Rattle.pir_schemes.specs.Retrievals.{query_count, answer_count}
 few_digits : (l : Shape) → IsLayout l → digits_per_record l ≤ 342
 few_digits l ok =
     let few : digits_per_record l < 343 =
-        div_below (8 * l.record_len + l.width - 1) l.width 343 (omega (arith, ok.width.0)) (omega (arith, ok.width.0, ok.record_len.1)) in
+    div_below (8 * l.record_len + l.width - 1) l.width 343 (omega (arith, ok.width.0)) (omega (arith, ok.width.0, ok.record_len.1)) in
     omega (arith, few)
 
 pub few_query_words : (s : Scheme) (l : Shape) → IsLayout l → query_count s l ≤ 4096 + 342 * 4096

@@ -1,7 +1,7 @@
 //! The command line.
 
 use clap::{ArgMatches, Command};
-use command_words::{BadLine, key_at, number_at, option, text_at, bytes32_at};
+use command_words::{BadLine, bytes32_at, key_at, number_at, option, text_at};
 use std::alloc::{AllocError, Global};
 
 const OUT_TAKES: &str = "--out takes a file's name";

@@ -32,8 +32,12 @@ cut_none : (more : List Frame) (rest later : List ℕ) → AllByRecursion IsFram
     Cut more [] more (length rest) (length rest)
 cut_none [] rest later all e partial = record { whole_is = refl; frames_are = refl; got_is = omega (arith, ap length e, length-append rest later) }
 cut_none (m ∷ ms) rest later all e partial = elim (cases_Bool (nat_le (length (encoding m)) (length rest))) [
-  | inl t ↦ absurd (partial (m, drop (length (encoding m)) rest, all.0,
-      prefix_within (encoding m) rest later (flat_map encoding ms) (e ∙ flat_map-cons encoding m ms) (leb-true _ _ t)))
+  | inl t ↦ absurd (partial (
+    m,
+    drop (length (encoding m)) rest,
+    all.0,
+    prefix_within (encoding m) rest later (flat_map encoding ms) (e ∙ flat_map-cons encoding m ms) (leb-true _ _ t),
+  ))
   | inr t ↦ record { whole_is = rw t refl; frames_are = rw t refl; got_is = rw t refl }
 ]
 
@@ -42,7 +46,7 @@ pub cut : (fs more : List Frame) (rest later : List ℕ) (n : ℕ) → AllByRecu
 cut [] more rest later n all e partial size = let s : n ≡ length rest = size ∙ omega arith in rw s (cut_none more rest later all e partial)
 cut (f ∷ fs) more rest later n all e partial size =
     let one : length (flat_map encoding (f ∷ fs)) ≡ length (encoding f) + length (flat_map encoding fs) = ap length (flat_map-cons encoding f fs)
-        ∙ length-append (encoding f) (flat_map encoding fs) in
+    ∙ length-append (encoding f) (flat_map encoding fs) in
     let t : nat_le (length (encoding f)) n ≡ true = le-leb (length (encoding f)) n (omega (arith, size, one)) in
     let c = cut fs more rest later (n - length (encoding f)) all e partial (omega (arith, size, one)) in
     record { whole_is = rw t (ap (λ (x : List Frame). f ∷ x) c.whole_is); frames_are = rw t c.frames_are; got_is = rw t c.got_is }
@@ -58,13 +62,13 @@ pub delivered : (reader : Option (List ℕ)) (waiting : List ℕ) (w : Wire) (mo
 delivered reader waiting w most m frames new size c f =
     let g : Feeds (Some c.unfinished) (take m waiting) (Ok tt) frames new = rw c.reader_is at f in
     let whole_ : (c.unfinished ++ take m waiting) ++ drop m waiting ≡ flat_map encoding w.frames =
-        append_assoc c.unfinished (take m waiting) (drop m waiting) ∙ ap (λ (x : List ℕ). c.unfinished ++ x) (take-append-drop m waiting) ∙ c.bytes in
+    append_assoc c.unfinished (take m waiting) (drop m waiting) ∙ ap (λ (x : List ℕ). c.unfinished ++ x) (take-append-drop m waiting) ∙ c.bytes in
     let s = reads_sent c.unfinished (take m waiting) (drop m waiting) w.frames (Ok tt) frames new c.each whole_ g in
     let later : g.0 ++ drop m waiting ≡ flat_map encoding s.0 = let P : Option (List ℕ) → Type 0 = λ x. Arrives (Ok tt) x (drop m waiting) s.0 in
-        subst P g.2 s.3 in
+    subst P g.2 s.3 in
     let n1 : length c.unfinished + length waiting ≡ length (flat_map encoding w.frames) = sym (length-append c.unfinished waiting) ∙ ap length c.bytes in
     let n2 : length c.unfinished + length (take m waiting) ≡ length (flat_map encoding frames) + length g.0 =
-        sym (length-append c.unfinished (take m waiting)) ∙ ap length g.1.begins.whole ∙ length-append (flat_map encoding frames) g.0 in
+    sym (length-append c.unfinished (take m waiting)) ∙ ap length g.1.begins.whole ∙ length-append (flat_map encoding frames) g.0 in
     let n3 : length (take m waiting) ≡ min m (length waiting) = length-take m waiting in
     let at : reach w most ≡ length (flat_map encoding frames) + length g.0 = omega (arith, n1, n2, n3, size, c.got) in
     let k = cut frames s.0 g.0 (drop m waiting) (reach w most) s.2 later g.1.partial.no_frame at in
@@ -80,7 +84,7 @@ pub memory_alone : (reader : Option (List ℕ)) (waiting : List ℕ) (w : Wire) 
 memory_alone reader waiting w m stop frames new c f =
     let g : Feeds (Some c.unfinished) (take m waiting) (Err stop) frames new = rw c.reader_is at f in
     let whole_ : (c.unfinished ++ take m waiting) ++ drop m waiting ≡ flat_map encoding w.frames =
-        append_assoc c.unfinished (take m waiting) (drop m waiting) ∙ ap (λ (x : List ℕ). c.unfinished ++ x) (take-append-drop m waiting) ∙ c.bytes in
+    append_assoc c.unfinished (take m waiting) (drop m waiting) ∙ ap (λ (x : List ℕ). c.unfinished ++ x) (take-append-drop m waiting) ∙ c.bytes in
     let s = reads_sent c.unfinished (take m waiting) (drop m waiting) w.frames (Err stop) frames new c.each whole_ g in
     is_memory stop (drop m waiting) s.0 s.3
   where
@@ -114,6 +118,6 @@ pub prefix_read : (reader : Option (List ℕ)) (waiting : List ℕ) (w : Wire) (
 prefix_read reader waiting w m answer frames new c f =
     let g : Feeds (Some c.unfinished) (take m waiting) answer frames new = rw c.reader_is at f in
     let whole_ : (c.unfinished ++ take m waiting) ++ drop m waiting ≡ flat_map encoding w.frames =
-        append_assoc c.unfinished (take m waiting) (drop m waiting) ∙ ap (λ (x : List ℕ). c.unfinished ++ x) (take-append-drop m waiting) ∙ c.bytes in
+    append_assoc c.unfinished (take m waiting) (drop m waiting) ∙ ap (λ (x : List ℕ). c.unfinished ++ x) (take-append-drop m waiting) ∙ c.bytes in
     let s = reads_sent c.unfinished (take m waiting) (drop m waiting) w.frames answer frames new c.each whole_ g in
     (s.0, s.1)

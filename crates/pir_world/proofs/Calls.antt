@@ -161,13 +161,26 @@ module _ (law : RetrievalGivesTheRecord) (x : Setting) (seeds : List (List ℕ))
 
   -- the link where these replies arrive and this is after them
   abbrev with_replies : List Frame → Wire → Link
-  with_replies fs b = record { client = (takes_all l.client fs).state; standing = l.standing; up =
-      record { frames = l.up.frames ++ (takes_all l.client fs).sends; got = l.up.got }; down = b }
+  with_replies fs b = record {
+    client = (takes_all l.client fs).state;
+    standing = l.standing;
+    up =
+        record { frames = l.up.frames ++ (takes_all l.client fs).sends; got = l.up.got };
+    down = b;
+  }
 
   no_reply : (fs : List Frame) (b : Wire) → fs ≡ [] → b.frames ≡ l.down.frames → ReportedLink x seeds h k (with_replies fs b) (reported_by k l.client fs)
   no_reply fs b e d = rw e (record {
-    link = record { seed_is = i.seed_is; alive = i.alive; unclosed = i.unclosed; known = i.known; hint = i.hint; call = i.call; phase =
-        rw (append-nil, d) i.phase };
+    link = record {
+      seed_is = i.seed_is;
+      alive = i.alive;
+      unclosed = i.unclosed;
+      known = i.known;
+      hint = i.hint;
+      call = i.call;
+      phase =
+          rw (append-nil, d) i.phase;
+    };
     right = tt;
   })
 
@@ -185,8 +198,16 @@ module _ (law : RetrievalGivesTheRecord) (x : Setting) (seeds : List (List ℕ))
   one_reply fs b r e d u p =
       let t = taken law x seeds k h l.standing l.client g client_inv r p in
       rw e (record {
-        link = record { seed_is = t.client.seed_is; alive = t.client.alive; unclosed = i.unclosed; known = t.client.known; hint = t.client.hint; call =
-            t.client.call; phase = rw (u, d) t.phase };
+        link = record {
+          seed_is = t.client.seed_is;
+          alive = t.client.alive;
+          unclosed = i.unclosed;
+          known = t.client.known;
+          hint = t.client.hint;
+          call =
+              t.client.call;
+          phase = rw (u, d) t.phase;
+        };
         right = subst (λ (es : List Entry). AllByRecursion (IsRight x seeds h) es) (sym (reported_one_is r t.no_fault)) t.right;
       })
 
@@ -263,10 +284,18 @@ pub served_inv : (short : Bool) (most : ℕ) (x : Setting) (seeds : List (List �
 served_inv short most x seeds k h seed l i =
     let few = few_frames x h l.standing seed l.client l.client.call l.up.frames l.down.frames i.phase in
     let s = served_link x seeds k h seed l.standing l.client short l.client.call l.up.frames (arrived l.up most) (beyond l.up most).frames l.down.frames
-        (split_few l.up most few.0) i.unclosed i.seed_is i.known i.hint i.call i.phase in
+    (split_few l.up most few.0) i.unclosed i.seed_is i.known i.hint i.call i.phase in
     record {
-      link = record { seed_is = i.seed_is; alive = i.alive; unclosed = s.unclosed; known = known_then x h l.standing _ l.client.known s.reader i.known; hint =
-          i.hint; call = i.call; phase = s.phase };
+      link = record {
+        seed_is = i.seed_is;
+        alive = i.alive;
+        unclosed = s.unclosed;
+        known = known_then x h l.standing _ l.client.known s.reader i.known;
+        hint =
+            i.hint;
+        call = i.call;
+        phase = s.phase;
+      };
       history_is = s.history_is;
       right = s.right;
     }

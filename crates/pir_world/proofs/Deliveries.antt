@@ -53,16 +53,16 @@ module _ (law : RetrievalGivesTheRecord) (x : Setting) (seeds : List (List ℕ))
   reported_well : (frames : List Frame) (done : Unit {0}) → Feeds e.client.reader (prefix most e.down) (Ok done) frames e2.client.reader →
       (out : List ℕ) (events : List Event)
       → Gives (takes_all e.client.state frames) out events → e2.client.state ≡ (takes_all e.client.state frames).state →
-          (takes_all e.client.state frames).fault ≡ None
+      (takes_all e.client.state frames).fault ≡ None
       → e2.up ≡ e.up ++ out → e2.down ≡ rest most e.down → EndReported e2 session l most events
   reported_well frames done reads out events gives state good up down =
       let d = delivered e.client.reader e.down l.down most (min most (length e.down)) frames e2.client.reader refl i.down reads in
       let same : takes_all e.client.state frames ≡ takes_all l.client (arrived l.down most) = ap (λ (c : ClientState). takes_all c frames) i.client_is
-          ∙ ap (λ (fs : List Frame). takes_all l.client fs) d.frames_are in
+      ∙ ap (λ (fs : List Frame). takes_all l.client fs) d.frames_are in
       let each : AllByRecursion IsFrame (takes_all l.client (arrived l.down most)).sends =
-          subst (λ (c : Course). AllByRecursion IsFrame c.sends) same gives.each in
+      subst (λ (c : Course). AllByRecursion IsFrame c.sends) same gives.each in
       let more : e2.up ≡ e.up ++ flat_map encoding (takes_all l.client (arrived l.down most)).sends = up
-          ∙ ap (λ (b : List ℕ). e.up ++ b) (gives.written ∙ ap (λ (c : Course). flat_map encoding c.sends) same) in
+      ∙ ap (λ (b : List ℕ). e.up ++ b) (gives.written ∙ ap (λ (c : Course). flat_map encoding c.sends) same) in
       record {
         end_is = record {
           client_is = state ∙ ap (λ (c : Course). c.state) same;
@@ -82,22 +82,22 @@ module _ (law : RetrievalGivesTheRecord) (x : Setting) (seeds : List (List ℕ))
   followed : (answer : Result (Unit {0}) ReadFault) (frames : List Frame) → Feeds e.client.reader (prefix most e.down) answer frames e2.client.reader →
       (out : List ℕ) (events : List Event) (fault : Option ClientFault)
       → Follows (ends_with (takes_all e.client.state frames) answer) out events fault e2.client.state → e2.up ≡ e.up ++ out → e2.down ≡ rest most e.down →
-          Reported events fault
+      Reported events fault
   followed (Ok done) frames reads out events fault f up down =
       let good = read_good (Ok done) frames reads in
       inr (f.fault_is ∙ good, reported_well frames done reads out events f.gives f.state good up down)
   followed (Err stop) frames reads out events fault f up down =
       let only : stop ≡ read_fault.Memory = memory_alone e.client.reader e.down l.down (min most (length e.down)) stop frames e2.client.reader i.down reads in
       let at : fault ≡ (ends_with (takes_all e.client.state frames) (Err read_fault.Memory)).fault = f.fault_is
-          ∙ ap (λ (r : ReadFault). (ends_with (takes_all e.client.state frames) (Err r)).fault) only in
+      ∙ ap (λ (r : ReadFault). (ends_with (takes_all e.client.state frames) (Err r)).fault) only in
       inl (at ∙ fails_after (takes_all e.client.state frames) (read_good (Err stop) frames reads))
 
   pub reported_end : (out : List ℕ) (events : List Event) (fault : Option ClientFault) → TakesDelivery most e out events fault e2 → Reported events fault
   reported_end out events fault t =
       let alive : e.client.state.failed ≡ false = ap (λ (c : ClientState). c.failed) i.client_is ∙ inv.alive in
       let f : FeedsOpen e.client (prefix most e.down) out events fault e2.client =
-          subst (λ (b : Bool). MatchBool b (FeedsFailed e.client out events fault e2.client)
-          (FeedsOpen e.client (prefix most e.down) out events fault e2.client)) alive t.fed in
+      subst (λ (b : Bool). MatchBool b (FeedsFailed e.client out events fault e2.client)
+      (FeedsOpen e.client (prefix most e.down) out events fault e2.client)) alive t.fed in
       elim f.takes [
         | inl w ↦ followed f.answer f.frames f.reads out events fault w t.up t.down
         | inr b ↦ inl b.fault_is
@@ -122,10 +122,20 @@ one_turn x k h st fs h2 st2 rs o (inr p) s =
     let a : ServesAll x h st (f ∷ []) h2 st2 rs = subst (λ (y : List Frame). ServesAll x h st y h2 st2 rs) p.1 s in
     let b = rw o at a in
     subst (λ (y : List Frame). IsTurn x k h st y h2 st2 rs) (sym p.1) (elim b.2 [
-      | inl e ↦ record { short = false; history_is = rw o (b.4.0 ∙ rw e refl); standing_is = rw o (b.4.1 ∙ rw e refl); replies_are =
-          rw o (b.3 ∙ rw (b.4.2, append-nil, e) refl) }
-      | inr e ↦ record { short = true; history_is = rw (o, e.0) (b.4.0 ∙ rw e.1 refl); standing_is = rw (o, e.0) (b.4.1 ∙ rw e.1 refl); replies_are =
-          rw (o, e.0) (b.3 ∙ rw (b.4.2, append-nil, e.1) refl) }
+      | inl e ↦ record {
+        short = false;
+        history_is = rw o (b.4.0 ∙ rw e refl);
+        standing_is = rw o (b.4.1 ∙ rw e refl);
+        replies_are =
+            rw o (b.3 ∙ rw (b.4.2, append-nil, e) refl);
+      }
+      | inr e ↦ record {
+        short = true;
+        history_is = rw (o, e.0) (b.4.0 ∙ rw e.1 refl);
+        standing_is = rw (o, e.0) (b.4.1 ∙ rw e.1 refl);
+        replies_are =
+            rw (o, e.0) (b.3 ∙ rw (b.4.2, append-nil, e.1) refl);
+      }
     ])
 
 pub few_of_split : (all fs more : List Frame) → IsFew all → Split all fs more → IsFew fs
@@ -162,12 +172,12 @@ module _ (x : Setting) (seeds : List (List ℕ)) (k : ℕ) (h : History) (l : Li
       let d = delivered session.unfinished e.up l.up most (min most (length e.up)) frames after.unfinished refl i.up reads in
       let t : IsTurn x k h l.standing (arrived l.up most) f.history middle reported =
       subst (λ (y : Standing). IsTurn x k h y (arrived l.up most) f.history middle reported) i.standing_is
-          (subst (λ (y : List Frame). IsTurn x k h session.standing y f.history middle reported) d.frames_are turn) in
+      (subst (λ (y : List Frame). IsTurn x k h session.standing y f.history middle reported) d.frames_are turn) in
       let all_reported : f.replies ≡ (turn_of x t.short k most h l).replies = all ∙ ap (λ (y : List Frame). reported ++ y) ends.1 ∙ append-nil reported
-          ∙ t.replies_are in
+      ∙ t.replies_are in
       let each : AllByRecursion IsFrame (turn_of x t.short k most h l).replies = subst (λ (y : List Frame). AllByRecursion IsFrame y) all_reported f.each in
       let written : e2.down ≡ e.down ++ flat_map encoding (turn_of x t.short k most h l).replies = down
-          ∙ ap (λ (b : List ℕ). e.down ++ b) (f.written ∙ ap (λ (y : List Frame). flat_map encoding y) all_reported) in
+      ∙ ap (λ (b : List ℕ). e.down ++ b) (f.written ∙ ap (λ (y : List Frame). flat_map encoding y) all_reported) in
       record {
         short = t.short;
         setting_is = f.setting_is;
@@ -178,7 +188,7 @@ module _ (x : Setting) (seeds : List (List ℕ)) (k : ℕ) (h : History) (l : Li
           up = subst (λ (b : List ℕ). Carries after.unfinished b (beyond l.up most)) (sym up) d.rest;
           down = subst (λ (c : Client). Carries c.reader e2.down (sent l.down (turn_of x t.short k most h l).replies)) (sym client)
               (subst (λ (b : List ℕ). Carries e.client.reader b (sent l.down (turn_of x t.short k most h l).replies)) (sym written)
-                  (carries_more e.client.reader e.down l.down (turn_of x t.short k most h l).replies each i.down));
+              (carries_more e.client.reader e.down l.down (turn_of x t.short k most h l).replies each i.down));
         };
       }
 

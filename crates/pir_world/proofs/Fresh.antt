@@ -63,5 +63,5 @@ fresh law h records seeds steps s o run short k most l at =
     let i = inv.links k l at in
     let few = (few_frames (setting_in h) s.history l.standing (seed_of seeds k) l.client l.client.call l.up.frames l.down.frames i.phase).0 in
     one_fresh (setting_in h) short k s.history l.standing s.log (arrived l.up most)
-        (few_of_split l.up.frames (arrived l.up most) (beyond l.up most).frames few (split_few l.up most few))
+    (few_of_split l.up.frames (arrived l.up most) (beyond l.up most).frames few (split_few l.up most few))
     (all_up_to (setting_in h) seeds s.history s.log inv.entries)

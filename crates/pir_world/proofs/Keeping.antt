@@ -77,7 +77,7 @@ module _ (x : Setting) (seeds : List (List ℕ)) (s : State) (inv : Inv x seeds 
 
   called_inv : (w : Want) (k : ℕ) (o : Option Link) → slice_get s.links k ≡ o
       → ((l : Link) → LinkInv x s.history (seed_of seeds k) l → LogInv x s.history (seed_of seeds k) k l s.log → refusal w l.client ≡ None → Accepted k w l) →
-          Inv x seeds (called_at s w k o)
+      Inv x seeds (called_at s w k o)
   called_inv w k None at called = inv
   called_inv w k (Some l) at called = call_inv k w l (refusal w l.client) at refl (called l (inv.links k l at) (inv.logs k l at))
 
@@ -86,9 +86,9 @@ module _ (x : Setting) (seeds : List (List ℕ)) (s : State) (inv : Inv x seeds 
   served_at_inv short k most (Some l) at =
       let d = served_inv short most x seeds k s.history (seed_of seeds k) l (inv.links k l at) in
       at_one k l (link_served x short k most s.history l) (turn_of x short k most s.history l).history
-          (turn_of x short k most s.history l).log at d.history_is d.link d.right
+      (turn_of x short k most s.history l).log at d.history_is d.link d.right
       (logged_served x seeds s.history k l s.log (inv.logs k l at) short most (inv.links k l at))
-          (λ j ne. served_asides j k ne x short _ (arrived l.up most) tt)
+      (λ j ne. served_asides j k ne x short _ (arrived l.up most) tt)
 
   reported_at_inv : RetrievalGivesTheRecord → (k most : ℕ) (o : Option Link) → slice_get s.links k ≡ o → Inv x seeds (reported_at s k most o)
   reported_at_inv law k most None at = inv
@@ -96,14 +96,14 @@ module _ (x : Setting) (seeds : List (List ℕ)) (s : State) (inv : Inv x seeds 
       let d = reported_inv law x seeds k s.history l inv.history (inv.links k l at) most in
       at_one k l (link_reported most l) s.history (reported_by k l.client (arrived l.down most)) at refl d.link d.right
       (logged_reported x seeds s.history k l s.log (inv.logs k l at) law inv.history most (inv.links k l at))
-          (λ j ne. reported_aside j k ne l.client (arrived l.down most))
+      (λ j ne. reported_aside j k ne l.client (arrived l.down most))
 
   edit_inv : (i : ℕ) (bytes : List ℕ) → All (λ b. b < 2 ^ 8) bytes → Inv x seeds (edit_after x s i bytes)
   edit_inv i bytes small =
       cond_both (nat_lt i (length s.history.draft)) _ _ (λ t. Inv x seeds t)
       (λ t. cond_both (fits x.plan bytes) _ _ (λ t. Inv x seeds t)
       (λ u. at_history (after_edit i bytes s.history) (Edited i) (good_edited x s.history i bytes (record { len = eqb-true _ _ u; each = small }) inv.history)
-          (λ v records p. p) tt (λ j. tt) tt)
+      (λ v records p. p) tt (λ j. tt) tt)
       (λ u. at_history s.history (EditRefused i _) inv.history (same_history s.history) tt (λ j. tt) tt))
       (λ t. at_history s.history (EditRefused i _) inv.history (same_history s.history) tt (λ j. tt) tt)
 
@@ -113,7 +113,7 @@ module _ (x : Setting) (seeds : List (List ℕ)) (s : State) (inv : Inv x seeds 
       (λ t. cond_both (current_version s.history + 1 == 2 ^ 64) _ _ (λ t. Inv x seeds t)
       (λ u. at_history s.history (PublishRefused _) inv.history (same_history s.history) tt (λ j. tt) tt)
       (λ u. at_history (published s.history) (Published (current_version s.history + 1)) (good_published x s.history inv.history) (later_published s.history)
-          (new_version s.history) (λ j. tt) tt))
+      (new_version s.history) (λ j. tt) tt))
       (λ t. at_history s.history (PublishRefused _) inv.history (same_history s.history) tt (λ j. tt) tt)
     where
       new_version : (h : History) → IsRightOutcome (published h) (Published (current_version h + 1))

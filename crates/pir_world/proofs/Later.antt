@@ -113,8 +113,14 @@ module _ (x : Setting) (h h2 : History) (later : IsLater h h2) where
   version_later v p = (p.0, later _ _ p.1)
 
   known_of_later : (y : ServerInfo) → IsKnownOf x h y → IsKnownOf x h2 y
-  known_of_later y k = record { records = k.records; version_is = later _ _ k.version_is; layout_is = k.layout_is; dimension_is = k.dimension_is; seed_is =
-      k.seed_is }
+  known_of_later y k = record {
+    records = k.records;
+    version_is = later _ _ k.version_is;
+    layout_is = k.layout_is;
+    dimension_is = k.dimension_is;
+    seed_is =
+        k.seed_is;
+  }
 
   known_later : (st : Standing) (k : Option ServerInfo) → KnownIs x h st k → KnownIs x h2 st k
   known_later st None k = tt
@@ -180,11 +186,26 @@ module _ (x : Setting) (h h2 : History) (later : IsLater h h2) where
 
   end_later : (seed : List ℕ) (r : Retrieval) (reply : Frame) (e : Event) → IsRightEnd x h seed r reply e → IsRightEnd x h2 seed r reply e
   end_later seed r reply e (inl a) =
-      inl (record { records = a.records; version_is = later _ _ a.version_is; inside = a.inside; answer_is = a.answer_is; event_is = a.event_is; quiet =
-      a.quiet; certain = a.certain })
+      inl (record {
+        records = a.records;
+        version_is = later _ _ a.version_is;
+        inside = a.inside;
+        answer_is = a.answer_is;
+        event_is = a.event_is;
+        quiet =
+            a.quiet;
+        certain = a.certain;
+      })
   end_later seed r reply e (inr (inl s)) =
-      inr (inl (record { now = s.now; records = s.records; version_is = later _ _ s.version_is; later = s.later; reply_is = s.reply_is; event_is =
-      s.event_is }))
+      inr (inl (record {
+        now = s.now;
+        records = s.records;
+        version_is = later _ _ s.version_is;
+        later = s.later;
+        reply_is = s.reply_is;
+        event_is =
+            s.event_is;
+      }))
   end_later seed r reply e (inr (inr p)) = inr (inr p)
 
   event_later : (e : Event) → IsRightEvent h e → IsRightEvent h2 e

@@ -41,8 +41,11 @@ link_of (s ∷ seeds) (suc k) l e = link_of seeds k l e
 opening_records : (h : Header) (bytes : List ℕ) → IsOpening h bytes → AreRecords (setting_in h).plan (records_in (shape_of h) bytes)
 opening_records h bytes o =
     let n : length (records_in (shape_of h) bytes) ≡ h.count = length-list_of h.count _ in
-    record { plan = rw n (record { layout = o.sound.sizes.layout; low = o.sound.sizes.low; high = o.sound.sizes.high }); each =
-        λ i lt. rw n (one i (omega (arith, lt, n))) }
+    record {
+      plan = rw n (record { layout = o.sound.sizes.layout; low = o.sound.sizes.low; high = o.sound.sizes.high });
+      each =
+          λ i lt. rw n (one i (omega (arith, lt, n)));
+    }
   where
     one : (i : ℕ) → i < h.count → IsRecord (shape_of h) (record_at (records_in (shape_of h) bytes) i)
     one i lt =
@@ -51,8 +54,11 @@ opening_records h bytes o =
         let size : length (take h.record_len (drop (i * h.record_len) bytes)) ≡ h.record_len =
         omega (arith, length-take h.record_len (drop (i * h.record_len) bytes), length-drop (i * h.record_len) bytes, o.sound.len, room) in
         subst (λ (b : List ℕ). IsRecord (shape_of h) b) (sym e)
-            (record { len = size; each =
-            All-take (λ (b : ℕ). b < 2 ^ 8) h.record_len (drop (i * h.record_len) bytes) (All-drop (λ (b : ℕ). b < 2 ^ 8) (i * h.record_len) bytes o.bytes) })
+        (record {
+          len = size;
+          each =
+              All-take (λ (b : ℕ). b < 2 ^ 8) h.record_len (drop (i * h.record_len) bytes) (All-drop (λ (b : ℕ). b < 2 ^ 8) (i * h.record_len) bytes o.bytes);
+        })
 
 pub opening_inv : (h : Header) (bytes : List ℕ) (seeds : List (List ℕ)) → IsOpening h bytes → Inv (setting_in h) seeds (opening h bytes seeds)
 opening_inv h bytes seeds o =
@@ -62,14 +68,19 @@ opening_inv h bytes seeds o =
         first = o.sound.version;
         versions = λ v records p. subst (λ (r : List (List ℕ)). AreRecords (setting_in h).plan r)
             (only_one (records_in (shape_of h) bytes) records (current_version (opening h bytes seeds).history - v)
-                (sym (records_at (opening h bytes seeds).history v p.0) ∙ p.1)) all;
+            (sym (records_at (opening h bytes seeds).history v p.0) ∙ p.1)) all;
         draft = all;
       };
       links = λ k l e. subst (λ (m : Link). LinkInv (setting_in h) (opening h bytes seeds).history (seed_of seeds k) m) (link_of seeds k l e)
           (record { seed_is = refl; alive = refl; unclosed = refl; known = tt; hint = tt; call = tt; phase = (refl, refl) });
       logs = λ k l e. subst (λ (m : Link). LogInv (setting_in h) (opening h bytes seeds).history (seed_of seeds k) k m []) (link_of seeds k l e)
-          (record { number = refl; hint = refl; sent = λ f z. absurd (let y : ◌≡◌ {A = List Frame} [] (f ∷ []) = z in cc); served =
-              λ r z. absurd (let y : ◌≡◌ {A = List Frame} [] (r ∷ []) = z in cc) });
+          (record {
+            number = refl;
+            hint = refl;
+            sent = λ f z. absurd (let y : ◌≡◌ {A = List Frame} [] (f ∷ []) = z in cc);
+            served =
+                λ r z. absurd (let y : ◌≡◌ {A = List Frame} [] (r ∷ []) = z in cc);
+          });
       entries = tt;
       earlier = tt;
     }

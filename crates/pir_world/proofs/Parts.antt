@@ -116,7 +116,7 @@ module _ (x : Setting) (core : Core) (ends : List Side) (os : List Outcome) (s :
   pub parts_reported : RetrievalGivesTheRecord → (seeds : List (List ℕ)) (most : ℕ) (out : List ℕ) (events : List Event) (fault : Option ClientFault) →
       Inv x seeds s → TakesDelivery most e out events fault e2
       → (fault ≡ Some Memory) ⊎ ((fault ≡ None)
-          × IsParts x core (slice_set ends k e2) (os ++ map (Reported k) events) (reported_at s k most (slice_get s.links k)))
+      × IsParts x core (slice_set ends k e2) (os ++ map (Reported k) events) (reported_at s k most (slice_get s.links k)))
   parts_reported law seeds most out events fault inv d =
       let m = met x core ends os s k e p at in
       let i = inv.links k m.link m.link_is in
@@ -131,7 +131,7 @@ module _ (x : Setting) (core : Core) (ends : List Side) (os : List Outcome) (s :
           let few = (few_frames x s.history m.link.standing (seed_of seeds k) m.link.client m.link.client.call m.link.up.frames m.link.down.frames i.phase).1 in
           let arrives = few_of_split m.link.down.frames (arrived m.link.down most) _ few (split_few m.link.down most few) in
           let events_reported : outcomes_of (reported_by k m.link.client (arrived m.link.down most)) ≡ map (Reported k) events =
-              few_reported k m.link.client (arrived m.link.down most) arrives t.good ∙ ap (λ (es : List Event). map (Reported k) es) (sym t.events_are) in
+          few_reported k m.link.client (arrived m.link.down most) arrives t.good ∙ ap (λ (es : List Event). map (Reported k) es) (sym t.events_are) in
           rw m.link_is (record {
             setting_is = p.setting_is;
             store_is = p.store_is;
@@ -151,7 +151,7 @@ module _ (x : Setting) (core : Core) (ends : List Side) (os : List Outcome) (s :
       let r = f s.history m.session p.store_is m.session_is in
       let fed = subst (λ (y : Setting). Fed y s.history m.session (prefix most e.up) (Ok tt) core2.store r.0 [] r.2.replies) p.setting_is r.2.fed in
       let t = served_end x seeds k s.history m.link (inv.links k m.link m.link_is) e e2 m.session r.0 core2.store most r.2.replies m.end_is fed r.2.client
-          r.2.up r.2.down in
+      r.2.up r.2.down in
       let silent_ : outcomes_of (turn_of x t.short k most s.history m.link).log ≡ [] = serves_silent x t.short k _ (arrived m.link.up most) refl in (
         t.short,
         rw m.link_is (record {
@@ -176,7 +176,7 @@ module _ (x : Setting) (core : Core) (ends : List Side) (os : List Outcome) (s :
       let fits : IsFrame (call_frame c c.call) = subst (λ (y : ClientState). IsFrame (call_frame y y.call)) state a.fits in
       let written : e2.up ≡ e.up ++ flat_map encoding (call_frame c c.call ∷ []) =
       up ∙ ap (λ (b : List ℕ). e.up ++ b) (a.written ∙ ap (λ (y : ClientState). encoding (call_frame y y.call)) state
-          ∙ sym (append-nil (encoding (call_frame c c.call)))) in (
+      ∙ sym (append-nil (encoding (call_frame c c.call)))) in (
         ap (λ (y : ClientState). refusal w y) (sym i.client_is) ∙ a.may,
         record {
           client_is = state;

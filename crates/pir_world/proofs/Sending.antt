@@ -22,7 +22,7 @@ when_ok (Err x) P e p = absurd cc
 pub serves_delivery : (most n : ℕ) (h : History) (before after : StoreState) (old new : Side) (session then_ : Session) (piece start replies : List ℕ) →
     n ≡ min most (length old.up) → piece ≡ old.up → start ≡ []
     → Fed (setting_of before) h session (take n piece) (Ok tt) after then_ start replies → new.client ≡ old.client → new.up ≡ drop n old.up →
-        new.down ≡ old.down ++ replies → ServesDelivery most h before old session after new then_
+    new.down ≡ old.down ++ replies → ServesDelivery most h before old session after new then_
 serves_delivery most n h before after old new session then_ piece start replies size same empty f client up down = record {
   replies = replies;
   fed = subst (λ (b : List ℕ). Fed (setting_of before) h session b (Ok tt) after then_ [] replies) (ap (λ (m : ℕ). take m piece) size
@@ -62,12 +62,12 @@ pub ends_more : (seeds : List (List ℕ)) (ends more : List Side) (i : ℕ) (e :
 ends_more seeds ends more i e lt a b d =
     let next : suc i ≡ i + 1 = omega arith in
     b ∙ rw (a, d) (sym (map-append fresh_side (take i seeds) (slice_index_or seeds i [] ∷ [])))
-        ∙ ap (λ (s : List (List ℕ)). map fresh_side s) (take-next seeds i lt) ∙ ap (λ (n : ℕ). map fresh_side (take n seeds)) next
+    ∙ ap (λ (s : List (List ℕ)). map fresh_side s) (take-next seeds i lt) ∙ ap (λ (n : ℕ). map fresh_side (take n seeds)) next
 
 pub sessions_more : (old new : List (ℕ × Session)) (i : ℕ) → ((j : ℕ) → j < i → session_of old j ≡ Some new_session) →
     ((j : ℕ) → i ≤ j → session_of old j ≡ None) → session_of new i ≡ Some new_session
     → ((j : ℕ) → j ≢ i → session_of new j ≡ session_of old j) → ((j : ℕ) → j < i + 1 → session_of new j ≡ Some new_session)
-        × ((j : ℕ) → i + 1 ≤ j → session_of new j ≡ None)
+    × ((j : ℕ) → i + 1 ≤ j → session_of new j ≡ None)
 sessions_more old new i low high at others = (
   (λ j lt. elim (cases_eq j i) [ inl e ↦ rw e at | inr ne ↦ others j ne ∙ low j (omega (arith, lt, ne)) ]),
   (λ j le. others j (λ e. omega (arith, le, e)) ∙ high j (omega (arith, le))),

@@ -50,11 +50,23 @@ reader_key_is = refl
 welcomed : (short : Bool) (x : Setting) (h : History) (seed : List ℕ) (st : Standing) →
     Replied x h seed st (Hello reader_key) (frame.Hello client_profile reader_key) (served_or short x h st (frame.Hello client_profile reader_key))
 welcomed false x h seed st =
-    rw reader_key_is (record { history_is = refl; unclosed = refl; reader = λ e. refl; reply =
-    (_, refl, (refl, (current_version h, h.current, newest h, refl))); right = tt })
+    rw reader_key_is (record {
+      history_is = refl;
+      unclosed = refl;
+      reader = λ e. refl;
+      reply =
+          (_, refl, (refl, (current_version h, h.current, newest h, refl)));
+      right = tt;
+    })
 welcomed true x h seed st =
-    rw reader_key_is (record { history_is = refl; unclosed = refl; reader = λ e. refl; reply =
-    (_, refl, (refl, (current_version h, h.current, newest h, refl))); right = tt })
+    rw reader_key_is (record {
+      history_is = refl;
+      unclosed = refl;
+      reader = λ e. refl;
+      reply =
+          (_, refl, (refl, (current_version h, h.current, newest h, refl)));
+      right = tt;
+    })
 
 -- a scheme's byte names it
 byte_names : (s : Scheme) → scheme_of_byte (scheme_byte s) ≡ Some s
@@ -78,17 +90,29 @@ module _ (x : Setting) (h : History) (seed : List ℕ) (s : Scheme) (v p : ℕ) 
   now false t in_ =
       let e : v ≡ current_version h = eqb-true v (current_version h) t in
       rw (byte_names s, t, in_)
-          (record { history_is = refl; unclosed = refl; reader = λ e. e; reply = (_, refl, inr (inr (h.current, now_is h v e, rw e refl))); right = tt })
+      (record { history_is = refl; unclosed = refl; reader = λ e. e; reply = (_, refl, inr (inr (h.current, now_is h v e, rw e refl))); right = tt })
   now true t in_ = rw (byte_names s, t, in_) (record { history_is = refl; unclosed = refl; reader = λ e. e; reply = (_, refl, inl refl); right = tt })
 
   old : (short : Bool) → (v == current_version h) ≡ false → v < current_version h →
       Replied x h seed Reader (Sync s v p) (frame.HintAsk (scheme_byte s) v p) (served_or short x h Reader (frame.HintAsk (scheme_byte s) v p))
   old false t lt = rw (byte_names s, t)
-      (record { history_is = refl; unclosed = refl; reader = λ e. e; reply = (_, refl, inr (inl (current_version h, h.current, newest h, lt, refl))); right =
-      tt })
+      (record {
+        history_is = refl;
+        unclosed = refl;
+        reader = λ e. e;
+        reply = (_, refl, inr (inl (current_version h, h.current, newest h, lt, refl)));
+        right =
+            tt;
+      })
   old true t lt = rw (byte_names s, t)
-      (record { history_is = refl; unclosed = refl; reader = λ e. e; reply = (_, refl, inr (inl (current_version h, h.current, newest h, lt, refl))); right =
-      tt })
+      (record {
+        history_is = refl;
+        unclosed = refl;
+        reader = λ e. e;
+        reply = (_, refl, inr (inl (current_version h, h.current, newest h, lt, refl)));
+        right =
+            tt;
+      })
 
   replied_sync : (short : Bool) (known : Option ServerInfo) (parts : List ℕ) → SyncIs x h s v p known parts →
       Replied x h seed Reader (Sync s v p) (frame.HintAsk (scheme_byte s) v p) (served_or short x h Reader (frame.HintAsk (scheme_byte s) v p))
@@ -170,7 +194,7 @@ module _ (x : Setting) (h : History) (seed : List ℕ) (i : ℕ) (s : Scheme) (v
     | inl t ↦
         let same : records ≡ h.current = one_version h v records h.current there (now_is h v (eqb-true v (current_version h) t)) in
         answer_now short words w t same (ap (λ (z : List ℕ). length z == words_asked x s h.current) w
-            ∙ ap (λ (r : List (List ℕ)). length (asked_words x.plan records seed retrieval) == words_asked x s r) (sym same) ∙ words_fit)
+        ∙ ap (λ (r : List (List ℕ)). length (asked_words x.plan records seed retrieval) == words_asked x s r) (sym same) ∙ words_fit)
     | inr t ↦ answer_old short words t
   ]
 
@@ -200,7 +224,7 @@ module _ (x : Setting) (seeds : List (List ℕ)) (k : ℕ) (h : History) (seed :
 
   frame_comes : (short : Bool) (call : Call) (fs up down : List Frame) → is_closed st ≡ false → fs ≡ call_frame c call ∷ [] → up ≡ [] → down ≡ []
       → Replied x h seed st call (call_frame c call) (served_or short x h st (call_frame c call)) →
-          ServedLink x seeds h seed st c call (serves x short k h st fs) up (down ++ (serves x short k h st fs).replies)
+      ServedLink x seeds h seed st c call (serves x short k h st fs) up (down ++ (serves x short k h st fs).replies)
   frame_comes short call fs up down o e u d r = rw (e, o, d) (record {
     history_is = r.history_is;
     unclosed = r.unclosed;
@@ -211,7 +235,7 @@ module _ (x : Setting) (seeds : List (List ℕ)) (k : ℕ) (h : History) (seed :
 
   served_flight : (short : Bool) (call : Call) (up fs up2 down : List Frame) → Split up fs up2 → is_closed st ≡ false
       → Replied x h seed st call (call_frame c call) (served_or short x h st (call_frame c call)) → InFlight x h st seed c call up down →
-          Phase x h st seed c call up down
+      Phase x h st seed c call up down
       → ServedLink x seeds h seed st c call (serves x short k h st fs) up2 (down ++ (serves x short k h st fs).replies)
   served_flight short call up fs up2 down (inl a) o r p ph = nothing_comes short call fs up2 down o a.0 (rw a.1 ph)
   served_flight short call up fs up2 down (inr a) o r (inl p) ph = frame_comes short call fs up2 down o (a.0 ∙ p.0) a.1 p.1 r
@@ -228,7 +252,7 @@ module _ (x : Setting) (seeds : List (List ℕ)) (k : ℕ) (h : History) (seed :
   -- the words of an ask are those of its retrieval's query
   pub ask_words : (j : ℕ) (scheme : Scheme) (v n : ℕ) → c.seed ≡ seed → KnownIs x h st c.known → HintIs x h c.hint → AskIs c j scheme v
       → (records : List (List ℕ)) × HasVersion h v records
-          × (call_words c.known scheme c.seed n j ≡ asked_words x.plan records seed (record { index = j; scheme = scheme; version = v; number = n }))
+      × (call_words c.known scheme c.seed n j ≡ asked_words x.plan records seed (record { index = j; scheme = scheme; version = v; number = n }))
   ask_words j scheme v n s known hint i =
       let y = known_is c.known i.k known i.known_is in
       let there = hint_version c.hint i.hint v hint i.hint_is i.version_is in
@@ -246,13 +270,13 @@ module _ (x : Setting) (seeds : List (List ℕ)) (k : ℕ) (h : History) (seed :
   replied short (Hello key) busy s known hint i = rw i (welcomed short x h seed st)
   replied short (Sync scheme v p) busy s known hint i =
       subst (λ (y : Standing). Replied x h seed y (Sync scheme v p) (frame.HintAsk (scheme_byte scheme) v p)
-          (served_or short x h y (frame.HintAsk (scheme_byte scheme) v p)))
+      (served_or short x h y (frame.HintAsk (scheme_byte scheme) v p)))
       (sym (known_is c.known i.k known i.known_is).0) (replied_sync x h seed scheme v p short c.known c.parts i)
   replied short (Ask j scheme v n) busy s known hint i =
       let y = known_is c.known i.k known i.known_is in
       let w = ask_words j scheme v n s known hint i in
       subst (λ (z : Standing). Replied x h seed z (Ask j scheme v n) (frame.Query (scheme_byte scheme) v (call_words c.known scheme c.seed n j))
-          (served_or short x h z (frame.Query (scheme_byte scheme) v (call_words c.known scheme c.seed n j))))
+      (served_or short x h z (frame.Query (scheme_byte scheme) v (call_words c.known scheme c.seed n j))))
       (sym y.0) (replied_ask x h seed j scheme v n w.0 w.1 short (call_words c.known scheme c.seed n j) w.2)
   replied short (Edit j bytes) busy s known hint i = absurd i
   replied short Publish busy s known hint i = absurd i

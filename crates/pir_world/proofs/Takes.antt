@@ -83,7 +83,7 @@ welcome_good : (p : Plan) (n v : ℕ) → IsPlan p n → 0 < v → is_welcome (p
 welcome_good p n v ok lt =
     and_from (is_layout (shape_at p n)) _ (layout_accepted (shape_at p n) ok.layout)
     (and_from (nat_le 1 p.dimension && nat_le p.dimension 1024) (nat_lt 0 v) (and_from _ _ (le-leb 1 p.dimension ok.low) (le-leb p.dimension 1024 ok.high))
-        (lt-ltb 0 v lt))
+    (lt-ltb 0 v lt))
 
 matrix_same : (m : WordMatrix) (r c : ℕ) (w : List ℕ) → r ≡ m.rows → c ≡ m.cols → w ≡ m.words → record { rows = r; cols = c; words = w } ≡ m
 matrix_same m r c w a b d = rw (a, b, d) refl
@@ -186,7 +186,7 @@ module _ (law : RetrievalGivesTheRecord) (x : Setting) (seeds : List (List ℕ))
     stale_good v now records p lt =
         let ne : (now == v) ≡ false = ne_eqb now v (λ e. omega (arith, lt, e)) in
         rw ne (and_from _ _ (lt-ltb 0 now (version_positive x h now records g p))
-            (plan_accepted x.plan (length records) _ (plan_ok now records p) (count_same (length records))))
+        (plan_accepted x.plan (length records) _ (plan_ok now records p) (count_same (length records))))
 
     reported_of : (now : ℕ) (records : List (List ℕ)) → HasVersion h now records →
         IsKnownOf x h (record y { version = now; layout = with_count y.layout (length records) })
@@ -228,7 +228,7 @@ module _ (law : RetrievalGivesTheRecord) (x : Setting) (seeds : List (List ℕ))
     layout_of : (v : ℕ) (records : List (List ℕ)) → y.version ≡ v → HasVersion h v records → y.layout ≡ shape_at x.plan (length records)
     layout_of v records e p =
         let same : known.1.records ≡ records =
-            one_version h v known.1.records records (let P : ℕ → Type 0 = λ n. HasVersion h n known.1.records in subst P e known.1.version_is) p in
+        one_version h v known.1.records records (let P : ℕ → Type 0 = λ n. HasVersion h n known.1.records in subst P e known.1.version_is) p in
         known.1.layout_is ∙ ap (λ (r : List (List ℕ)). shape_at x.plan (length r)) same
 
     module _ (s : Scheme) (v p : ℕ) (r : SyncIs x h s v p c.known c.parts) (e : y.version ≡ v) where
@@ -264,7 +264,7 @@ module _ (law : RetrievalGivesTheRecord) (x : Setting) (seeds : List (List ℕ))
           let size : length words ≡ length (hint_words x s r.records) = eqb-true _ _ t ∙ total_is in
           let same : length (take (65536 * (p + 1)) (hint_words x s r.records)) ≡ length (hint_words x s r.records) = sym (ap length all) ∙ size in
           let whole : words ≡ hint_words x s r.records = all
-              ∙ take_all (65536 * (p + 1)) (hint_words x s r.records) (omega (arith, length-take (65536 * (p + 1)) (hint_words x s r.records), same)) in
+          ∙ take_all (65536 * (p + 1)) (hint_words x s r.records) (omega (arith, length-take (65536 * (p + 1)) (hint_words x s r.records), same)) in
           rw t (record {
             client = record { seed_is = i.seed_is; alive = i.alive; known = i.known; hint = (r.records, r.version_is, made words whole); call = tt };
             no_fault = refl;
@@ -278,7 +278,7 @@ module _ (law : RetrievalGivesTheRecord) (x : Setting) (seeds : List (List ℕ))
       more words all (inr t) =
           let ne : length words ≡ length (hint_words x s r.records) → ⊥ = λ q. eqb-false _ _ t (q ∙ sym total_is) in
           let less : 65536 * (p + 1) < length (hint_words x s r.records) =
-              omega (arith, length-take (65536 * (p + 1)) (hint_words x s r.records), ap length all, ne) in
+          omega (arith, length-take (65536 * (p + 1)) (hint_words x s r.records), ap length all, ne) in
           rw t (record {
             client = record {
               seed_is = i.seed_is;
@@ -310,7 +310,7 @@ module _ (law : RetrievalGivesTheRecord) (x : Setting) (seeds : List (List ℕ))
       part_came =
           subst (λ (t : Taken). IsTaken x seeds k h st c (Sync s v p) (frame.HintPart (scheme_byte s) v p (part_words x s r.records p)) t) (sym part_step)
           (more (c.parts ++ part_words x s r.records p) (ap (λ (w : List ℕ). w ++ part_words x s r.records p) r.parts_are ∙ parts_more x s r.records p)
-              (cases_Bool (length (c.parts ++ part_words x s r.records p) == total)))
+          (cases_Bool (length (c.parts ++ part_words x s r.records p) == total)))
 
     module _ (j : ℕ) (s : Scheme) (v n : ℕ) (records : List (List ℕ)) (p : HasVersion h v records) (lt : j < y.layout.count) (e : y.version ≡ v) (hint : Hint)
         (held : c.hint ≡ Some hint) (se : hint.scheme ≡ s) (ve : hint.version ≡ v) where
@@ -364,7 +364,7 @@ module _ (law : RetrievalGivesTheRecord) (x : Setting) (seeds : List (List ℕ))
           ap (λ (o : Option ServerInfo). answered o c.hint c j v n (scheme_byte s) v answer) at
           ∙ ap (λ (o : Option Hint). answered (Some y) o c j v n (scheme_byte s) v answer) held
           ∙ ap (λ (b : Bool). cond b (ended c (event_of j v (record_of y.layout (reading hint.scheme y.layout hint.matrix c.seed n j answer))))
-              (faulty c BadReply)) words_good
+          (faulty c BadReply)) words_good
 
       answer_came : IsTaken x seeds k h st c (Ask j s v n) (frame.Answer (scheme_byte s) v answer) (takes_answer (Ask j s v n) c (scheme_byte s) v answer)
       answer_came = subst (λ (t : Taken). IsTaken x seeds k h st c (Ask j s v n) (frame.Answer (scheme_byte s) v answer) t) (sym answer_step) (record {
@@ -386,26 +386,26 @@ module _ (law : RetrievalGivesTheRecord) (x : Setting) (seeds : List (List ℕ))
   reply_taken Idle r e a p = absurd p
   reply_taken (Hello key) r e a p =
       rw p.1.3 (by_call (λ (q : Call). takes_welcome q c (profile_of x.plan)
-          (shape x.plan.width x.plan.record_len x.plan.groups (length p.1.1)) x.plan.dimension p.1.0 x.plan.seed) (Hello key) (welcome_frame x p.1.0 p.1.1) e
-          (welcomed key p.1.0 p.1.1 p.1.2 p.0))
+      (shape x.plan.width x.plan.record_len x.plan.groups (length p.1.1)) x.plan.dimension p.1.0 x.plan.seed) (Hello key) (welcome_frame x p.1.0 p.1.1) e
+      (welcomed key p.1.0 p.1.1 p.1.2 p.0))
   reply_taken (Sync s v m) r e a (inl p) =
       rw p (by_call (λ (q : Call). takes_refused q c (code_of refusal.Memory)) (Sync s v m) (refused refusal.Memory) e
-          (refused_sync s v m (code_of refusal.Memory)))
+      (refused_sync s v m (code_of refusal.Memory)))
   reply_taken (Sync s v m) r e a (inr (inl p)) =
       let known = known_some x h st c.known a.k i.known a.known_is in
       rw p.4 (by_call (λ (q : Call). takes_stale q c p.0 (length p.1)) (Sync s v m) (frame.Stale p.0 (length p.1)) e
-          (stale_sync a.k a.known_is known s v m p.0 p.1 p.2 p.3))
+      (stale_sync a.k a.known_is known s v m p.0 p.1 p.2 p.3))
   reply_taken (Sync s v m) r e a (inr (inr p)) =
       let known = known_some x h st c.known a.k i.known a.known_is in
       let same : p.0 ≡ a.records = one_version h v p.0 a.records p.1 a.version_is in
       rw (p.2, same) (by_call (λ (q : Call). takes_part q c (scheme_byte s) v m (part_words x s a.records m)) (Sync s v m)
-          (frame.HintPart (scheme_byte s) v m (part_words x s a.records m)) e (part_came a.k a.known_is known s v m a a.asked))
+      (frame.HintPart (scheme_byte s) v m (part_words x s a.records m)) e (part_came a.k a.known_is known s v m a a.asked))
   reply_taken (Ask j s v n) r e a (inl p) =
       rw p (by_call (λ (q : Call). takes_refused q c (code_of refusal.Memory)) (Ask j s v n) (refused refusal.Memory) e (refused_ask j s v n))
   reply_taken (Ask j s v n) r e a (inr (inl p)) =
       let known = known_some x h st c.known a.k i.known a.known_is in
       rw p.4 (by_call (λ (q : Call). takes_stale q c p.0 (length p.1)) (Ask j s v n) (frame.Stale p.0 (length p.1)) e
-          (stale_ask a.k a.known_is known j s v n p.0 p.1 p.2 p.3))
+      (stale_ask a.k a.known_is known j s v n p.0 p.1 p.2 p.3))
   reply_taken (Ask j s v n) r e a (inr (inr p)) =
       let known = known_some x h st c.known a.k i.known a.known_is in
       let w : List ℕ = given_words x.plan p.0 (seed_of seeds k) (record { index = j; scheme = s; version = v; number = n }) in

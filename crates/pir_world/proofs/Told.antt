@@ -110,7 +110,7 @@ module _ (x : Setting) (seeds : List (List ℕ)) (h : History) (k : ℕ) (log fi
   part_earlier scheme version part (Sync s2 v2 p) from a =
       let f_is : f ≡ frame.HintAsk (scheme_byte scheme) version p = from ∙ rw (a.0, a.1) refl in
       let asked : IsServedLast k (frame.HintAsk (scheme_byte scheme) version p) reply first log =
-          subst (λ (y : Frame). IsServedLast k y reply first log) f_is s in
+      subst (λ (y : Frame). IsServedLast k y reply first log) f_is s in
       inr (first, p, a.3.0, a.2, subst (λ (y : Frame). IsServedLast k (frame.HintAsk (scheme_byte scheme) version p) y first log) a.3.1 asked)
   part_earlier scheme version part Idle from a = absurd a
   part_earlier scheme version part (Hello key) from a = absurd a
@@ -120,7 +120,7 @@ module _ (x : Setting) (seeds : List (List ℕ)) (h : History) (k : ℕ) (log fi
 
   reacts_earlier : (t : Reaction) (call : Call) → IsFrom x h (seed_of seeds k) k call f first
       → ((scheme : Scheme) (version part : ℕ) → t ≡ Asks scheme version part → IsPartBefore call reply scheme version part) →
-          EachAfter (HasEarlier x seeds h) log (reacts k call reply t)
+      EachAfter (HasEarlier x seeds h) log (reacts k call reply t)
   reacts_earlier (Asks scheme version part) call from asks = (part_earlier scheme version part call from (asks scheme version part refl), tt)
   reacts_earlier (Fails fault) call from asks = (tt, tt)
   reacts_earlier (Reports event) (Ask j z v m) from asks = (record { query = f; first = first; asked = from; served = s }, tt)

@@ -38,4 +38,4 @@ abbrev pub AnswersAreFresh : Type 0
 AnswersAreFresh = (h : Header) (records : List ℕ) (seeds : List (List ℕ)) (steps : List Step) (s : State) → IsOpening h records →
     Run (setting_in h) (opening h records seeds) steps s →
     (short : Bool) (k most : ℕ) (l : Link) → slice_get s.links k ≡ Some l →
-        AllByRecursion (IsFresh s.history s.log) (turn_of (setting_in h) short k most s.history l).log
+    AllByRecursion (IsFresh s.history s.log) (turn_of (setting_in h) short k most s.history l).log

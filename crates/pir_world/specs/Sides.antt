@@ -73,7 +73,7 @@ pub record ServesDelivery (most : ℕ) (h : History) (before : StoreState) (old 
 abbrev pub MakesCall : Want → Side → Option CallFault → Side → Type 0
 MakesCall want old None new =
     (bytes : List ℕ) × Accepts old.client.state want new.client.state bytes × (new.client.reader ≡ old.client.reader) × (new.up ≡ old.up ++ bytes)
-        × (new.down ≡ old.down)
+    × (new.down ≡ old.down)
 MakesCall want old (Some fault) new = (refusal want old.client.state ≡ Some fault) × (new ≡ old)
 
 -- a wire by its bytes: what the reader has of the next frame, and then what waits, encode the frames on their way

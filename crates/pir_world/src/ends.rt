@@ -5,8 +5,7 @@ ghost use Rattle.version_store.specs.Histories.{History, StandsFor};
 ghost use Rattle.server_core.specs.Cores.{session_of};
 ghost use Rattle.server_core.specs.Sessions.{Session};
 ghost use Rattle.client_core.specs.Calls.{Accepts, Refuses};
-ghost use Rattle.pir_world.specs.Sides.{fresh_side, want_of, TakesDelivery, ServesDelivery,
-    MakesCall};
+ghost use Rattle.pir_world.specs.Sides.{fresh_side, want_of, TakesDelivery, ServesDelivery, MakesCall};
 
 use bytes::BytesMut;
 use client_core::{CallFault, ClientCore, Fed, Scheme};
@@ -80,8 +79,8 @@ impl<K: Kernel> ClientEndpoint<K> {
         ensures served { OnOk result ((h : History) (session : Session) →
             StandsFor server.old.store h → session_of server.old.sessions id ≡ Some session →
             (after : Session) × (session_of server.new.sessions id ≡ Some after) ×
-                ServesDelivery most h server.old.store self.old session server.new.store self.new
-                after) }
+            ServesDelivery most h server.old.store self.old session server.new.store self.new
+            after) }
         ensures others { (other : ℕ) → other ≢ id →
             session_of server.new.sessions other ≡ session_of server.old.sessions other }
     {

@@ -1,7 +1,6 @@
 //! Steps on the parts of a world.
 
-ghost use Rattle.std.specs.Prelude.{◌≡◌, ◌<◌, ◌≤◌, ◌+◌, ◌++◌, ℕ, List, length, map, OnOk, OnErr,
-    slice_get, Bool, true, false, vec_len, vec_capacity};
+ghost use Rattle.std.specs.Prelude.{◌≡◌, ◌<◌, ◌≤◌, ◌+◌, ◌++◌, ℕ, List, length, map, OnOk, OnErr, slice_get, Bool, true, false, vec_len, vec_capacity};
 ghost use Rattle.server_core.specs.Cores.{Core};
 ghost use Rattle.server_core.specs.Serving.{Setting};
 ghost use Rattle.pir_world.specs.declared.steps.Outcome.TheVariants.{Reported};
@@ -46,7 +45,7 @@ pub fn apply_step<K: Kernel>(
     ensures made { OnOk result ((x : Setting) (seeds : List (List ℕ)) (s : State) → Inv x seeds s →
         IsParts x server.old ends.old.items outcomes.old.items s →
         (t : State) × Steps x s step.now t ×
-            IsParts x server.new ends.new.items outcomes.new.items t) }
+        IsParts x server.new ends.new.items outcomes.new.items t) }
     ensures clients { length ends.new.items ≡ length ends.old.items }
     ensures none { OnErr result (outcomes.new.items ≡ outcomes.old.items) }
 {
@@ -112,7 +111,7 @@ fn call<K: Kernel>(
     ensures made { OnOk result ((core : Core) (x : Setting) (s : State) →
         IsParts x core ends.old.items outcomes.old.items s →
         IsParts x core ends.new.items outcomes.new.items (called_at s (want_of request) k
-            (slice_get s.links k))) }
+        (slice_get s.links k))) }
     ensures clients { length ends.new.items ≡ length ends.old.items }
     ensures none { OnErr result (outcomes.new.items ≡ outcomes.old.items) }
 {
@@ -137,7 +136,7 @@ fn serve<K: Kernel>(
     ensures made { OnOk result ((x : Setting) (seeds : List (List ℕ)) (s : State)
         (outcomes : List Outcome) → Inv x seeds s → IsParts x server.old ends.old.items outcomes s →
         (short : Bool) × IsParts x server.new ends.new.items outcomes
-            (after x short s (step.ToServer k most))) }
+        (after x short s (step.ToServer k most))) }
     ensures clients { length ends.new.items ≡ length ends.old.items }
 {
     match ends[k].send(alloc, server, k as u64, most) {

@@ -1,7 +1,6 @@
 //! A world.
 
-ghost use Rattle.std.specs.Prelude.{◌≡◌, ◌∷◌, ◌++◌, [], List, ℕ, ◌↔◌, true, false, OnOk, IfOk,
-    IfErr, IsErrOf, length, map, Some, None, All, ◌^◌, ◌<◌, ◌⊎◌};
+ghost use Rattle.std.specs.Prelude.{◌≡◌, ◌∷◌, ◌++◌, [], List, ℕ, ◌↔◌, true, false, OnOk, IfOk, IfErr, IsErrOf, length, map, Some, None, All, ◌^◌, ◌<◌, ◌⊎◌};
 ghost use Rattle.snapshot_file.specs.Snapshots.{header_of};
 ghost use Rattle.version_store.specs.Openings.{IsOpenFault};
 ghost use Rattle.server_core.specs.Cores.{session_of};
@@ -101,7 +100,7 @@ impl<K: Kernel> World<K> {
         ensures kept { result.now ≡ self.now.outcomes }
         ensures right { self.now.broken ≡ false →
             (s : State) × IsRunOf self.now s × (result.now ≡ outcomes_of s.log) ×
-                Headline (setting_in self.now.header) self.now.seeds s }
+            Headline (setting_in self.now.header) self.now.seeds s }
     {
         every_run_is_right();
         self.outcomes.as_slice()
@@ -190,7 +189,10 @@ fn open_ends<K: Kernel>(
         if server.open_session(id as u64).is_err() {
             return Err(AllocError);
         }
-        if ends.push(ClientEndpoint::new(alloc, kernel, *seed)).is_err() {
+        if ends
+            .push(ClientEndpoint::new(alloc, kernel, *seed))
+            .is_err()
+        {
             return Err(AllocError);
         }
     }

@@ -44,7 +44,7 @@ times_if false a v = omega arith
 
 pub dot-cipher : (w : ℕ) (a : WordMatrix) (s : List ℕ) (e : List ℤ) (place : ℕ) (x : List ℕ) → length x ≡ a.rows → place < a.rows →
     dot x (cipher w a s e place)
-        ≡ (dot x (times_vector a s) + sum_below a.rows (λ j. slice_index x j * residue (slice_index_or e j (pos 0))) + slice_index x place * delta w) % 2 ^ 32
+    ≡ (dot x (times_vector a s) + sum_below a.rows (λ j. slice_index x j * residue (slice_index_or e j (pos 0))) + slice_index x place * delta w) % 2 ^ 32
 dot-cipher w a s e place x l p =
     let y = λ (j : ℕ). slice_index x j in
     let m = λ (j : ℕ). dot (row a j) s in

@@ -2,9 +2,7 @@
 
 ghost use Rattle.std.specs.Prelude.{◌≡◌, IfOk};
 ghost use Rattle.std.specs.String.{string_bytes};
-ghost use Rattle.rehearsal.specs.Texts.{outcome_text, call_fault_name, call_refused_text,
-    client_fault_name, edit_fault_name, event_text, open_fault_name, publish_fault_name,
-    retrieved_text, scheme_name, shown_bytes};
+ghost use Rattle.rehearsal.specs.Texts.{outcome_text, call_fault_name, call_refused_text, client_fault_name, edit_fault_name, event_text, open_fault_name, publish_fault_name, retrieved_text, scheme_name, shown_bytes};
 
 use client_core::{CallFault, ClientFault, Event, Scheme};
 use pir_world::Outcome;

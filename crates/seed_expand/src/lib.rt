@@ -7,8 +7,7 @@
 
 ghost use Rattle.std.specs.Prelude.{◌≡◌, ℕ, ◌+◌, ◌%◌, ◌^◌, ◌<◌, ◌≤◌, IfOk, length};
 ghost use Rattle.matrix_u32.specs.Sum.{list_of};
-ghost use Rattle.seed_expand.specs.Words.{source_at, further, word_here, source_word, words_from,
-    public_rows};
+ghost use Rattle.seed_expand.specs.Words.{source_at, further, word_here, source_word, words_from, public_rows};
 ghost use Rattle.seed_expand.specs.Laws.{SourceGivesWords, PlacesRunOn};
 
 use matrix_u32::Matrix;

@@ -79,7 +79,7 @@ after_frames : (answer : Result (Unit {0}) ReadFault) (h2 : History) (middle aft
     EndsPiece answer middle after more → replies ≡ reported ++ more
     → record { history = h2; standing = after; replies = replies }
     ≡ cond (is_closed middle) (record { history = h2; standing = middle; replies = reported })
-        (at_end answer (record { history = h2; standing = middle; replies = reported }))
+    (at_end answer (record { history = h2; standing = middle; replies = reported }))
 after_frames answer h2 Closed after reported more replies e all = rw (e.0, all, e.1, append-nil reported) refl
 after_frames answer h2 Stranger after reported more replies e all = after_open answer h2 Stranger after reported more replies e all
 after_frames answer h2 Reader after reported more replies e all = after_open answer h2 Reader after reported more replies e all
@@ -119,7 +119,7 @@ piece_decided : FeedsDecide → FeedsBegin →
     (frames : List Frame) (rest : Option (List ℕ)) → ServesPiece x h old piece h2 new replies
     → lacks_memory replies ≡ false → Feeds old.unfinished piece answer frames rest → answer ≢ Err Memory
     → (record { history = h2; standing = new.standing; replies = replies } ≡ course_of_piece x h old.standing frames answer)
-        × (is_closed new.standing ≡ false → new.unfinished ≡ rest)
+    × (is_closed new.standing ≡ false → new.unfinished ≡ rest)
 piece_decided decide begin x h old piece h2 new replies answer frames rest s lacks reads clear =
     elim (memory_or s.answer) [
       | inl m ↦
@@ -127,16 +127,16 @@ piece_decided decide begin x h old piece h2 new replies answer frames rest s lac
           let b = begin old.unfinished piece answer s.answer frames s.frames rest new.unfinished reads s.reads clear in
           let c : Course = record { history = h2; standing = new.standing; replies = replies } in
           let e : c ≡ course_of x h old.standing frames =
-              closing_course x h old.standing s.frames frames b.0 h2 new.standing replies q.serves q.shut lacks b.1 in
+          closing_course x h old.standing s.frames frames b.0 h2 new.standing replies q.serves q.shut lacks b.1 in
           (closed_alone c answer q.shut ∙ by_course x h old.standing frames answer c e, λ open_. not_both new.standing q.shut open_)
       | inr pure ↦
           let d = decide old.unfinished piece s.answer answer s.frames frames new.unfinished rest s.reads reads pure clear in
           let c : Course = record { history = h2; standing = s.middle; replies = s.reported } in
           let e : c ≡ course_of x h old.standing frames =
-              rw (← d.1) (decided x h old.standing s.frames h2 s.middle s.reported s.serves (reported_clear replies s.reported s.more s.all lacks)) in
+          rw (← d.1) (decided x h old.standing s.frames h2 s.middle s.reported s.serves (reported_clear replies s.reported s.more s.all lacks)) in
           let f : record { history = h2; standing = new.standing; replies = replies } ≡ cond (is_closed s.middle) c (at_end answer c) =
           after_frames answer h2 s.middle new.standing s.reported s.more replies
-              (subst (λ (y : Result (Unit {0}) ReadFault). EndsPiece y s.middle new.standing s.more) d.0 s.ends) s.all in
+          (subst (λ (y : Result (Unit {0}) ReadFault). EndsPiece y s.middle new.standing s.more) d.0 s.ends) s.all in
           (f ∙ by_course x h old.standing frames answer c e, λ open_. d.2)
     ]
 
@@ -186,7 +186,7 @@ both_served decide begin agree x h old piece h2 h3 new new2 replies replies2 s t
             let q = silent x h old piece h2 new replies s m in
             let r = silent x h old piece h3 new2 replies2 t n in
             let same : course h2 new.standing replies ≡ course h3 new2.standing replies2 =
-                elim (agree old.unfinished piece s.answer t.answer s.frames t.frames new.unfinished new2.unfinished s.reads t.reads) [
+            elim (agree old.unfinished piece s.answer t.answer s.frames t.frames new.unfinished new2.unfinished s.reads t.reads) [
               | inl e ↦ decided x h old.standing s.frames h2 new.standing replies q.serves lacks
                   ∙ sym (closing_course x h old.standing t.frames s.frames e.0 h3 new2.standing replies2 r.serves r.shut lacks2 e.1)
               | inr e ↦ closing_course x h old.standing s.frames t.frames e.0 h2 new.standing replies q.serves q.shut lacks e.1
@@ -214,7 +214,7 @@ pieces_agree decide begin agree x h old old2 piece done done2 h2 h3 new new2 rep
         let a = served_open x h old piece h2 new replies open_ f in
         let c = served_open x h old2 piece h3 new2 replies2 (sym (ap is_closed like.0) ∙ open_) g in
         both_served decide begin agree x h old piece h2 h3 new new2 replies replies2 a
-            (subst (λ (y : Session). ServesPiece x h y piece h3 new2 replies2) (same_session old old2 like.0 (like.1 open_)) c) lacks lacks2
+        (subst (λ (y : Session). ServesPiece x h y piece h3 new2 replies2) (same_session old old2 like.0 (like.1 open_)) c) lacks lacks2
 
 -- ---- pieces one after another
 

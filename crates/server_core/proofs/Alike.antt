@@ -57,7 +57,7 @@ stales st h =
 
 answers : (x : Setting) (st : Standing) (h : History) (s : Scheme) (words others : List ℕ)
     → Alike st h (replies_with (Answer (scheme_byte s) (current_version h) (answer_words s x.plan h.current words)) st h)
-        (replies_with (Answer (scheme_byte s) (current_version h) (answer_words s x.plan h.current others)) st h)
+    (replies_with (Answer (scheme_byte s) (current_version h) (answer_words s x.plan h.current others)) st h)
 answers x st h s words others =
     let a = answer_words s x.plan h.current words in
     let b = answer_words s x.plan h.current others in

@@ -34,16 +34,16 @@ more o p others h2 st2 c e d = rw (e, ← d) refl
 step : (x : Setting) (h : History) (st : Standing) (f : Frame) (fs : List Frame) (h2 : History) (st2 : Standing) (replies : List Frame) (o : Outcome)
     (others : List Frame) → IsOutcome x h st f o → replies ≡ option_to_list o.reply ++ others
     → (lacks_memory others ≡ false → record { history = h2; standing = st2; replies = others } ≡ course_of x o.history o.standing fs) →
-        lacks_memory replies ≡ false
+    lacks_memory replies ≡ false
     → record { history = h2; standing = st2; replies = replies }
-        ≡ with_reply (outcome_of_frame x h st f) (course_of x (outcome_of_frame x h st f).history (outcome_of_frame x h st f).standing fs)
+    ≡ with_reply (outcome_of_frame x h st f) (course_of x (outcome_of_frame x h st f).history (outcome_of_frame x h st f).standing fs)
 step x h st f fs h2 st2 replies o others is e s lacks =
     let clear : lacks_memory (option_to_list o.reply ++ others) ≡ false = subst (λ (y : List Frame). lacks_memory y ≡ false) e lacks in
     let p : o ≡ outcome_of_frame x h st f = as_served x h st f o others is clear in
     let d : record { history = h2; standing = st2; replies = others } ≡ course_of x o.history o.standing fs =
-        s (prefix_of (option_to_list o.reply) others clear) in
+    s (prefix_of (option_to_list o.reply) others clear) in
     rw e (more o (outcome_of_frame x h st f) others h2 st2 (course_of x (outcome_of_frame x h st f).history (outcome_of_frame x h st f).standing fs) p
-        (subst (λ (y : Outcome). record { history = h2; standing = st2; replies = others } ≡ course_of x y.history y.standing fs) p d))
+    (subst (λ (y : Outcome). record { history = h2; standing = st2; replies = others } ≡ course_of x y.history y.standing fs) p d))
 
 pub decided : (x : Setting) (h : History) (st : Standing) (fs : List Frame) (h2 : History) (st2 : Standing) (replies : List Frame) →
     ServesAll x h st fs h2 st2 replies → lacks_memory replies ≡ false

@@ -83,12 +83,21 @@ fed_closed x h old piece d store before shut s i =
 pub fed_well : (x : Setting) (h : History) (old : Session) (piece : List ℕ) (d : Unit {0}) (store : StoreState) (after : Standing) (u : Option (List ℕ))
     (before new : List ℕ) (answer : Result (Unit {0}) ReadFault) (frames : List Frame) → is_closed old.standing ≡ false
     → Feeds old.unfinished piece answer frames u → ServedFrames x h old.standing frames answer store after before new →
-        Fed x h old piece (Ok d) store (record { standing = after; unfinished = u }) before new
+    Fed x h old piece (Ok d) store (record { standing = after; unfinished = u }) before new
 fed_well x h old piece d store after u before new answer frames open_ reads s =
     let a = s.frames_are in
     let p : ServesPiece x h old piece a.history (record { standing = after; unfinished = u }) (a.replies ++ s.more) =
-        record { answer = answer; frames = frames; middle = s.middle; reported = a.replies; more = s.more; reads = reads; serves = a.serves; ends = s.ends;
-        all = refl } in
+    record {
+      answer = answer;
+      frames = frames;
+      middle = s.middle;
+      reported = a.replies;
+      more = s.more;
+      reads = reads;
+      serves = a.serves;
+      ends = s.ends;
+      all = refl;
+    } in
     record {
       history = a.history;
       replies = a.replies ++ s.more;
@@ -104,7 +113,7 @@ fed_well x h old piece d store after u before new answer frames open_ reads s =
 pub fed_short : (x : Setting) (h : History) (old : Session) (piece : List ℕ) (e : AllocError) (store : StoreState) (u : Option (List ℕ)) (before new : List ℕ)
     (answer : Result (Unit {0}) ReadFault) (frames : List Frame) → is_closed old.standing ≡ false
     → Feeds old.unfinished piece answer frames u → StoppedFrames x h old.standing frames answer store before new →
-        Fed x h old piece (Err e) store (record { standing = Closed; unfinished = u }) before new
+    Fed x h old piece (Err e) store (record { standing = Closed; unfinished = u }) before new
 fed_short x h old piece e store u before new answer frames open_ reads s =
     let a = s.frames_are in
     record {
@@ -112,8 +121,20 @@ fed_short x h old piece e store u before new answer frames open_ reads s =
       replies = a.replies;
       setting_is = a.setting_is;
       store_is = a.store_is;
-      course = (open_, record { answer = answer; frames = frames; count = s.count; middle = s.middle; reads = reads; stop = s.stop; serves = a.serves;
-          goes_on = s.goes_on; shut = refl });
+      course = (
+        open_,
+        record {
+          answer = answer;
+          frames = frames;
+          count = s.count;
+          middle = s.middle;
+          reads = reads;
+          stop = s.stop;
+          serves = a.serves;
+          goes_on = s.goes_on;
+          shut = refl;
+        },
+      );
       written = a.written;
       each = a.each;
     }
@@ -164,7 +185,7 @@ on_err (Err x) p f = f p
 pub reported : (answer : Result (Unit {0}) ReadFault) (middle : Standing) (r : Result Standing AllocError) (out new : List ℕ) →
     ((after : Standing) → after ≡ Closed → AfterReading answer middle after (refused refusal.BadFrame ∷ []))
     → IfOk r (λ after. after ≡ Closed) → OnOk r (new ≡ out ++ encoding (refused refusal.BadFrame)) → OnOk r (IsFrame (refused refusal.BadFrame)) →
-        IfOk r (λ after. Ended answer middle after out new)
+    IfOk r (λ after. Ended answer middle after out new)
 reported answer middle (Ok after) out new f shut written fits =
     record {
       more = refused refusal.BadFrame ∷ [];

@@ -32,15 +32,27 @@ serves_more x h st [] h2 st2 rs f o s open_ one =
     opens x h Reader h2 st2 rs f o s open_ one e = (o, [], rw (← s.0, ← s.1) one, rw s.2 (sym (append-nil (option_to_list o.reply))), (refl, refl, refl))
     opens x h Publisher h2 st2 rs f o s open_ one e = (o, [], rw (← s.0, ← s.1) one, rw s.2 (sym (append-nil (option_to_list o.reply))), (refl, refl, refl))
 serves_more x h Closed (g ∷ fs) h2 st2 rs f o s open_ one = not_both st2 (ap is_closed s.1) open_
-serves_more x h Stranger (g ∷ fs) h2 st2 rs f o s open_ one =
-    (s.0, s.1 ++ option_to_list o.reply, s.2, rw s.3 (append_assoc (option_to_list s.0.reply) s.1 (option_to_list o.reply)),
-        serves_more x s.0.history s.0.standing fs h2 st2 s.1 f o s.4 open_ one)
-serves_more x h Reader (g ∷ fs) h2 st2 rs f o s open_ one =
-    (s.0, s.1 ++ option_to_list o.reply, s.2, rw s.3 (append_assoc (option_to_list s.0.reply) s.1 (option_to_list o.reply)),
-        serves_more x s.0.history s.0.standing fs h2 st2 s.1 f o s.4 open_ one)
-serves_more x h Publisher (g ∷ fs) h2 st2 rs f o s open_ one =
-    (s.0, s.1 ++ option_to_list o.reply, s.2, rw s.3 (append_assoc (option_to_list s.0.reply) s.1 (option_to_list o.reply)),
-        serves_more x s.0.history s.0.standing fs h2 st2 s.1 f o s.4 open_ one)
+serves_more x h Stranger (g ∷ fs) h2 st2 rs f o s open_ one = (
+  s.0,
+  s.1 ++ option_to_list o.reply,
+  s.2,
+  rw s.3 (append_assoc (option_to_list s.0.reply) s.1 (option_to_list o.reply)),
+  serves_more x s.0.history s.0.standing fs h2 st2 s.1 f o s.4 open_ one,
+)
+serves_more x h Reader (g ∷ fs) h2 st2 rs f o s open_ one = (
+  s.0,
+  s.1 ++ option_to_list o.reply,
+  s.2,
+  rw s.3 (append_assoc (option_to_list s.0.reply) s.1 (option_to_list o.reply)),
+  serves_more x s.0.history s.0.standing fs h2 st2 s.1 f o s.4 open_ one,
+)
+serves_more x h Publisher (g ∷ fs) h2 st2 rs f o s open_ one = (
+  s.0,
+  s.1 ++ option_to_list o.reply,
+  s.2,
+  rw s.3 (append_assoc (option_to_list s.0.reply) s.1 (option_to_list o.reply)),
+  serves_more x s.0.history s.0.standing fs h2 st2 s.1 f o s.4 open_ one,
+)
 
 -- a frame that is dropped
 drops_more : (x : Setting) (h : History) (st : Standing) (fs : List Frame) (h2 : History) (st2 : Standing) (rs : List Frame) (f : Frame) →
@@ -77,11 +89,11 @@ pub serves_one : (x : Setting) (h : History) (st : Standing) (fs : List Frame) (
     → ServedAll x h st (take (i + 1) fs) store2 st2 old out2
 serves_one x h st fs i store1 st1 old out1 store2 st2 out2 lt f is_f open_ a step =
     let s = outcome_of x a.history st1 f store2 st2 out1 out2
-        (subst (λ (y : Setting). Serves y a.history st1 f store2 st2 out1 out2) a.setting_is (step a.history a.store_is)) in
+    (subst (λ (y : Setting). Serves y a.history st1 f store2 st2 out1 out2) a.setting_is (step a.history a.store_is)) in
     let m : ServesAll x h st (take i fs ++ f ∷ []) s.0.history s.0.standing (a.replies ++ option_to_list s.0.reply) =
-        serves_more x h st (take i fs) a.history st1 a.replies f s.0 a.serves open_ s.1 in
+    serves_more x h st (take i fs) a.history st1 a.replies f s.0 a.serves open_ s.1 in
     let n : ServesAll x h st (take i fs ++ f ∷ []) s.0.history st2 (a.replies ++ option_to_list s.0.reply) =
-        subst (λ (y : Standing). ServesAll x h st (take i fs ++ f ∷ []) s.0.history y (a.replies ++ option_to_list s.0.reply)) (sym s.2.standing_is) m in
+    subst (λ (y : Standing). ServesAll x h st (take i fs ++ f ∷ []) s.0.history y (a.replies ++ option_to_list s.0.reply)) (sym s.2.standing_is) m in
     record {
       history = s.0.history;
       replies = a.replies ++ option_to_list s.0.reply;
@@ -92,7 +104,7 @@ serves_one x h st fs i store1 st1 old out1 store2 st2 out2 lt f is_f open_ a ste
       written = s.2.reply_is ∙ ap (λ (y : List ℕ). y ++ reply_bytes s.0.reply) a.written
           ∙ append_assoc old (flat_map encoding a.replies) (reply_bytes s.0.reply)
           ∙ ap (λ (y : List ℕ). old ++ y) (ap (λ (y : List ℕ). flat_map encoding a.replies ++ y) (sym (encodes s.0.reply))
-              ∙ sym (flat_map-append encoding a.replies (option_to_list s.0.reply)));
+          ∙ sym (flat_map-append encoding a.replies (option_to_list s.0.reply)));
       each = each_with a.replies s.0.reply a.each s.2.reply_fits;
     }
 

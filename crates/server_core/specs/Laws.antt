@@ -22,9 +22,9 @@ abbrev pub PiecesDecide : Type 0
 PiecesDecide = (x : Setting) (h : History) (old : Session) (piece : List ℕ) (done : Unit {0}) (h2 : History) (new : Session) (replies : List Frame)
     (answer : Result (Unit {0}) ReadFault) (frames : List Frame) (rest : Option (List ℕ))
     → is_closed old.standing ≡ false → FeedsSession x h old piece (Ok done) h2 new replies → lacks_memory replies ≡ false →
-        Feeds old.unfinished piece answer frames rest → answer ≢ Err Memory
+    Feeds old.unfinished piece answer frames rest → answer ≢ Err Memory
     → (record { history = h2; standing = new.standing; replies = replies } ≡ course_of_piece x h old.standing frames answer)
-        × (is_closed new.standing ≡ false → new.unfinished ≡ rest)
+    × (is_closed new.standing ≡ false → new.unfinished ≡ rest)
 
 -- The setting, the history, a session and a piece of its stream decide the history after the piece, the session then
 -- and the replies, where none of these is refused for lack of memory.
@@ -32,7 +32,7 @@ abbrev pub PiecesAgree : Type 0
 PiecesAgree = (x : Setting) (h : History) (old old2 : Session) (piece : List ℕ) (done done2 : Unit {0}) (after after2 : History) (new new2 : Session)
     (replies replies2 : List Frame)
     → IsAlike old old2 → FeedsSession x h old piece (Ok done) after new replies → FeedsSession x h old2 piece (Ok done2) after2 new2 replies2 →
-        lacks_memory replies ≡ false → lacks_memory replies2 ≡ false
+    lacks_memory replies ≡ false → lacks_memory replies2 ≡ false
     → (after ≡ after2) × IsAlike new new2 × (replies ≡ replies2)
 
 -- A session's pieces one after another, each with the history on which it is served, whatever others did between
@@ -42,7 +42,7 @@ FeedsInTurn x old [] outcomes new = (outcomes ≡ []) × (new ≡ old)
 FeedsInTurn x old (fed ∷ later) outcomes new =
     (done : Unit {0}) × (after : History) × (between : Session) × (replies : List Frame) × (others : List (History × List Frame))
     × FeedsSession x fed.0 old fed.1 (Ok done) after between replies × (lacks_memory replies ≡ false) × (outcomes ≡ (after, replies) ∷ others)
-        × FeedsInTurn x between later others new
+    × FeedsInTurn x between later others new
 
 -- All that a session is told, and what it does to the history, is decided by its own pieces and by the histories on which they are served.
 abbrev pub SessionsNeverMeet : Type 0
@@ -65,7 +65,7 @@ abbrev pub FeedsAreAlike : Type 0
 FeedsAreAlike = (x : Setting) (h : History) (old old2 : Session) (piece : List ℕ) (done done2 : Unit {0}) (store store2 : StoreState) (new new2 : Session)
     (before after before2 after2 : List ℕ)
     → (f : Fed x h old piece (Ok done) store new before after) → (g : Fed x h old2 piece (Ok done2) store2 new2 before2 after2) → IsAlike old old2 →
-        lacks_memory f.replies ≡ false → lacks_memory g.replies ≡ false
+    lacks_memory f.replies ≡ false → lacks_memory g.replies ≡ false
     → SameFeed before after before2 after2 new new2 f.history g.history
 
 -- replies alike: the same, but for the words of an answer, of which there are as many

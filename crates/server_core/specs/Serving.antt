@@ -186,7 +186,7 @@ ServesAll x h st [] h2 st2 replies = (h2 ≡ h) × (st2 ≡ st) × (replies ≡ 
 ServesAll x h st (f ∷ fs) h2 st2 replies =
     MatchBool (is_closed st) ((h2 ≡ h) × (st2 ≡ st) × (replies ≡ []))
     ((o : Outcome) × (others : List Frame) × IsOutcome x h st f o × (replies ≡ option_to_list o.reply ++ others)
-        × ServesAll x o.history o.standing fs h2 st2 others)
+    × ServesAll x o.history o.standing fs h2 st2 others)
 
 -- a reply that may be sent
 abbrev pub FitsReply : Option Frame → Type 0

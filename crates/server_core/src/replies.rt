@@ -1,10 +1,8 @@
 //! Replies, written after those before.
 
-ghost use Rattle.std.specs.Prelude.{◌≡◌, ◌≤◌, ◌<◌, ◌+◌, ◌*◌, ◌++◌, length, vec_len, vec_capacity,
-    OnOk, OnErr, IfOk, IfSome, IfNone, true, false};
+ghost use Rattle.std.specs.Prelude.{◌≡◌, ◌≤◌, ◌<◌, ◌+◌, ◌*◌, ◌++◌, length, vec_len, vec_capacity, OnOk, OnErr, IfOk, IfSome, IfNone, true, false};
 ghost use Rattle.frame_codec.specs.Frames.{IsFrame, encoding, payload_size};
-ghost use Rattle.frame_codec.specs.declared.frame.Frame.TheVariants.{Answer, Done, HintPart, Stale,
-    Welcome};
+ghost use Rattle.frame_codec.specs.declared.frame.Frame.TheVariants.{Answer, Done, HintPart, Stale, Welcome};
 ghost use Rattle.frame_codec.specs.Refusals.{refused};
 ghost use Rattle.pir_schemes.specs.Schemes.{scheme_byte};
 ghost use Rattle.pir_schemes.specs.Plans.{profile_of};
@@ -69,11 +67,11 @@ pub fn put_welcome<K: Kernel>(store: &Store<K>, out: &mut Vec<u8>)
         (Welcome (profile_of store.now.edition.plan)
         store.now.edition.plan.width store.now.edition.plan.record_len store.now.edition.plan.groups
         (length store.now.edition.records) store.now.version store.now.edition.plan.dimension
-            store.now.edition.plan.seed) }
+        store.now.edition.plan.seed) }
     ensures fits { IsFrame (Welcome (profile_of store.now.edition.plan)
         store.now.edition.plan.width store.now.edition.plan.record_len store.now.edition.plan.groups
         (length store.now.edition.records) store.now.version store.now.edition.plan.dimension
-            store.now.edition.plan.seed) }
+        store.now.edition.plan.seed) }
 {
     let layout = store.layout();
     let reply = Frame::Welcome {

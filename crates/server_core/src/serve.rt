@@ -2,12 +2,10 @@
 
 ghost use Rattle.std.specs.Prelude.{◌≡◌, ◌≤◌, ◌+◌, ◌++◌, vec_len, vec_capacity, OnErr, IfOk};
 ghost use Rattle.frame_codec.specs.Frames.{IsFrame, encoding};
-ghost use Rattle.frame_codec.specs.declared.frame.Frame.TheVariants.{Edit, Hello, HintAsk, Publish,
-    Query};
+ghost use Rattle.frame_codec.specs.declared.frame.Frame.TheVariants.{Edit, Hello, HintAsk, Publish, Query};
 ghost use Rattle.frame_codec.specs.Refusals.{refused};
 ghost use Rattle.version_store.specs.Histories.{History, StandsFor};
-ghost use Rattle.server_core.specs.Serving.{setting_of, is_publisher_key, is_reader_key, Serves,
-    ServedAll, BrokenOff, IsFull};
+ghost use Rattle.server_core.specs.Serving.{setting_of, is_publisher_key, is_reader_key, Serves, ServedAll, BrokenOff, IsFull};
 
 use crate::replies::{
     SHORT_REPLY, part_of_hint, put_answer, put_done, put_part, put_refused, put_stale, put_welcome,

@@ -1,7 +1,6 @@
 //! Sessions over one store.
 
-ghost use Rattle.std.specs.Prelude.{◌≡◌, ◌≢◌, ◌⊎◌, ◌≤◌, ◌<◌, ◌^◌, ◌+◌, ◌↔◌, ℕ, length, OnOk, OnErr,
-    IfOk, IsSome, Some, None, IsErrOf, is_some, slice_set, true, false};
+ghost use Rattle.std.specs.Prelude.{◌≡◌, ◌≢◌, ◌⊎◌, ◌≤◌, ◌<◌, ◌^◌, ◌+◌, ◌↔◌, ℕ, length, OnOk, OnErr, IfOk, IsSome, Some, None, IsErrOf, is_some, slice_set, true, false};
 ghost use Rattle.pir_schemes.specs.Plans.{fits};
 ghost use Rattle.version_store.specs.Histories.{History, StandsFor, after_edit, published};
 ghost use Rattle.server_core.specs.Cores.{session_of, is_open, FeedsCore, HasFailed, OnNoSession};
@@ -138,7 +137,7 @@ impl<K: Kernel> ServerCore<K> {
         ensures bad_index { IsErrOf result EditError.BadIndex ↔ (length self.old.store.draft ≤ i) }
         ensures bad_length { IsErrOf result EditError.BadLength ↔
             (i < length self.old.store.draft) ×
-                (fits self.old.store.edition.plan bytes.now ≡ false) }
+            (fits self.old.store.edition.plan bytes.now ≡ false) }
         ensures refused { OnErr result (self.new.store ≡ self.old.store) }
         ensures sessions { self.new.sessions ≡ self.old.sessions }
     {
@@ -177,7 +176,7 @@ impl<K: Kernel> ServerCore<K> {
             session_of self.old.sessions id ≡ Some old →
             (new : sessions.Session) × (session_of self.new.sessions id ≡ Some new)
             × FeedsCore (setting_of self.old.store) h old piece.now result self.new.store new
-                out.old.items out.new.items }
+            out.old.items out.new.items }
         ensures no_session { IsErrOf result FeedError.NoSession ↔
             (session_of self.old.sessions id ≡ None) }
         ensures full { IsErrOf result FeedError.Memory → IsFull out.new ⊎

@@ -56,7 +56,12 @@ fn exchange(
 
 #[test]
 fn a_whole_session(rt: HostRuntime) -> Result<(), Fail> {
-    let sizes = Sizes { width: 8, len: 1, groups: 1, count: 2 };
+    let sizes = Sizes {
+        width: 8,
+        len: 1,
+        groups: 1,
+        count: 2,
+    };
     let mut server = opened(rt.alloc(), sizes, [10u8, 200].to_vec(rt.alloc())?)?;
     let mut client = ClientCore::new(rt.alloc(), Plain, [0x11; 32], 0);
     let hello = client.hello([0; 32])?;
@@ -67,7 +72,14 @@ fn a_whole_session(rt: HostRuntime) -> Result<(), Fail> {
     assert!(rt; matches!(synced, Some(Event::Synced(Scheme::Double, 1))));
     let ask = client.ask(1)?;
     let got = exchange(rt.alloc(), &mut server, &mut client, ask)?;
-    let Some(Event::Retrieved { index, version, bytes }) = got else {
+    let Some(
+        Event::Retrieved {
+            index,
+            version,
+            bytes,
+        },
+    ) = got
+    else {
         panic!(rt; "no record");
     };
     assert_eq!(rt; (index, version), (1, 1));
@@ -78,7 +90,12 @@ fn a_whole_session(rt: HostRuntime) -> Result<(), Fail> {
 
 #[test]
 fn a_delivery_of_nothing_brings_nothing(rt: HostRuntime) -> Result<(), Fail> {
-    let sizes = Sizes { width: 8, len: 1, groups: 1, count: 2 };
+    let sizes = Sizes {
+        width: 8,
+        len: 1,
+        groups: 1,
+        count: 2,
+    };
     let mut server = opened(rt.alloc(), sizes, [10u8, 200].to_vec(rt.alloc())?)?;
     let mut client = ClientCore::new(rt.alloc(), Plain, [0x11; 32], 0);
     let mut replies = Vec::new(rt.alloc());
@@ -116,9 +133,15 @@ fn check(rt: &(impl AllocGlobal + Abort), sizes: Sizes, scheme: Scheme) -> Resul
     let records = made(rt.alloc(), sizes)?;
     match retrieved(rt.alloc(), sizes, scheme)? {
         Some(Event::Retrieved { bytes, .. }) => {
-            assert_eq!(rt; bytes.as_slice(), &records[records.len() - sizes.len as usize..]);
+            assert_eq!(rt;
+                bytes.as_slice(),
+                &records[records.len() - sizes.len as usize..]
+            );
         }
-        _ => panic!(rt; "no record of {} bytes in digits of {} bits", sizes.len, sizes.width),
+        _ => panic!(rt;
+            "no record of {} bytes in digits of {} bits",
+            sizes.len, sizes.width
+        ),
     }
     Ok(())
 }
@@ -130,7 +153,12 @@ fn records_of_every_width_by_both_schemes(rt: HostRuntime) -> Result<(), Fail> {
     for width in 6..11 {
         for len in LENGTHS {
             for groups in [1, 3] {
-                let sizes = Sizes { width, len, groups, count: 4 };
+                let sizes = Sizes {
+                    width,
+                    len,
+                    groups,
+                    count: 4,
+                };
                 check(&rt, sizes, Scheme::Simple)?;
                 check(&rt, sizes, Scheme::Double)?;
             }

@@ -51,7 +51,7 @@ sound_asked : (known : Option ServerInfo) (s : Scheme) (c : ClientState) (asked 
 sound_asked None s c asked next scheme version part words = bad c client.BadReply
 sound_asked (Some k) s c asked next scheme version part words =
     either c (is_part s (hint_len s k.layout k.dimension) asked next scheme version part words) (more_parts s k c asked next (c.parts ++ words))
-        (faulty c client.BadReply)
+    (faulty c client.BadReply)
     (either c _ _ _ (λ _. (refl, refl)) (λ _. (refl, refl))) (bad c client.BadReply)
 
 sound_part : (call : Call) (c : ClientState) (scheme version part : ℕ) (words : List ℕ) → IsSound c (takes_part call c scheme version part words)
@@ -241,7 +241,7 @@ gives_after s k out more events e all g = record {
 followed_after : (old : Client) (read out : List ℕ) (mid : Client) (a : First old read out mid) (gs : List Frame) (answer : Result (Unit {0}) ReadFault)
     (more : List ℕ) (events : List Event) (fault : Option ClientFault) (new : ClientState)
     → Follows (ends_with (takes_all mid.state gs) answer) more events fault new →
-        Follows (ends_with (takes_all old.state (a.frames ++ gs)) answer) (out ++ more) events fault new
+    Follows (ends_with (takes_all old.state (a.frames ++ gs)) answer) (out ++ more) events fault new
 followed_after old read out mid a gs answer more events fault new f =
     let k : Course = takes_all mid.state gs in
     let e : ends_with (takes_all old.state (a.frames ++ gs)) answer ≡ beyond a.sends (ends_with k answer) =

@@ -28,7 +28,7 @@ pub event_heard : (old : Client) (turns : ℕ) (read out : List ℕ) (mid : Clie
     → Receives old turns (Ok event) (read ++ piece) (out ++ more) left new
 event_heard old turns read out mid piece more found event left new e w h =
     let some : (later : List Event) × (fault : Option ClientFault) × FeedsClient mid piece more (event ∷ later) fault new =
-        subst (λ (o : Option Event). ReceivesPiece mid piece (Ok o) new more) e h in
+    subst (λ (o : Option Event). ReceivesPiece mid piece (Ok o) new more) e h in
     (some.0, some.1, waits_feeds old read out mid piece more (event ∷ some.0) some.1 new w some.2)
 
 -- one that ended it

@@ -29,7 +29,7 @@ record SoFar {R W : Type 0} (remaining : R → Option (List ℕ)) (contents : W 
 moved_turn : {R W : Type 0} (remaining : R → Option (List ℕ)) (contents : W → Option (List ℕ)) (a b m c : Pair R W) (read first said piece output : List ℕ) →
     Moved remaining contents a read (first ++ said) b
     → PairDoes remaining contents b (Read 65536 piece) m → Sends (PairDoes remaining contents) m output c
-        ⊎ SendsUntilFault (PairDoes remaining contents) m output c → Moved remaining contents a (read ++ piece) (first ++ (said ++ output)) c
+    ⊎ SendsUntilFault (PairDoes remaining contents) m output c → Moved remaining contents a (read ++ piece) (first ++ (said ++ output)) c
 moved_turn remaining contents a b m c read first said piece output i r (inl s) =
     subst (λ (x : List ℕ). Moved remaining contents a (read ++ piece) x c) (append_assoc first said output)
     (moved_sent remaining contents a m c (read ++ piece) (first ++ said) output (moved_read remaining contents a b m read (first ++ said) piece 65536 i r) s)
@@ -40,7 +40,7 @@ moved_turn remaining contents a b m c read first said piece output i r (inr s) =
 one_more : {R W : Type 0} (remaining : R → Option (List ℕ)) (contents : W → Option (List ℕ)) (old : Client) (a : Pair R W) (first : List ℕ) (count : ℕ)
     (mid : Client) (b : Pair R W) (turn : CallTurn) (new : Client) (c : Pair R W)
     → SoFar remaining contents old a first count mid b → TakesReply (PairDoes remaining contents) mid b (Ok None) turn new c →
-        SoFar remaining contents old a first (count + 1) new c
+    SoFar remaining contents old a first (count + 1) new c
 one_more remaining contents old a first count mid b turn new c i t = record {
   read = i.read ++ turn.piece;
   said = i.said ++ turn.output;
@@ -53,7 +53,7 @@ one_more remaining contents old a first count mid b turn new c i t = record {
 many_more : {R W : Type 0} (remaining : R → Option (List ℕ)) (contents : W → Option (List ℕ)) (old : Client) (a : Pair R W) (first : List ℕ) (count : ℕ)
     (mid : Client) (b : Pair R W) (turns : List CallTurn) (new : Client) (c : Pair R W) (total : ℕ)
     → total ≡ count + length turns → SoFar remaining contents old a first count mid b → ConversingGoesOn (PairDoes remaining contents) mid b turns new c →
-        SoFar remaining contents old a first total new c
+    SoFar remaining contents old a first total new c
 many_more {R = R} {W = W} remaining contents old a first count mid b [] new c total e i g =
     let S : ℕ → Client × Pair R W → Type 0 = λ n p. SoFar remaining contents old a first n p.0 p.1 in
     let same : count ≡ total = omega (arith, e) in
@@ -61,7 +61,7 @@ many_more {R = R} {W = W} remaining contents old a first count mid b [] new c to
 many_more remaining contents old a first count mid b (t ∷ ts) new c total e i g =
     let next : total ≡ count + 1 + length ts = omega (arith, e) in
     many_more remaining contents old a first (count + 1) g.0.0 g.0.1 ts new c total next
-        (one_more remaining contents old a first count mid b t g.0.0 g.0.1 i g.1) g.2
+    (one_more remaining contents old a first count mid b t g.0.0 g.0.1 i g.1) g.2
 
 -- what was read and written in all, and how the client stands then
 record Whole {R W : Type 0} (remaining : R → Option (List ℕ)) (contents : W → Option (List ℕ)) (turns : ℕ) (old : Client) (first : List ℕ) (a : Pair R W)
@@ -79,7 +79,7 @@ last_piece : {R W : Type 0} (remaining : R → Option (List ℕ)) (contents : W 
     → count < turns → (i : SoFar remaining contents old a first count mid b) → (t : TakesReply (PairDoes remaining contents) mid b answer turn new c)
     → Sends (PairDoes remaining contents) t.middle turn.output c ⊎ SendsUntilFault (PairDoes remaining contents) t.middle turn.output c
     → Receives old turns result (i.read ++ turn.piece) (i.said ++ turn.output) (remaining c.reader.now) new →
-        Whole remaining contents turns old first a result new c
+    Whole remaining contents turns old first a result new c
 last_piece remaining contents turns old first a count mid b result answer turn new c lt i t s h = record {
   read = i.read ++ turn.piece;
   out = first ++ (i.said ++ turn.output);
@@ -95,7 +95,7 @@ still old read said mid new e w = subst (λ c. WaitsForReply old read said c) (s
 ended : {R W : Type 0} (remaining : R → Option (List ℕ)) (contents : W → Option (List ℕ)) (turns : ℕ) (old : Client) (first : List ℕ) (a : Pair R W)
     (count : ℕ) (mid : Client) (b : Pair R W) (result : Result Event ConverseFault) (new : Client) (c : Pair R W)
     → SoFar remaining contents old a first count mid b → EndsConversing (PairDoes remaining contents) turns count mid b result new c →
-        Whole remaining contents turns old first a result new c
+    Whole remaining contents turns old first a result new c
 ended remaining contents turns old first a count mid b (Ok event) new c i e =
     let turn : CallTurn = e.1.0 in
     last_piece remaining contents turns old first a count mid b (Ok event) (Ok (Some event)) turn new c e.0 i e.1.1 (inl e.1.1.writes)
@@ -146,7 +146,7 @@ ended remaining contents turns old first a count mid b (Err fault.TurnsUsedUp) n
 whole_talk : {R W : Type 0} (remaining : R → Option (List ℕ)) (contents : W → Option (List ℕ)) (turns : ℕ) (old : Client) (first : List ℕ) (a m : Pair R W)
     (result : Result Event ConverseFault) (new : Client) (b : Pair R W)
     → Sends (PairDoes remaining contents) a first m → ReceivesTurns (PairDoes remaining contents) turns old m result new b →
-        Whole remaining contents turns old first a result new b
+    Whole remaining contents turns old first a result new b
 whole_talk remaining contents turns old first a m result new b s t =
     let begun : SoFar remaining contents old a first 0 old m = record {
       read = [];

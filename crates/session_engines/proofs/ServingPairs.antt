@@ -31,7 +31,7 @@ record SoFar {R W : Type 0} (remaining : R → Option (List ℕ)) (contents : W 
 one_more : {R W : Type 0} (remaining : R → Option (List ℕ)) (contents : W → Option (List ℕ)) (id : ℕ) (old : Core) (a : Pair R W) (count : ℕ) (mid : Core)
     (b : Pair R W) (turn : CallTurn) (new : Core) (c : Pair R W)
     → SoFar remaining contents id old a count mid b → LeavesSession (PairDoes remaining contents) id true mid b turn new c →
-        SoFar remaining contents id old a (count + 1) new c
+    SoFar remaining contents id old a (count + 1) new c
 one_more remaining contents id old a count mid b turn new c i t =
     let p = t.takes in
     let read : List ℕ = i.read ++ turn.piece in
@@ -49,7 +49,7 @@ one_more remaining contents id old a count mid b turn new c i t =
 many_more : {R W : Type 0} (remaining : R → Option (List ℕ)) (contents : W → Option (List ℕ)) (id : ℕ) (old : Core) (a : Pair R W) (count : ℕ) (mid : Core)
     (b : Pair R W) (turns : List CallTurn) (new : Core) (c : Pair R W) (total : ℕ)
     → total ≡ count + length turns → SoFar remaining contents id old a count mid b → GoesOn (PairDoes remaining contents) id mid b turns new c →
-        SoFar remaining contents id old a total new c
+    SoFar remaining contents id old a total new c
 many_more {R = R} {W = W} remaining contents id old a count mid b [] new c total e i g =
     let S : ℕ → Core × Pair R W → Type 0 = λ n p. SoFar remaining contents id old a n p.0 p.1 in
     let same : count ≡ total = omega (arith, e) in
@@ -75,7 +75,7 @@ unserved x h read out mid new found e o = subst (λ (k : Core). IsStreamServed x
 ended : {R W : Type 0} (remaining : R → Option (List ℕ)) (contents : W → Option (List ℕ)) (id turns : ℕ) (old : Core) (a : Pair R W) (count : ℕ) (mid : Core)
     (b : Pair R W) (result : Result Ending ServeFault) (new : Core) (c : Pair R W)
     → SoFar remaining contents id old a count mid b → EndsTurns (PairDoes remaining contents) id turns count mid b result new c →
-        Whole remaining contents turns old a result new c
+    Whole remaining contents turns old a result new c
 ended remaining contents id turns old a count mid b (Ok Closed) new c i e =
     let turn : CallTurn = e.1.0 in
     let p = e.1.1.takes in
@@ -94,8 +94,10 @@ ended remaining contents id turns old a count mid b (Ok EndOfInput) new c i e = 
   out = i.out;
   moved = moved_end remaining contents a b c i.read i.out 65536 i.moved e.1.0;
   most = within i.read count turns i.most (omega (arith, e.0));
-  served = λ h s. (unserved (setting_of old.store) h i.read i.out mid new (session_of mid.sessions id) e.1.1 (i.served h s),
-      at_end remaining contents b c 65536 e.1.0 (omega arith));
+  served = λ h s. (
+    unserved (setting_of old.store) h i.read i.out mid new (session_of mid.sessions id) e.1.1 (i.served h s),
+    at_end remaining contents b c 65536 e.1.0 (omega arith),
+  );
 }
 ended remaining contents id turns old a count mid b (Err fault.IdInUse) new c i e = absurd e.1
 ended remaining contents id turns old a count mid b (Err fault.Read) new c i e = record {
@@ -143,10 +145,10 @@ ended remaining contents id turns old a count mid b (Err fault.TurnsUsedUp) new 
 whole_session : {R W : Type 0} (remaining : R → Option (List ℕ)) (contents : W → Option (List ℕ)) (id turns : ℕ) (old : Core) (a : Pair R W)
     (result : Result Ending ServeFault) (new : Core) (b : Pair R W)
     → NeverServes old a result new b ⊎ ServesSession (PairDoes remaining contents) id turns old a result new b →
-        Whole remaining contents turns old a result new b
+    Whole remaining contents turns old a result new b
 whole_session {R = R} {W = W} remaining contents id turns old a result new b (inl n) =
     let at : Result Ending ServeFault → StoreState → Pair R W → Type 0 = λ r store p. (h : History) → StandsFor old.store h →
-        ServesStream (setting_of old.store) h turns r [] [] (remaining p.reader.now) store in
+    ServesStream (setting_of old.store) h turns r [] [] (remaining p.reader.now) store in
     record {
       read = [];
       out = [];

@@ -36,15 +36,27 @@ serves_both : (x : Setting) (h : History) (st : Standing) (fs gs : List Frame) (
     → ServesAll x h st (fs ++ gs) h2 st2 (rs ++ more)
 serves_both x h st [] gs h1 h2 st1 st2 rs more a open_ b = rw (← a.0, ← a.1, a.2) b
 serves_both x h standing.Closed (f ∷ fs) gs h1 h2 st1 st2 rs more a open_ b = not_both (is_closed st1) (ap is_closed a.1) open_
-serves_both x h standing.Stranger (f ∷ fs) gs h1 h2 st1 st2 rs more a open_ b =
-    (a.0, a.1 ++ more, a.2, rw a.3 (append_assoc (option_to_list a.0.reply) a.1 more),
-        serves_both x a.0.history a.0.standing fs gs h1 h2 st1 st2 a.1 more a.4 open_ b)
-serves_both x h standing.Reader (f ∷ fs) gs h1 h2 st1 st2 rs more a open_ b =
-    (a.0, a.1 ++ more, a.2, rw a.3 (append_assoc (option_to_list a.0.reply) a.1 more),
-        serves_both x a.0.history a.0.standing fs gs h1 h2 st1 st2 a.1 more a.4 open_ b)
-serves_both x h standing.Publisher (f ∷ fs) gs h1 h2 st1 st2 rs more a open_ b =
-    (a.0, a.1 ++ more, a.2, rw a.3 (append_assoc (option_to_list a.0.reply) a.1 more),
-        serves_both x a.0.history a.0.standing fs gs h1 h2 st1 st2 a.1 more a.4 open_ b)
+serves_both x h standing.Stranger (f ∷ fs) gs h1 h2 st1 st2 rs more a open_ b = (
+  a.0,
+  a.1 ++ more,
+  a.2,
+  rw a.3 (append_assoc (option_to_list a.0.reply) a.1 more),
+  serves_both x a.0.history a.0.standing fs gs h1 h2 st1 st2 a.1 more a.4 open_ b,
+)
+serves_both x h standing.Reader (f ∷ fs) gs h1 h2 st1 st2 rs more a open_ b = (
+  a.0,
+  a.1 ++ more,
+  a.2,
+  rw a.3 (append_assoc (option_to_list a.0.reply) a.1 more),
+  serves_both x a.0.history a.0.standing fs gs h1 h2 st1 st2 a.1 more a.4 open_ b,
+)
+serves_both x h standing.Publisher (f ∷ fs) gs h1 h2 st1 st2 rs more a open_ b = (
+  a.0,
+  a.1 ++ more,
+  a.2,
+  rw a.3 (append_assoc (option_to_list a.0.reply) a.1 more),
+  serves_both x a.0.history a.0.standing fs gs h1 h2 st1 st2 a.1 more a.4 open_ b,
+)
 
 -- ---- a piece that leaves the session open
 
@@ -147,7 +159,7 @@ fed_both : (x : Setting) (h : History) (read piece out bytes : List ℕ) (answer
     → Fed (setting_of store1) a.history s1 piece answer store2 s2 [] bytes → Fed x h new_session (read ++ piece) answer store2 s2 [] (out ++ bytes)
 fed_both x h read piece out bytes answer store1 store2 s1 s2 a open_ step =
     let b : Fed x a.history s1 piece answer store2 s2 [] bytes =
-        subst (λ (y : Setting). Fed y a.history s1 piece answer store2 s2 [] bytes) a.setting_is step in
+    subst (λ (y : Setting). Fed y a.history s1 piece answer store2 s2 [] bytes) a.setting_is step in
     record {
       history = b.history;
       replies = a.replies ++ b.replies;

@@ -27,9 +27,11 @@ pub feeds_both : (old : Option (List ℕ)) (p q : List ℕ) (answer : Result (Un
     Feeds old p (Ok tt) fs mid → Feeds mid q answer gs new → Feeds old (p ++ q) answer (fs ++ gs) new
 feeds_both None p q answer fs gs mid new a b = let no : Ok tt ≡ Err Failed = a.0 in absurd cc
 feeds_both (Some o) p q (Ok d) fs gs mid new a b =
-    let second : Feeds (Some a.0) q (Ok d) gs new = subst (λ (m : Option (List ℕ)). Feeds m q (Ok d) gs new) a.2 b in
-    (second.0, rw (sym (append_assoc o p q)) (reads_on ((o ++ p) ++ q) fs gs (a.0 ++ q) second.0 (begins_ahead (o ++ p) fs a.0 q a.1.begins) second.1),
-        second.2)
+    let second : Feeds (Some a.0) q (Ok d) gs new = subst (λ (m : Option (List ℕ)). Feeds m q (Ok d) gs new) a.2 b in (
+      second.0,
+      rw (sym (append_assoc o p q)) (reads_on ((o ++ p) ++ q) fs gs (a.0 ++ q) second.0 (begins_ahead (o ++ p) fs a.0 q a.1.begins) second.1),
+      second.2,
+    )
 feeds_both (Some o) p q (Err fault) fs gs mid new a b =
     let second : Feeds (Some a.0) q (Err fault) gs new = subst (λ (m : Option (List ℕ)). Feeds m q (Err fault) gs new) a.2 b in
     (rw (sym (append_assoc o p q)) (stops_on ((o ++ p) ++ q) fs gs (a.0 ++ q) fault (begins_ahead (o ++ p) fs a.0 q a.1.begins) second.0), second.1)

@@ -70,7 +70,7 @@ pub fault_answered : {C : Type 0} (does : C → Call → C → Type 0) (old : Cl
 fault_answered does old a piece said bytes events found f e new b is same sends fed none some =
     let out : Sends does a bytes b = subst (λ (x : List ℕ). Sends does a x b) same sends in
     let silent : FeedsClient old piece bytes [] (Some f) new =
-        subst (λ es. FeedsClient old piece bytes es (Some f) new) none (subst (λ o. FeedsClient old piece bytes events o new) some fed) in
+    subst (λ es. FeedsClient old piece bytes es (Some f) new) none (subst (λ o. FeedsClient old piece bytes events o new) some fed) in
     let both = subst (λ k. WritesSayings does (Err k) a bytes b × ReceivesPiece old piece (Err k) new bytes) (sym is) (by_fault f out silent) in
     (bytes, both.0, both.1)
   where

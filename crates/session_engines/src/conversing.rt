@@ -2,10 +2,8 @@
 
 ghost use Rattle.std.specs.Prelude.{◌≡◌, ◌≤◌, ◌<◌, ◌*◌, ℕ, List, [], length, Option, Some, None};
 ghost use Rattle.std.specs.Io.KnownBytes.{Appends, Consumes};
-ghost use Rattle.session_engines.specs.Conversing.{converse_fault, ReceivesPiece, Receives,
-    Converses};
-ghost use Rattle.session_engines.specs.ConversingTurns.{WritesSayings, ReceivesTurn, ReceivesTurns,
-    ConversesOver};
+ghost use Rattle.session_engines.specs.Conversing.{converse_fault, ReceivesPiece, Receives, Converses};
+ghost use Rattle.session_engines.specs.ConversingTurns.{WritesSayings, ReceivesTurn, ReceivesTurns, ConversesOver};
 
 use client_core::{ClientCore, ClientFault, Event};
 use connection_io::{Connection, Pair, receive, send};
@@ -117,8 +115,7 @@ fn read_until_event<K: Kernel, C: Connection>(
     turns: u64,
 ) -> Result<Event, ConverseFault>
     requires { length buffer.old.items ≡ 65536 }
-    ensures { ReceivesTurns C.does turns client.old connection.old result client.new connection.new
-        }
+    ensures { ReceivesTurns C.does turns client.old connection.old result client.new connection.new }
 {
     'turns: for _ in 0..turns {
         match converse_turn(client, connection, buffer) {

@@ -1,15 +1,13 @@
 //! The server's side.
 
-ghost use Rattle.std.specs.Prelude.{◌≡◌, ◌≢◌, ◌≤◌, ◌<◌, ◌*◌, ◌↔◌, ◌⊎◌, true, ℕ, List, length,
-    IfErr, IsErrOf, IsSome, Some, None, Err};
+ghost use Rattle.std.specs.Prelude.{◌≡◌, ◌≢◌, ◌≤◌, ◌<◌, ◌*◌, ◌↔◌, ◌⊎◌, true, ℕ, List, length, IfErr, IsErrOf, IsSome, Some, None, Err};
 ghost use Rattle.std.specs.Io.KnownBytes.{Appends, Consumes};
 ghost use Rattle.version_store.specs.Histories.{History, StandsFor};
 ghost use Rattle.server_core.specs.Cores.{session_of, is_open};
 ghost use Rattle.server_core.specs.Serving.{setting_of};
 ghost use Rattle.server_core.specs.Sessions.{Session, new_session};
 ghost use Rattle.session_engines.specs.Serving.{ServesStreamPiece, ServesStream};
-ghost use Rattle.session_engines.specs.ServingTurns.{WritesReplies, ServesTurn, ServesTurns,
-    NeverServes, ServesOver};
+ghost use Rattle.session_engines.specs.ServingTurns.{WritesReplies, ServesTurn, ServesTurns, NeverServes, ServesOver};
 
 use connection_io::{Connection, Pair, receive, send};
 use engine_io::piece_buffer;
@@ -61,7 +59,7 @@ fn serve_piece<K: Kernel, C: Connection>(
         × ((h : History) → StandsFor core.old.store h → (old : Session) →
         session_of core.old.sessions id ≡ Some old →
         ServesStreamPiece (setting_of core.old.store) h old piece.now result core.new.store
-            (session_of core.new.sessions id) bytes) }
+        (session_of core.new.sessions id) bytes) }
     ensures fault { IfErr result (λ e. (e ≡ ServeFault.Write) ⊎ (e ≡ ServeFault.Memory)) }
     ensures others { (other : ℕ) → other ≢ id →
         session_of core.new.sessions other ≡ session_of core.old.sessions other }
@@ -211,7 +209,7 @@ pub fn serve<K: Kernel, R: Read, W: Write>(
         × (length read ≤ 65536 * turns)
         × ((h : History) → StandsFor core.old.store h →
         ServesStream (setting_of core.old.store) h turns result read out
-            (R.remaining reader.new) core.new.store) }
+        (R.remaining reader.new) core.new.store) }
     ensures in_use { IsErrOf result ServeFault.IdInUse ↔ IsSome (session_of core.old.sessions id) }
     ensures unchanged { IsErrOf result ServeFault.IdInUse → core.new ≡ core.old }
     ensures closed { session_of core.old.sessions id ≡ None →

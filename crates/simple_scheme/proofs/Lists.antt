@@ -29,7 +29,7 @@ read_is l hint seed number i answer w first n s out ew ef en es e =
     ∙ ap (λ w. list_of (digits_per_record l) (λ d. nearest w (stripped (slice_index answer (first + d)) (row hint (first + d)) s))) ew
     ∙ ap (λ f. list_of (digits_per_record l) (λ d. nearest l.width (stripped (slice_index answer (f + d)) (row hint (f + d)) s))) ef
     ∙ ap (λ (s : List ℕ). list_of (digits_per_record l)
-        (λ d. nearest l.width (stripped (slice_index answer (first_row l i + d)) (row hint (first_row l i + d)) s))) es
+    (λ d. nearest l.width (stripped (slice_index answer (first_row l i + d)) (row hint (first_row l i + d)) s))) es
 
 pub small_reading : (l : Shape) (hint : WordMatrix) (seed : List ℕ) (number i : ℕ) (answer : List ℕ) → IsLayout l →
     All (λ d. d < 2 ^ l.width) (reading l hint seed number i answer)
@@ -37,7 +37,7 @@ unfolding reading
 small_reading l hint seed number i answer ok =
     All-from_get_or (λ d. d < 2 ^ l.width) (reading l hint seed number i answer) 0 (λ k _.
     each-list_of (λ d. d < 2 ^ l.width) (digits_per_record l) (digit_read l hint (secret seed number hint.cols) i answer) 0 (pow_pos l.width)
-        (λ k. nearest-lt l.width _ (omega arith)) k)
+    (λ k. nearest-lt l.width _ (omega arith)) k)
 
 pub length-reading : (l : Shape) (hint : WordMatrix) (seed : List ℕ) (number i : ℕ) (answer : List ℕ) →
     length (reading l hint seed number i answer) ≡ digits_per_record l

@@ -148,7 +148,7 @@ pub fn read_digits<K: Kernel>(
     requires words { length answer.now ≡ hint.now.rows }
     ensures { out.new ≡
         list_of (length out.old) (λ d. nearest w (stripped (slice_index answer.now (first + d))
-            (row hint.now (first + d)) s.now)) }
+        (row hint.now (first + d)) s.now)) }
 {
     for d in 0..out.len() {
         let word = regev_core::strip(kernel, answer[first + d], hint.row(first + d), s);

@@ -38,7 +38,7 @@ only_bytes (suc n) (b ∷ bytes) fits le =
     let low : (b + 256 * r) % 256 ≡ b = omega arith in
     let high : (b + 256 * r) / 256 ≡ r = omega arith in
     let rest : bytes_low_first 1 n (b + 256 * r) ≡ take n bytes = shifted_bytes 0 n (b + 256 * r) ∙ ap (λ (y : ℕ). bytes_low_first 0 n y) high
-        ∙ only_bytes n bytes (IsBytes-rest b bytes fits) (omega arith) in
+    ∙ only_bytes n bytes (IsBytes-rest b bytes fits) (omega arith) in
     ap (λ (y : ℕ). bytes_low_first 0 (suc n) y) e ∙ ap (λ (y : ℕ). y ∷ bytes_low_first 1 n (b + 256 * r)) low ∙ ap (λ (ys : List ℕ). b ∷ ys) rest
 
 pub length-number : (n x : ℕ) → length (number_bytes n x) ≡ n

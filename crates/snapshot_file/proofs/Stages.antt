@@ -41,7 +41,7 @@ rest_of_snapshot bytes end p =
     let digest : List ℕ = sha256 (hashed_bytes p.0 p.1) in
     let e : bytes ≡ header_bytes p.0 ++ (p.1 ++ (sha256 (hashed_bytes p.0 p.1) ++ end)) =
     p.3 ∙ append_assoc (hashed_bytes p.0 p.1) (sha256 (hashed_bytes p.0 p.1)) end
-        ∙ append_assoc (header_bytes p.0) p.1 (sha256 (hashed_bytes p.0 p.1) ++ end) in
+    ∙ append_assoc (header_bytes p.0) p.1 (sha256 (hashed_bytes p.0 p.1) ++ end) in
     let len = length-sha256 (hashed_bytes p.0 p.1) in (
       p.0,
       p.1 ++ (sha256 (hashed_bytes p.0 p.1) ++ end),
@@ -145,8 +145,13 @@ record FaultStage (fault : SnapshotFault) (bytes : List ℕ) : Type 0 where
 stage_of_fault : (fault : SnapshotFault) (bytes : List ℕ) → HasSnapshotFault fault bytes → FaultStage fault bytes
 stage_of_fault faults.NotSnapshot bytes p = record { stage = 1; early = omega arith; stops = record { reached = p.0; last = p.1 }; is = refl }
 stage_of_fault faults.BadLayout bytes p = record { stage = 3; early = omega arith; stops = bad_header bytes p.0 p.1; is = refl }
-stage_of_fault faults.Short bytes (inl p) = record { stage = 0; early = omega arith; stops = record { reached = tt; last = λ q. absurd (omega arith) }; is =
-    refl }
+stage_of_fault faults.Short bytes (inl p) = record {
+  stage = 0;
+  early = omega arith;
+  stops = record { reached = tt; last = λ q. absurd (omega arith) };
+  is =
+      refl;
+}
 stage_of_fault faults.Short bytes (inr (inl p)) = record { stage = 2; early = omega arith; stops = ends_in_header bytes p; is = refl }
 stage_of_fault faults.Short bytes (inr (inr p)) = record { stage = 4; early = omega arith; stops = ends_after bytes p; is = refl }
 stage_of_fault faults.BadDigest bytes p = record { stage = 5; early = omega arith; stops = bad_digest bytes p.0 p.1; is = refl }

@@ -53,11 +53,11 @@ same_header h k ih ik e =
     let seed = cut_back 32 _ _ h.seed k.seed ih.seed ik.seed publisher.0 in
     let version = cut_back 8 _ _ (number_bytes 8 h.version) (number_bytes 8 k.version) (length-number 8 h.version) (length-number 8 k.version) seed.0 in
     let dimension = cut_back 2 _ _ (number_bytes 2 h.dimension) (number_bytes 2 k.dimension) (length-number 2 h.dimension)
-        (length-number 2 k.dimension) version.0 in
+    (length-number 2 k.dimension) version.0 in
     let count = cut_back 4 _ _ (number_bytes 4 h.count) (number_bytes 4 k.count) (length-number 4 h.count) (length-number 4 k.count) dimension.0 in
     let groups = cut_back 2 _ _ (number_bytes 2 h.groups) (number_bytes 2 k.groups) (length-number 2 h.groups) (length-number 2 k.groups) count.0 in
     let record_len = cut_back 2 _ _ (number_bytes 2 h.record_len) (number_bytes 2 k.record_len) (length-number 2 h.record_len)
-        (length-number 2 k.record_len) groups.0 in
+    (length-number 2 k.record_len) groups.0 in
     let width = cut_back 1 magic magic (h.width ∷ []) (k.width ∷ []) refl refl record_len.0 in
     same_fields h k
     (one_byte h.width k.width width.1)
@@ -101,7 +101,7 @@ pub same_records : (h k : Header) (records others x y : List ℕ) → IsSnapshot
     → (h ≡ k) × (records ≡ others) × (x ≡ y)
 same_records h k records others x y is js e =
     let whole : header_bytes h ++ (records ++ x) ≡ header_bytes k ++ (others ++ y) = sym (append_assoc (header_bytes h) records x) ∙ e
-        ∙ append_assoc (header_bytes k) others y in
+    ∙ append_assoc (header_bytes k) others y in
     let prefix = one_header h k (records ++ x) (others ++ y) is.header js.header whole in
     let len : length records ≡ length others = is.len ∙ ap records_len prefix.0 ∙ sym js.len in
     let cut = cut_prefix records others x y len prefix.1 in
@@ -114,8 +114,8 @@ one_snapshot h k records others rest end is js e =
     let ks = sha256 (hashed_bytes k others) in
     let apart : hashed_bytes h records ++ (sha256 (hashed_bytes h records) ++ rest) ≡ hashed_bytes k others ++ (sha256 (hashed_bytes k others) ++ end) =
     sym (append_assoc (hashed_bytes h records) (sha256 (hashed_bytes h records)) rest) ∙ e
-        ∙ append_assoc (hashed_bytes k others) (sha256 (hashed_bytes k others)) end in
+    ∙ append_assoc (hashed_bytes k others) (sha256 (hashed_bytes k others)) end in
     let same = same_records h k records others (sha256 (hashed_bytes h records) ++ rest) (sha256 (hashed_bytes k others) ++ end) is js apart in
     let cut = cut_prefix (sha256 (hashed_bytes h records)) (sha256 (hashed_bytes k others)) rest end (length-sha256 (hashed_bytes h records)
-        ∙ sym (length-sha256 (hashed_bytes k others))) same.2 in
+    ∙ sym (length-sha256 (hashed_bytes k others))) same.2 in
     (same.0, same.1, cut.1)

@@ -52,7 +52,7 @@ client_cols e = refl
 -- the hints of a version with other records, as many
 followed : (e : Records) (rs : List (List ℕ)) (hint a2 s s' c c' : WordMatrix) (before marks : List Bool) → length rs ≡ length e.records →
     hint ≡ hint_matrix Simple e.plan rs → length before ≡ digit_rows (version_shape e) →
-        MarksChanges (digits_at e.plan e.records) (digits_at e.plan rs) before marks →
+    MarksChanges (digits_at e.plan e.records) (digits_at e.plan rs) before marks →
     FollowsRows e.plan.width hint a2 s s' c c' marks → IsMadeTwice e a2 s c → IsMadeTwice (record { plan = e.plan; records = rs }) a2 s' c'
 followed e rs hint a2 s s' c c' before marks many is count marked follows h =
     let p : Plan = e.plan in
@@ -75,7 +75,7 @@ followed e rs hint a2 s s' c c' before marks many is count marked follows h =
 pub version_followed : (e e' : Records) (rs : List (List ℕ)) (hint a2 s s' c c' : WordMatrix) (w : ℕ) (before marks : List Bool) →
     e' ≡ record e { records = rs } → length rs ≡ length e.records →
     hint ≡ hint_matrix Simple e'.plan e'.records → length before ≡ digit_rows (version_shape e) →
-        MarksChanges (digits_at e.plan e.records) (digits_at e'.plan e'.records) before marks →
+    MarksChanges (digits_at e.plan e.records) (digits_at e'.plan e'.records) before marks →
     w ≡ e'.plan.width → FollowsRows w hint a2 s s' c c' marks → IsMadeTwice e a2 s c → IsMadeTwice e' a2 s' c'
 version_followed e e' rs hint a2 s s' c c' w before marks is many made count marked width follows h =
     let new : Records = record { plan = e.plan; records = rs } in

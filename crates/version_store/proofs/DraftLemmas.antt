@@ -55,7 +55,7 @@ pub draft-inserted : (records : List (List ℕ)) (m n : BTreeMap ℕ (Vec ℕ Gl
     k < length records → draft_of records n.entries ≡ set (draft_of records m.entries) k v.items
 draft-inserted records m n k v u inside =
     set-list_of (length records) k (λ i. bytes_or (change_at m.entries i) (record_at records i))
-        (λ i. bytes_or (change_at n.entries i) (record_at records i)) v.items [] inside
+    (λ i. bytes_or (change_at n.entries i) (record_at records i)) v.items [] inside
     (ap (λ c. bytes_or c (record_at records k)) (updated_here m n k (Some v) u))
     (λ i h apart. ap (λ c. bytes_or c (record_at records i)) (updated_elsewhere m n k i (Some v) u apart))
 

@@ -48,8 +48,10 @@ one_marked d0 d f0 f i j v old rows many p q was h =
           (before.0, ap (λ m. row m r) (unchanged d i j v same) ∙ before.1))
           (λ apart.
           let before : (is_marked f0 r ≡ false) × (row d r ≡ row d0 r) =
-          h.kept r below (sym (get_or-set_other f i r new false apart) ∙ unmarked) in
-          (before.0, same-list_of d.cols (λ c. entry (with_entry d i j v) r c) (λ c. entry d r c) (λ c l. entry_kept d i j v r c q l (λ x. apart x.0))
-              ∙ before.1))
+          h.kept r below (sym (get_or-set_other f i r new false apart) ∙ unmarked) in (
+            before.0,
+            same-list_of d.cols (λ c. entry (with_entry d i j v) r c) (λ c. entry d r c) (λ c l. entry_kept d i j v r c q l (λ x. apart x.0))
+                ∙ before.1,
+          ))
           (cases_eq r i);
     }

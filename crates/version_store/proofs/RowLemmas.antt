@@ -30,20 +30,20 @@ pub mixed_begin : (old new : WordMatrix) → IsWhole old → mixed 0 old new ≡
 unfolding mixed
 mixed_begin old new whole =
     sym (matrix_by_entries old old.rows old.cols (λ i j. if nat_lt i 0 then entry new i j else entry old i j) refl refl whole
-        (λ i j p q. sym (past i 0 (entry new i j) (entry old i j) (omega arith))))
+    (λ i j p q. sym (past i 0 (entry new i j) (entry old i j) (omega arith))))
 
 pub mixed_end : (r : ℕ) (old new : WordMatrix) → IsWhole new → old.rows ≡ new.rows → old.cols ≡ new.cols → new.rows ≤ r → mixed r old new ≡ new
 unfolding mixed
 mixed_end r old new whole rows cols all =
     sym (matrix_by_entries new old.rows old.cols (λ i j. if nat_lt i r then entry new i j else entry old i j) (sym rows) (sym cols) whole
-        (λ i j p q. sym (before i r (entry new i j) (entry old i j) (omega (arith, rows)))))
+    (λ i j p q. sym (before i r (entry new i j) (entry old i j) (omega (arith, rows)))))
 
 -- a row that is the same in both
 pub mixed_kept : (r : ℕ) (old new : WordMatrix) → old.cols ≡ new.cols → row new r ≡ row old r → mixed r old new ≡ mixed (r + 1) old new
 unfolding mixed
 mixed_kept r old new cols same =
     same-matrix_of old.rows old.cols (λ i j. if nat_lt i r then entry new i j else entry old i j) (λ i j. if nat_lt i (r + 1) then entry new i j
-        else entry old i j) (λ i j p q.
+    else entry old i j) (λ i j p q.
     elim (cases_lt i r) [
       | inl l ↦ before i r (entry new i j) (entry old i j) l ∙ sym (before i (r + 1) (entry new i j) (entry old i j) (omega arith))
       | inr g ↦ past i r (entry new i j) (entry old i j) g ∙ elim (cases_eq i r) [
@@ -61,7 +61,7 @@ unfolding mixed
 mixed_more r old new cols =
     let m : WordMatrix = mixed r old new in
     same-matrix_of old.rows old.cols (λ i j. if i == r then slice_index (row new r) j else entry m i j) (λ i j. if nat_lt i (r + 1) then entry new i j
-        else entry old i j) (λ i j p q.
+    else entry old i j) (λ i j p q.
     ⊎_elim
     (λ e.
     if_here i r (slice_index (row new r) j) (entry m i j) e ∙ row_index new r j (omega (arith, cols)) ∙ ap (λ i. entry new i j) (sym e)

@@ -1,8 +1,7 @@
 //! One version's records, with everything that is made from them.
 
 ghost use Rattle.std.specs.Prelude.{◌≡◌, [], ◌*◌, ◌<◌, ◌≤◌, IfOk, length};
-ghost use Rattle.digit_pack.specs.Layout.{digit_rows, digit_cols, digits_per_record, record_at,
-    records_in};
+ghost use Rattle.digit_pack.specs.Layout.{digit_rows, digit_cols, digits_per_record, record_at, records_in};
 ghost use Rattle.pir_schemes.specs.Plans.{IsPlan, plan_of};
 ghost use Rattle.pir_schemes.specs.Retrievals.{hint_matrix, query_count, answer_words};
 ghost use Rattle.version_store.specs.Drafts.{draft_of, FitRecords};
@@ -54,8 +53,11 @@ impl<K: Kernel> Edition<K> {
         requires dimension { (1 ≤ dimension) × (dimension ≤ 1024) }
         requires count { length bytes.items ≡ layout.count * layout.record_len }
         ensures { IfOk result (λ e.
-            e ≡ record { plan = plan_of layout dimension seed; records = records_in layout
-                bytes.items }) }
+            e ≡ record {
+              plan = plan_of layout dimension seed;
+              records = records_in layout
+                  bytes.items;
+            }) }
     {
         let layer = FirstLayer::open(alloc, kernel, layout, dimension, seed, bytes)?;
         let layout = layer.layout();

@@ -1,8 +1,7 @@
 //! The records of one version, with what SimplePIR makes from them.
 
 ghost use Rattle.std.specs.Prelude.{◌≡◌, ◌*◌, ◌<◌, ◌≤◌, IfOk, length, slice_set};
-ghost use Rattle.digit_pack.specs.Layout.{IsLayout, digit_rows, digit_cols, digits_per_record,
-    record_at, records_in};
+ghost use Rattle.digit_pack.specs.Layout.{IsLayout, digit_rows, digit_cols, digits_per_record, record_at, records_in};
 ghost use Rattle.pir_schemes.specs.Plans.{IsPlan, plan_of, digits_at};
 ghost use Rattle.pir_schemes.specs.Retrievals.{hint_matrix, answer_words};
 ghost use Rattle.version_store.specs.Editions.{Records, version_shape, MarksChanges};
@@ -60,8 +59,11 @@ impl FirstLayer {
         requires dimension { (1 ≤ dimension) × (dimension ≤ 1024) }
         requires count { length bytes.items ≡ layout.count * layout.record_len }
         ensures { IfOk result (λ e.
-            e ≡ record { plan = plan_of layout dimension seed; records = records_in layout
-                bytes.items }) }
+            e ≡ record {
+              plan = plan_of layout dimension seed;
+              records = records_in layout
+                  bytes.items;
+            }) }
     {
         let digits: Digits = digits_of_records(alloc, &layout, &bytes)?;
         let a1 = expand(alloc, &seed, 0, 0, layout.cols(), dimension)?;

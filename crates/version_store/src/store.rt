@@ -1,7 +1,6 @@
 //! The store: the current version, a draft, and their publication.
 
-ghost use Rattle.std.specs.Prelude.{ℕ, ◌≡◌, ◌≢◌, ◌+◌, ◌*◌, ◌^◌, ◌<◌, ◌≤◌, ◌↔◌, length, true, false,
-    OnOk, OnErr, IfErr, IfOk, IfSome, IsNone, take, slice_set, IsErrOf, IsTrue};
+ghost use Rattle.std.specs.Prelude.{ℕ, ◌≡◌, ◌≢◌, ◌+◌, ◌*◌, ◌^◌, ◌<◌, ◌≤◌, ◌↔◌, length, true, false, OnOk, OnErr, IfErr, IfOk, IfSome, IsNone, take, slice_set, IsErrOf, IsTrue};
 ghost use Rattle.matrix_u32.specs.Matrix.{row};
 ghost use Rattle.digit_pack.specs.Layout.{digits_per_record, digit_rows, record_at, records_in};
 ghost use Rattle.pir_schemes.specs.Plans.{IsPlan, fits};
@@ -9,11 +8,9 @@ ghost use Rattle.pir_schemes.specs.Parts.{part_of};
 ghost use Rattle.pir_schemes.specs.Retrievals.{hint_matrix, query_count, answer_words};
 ghost use Rattle.version_store.specs.Editions.{version_shape};
 ghost use Rattle.snapshot_file.specs.Snapshots.{header_of, shape_of};
-ghost use Rattle.version_store.specs.Openings.{IsSound, IsOpenFault, held_of, header_of_held,
-    bytes_of_records, snapshot_of};
+ghost use Rattle.version_store.specs.Openings.{IsSound, IsOpenFault, held_of, header_of_held, bytes_of_records, snapshot_of};
 ghost use Rattle.std.specs.Io.KnownBytes.{Appends};
-ghost use Rattle.version_store.specs.Histories.{StoreState, History, StandsFor, opened, after_edit,
-    published, held_edited, held_published};
+ghost use Rattle.version_store.specs.Histories.{StoreState, History, StandsFor, opened, after_edit, published, held_edited, held_published};
 
 use crate::drafts::Changes;
 use crate::edition::Edition;
@@ -213,10 +210,10 @@ impl<K: Kernel> Store<K> {
     pub fn hint_words(&self, scheme: Scheme, part: usize) -> Option<&[u32]>
         ensures none { IsNone result ↔
             (length (hint_matrix scheme self.now.edition.plan self.now.edition.records).words ≤
-                65536 * part) }
+            65536 * part) }
         ensures words { IfSome result (λ words.
             words.now ≡ part_of (hint_matrix scheme self.now.edition.plan
-                self.now.edition.records).words part) }
+            self.now.edition.records).words part) }
     {
         part_words(self.edition.hint(scheme).words(), part)
     }
@@ -236,8 +233,7 @@ impl<K: Kernel> Store<K> {
     pub fn answer(&self, scheme: Scheme, words: &[u32]) -> Result<Vec<u32>, AllocError>
         requires { length words.now ≡ query_count scheme (version_shape self.now.edition) }
         ensures { IfOk result (λ v.
-            v.items ≡ answer_words scheme self.now.edition.plan self.now.edition.records words.now)
-                }
+            v.items ≡ answer_words scheme self.now.edition.plan self.now.edition.records words.now) }
     {
         self.edition.answer(self.alloc, scheme, words)
     }
@@ -247,7 +243,7 @@ impl<K: Kernel> Store<K> {
         requires { length words.now ≡ query_count Scheme.Simple (version_shape self.now.edition) }
         ensures { IfOk result (λ v.
             v.items ≡ answer_words Scheme.Simple self.now.edition.plan self.now.edition.records
-                words.now) }
+            words.now) }
     {
         self.answer(Scheme::Simple, words)
     }
@@ -257,7 +253,7 @@ impl<K: Kernel> Store<K> {
         requires { length words.now ≡ query_count Scheme.Double (version_shape self.now.edition) }
         ensures { IfOk result (λ v.
             v.items ≡ answer_words Scheme.Double self.now.edition.plan self.now.edition.records
-                words.now) }
+            words.now) }
     {
         self.answer(Scheme::Double, words)
     }

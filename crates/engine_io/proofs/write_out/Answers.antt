@@ -9,7 +9,7 @@ pub loop-at-preserved : goal.loop-at-preserved
 loop-at-preserved g c =
     let n : c.in-Ok.n ≤ length (drop c.loop-at.at c.args.bytes.now) = rw take_rest at c.in-Ok.ensures.bound in
     let one : Appends (g.W.Write.contents c.loop-at.writer) (g.W.Write.contents c.write.new.self) (take c.in-Ok.n (drop c.loop-at.at c.args.bytes.now)) =
-        rw take_rest at c.in-Ok.ensures.bytes in
+    rw take_rest at c.in-Ok.ensures.bytes in
     record {
       within = omega (arith, n, length-drop c.loop-at.at c.args.bytes.now);
       written = rw take-add (Appends-trans (g.W.Write.contents c.args.writer.now) (g.W.Write.contents c.loop-at.writer)

@@ -56,18 +56,18 @@ loop-r-preserved g c =
 pub returns-clause-server : goal.returns-clause-server
 returns-clause-server g c =
     all_written c.loop-r.r (g.S.DigitStore.digits c.args.server_hint.now)
-        (g.S.DigitStore.digits c.loop-r.server_hint) c.args.client_hint.now c.loop-r.client_hint
+    (g.S.DigitStore.digits c.loop-r.server_hint) c.args.client_hint.now c.loop-r.client_hint
     c.args.a2.now c.args.w c.args.row c.args.words.now (omega (arith, c.loop-r-test.false, c.rows-r-end.ensures.value)) c.requires.server_rows
-        c.loop-r.invariant
+    c.loop-r.invariant
 
 pub returns-clause-client : goal.returns-clause-client
 returns-clause-client g c =
     all_moved c.loop-r.r (g.S.DigitStore.digits c.args.server_hint.now) (g.S.DigitStore.digits c.loop-r.server_hint) c.args.client_hint.now c.loop-r.client_hint
     c.args.a2.now c.args.w c.args.row c.args.words.now (omega (arith, c.loop-r-test.false, c.rows-r-end.ensures.value)) c.requires.client_rows
-        c.loop-r.invariant
+    c.loop-r.invariant
 
 pub returns-clause-follows : goal.returns-clause-follows
 returns-clause-follows g c = λ d a1 digits fits is made.
     both_follow c.args.w (g.S.DigitStore.digits c.args.server_hint.now) (g.S.DigitStore.digits c.loop-r.server_hint) c.args.client_hint.now c.loop-r.client_hint
     a1 c.args.a2.now d c.args.row digits c.args.words.now (split_some c.args.w (omega (arith, c.requires.width.0))) fits is
-        (returns-clause-server g c) c.loop-r.invariant.follows made
+    (returns-clause-server g c) c.loop-r.invariant.follows made

@@ -20,4 +20,4 @@ loop-noise-preserved c =
 pub returns-clause-noise : goal.returns-clause-noise
 returns-clause-noise c =
     fill_by_all (λ k. noise (source_word c.args.source.now k)) c.loop-noise.out (length c.args.out.now) (pos 0) c.loop-noise.auto.out
-        (λ k l. c.loop-noise.invariant.filled k (omega arith))
+    (λ k l. c.loop-noise.invariant.filled k (omega arith))

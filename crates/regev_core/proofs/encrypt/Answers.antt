@@ -22,7 +22,7 @@ loop-j-preserved g c =
     let in_rows : c.loop-j.j < c.args.a.now.rows = omega (arith, ap length c.mul_vec.ensures, c.requires.room, c.mul_vec.auto) in
     let fits : SFits w32 (slice_index_or c.args.e.now c.loop-j.j (pos 0)) = search rules in
     let written : c.wrapping_add_signed.result
-        ≡ (dot (row c.args.a.now c.loop-j.j) c.args.s.now + residue (slice_index_or c.args.e.now c.loop-j.j (pos 0))) % 2 ^ 32 =
+    ≡ (dot (row c.args.a.now c.loop-j.j) c.args.s.now + residue (slice_index_or c.args.e.now c.loop-j.j (pos 0))) % 2 ^ 32 =
     c.wrapping_add_signed.ensures ∙ plus_bits _ _ _ fits (c.loop-j.invariant.rest c.loop-j.j (omega arith) in_rows) in
     record {
       done = below_more _ _
@@ -45,9 +45,9 @@ placed out n place v f e p h k l =
 pub returns : goal.returns
 returns g c =
     let size : length c.loop-j.out ≡ c.args.a.now.rows = c.loop-j.auto.out ∙ ap length c.mul_vec.ensures
-        ∙ length-list_of c.args.a.now.rows (λ i. dot (row c.args.a.now i) c.args.s.now) in
+    ∙ length-list_of c.args.a.now.rows (λ i. dot (row c.args.a.now i) c.args.s.now) in
     words_are _ c.args.a.now.rows _ (length-set _ _ _ ∙ size) (λ k l.
     ap (λ v. slice_index (slice_set c.loop-j.out c.args.place ((slice_index c.loop-j.out c.args.place + v) % 2 ^ 32)) k) c.delta.ensures
     ∙ placed c.loop-j.out c.args.a.now.rows c.args.place (delta c.args.w)
-        (λ k. dot (row c.args.a.now k) c.args.s.now + residue (slice_index_or c.args.e.now k (pos 0)))
+    (λ k. dot (row c.args.a.now k) c.args.s.now + residue (slice_index_or c.args.e.now k (pos 0)))
     size c.requires.place (λ k l. c.loop-j.invariant.done k (omega (arith, c.loop-j-test.false, c.loop-j.auto.out, size))) k l)

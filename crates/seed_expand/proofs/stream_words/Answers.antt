@@ -15,5 +15,5 @@ returns-clause-words c =
     ∙ ap (λ s. list_of c.args.count (source_word s)) c.at.ensures
     ∙ words-source_at c.args.seed.now c.args.stream c.args.place c.args.count in
     let as_long : length c.fill_words.new.out ≡ c.args.count = ap length filled
-        ∙ length-list_of c.args.count (λ k. word c.args.seed.now c.args.stream (c.args.place + k)) in
+    ∙ length-list_of c.args.count (λ k. word c.args.seed.now c.args.stream (c.args.place + k)) in
     with_items_is c.in_ok-words.words c.fill_words.new.out (as_long ∙ sym c.in_ok-words.ensures.len) ∙ filled

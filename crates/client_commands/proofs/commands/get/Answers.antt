@@ -15,15 +15,15 @@ returns-in-Retrieved-clause-sends g c =
       more_went (frame.Hello client_profile (replicate 32 0)) (frame.HintAsk (scheme_byte c.args.scheme) version 0) _ _ _ _
           (both_went (frame.Hello client_profile (replicate 32 0)) (frame.HintAsk (scheme_byte c.args.scheme) version 0) _ _ _
           (call_went (λ v. v.items) (Hello (replicate 32 0)) _ _ c.hello-sent.result _ _ c.in_ok-exchange.ensures.made c.hello-sent.ensures.accepted
-              c.in_ok-exchange.ensures.sends)
+          c.in_ok-exchange.ensures.sends)
           (call_went (λ v. v.items) (Sync c.args.scheme) _ _ c.sync-sent.result _ _ c.in_ok-exchange-2.ensures.made c.sync-sent.ensures.accepted
-              c.in_ok-exchange-2.ensures.sends))
+          c.in_ok-exchange-2.ensures.sends))
           (call_went (λ v. v.items) (Ask c.args.index) _ _ c.ask-sent.result _ _ c.in_ok-index.ensures.made c.ask-sent.ensures.accepted
-              c.in_ok-index.ensures.sends),
+          c.in_ok-index.ensures.sends),
     )
 
 pub returns-in-Retrieved-clause-record : goal.returns-in-Retrieved-clause-record
 returns-in-Retrieved-clause-record g c =
     asked_and_retrieved (λ v. v.items) c.args.index _ _ c.exchange-3.new.client c.ask-sent.result c.in_ok-index.field-0 c.in-Retrieved.index
-        c.in-Retrieved.version c.in-Retrieved.bytes
+    c.in-Retrieved.version c.in-Retrieved.bytes
     c.in_ok-index.ensures.made c.ask-sent.ensures.accepted c.in-Retrieved.is c.in_ok-index.ensures.ends.0 c.in_ok-index.ensures.came

@@ -18,7 +18,7 @@ pub returns-clause-sends : goal.returns-clause-sends
 returns-clause-sends g c =
     on_ok c.done_version.result _ (both_went (frame.Hello client_profile c.args.key) frame.Publish _ _ _
     (call_went (λ v. v.items) (Hello c.args.key) _ _ c.hello-sent.result _ _ c.in_ok-exchange.ensures.made c.hello-sent.ensures.accepted
-        c.in_ok-exchange.ensures.sends)
+    c.in_ok-exchange.ensures.sends)
     (call_went (λ v. v.items) Publish _ _ c.publish-sent.result _ _ c.in_ok-event.ensures.made c.publish-sent.ensures.accepted c.in_ok-event.ensures.sends))
 
 pub returns-clause-said : goal.returns-clause-said

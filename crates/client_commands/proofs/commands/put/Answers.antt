@@ -11,9 +11,9 @@ pub returns-clause-sends : goal.returns-clause-sends
 returns-clause-sends g c =
     on_ok c.done_version.result _ (both_went (frame.Hello client_profile c.args.key) (frame.Edit c.args.index c.args.bytes.now) _ _ _
     (call_went (λ v. v.items) (Hello c.args.key) _ _ c.hello-sent.result _ _ c.in_ok-exchange.ensures.made c.hello-sent.ensures.accepted
-        c.in_ok-exchange.ensures.sends)
+    c.in_ok-exchange.ensures.sends)
     (call_went (λ v. v.items) (Edit c.args.index c.args.bytes.now) _ _ c.edit-sent.result _ _ c.in_ok-event.ensures.made c.edit-sent.ensures.accepted
-        c.in_ok-event.ensures.sends))
+    c.in_ok-event.ensures.sends))
 
 pub returns-clause-number : goal.returns-clause-number
 returns-clause-number g c =

@@ -29,7 +29,7 @@ returns-in-None-clause-came g c = record {
 pub returns-in-None-clause-sends : goal.returns-in-None-clause-sends
 returns-in-None-clause-sends g c =
     said_after (λ v. v.items) c.args.sent c.in-Ok.first _ _ _ _ 0 c.in-Ok-converse.event _ _ None _ c.in-Ok.is c.deref.ensures.value c.in-Ok-converse.ensures.3
-        c.in-Ok-converse.ensures.5
+    c.in-Ok-converse.ensures.5
 
 pub returns-clause-said : goal.returns-clause-said
 returns-clause-said g c = λ _. (

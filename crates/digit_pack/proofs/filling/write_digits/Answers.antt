@@ -19,12 +19,12 @@ loop-d-preserved g c =
     let old : WordMatrix = g.S.DigitStore.digits c.args.digits.now in
     subst (λ m. WritesFirst old m c.args.first c.args.col (c.loop-d.d + 1) c.args.written.now) (sym c.set.ensures)
     (one_written old (g.S.DigitStore.digits c.loop-d.digits) c.args.first c.args.col c.loop-d.d
-        (slice_index c.args.written.now c.loop-d.d) c.args.written.now c.loop-d.invariant
+    (slice_index c.args.written.now c.loop-d.d) c.args.written.now c.loop-d.invariant
     (omega (arith, c.requires.rows)) c.requires.col refl)
 
 pub returns : goal.returns
 returns g c =
     let all : c.loop-d.d ≡ length c.args.written.now = omega arith in
     let done : ℕ → Type 0 = λ n. WritesFirst (g.S.DigitStore.digits c.args.digits.now)
-        (g.S.DigitStore.digits c.loop-d.digits) c.args.first c.args.col n c.args.written.now in
+    (g.S.DigitStore.digits c.loop-d.digits) c.args.first c.args.col n c.args.written.now in
     subst done all c.loop-d.invariant

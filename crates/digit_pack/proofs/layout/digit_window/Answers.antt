@@ -17,5 +17,11 @@ returns c =
     let w : ℕ = c.args.w in
     let middle = shifted_small w c.digit_or_zero-middle.result w c.digit_or_zero-middle.ensures.small (omega arith) in
     let high = shifted_small w c.digit_or_zero-high.result (w * 2) c.digit_or_zero-high.ensures.small (omega arith) in
-    omega (arith, middle, high, c.digit_or_zero-low.ensures.value, ap (λ d. d * 2 ^ w) c.digit_or_zero-middle.ensures.value,
-        ap (λ d. d * 2 ^ (w * 2)) c.digit_or_zero-high.ensures.value)
+    omega (
+      arith,
+      middle,
+      high,
+      c.digit_or_zero-low.ensures.value,
+      ap (λ d. d * 2 ^ w) c.digit_or_zero-middle.ensures.value,
+      ap (λ d. d * 2 ^ (w * 2)) c.digit_or_zero-high.ensures.value,
+    )

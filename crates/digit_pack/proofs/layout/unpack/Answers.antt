@@ -27,5 +27,5 @@ returns c = (
       c.if-digits-top.false,
   words_are c.loop-i.out c.args.layout.now.record_len (digit 8 (number_of c.args.layout.now.width c.args.digits.now)) (c.loop-i.auto.out ∙ c.requires.room)
       (λ k l. c.loop-i.invariant k (omega (arith, c.requires.room, c.loop-i-test.false))
-          ∙ ap (λ w. digit 8 (number_of w c.args.digits.now) k) c.width-w.ensures.value),
+      ∙ ap (λ w. digit 8 (number_of w c.args.digits.now) k) c.width-w.ensures.value),
 )

@@ -21,9 +21,15 @@ pub part_of-part-requires : goal.part_of-part-requires
 part_of-part-requires g c =
     let rows : ℕ = c.rows-rows.result in
     let last : (c.loop-d.d + 1) * rows ≤ digits_per_record c.args.layout.now * rows =
-        mul-le-mul_right rows (omega (arith, c.loop-d-test.true, c.digits_per_record-d-end.ensures.value)) in
-    omega (arith, last, c.requires.words, c.cols-cols.ensures.value, c.rows-rows.ensures.value,
-        ap (λ r. digits_per_record c.args.layout.now * r) c.rows-rows.ensures.value)
+    mul-le-mul_right rows (omega (arith, c.loop-d-test.true, c.digits_per_record-d-end.ensures.value)) in
+    omega (
+      arith,
+      last,
+      c.requires.words,
+      c.cols-cols.ensures.value,
+      c.rows-rows.ensures.value,
+      ap (λ r. digits_per_record c.args.layout.now * r) c.rows-rows.ensures.value,
+    )
 
 pub loop-d-preserved : goal.loop-d-preserved
 loop-d-preserved g c =
@@ -52,12 +58,12 @@ returns-clause-words g c =
     let prefix : c.part_of-prefix.result.now ≡ take (digit_cols l) words = c.part_of-prefix.ensures.value ∙ ap (λ n. take n words) c.cols-cols.ensures.value in
     let first : g.S.DigitStore.digits c.in_ok-first.first ≡ first_answer_of l.width d (take (digit_cols l) words) =
     c.in_ok-first.ensures ∙ ap (λ w. first_answer_of w d c.part_of-prefix.result.now) c.width.ensures.value
-        ∙ ap (λ (ws : List ℕ). first_answer_of l.width d ws) prefix in
+    ∙ ap (λ (ws : List ℕ). first_answer_of l.width d ws) prefix in
     c.loop-d.invariant
     ∙ ap (λ (m : WordMatrix). (product m c.args.a2.now).words ++ flat_map (λ d. part_answer_of h m (part_of_query l words d)) (range_with_len 0 c.loop-d.d))
-        first
+    first
     ∙ ap (λ n. (product (first_answer_of l.width d (take (digit_cols l) words)) c.args.a2.now).words
-        ++ flat_map (λ k. part_answer_of h (first_answer_of l.width d (take (digit_cols l) words)) (part_of_query l words k)) (range_with_len 0 n)) end
+    ++ flat_map (λ k. part_answer_of h (first_answer_of l.width d (take (digit_cols l) words)) (part_of_query l words k)) (range_with_len 0 n)) end
 
 pub part_answer-requires-clause-server : goal.part_answer-requires-clause-server
 part_answer-requires-clause-server g c = c.part_of-part.ensures.count ∙ c.rows-rows.ensures.value ∙ sym c.requires.server_cols
@@ -77,4 +83,4 @@ pub returns-clause-count : goal.returns-clause-count
 returns-clause-count g c =
     ap length (returns-clause-words g c)
     ∙ length-answer_of c.args.layout.now (g.S.DigitStore.digits c.args.digits.now)
-        (g.S.DigitStore.digits c.args.server_hint.now) c.args.a2.now c.args.words.now c.requires.server_rows
+    (g.S.DigitStore.digits c.args.server_hint.now) c.args.a2.now c.args.words.now c.requires.server_rows

@@ -8,5 +8,5 @@ use Rattle.double_scheme.proofs.answers.answer.Given as goal
 abbrev pub invariant-loop-d : goal.invariant-loop-d
 invariant-loop-d g l =
     l.out.items ≡ (product (g.S.DigitStore.digits l.first) l.a2).words
-        ++ flat_map (λ d. part_answer_of (g.S.DigitStore.digits l.server_hint) (g.S.DigitStore.digits l.first) (part_of_query l.layout l.words d))
-        (range_with_len 0 l.d)
+    ++ flat_map (λ d. part_answer_of (g.S.DigitStore.digits l.server_hint) (g.S.DigitStore.digits l.first) (part_of_query l.layout l.words d))
+    (range_with_len 0 l.d)

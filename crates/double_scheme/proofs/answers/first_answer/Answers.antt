@@ -20,5 +20,5 @@ pub decompose-requires-clause-size : goal.decompose-requires-clause-size
 decompose-requires-clause-size g c =
     let cols : c.in-Ok.matrix.cols ≡ 1 = ap (λ (m : WordMatrix). m.cols) c.in-Ok.ensures.words.0 in
     let rows : c.in-Ok.matrix.rows ≡ (g.S.DigitStore.digits c.args.digits.now).rows = ap (λ (m : WordMatrix). m.rows) c.in-Ok.ensures.words.0
-        ∙ c.rows-rows.ensures.value in
+    ∙ c.rows-rows.ensures.value in
     few_across c.args.w c.in-Ok.matrix.cols c.in-Ok.matrix.rows c.requires.width.0 (omega (arith, cols)) (omega (arith, rows, c.requires.rows))

@@ -29,4 +29,4 @@ loop-j-preserved g c =
     ∙ ap (λ x. digit w x (r % split_count w)) (sym (entry-matrix_of a.cols a.rows (λ i j. entry a j i) (r / split_count w) j low in_cols)) in
     rw c.set.ensures
     (one_filled (a.cols * split_count w) a.rows r j c.word_digit-digit.result (decomposed_at w (transpose a))
-        (g.S.DigitStore.digits c.loop-j.store) c.requires.row in_cols value c.loop-j.invariant)
+    (g.S.DigitStore.digits c.loop-j.store) c.requires.row in_cols value c.loop-j.invariant)

@@ -22,9 +22,9 @@ decompose-requires-clause-size g c = few_across c.args.w c.args.hint.now.cols c.
 pub setup-requires-clause-size : goal.setup-requires-clause-size
 setup-requires-clause-size g c =
     let rows : (g.S.DigitStore.digits c.in_ok-server.server).rows ≡ c.args.hint.now.cols * split_count c.args.w =
-        ap (λ (m : WordMatrix). m.rows) c.in_ok-server.ensures in
+    ap (λ (m : WordMatrix). m.rows) c.in_ok-server.ensures in
     rw rows (few_across c.args.w c.args.hint.now.cols c.args.a2.now.cols c.requires.width.0 c.requires.col_limit
-        (omega (arith, c.requires.cols, c.requires.col_limit)))
+    (omega (arith, c.requires.cols, c.requires.col_limit)))
 
 pub returns-clause-server_sizes : goal.returns-clause-server_sizes
 returns-clause-server_sizes g c = (

@@ -18,13 +18,13 @@ pub part_query-requires-clause-place : goal.part_query-requires-clause-place
 part_query-requires-clause-place g c =
     let inside : first_row c.args.layout.now c.args.i + c.loop-d.d < digit_rows c.args.layout.now =
     row_inside c.args.layout.now c.args.i c.loop-d.d c.width-w.ensures.layout.groups.0
-        (omega (arith, c.loop-d-test.true, c.digits_per_record-d-end.ensures.value)) in
+    (omega (arith, c.loop-d-test.true, c.digits_per_record-d-end.ensures.value)) in
     omega (arith, inside, ap (λ p. p.0) c.place-first.ensures.value, c.requires.second_rows)
 
 pub part_query-requires-clause-part : goal.part_query-requires-clause-part
 part_query-requires-clause-part g c =
     let few : 1 * digits_per_record c.args.layout.now ≤ digit_rows c.args.layout.now =
-        mul-le-mul_right (digits_per_record c.args.layout.now) c.width-w.ensures.layout.groups.0 in
+    mul-le-mul_right (digits_per_record c.args.layout.now) c.width-w.ensures.layout.groups.0 in
     omega (arith, few, c.width-w.ensures.layout.groups.1, c.loop-d-test.true, c.digits_per_record-d-end.ensures.value)
 
 pub part_query-requires-clause-rows : goal.part_query-requires-clause-rows
@@ -53,9 +53,9 @@ returns-clause-words g c =
     let end : c.loop-d.d ≡ digits_per_record l = omega (arith, c.loop-d-test.false, c.digits_per_record-d-end.ensures.value) in
     c.loop-d.invariant
     ∙ ap (λ n. first_query_of l c.args.a1.now c.args.seed.now c.args.number c.args.i
-        ++ flat_map (part_query_of l c.args.a2.now c.args.seed.now c.args.number c.args.i) (range_with_len 0 n)) end
+    ++ flat_map (part_query_of l c.args.a2.now c.args.seed.now c.args.number c.args.i) (range_with_len 0 n)) end
 
 pub returns-clause-count : goal.returns-clause-count
 returns-clause-count g c =
     ap length (returns-clause-words g c)
-        ∙ length-query_of c.args.layout.now c.args.a1.now c.args.a2.now c.args.seed.now c.args.number c.args.i c.requires.rows c.requires.second_rows
+    ∙ length-query_of c.args.layout.now c.args.a1.now c.args.a2.now c.args.seed.now c.args.number c.args.i c.requires.rows c.requires.second_rows

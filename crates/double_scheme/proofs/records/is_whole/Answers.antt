@@ -9,9 +9,9 @@ overflow_mul-result c =
     let l = c.args.layout.now in
     let few : digits_per_record l * (c.args.client_hint.now.rows + split_count l.width) ≤ 4096 * 6150 =
     few_words l l.width c.args.client_hint.now.cols c.args.client_hint.now.rows c.width.ensures.layout c.width.ensures.layout.width.0 c.requires.cols
-        c.requires.rows in
+    c.requires.rows in
     let words : c.digits_per_record.result * (c.rows-prefix.result + c.split_count.result)
-        ≡ digits_per_record l * (c.args.client_hint.now.rows + split_count l.width) =
+    ≡ digits_per_record l * (c.args.client_hint.now.rows + split_count l.width) =
     ap (λ k. k * (c.rows-prefix.result + c.split_count.result)) c.digits_per_record.ensures.value
     ∙ ap (λ k. digits_per_record l * (k + c.split_count.result)) c.rows-prefix.ensures.value
     ∙ ap (λ k. digits_per_record l * (c.args.client_hint.now.rows + k)) (c.split_count.ensures ∙ ap split_count c.width.ensures.value) in
@@ -22,11 +22,11 @@ overflow_add-result c =
     let l = c.args.layout.now in
     let few : digits_per_record l * (c.args.client_hint.now.rows + split_count l.width) ≤ 4096 * 6150 =
     few_words l l.width c.args.client_hint.now.cols c.args.client_hint.now.rows c.width.ensures.layout c.width.ensures.layout.width.0 c.requires.cols
-        c.requires.rows in
+    c.requires.rows in
     let rows : c.args.client_hint.now.rows ≤ 6144 =
-        few_rows l.width c.args.client_hint.now.cols c.args.client_hint.now.rows c.width.ensures.layout.width.0 c.requires.cols c.requires.rows in
+    few_rows l.width c.args.client_hint.now.cols c.args.client_hint.now.rows c.width.ensures.layout.width.0 c.requires.cols c.requires.rows in
     let words : c.digits_per_record.result * (c.rows-prefix.result + c.split_count.result)
-        ≡ digits_per_record l * (c.args.client_hint.now.rows + split_count l.width) =
+    ≡ digits_per_record l * (c.args.client_hint.now.rows + split_count l.width) =
     ap (λ k. k * (c.rows-prefix.result + c.split_count.result)) c.digits_per_record.ensures.value
     ∙ ap (λ k. digits_per_record l * (k + c.split_count.result)) c.rows-prefix.ensures.value
     ∙ ap (λ k. digits_per_record l * (c.args.client_hint.now.rows + k)) (c.split_count.ensures ∙ ap split_count c.width.ensures.value) in

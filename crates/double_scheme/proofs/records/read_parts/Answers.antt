@@ -33,9 +33,9 @@ loop-d-preserved g c =
     let h : c.in_ok-hint.hint ≡ answer_hint c.width-w.result n c.args.answer.now =
     c.in_ok-hint.ensures ∙ ap (λ n. answer_hint c.width-w.result n c.args.answer.now) c.cols-n.ensures in
     filled_more c.loop-d.out c.loop-d.d c.in_ok-out.field-0 (digit_read l hint c.args.seed.now c.args.number c.args.answer.now)
-        (omega (arith, c.loop-d-test.true, c.loop-d.auto.out))
+    (omega (arith, c.loop-d-test.true, c.loop-d.auto.out))
     (part_is l hint c.args.seed.now c.args.number c.args.answer.now c.loop-d.d c.width-w.result c.rows-prefix.result
-        (c.rows-prefix.result + c.split_count.result) c.in_ok-out.field-0
+    (c.rows-prefix.result + c.split_count.result) c.in_ok-out.field-0
     c.in_ok-hint.hint c.deref.result.now c.deref-in-loop-d.result.now c.part_of-part.result.now
     c.width-w.ensures.value prefix size h s1 s2 c.part_of-part.ensures.value c.in_ok-out.ensures)
     c.loop-d.invariant

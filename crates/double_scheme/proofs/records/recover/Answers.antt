@@ -24,7 +24,7 @@ returns-clause-quiet g c = λ records a1 a2 rows1 rows2 cols whole eh ea quiet.
     let count : length c.args.answer.now ≡ answer_count l c.args.client_hint.now.cols =
     ap length ea ∙ length-answer l records a1 a2 seed number i rows1 rows2 cols ∙ ap (answer_count l) (sym (ap (λ (h : WordMatrix). h.cols) eh)) in
     record_or_memory l (answer_count l c.args.client_hint.now.cols) c.args.answer.now
-        (reading l c.args.client_hint.now seed number c.args.answer.now) bytes c.read_record-record.result
+    (reading l c.args.client_hint.now seed number c.args.answer.now) bytes c.read_record-record.result
     count
     (subst (FitsRecord l) (sym read) back.accepted)
     (ap (record_bytes l) read ∙ back.same)

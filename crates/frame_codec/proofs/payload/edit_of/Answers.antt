@@ -11,7 +11,7 @@ pub returns-clause-some : goal.returns-clause-some
 returns-clause-some c =
     let content : c.new.result ≡ drop 4 c.args.payload.now = c.new.ensures.items ∙ c.in_ok-bytes.ensures.items ∙ take_rest c.args.payload.now 4 in
     is_edit c.args.payload.now (λ i. omega (arith, c.type_inv.payload i)) (omega arith) _ c.new.result
-        (omega (arith, c.u32_at.type_inv)) c.u32_at.ensures content c.new.ensures.fields
+    (omega (arith, c.u32_at.type_inv)) c.u32_at.ensures content c.new.ensures.fields
 
 pub returns-in_err-bytes-clause-memory : goal.returns-in_err-bytes-clause-memory
 returns-in_err-bytes-clause-memory c =

@@ -10,4 +10,4 @@ pub returns-clause-some : goal.returns-clause-some
 returns-clause-some c =
     let key : c.copied.result ≡ drop 2 c.args.payload.now = c.copied.ensures.items ∙ take_rest c.args.payload.now 2 in
     is_hello c.args.payload.now (λ i. omega (arith, c.type_inv.payload i)) c.if-payload-ne34.false c.u16_at.result c.copied.result
-        (omega (arith, c.u16_at.type_inv)) c.u16_at.ensures key c.copied.ensures.fields
+    (omega (arith, c.u16_at.type_inv)) c.u16_at.ensures key c.copied.ensures.fields

@@ -12,4 +12,4 @@ returns-clause-some c =
     let version : c.u64_at.result ≡ number_in 8 (drop 1 c.args.payload.now) = rw take_rest at c.u64_at.ensures in
     let part : c.u32_at.result ≡ number_in 4 (drop 9 c.args.payload.now) = rw take_rest at c.u32_at.ensures in
     is_hint_ask c.args.payload.now (λ i. omega (arith, c.type_inv.payload i)) c.if-payload-ne13.false _ _ (omega (arith, c.u64_at.type_inv))
-        (omega (arith, c.u32_at.type_inv)) version part
+    (omega (arith, c.u32_at.type_inv)) version part

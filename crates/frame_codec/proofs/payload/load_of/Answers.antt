@@ -14,7 +14,7 @@ returns-clause-some c =
     let groups : c.u16_at-2.result ≡ number_in 2 (drop 2 c.args.payload.now) = rw take_rest at c.u16_at-2.ensures in
     let records : c.new.result ≡ drop 5 c.args.payload.now = c.new.ensures.items ∙ c.in_ok-records.ensures.items ∙ take_rest c.args.payload.now 5 in
     is_load c.args.payload.now (λ i. omega (arith, c.type_inv.payload i)) (omega arith) _ _ c.new.result (omega (arith, c.u16_at.type_inv))
-        (omega (arith, c.u16_at-2.type_inv)) c.u16_at.ensures groups records c.new.ensures.fields
+    (omega (arith, c.u16_at-2.type_inv)) c.u16_at.ensures groups records c.new.ensures.fields
 
 pub returns-in_err-records-clause-memory : goal.returns-in_err-records-clause-memory
 returns-in_err-records-clause-memory c =

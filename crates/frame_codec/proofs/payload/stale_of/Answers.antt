@@ -11,4 +11,4 @@ pub returns-clause-some : goal.returns-clause-some
 returns-clause-some c =
     let e : c.u32_at.result ≡ number_in 4 (drop 8 c.args.payload.now) = rw take_rest at c.u32_at.ensures in
     is_stale c.args.payload.now (λ i. omega (arith, c.type_inv.payload i)) c.if-payload-ne12.false _ _ (omega (arith, c.u64_at.type_inv))
-        (omega (arith, c.u32_at.type_inv)) c.u64_at.ensures e
+    (omega (arith, c.u32_at.type_inv)) c.u64_at.ensures e

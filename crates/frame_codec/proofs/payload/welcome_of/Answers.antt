@@ -9,7 +9,7 @@ returns-then-payload-ne53-clause-none c = no_stands 130 c.args.payload.now (λ h
 pub returns-clause-some : goal.returns-clause-some
 returns-clause-some c =
     let fields : WelcomeFields c.args.payload.now c.u16_at.result c.u16_at-2.result c.u16_at-3.result c.u32_at.result c.u64_at.result c.u16_at-4.result
-        c.copied.result = record {
+    c.copied.result = record {
       profile_is = c.u16_at.ensures;
       record_len_is = rw take_rest at c.u16_at-2.ensures;
       groups_is = rw take_rest at c.u16_at-3.ensures;
@@ -20,4 +20,4 @@ returns-clause-some c =
     } in
     is_welcome c.args.payload.now (λ i. omega (arith, c.type_inv.payload i)) c.if-payload-ne53.false _ _ _ _ _ _ c.copied.result fields
     (omega (arith, c.u16_at.type_inv)) (omega (arith, c.u16_at-2.type_inv)) (omega (arith, c.u16_at-3.type_inv)) (omega (arith, c.u32_at.type_inv))
-        (omega (arith, c.u64_at.type_inv)) (omega (arith, c.u16_at-4.type_inv)) c.copied.ensures.fields
+    (omega (arith, c.u64_at.type_inv)) (omega (arith, c.u16_at-4.type_inv)) c.copied.ensures.fields

@@ -9,4 +9,4 @@ returns-clause-bytes c =
     let len : length c.read_u32_into.new.dst ≡ c.in_ok-items.items.len = omega (arith, c.deref_mut.ensures.len) in
     let e : c.new.result ≡ c.read_u32_into.new.dst = c.new.ensures.items ∙ take_at c.read_u32_into.new.dst _ c.in_ok-items.items.len len in
     rw e (words_read c.read_u32_into.new.dst c.args.bytes.now (λ i. omega (arith, c.type_inv.bytes i))
-        (omega (arith, len, c.in_ok-items.ensures.len, c.requires.1)) c.read_u32_into.ensures)
+    (omega (arith, len, c.in_ok-items.ensures.len, c.requires.1)) c.read_u32_into.ensures)

@@ -12,7 +12,7 @@ returns-in-Ok-None-clause-fault c =
     let j = judged c.args.bytes.now c.in_ok-size.size c.in_ok-size.ensures.ok c.if-bytes-size.false in
     let kind : get_or c.split_at.result.0.now 4 0 ≡ kind_at c.args.bytes.now = ap (λ (x : List ℕ). get_or x 4 0) c.split_at.ensures.front ∙ j.prefix_kind in
     let payload : take (length c.split_at.result.0.now - 5) (drop 5 c.split_at.result.0.now) ≡ take (length_at c.args.bytes.now) (drop 5 c.args.bytes.now) =
-        take_rest c.split_at.result.0.now 5 ∙ ap (drop 5) c.split_at.ensures.front ∙ j.prefix_payload in
+    take_rest c.split_at.result.0.now 5 ∙ ap (drop 5) c.split_at.ensures.front ∙ j.prefix_payload in
     let none = rw c.in-Ok-None.field-0-is at c.in-Ok-None.ensures.none in
     (j.within, j.len, j.kind, λ h. none h.0 (rw (kind, payload) (announced c.args.bytes.now h.0 h.1 h.2 h.3).stands))
 
@@ -21,7 +21,7 @@ returns-in-Ok-Some-clause-whole c =
     let j = judged c.args.bytes.now c.in_ok-size.size c.in_ok-size.ensures.ok c.if-bytes-size.false in
     let kind : get_or c.split_at.result.0.now 4 0 ≡ kind_at c.args.bytes.now = ap (λ (x : List ℕ). get_or x 4 0) c.split_at.ensures.front ∙ j.prefix_kind in
     let payload : take (length c.split_at.result.0.now - 5) (drop 5 c.split_at.result.0.now) ≡ take (length_at c.args.bytes.now) (drop 5 c.args.bytes.now) =
-        take_rest c.split_at.result.0.now 5 ∙ ap (drop 5) c.split_at.ensures.front ∙ j.prefix_payload in
+    take_rest c.split_at.result.0.now 5 ∙ ap (drop 5) c.split_at.ensures.front ∙ j.prefix_payload in
     let found = rw c.in-Ok-Some.field-0-is at c.in-Ok-Some.ensures.some in
     let rest : c.split_at.result.1.now ≡ drop (length_at c.args.bytes.now) (drop 5 c.args.bytes.now) = c.split_at.ensures.back ∙ j.beyond in
     let w = whole_frame c.args.bytes.now c.in-Ok-Some.frame (λ i. omega (arith, c.type_inv.bytes i)) j.within j.len (rw (← kind, ← payload) found) in
@@ -32,7 +32,7 @@ returns-in-Err-clause-memory c = λ _.
     let j = judged c.args.bytes.now c.in_ok-size.size c.in_ok-size.ensures.ok c.if-bytes-size.false in
     let kind : get_or c.split_at.result.0.now 4 0 ≡ kind_at c.args.bytes.now = ap (λ (x : List ℕ). get_or x 4 0) c.split_at.ensures.front ∙ j.prefix_kind in
     let payload : take (length c.split_at.result.0.now - 5) (drop 5 c.split_at.result.0.now) ≡ take (length_at c.args.bytes.now) (drop 5 c.args.bytes.now) =
-        take_rest c.split_at.result.0.now 5 ∙ ap (drop 5) c.split_at.ensures.front ∙ j.prefix_payload in
+    take_rest c.split_at.result.0.now 5 ∙ ap (drop 5) c.split_at.ensures.front ∙ j.prefix_payload in
     let found = c.in-Err.ensures.memory in
     let w = whole_frame c.args.bytes.now found.0 (λ i. omega (arith, c.type_inv.bytes i)) j.within j.len (rw (← kind, ← payload) found.1) in
     (found.0, drop (length_at c.args.bytes.now) (drop 5 c.args.bytes.now), w.0, w.1)

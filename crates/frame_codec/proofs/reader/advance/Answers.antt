@@ -8,8 +8,11 @@ pub returns-in_err-finish : goal.returns-in_err-finish
 returns-in_err-finish c =
     let p = err_from_is_err_and c.from_residual.result c.from_residual.ensures.1 in
     let stopped = c.in_err-finish.ensures.err in
-    rw (p.1, p.2) ([], stopped.0 ∙ sym (append-nil c.args.out.now.items),
-        (c.args.pending.now.items ++ c.args.piece.now, begins_none (c.args.pending.now.items ++ c.args.piece.now), stopped.1))
+    rw (p.1, p.2) (
+      [],
+      stopped.0 ∙ sym (append-nil c.args.out.now.items),
+      (c.args.pending.now.items ++ c.args.piece.now, begins_none (c.args.pending.now.items ++ c.args.piece.now), stopped.1),
+    )
 
 pub returns-in-Some : goal.returns-in-Some
 returns-in-Some c =

@@ -18,9 +18,9 @@ loop-i-preserved c =
     let same_r : length a.r.now / 16 ≡ n = omega arith in
     let same_s : length a.s.now / 16 ≡ n = omega arith in
     let f : ℕ → ℕ = λ j. (slice_index a.out.now j + a.f * slice_index a.p.now j + a.g * slice_index a.q.now j + a.h * slice_index a.r.now j + a.e * slice_index
-        a.s.now j) % 2 ^ 32 in
+    a.s.now j) % 2 ^ 32 in
     let lane : ℕ → ℕ = λ k. ((((slice_index out (at + k) + a.f * slice_index a.p.now (at + k) % 2 ^ 32) % 2 ^ 32 + a.g * slice_index a.q.now (at + k) % 2 ^ 32)
-        % 2 ^ 32
+    % 2 ^ 32
     + a.h * slice_index a.r.now (at + k) % 2 ^ 32) % 2 ^ 32 + a.e * slice_index a.s.now (at + k) % 2 ^ 32) % 2 ^ 32 in
     let long = length-map-range_with_len lane 0 16 in
     rw (

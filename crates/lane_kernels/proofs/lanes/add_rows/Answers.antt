@@ -12,8 +12,13 @@ pub loop-t-preserved : goal.loop-t-preserved
 loop-t-preserved c =
     let f : ℕ → ℕ = λ k. slice_index c.args.factors.now k in
     let next : (c.loop-t.t + 1) * 4 ≡ c.loop-t.t * 4 + 4 = omega arith in
-    let new = rw (c.row.ensures.value, c.row-in-loop-t.ensures.value, c.row-in-loop-t-2.ensures.value, c.row-in-loop-t-3.ensures.value,
-        c.loop-t.invariant) at c.add_four.ensures in
+    let new = rw (
+      c.row.ensures.value,
+      c.row-in-loop-t.ensures.value,
+      c.row-in-loop-t-2.ensures.value,
+      c.row-in-loop-t-3.ensures.value,
+      c.loop-t.invariant,
+    ) at c.add_four.ensures in
     rw next (new ∙ plus_rows-four c.args.out.now (c.loop-t.t * 4) f c.args.b.now c.args.start c.requires.width)
 
 pub returns : goal.returns

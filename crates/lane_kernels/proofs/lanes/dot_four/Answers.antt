@@ -38,11 +38,11 @@ returns c =
     let so_far = c.loop-i.invariant in
     let xd = c.as_chunks-5.ensures.back in
     ap₂ ◌∷◌ (dot_end 8 n i c.loop-i.a c.args.p.now x _ _ _ (omega arith) (omega arith) c.requires.first
-        (rw c.requires.first at c.as_chunks.ensures.back) xd c.dot.ensures so_far.first)
+    (rw c.requires.first at c.as_chunks.ensures.back) xd c.dot.ensures so_far.first)
     (ap₂ ◌∷◌ (dot_end 8 n i c.loop-i.b c.args.q.now x _ _ _ (omega arith) (omega arith) c.requires.second
-        (rw c.requires.second at c.as_chunks-2.ensures.back) xd c.dot-2.ensures so_far.second)
+    (rw c.requires.second at c.as_chunks-2.ensures.back) xd c.dot-2.ensures so_far.second)
     (ap₂ ◌∷◌ (dot_end 8 n i c.loop-i.c c.args.r.now x _ _ _ (omega arith) (omega arith) c.requires.third
-        (rw c.requires.third at c.as_chunks-3.ensures.back) xd c.dot-3.ensures so_far.third)
+    (rw c.requires.third at c.as_chunks-3.ensures.back) xd c.dot-3.ensures so_far.third)
     (ap₂ ◌∷◌ (dot_end 8 n i c.loop-i.d c.args.s.now x _ _ _ (omega arith) (omega arith) c.requires.fourth
-        (rw c.requires.fourth at c.as_chunks-4.ensures.back) xd c.dot-4.ensures so_far.fourth)
+    (rw c.requires.fourth at c.as_chunks-4.ensures.back) xd c.dot-4.ensures so_far.fourth)
     refl)))

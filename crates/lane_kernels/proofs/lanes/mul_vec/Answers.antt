@@ -13,8 +13,12 @@ loop-t-preserved c =
     let a = c.args.a.now in
     let x = c.args.x.now in
     let f : ℕ → ℕ = λ q. dot (row a q) x in
-    let four = rw (c.row.ensures.value, c.row-in-loop-t.ensures.value, c.row-in-loop-t-2.ensures.value,
-        c.row-in-loop-t-3.ensures.value) at c.dot_four-four.ensures in
+    let four = rw (
+      c.row.ensures.value,
+      c.row-in-loop-t.ensures.value,
+      c.row-in-loop-t-2.ensures.value,
+      c.row-in-loop-t-3.ensures.value,
+    ) at c.dot_four-four.ensures in
     rw next (put_done f i 4 c.loop-t.out c.dot_four-four.result (ap length four) (omega arith) c.loop-t.invariant
     (rw four (below_four _ (rw add-zero refl) refl refl refl)))
 

@@ -55,7 +55,7 @@ loop-t-preserved c =
       done = put_done (λ q. sum_below (start + count) (λ t. products_at packed x (q * words) t) % 2 ^ 32) row 4 out _ long room c.loop-t.invariant.done
           (λ j h. get_or-zip2 add (chunk row 4 out) four j 0 0 0 (omega arith) (omega arith)
           ∙ rw (get_or-chunk row 4 out j 0 h)
-              (parts_more packed x ((row + j) * words) start count _ _ (c.loop-t.invariant.rest (row + j) (omega arith) (omega arith)) (new j h)));
+          (parts_more packed x ((row + j) * words) start count _ _ (c.loop-t.invariant.rest (row + j) (omega arith) (omega arith)) (new j h)));
       rest = λ q h within. get_or-put_chunk_above row out _ q 0 (omega (arith, long))
           ∙ c.loop-t.invariant.rest q (omega arith) (omega (arith, length-put_chunk {A = ℕ}));
     })
@@ -83,7 +83,7 @@ returns c =
             let cut : at + count - at ≡ count = omega arith in
             let long : length ws ≡ count = rw cut (length-chunk at count packed inside) in
             let new = part_sum packed x (q * words) start count ws c.part-a_part.result c.carried-b_part.result c.carried-c_part.result long c.requires.most
-                refl
+            refl
             c.part-a_part.ensures c.carried-b_part.ensures.words c.carried-c_part.ensures.words in
             rw wide at (c.add_part_singly.ensures.done q le (omega arith)) ∙ parts_more packed x (q * words) start count _ _ was new
       ];

@@ -48,11 +48,11 @@ returns c =
     let db = rw c.requires.b at c.as_chunks-6.ensures.back in
     let dc = rw c.requires.c at c.as_chunks-7.ensures.back in
     ap₂ ◌∷◌ (shifted_end 8 n i c.loop-i.first g.p.now g.a.now g.b.now g.c.now _ _ _ _ _ (omega arith) (omega arith)
-        (rw c.requires.p at c.as_chunks.ensures.back) da db dc c.rest_sum-p_sum.ensures so_far.first)
+    (rw c.requires.p at c.as_chunks.ensures.back) da db dc c.rest_sum-p_sum.ensures so_far.first)
     (ap₂ ◌∷◌ (shifted_end 8 n i c.loop-i.second g.q.now g.a.now g.b.now g.c.now _ _ _ _ _ (omega arith) (omega arith)
-        (rw c.requires.q at c.as_chunks-2.ensures.back) da db dc c.rest_sum-q_sum.ensures so_far.second)
+    (rw c.requires.q at c.as_chunks-2.ensures.back) da db dc c.rest_sum-q_sum.ensures so_far.second)
     (ap₂ ◌∷◌ (shifted_end 8 n i c.loop-i.third g.r.now g.a.now g.b.now g.c.now _ _ _ _ _ (omega arith) (omega arith)
-        (rw c.requires.r at c.as_chunks-3.ensures.back) da db dc c.rest_sum-r_sum.ensures so_far.third)
+    (rw c.requires.r at c.as_chunks-3.ensures.back) da db dc c.rest_sum-r_sum.ensures so_far.third)
     (ap₂ ◌∷◌ (shifted_end 8 n i c.loop-i.fourth g.s.now g.a.now g.b.now g.c.now _ _ _ _ _ (omega arith) (omega arith)
-        (rw c.requires.s at c.as_chunks-4.ensures.back) da db dc c.rest_sum-s_sum.ensures so_far.fourth)
+    (rw c.requires.s at c.as_chunks-4.ensures.back) da db dc c.rest_sum-s_sum.ensures so_far.fourth)
     refl)))

@@ -6,8 +6,11 @@ use Rattle.lane_kernels.proofs.PackedSums.{row_product}
 use Rattle.lane_kernels.proofs.packed.packed_mul_vec.Goals as goal
 
 pub loop-start-init : goal.loop-start-init
-loop-start-init c = record { within = omega arith; so_far =
-    λ q h. rw sum_below_none (rw (c.fill.ensures.after (λ y h. h)) (get_or-replicate (length c.args.out.now) q 0 0 (omega arith))) }
+loop-start-init c = record {
+  within = omega arith;
+  so_far =
+      λ q h. rw sum_below_none (rw (c.fill.ensures.after (λ y h. h)) (get_or-replicate (length c.args.out.now) q 0 0 (omega arith)));
+}
 
 pub returns : goal.returns
 returns c =

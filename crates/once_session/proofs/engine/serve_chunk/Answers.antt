@@ -21,7 +21,7 @@ returns-in-Ok-stop-clause-turned g c rest e =
     let frames : c.deref.result.now ≡ f.0 = c.deref.ensures.value ∙ f.1 ∙ rw c.new-frames.ensures.items refl in
     let going : goes_on (stage_after old f.0) ≡ true =
     ap (λ (fs : List Frame). goes_on (stage_after old fs)) (sym frames) ∙ ap goes_on (sym c.in_default.ensures.stage.0) ∙ sym c.goes_on.ensures
-        ∙ c.if-not-goes_on.false in
+    ∙ c.if-not-goes_on.false in
     let out : List ℕ = encodings (replies_to old c.deref.result.now) ++ encoding (Refused 1) in (
       out,
       sends_both g.C.Connection.does c.args.connection.now c.serve_frames.new.connection c.stop.new.connection _ _ c.in_default.ensures.all
@@ -41,14 +41,14 @@ returns-clause-turned g c rest e =
     let frames : c.deref.result.now ≡ f.0 = c.deref.ensures.value ∙ f.1 ∙ rw c.new-frames.ensures.items refl in
     let going : goes_on (stage_after old f.0) ≡ true =
     ap (λ (fs : List Frame). goes_on (stage_after old fs)) (sym frames) ∙ ap goes_on (sym c.in_default.ensures.stage.0) ∙ sym c.goes_on.ensures
-        ∙ c.if-not-goes_on.false in
+    ∙ c.if-not-goes_on.false in
     let part = c.in-Err-stop.ensures.prefix in
     let out : List ℕ = encodings (replies_to old f.0) ++ take part.0 (encoding (Refused 1)) in (
       out,
       subst (λ (fs : List Frame). SendsBefore g.C.Connection.does c.in-Err-stop.broken c.args.connection.now
           (encodings (replies_to old fs) ++ take part.0 (encoding (Refused 1))) c.stop.new.connection) frames
           (sends_before g.C.Connection.does c.in-Err-stop.broken c.args.connection.now c.serve_frames.new.connection c.stop.new.connection _ _
-              c.in_default.ensures.all part.1),
+          c.in_default.ensures.all part.1),
       turn_cut old stream f.0 fed.0.0 c.in-Err-read.fault part.0 fed.0.1 fed.0.2 going part.2,
     )
 

@@ -30,7 +30,7 @@ loop-frame-preserved g c =
       table = c.in_default.ensures.stage.1;
       written = subst (λ (b : List ℕ). Sends g.C.Connection.does c.args.connection.now b c.serve_frame.new.connection) bytes
           (sends_both g.C.Connection.does c.args.connection.now c.loop-frame.connection c.serve_frame.new.connection _ _ c.loop-frame.invariant.written
-              c.in_default.ensures.all);
+          c.in_default.ensures.all);
     }
 
 pub returns-in-Err-clause-prefix : goal.returns-in-Err-clause-prefix
@@ -46,7 +46,7 @@ returns-in-Err-clause-prefix g c =
     let later : List ℕ = encodings (replies_to (stage_after st (take (k + 1) c.args.frames.now)) (drop (k + 1) c.args.frames.now)) in
     let all : (before ++ one) ++ later ≡ encodings (replies_to st c.args.frames.now) =
     ap (λ (b : List ℕ). b ++ later) (ap (λ s. before ++ work_reply_bytes (reply s f)) c.loop-frame.invariant.stage
-        ∙ sym (ap (λ gs. encodings (replies_to st gs)) more ∙ output-more st fs f))
+    ∙ sym (ap (λ gs. encodings (replies_to st gs)) more ∙ output-more st fs f))
     ∙ sym (output-append st (take (k + 1) c.args.frames.now) (drop (k + 1) c.args.frames.now))
     ∙ ap (λ gs. encodings (replies_to st gs)) (take-append-drop (k + 1) c.args.frames.now) in (
       before ++ take part.0 one,

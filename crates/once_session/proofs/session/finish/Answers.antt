@@ -6,6 +6,8 @@ use Rattle.once_session.proofs.session.finish.Goals as goal
 
 pub returns-in-Err : goal.returns-in-Err
 returns-in-Err g c rest e =
-    let part = c.in-Err.ensures.prefix in
-    (take part.0 (encoding (Refused 1)), part.1,
-        finish_cut c.in-Err.fault rest part.0 (λ r. let no : IsTrue false = c.if-is_between_frames.ensures.1 (e ∙ ap Some r) in cc) c.in-Err.ensures.fault)
+    let part = c.in-Err.ensures.prefix in (
+      take part.0 (encoding (Refused 1)),
+      part.1,
+      finish_cut c.in-Err.fault rest part.0 (λ r. let no : IsTrue false = c.if-is_between_frames.ensures.1 (e ∙ ap Some r) in cc) c.in-Err.ensures.fault,
+    )

@@ -30,8 +30,14 @@ serve_chunk-requires-clause-open g c = c.turns.invariant.going
 pub returns : goal.returns
 returns g c =
     let i = c.turns.invariant in
-    inr (record { before = i.before; work = record { stage = c.turns.stage; unfinished = i.unfinished }; middle = c.turns.connection; go_on = i.go_on; ends =
-        (omega (arith, i.count, i.within, c.turns-test.false), refl) })
+    inr (record {
+      before = i.before;
+      work = record { stage = c.turns.stage; unfinished = i.unfinished };
+      middle = c.turns.connection;
+      go_on = i.go_on;
+      ends =
+          (omega (arith, i.count, i.within, c.turns-test.false), refl);
+    })
 
 pub returns-in_default-receive : goal.returns-in_default-receive
 returns-in_default-receive g c =
@@ -50,7 +56,7 @@ returns-then-n-eq0 g c =
     let f = c.finish.ensures i.unfinished i.codec_is in
     let room : length c.receive.new.buffer.items ≡ 65536 = c.receive.ensures.room ∙ i.room in
     let did = subst (λ (n : ℕ). g.C.Connection.does c.turns.connection
-        (Read (length c.receive.new.buffer.items) (take n c.receive.new.buffer.items)) c.receive.new.connection) c.if-n-eq0.true c.in-Ok-receive.ensures.did in
+    (Read (length c.receive.new.buffer.items) (take n c.receive.new.buffer.items)) c.receive.new.connection) c.if-n-eq0.true c.in-Ok-receive.ensures.did in
     inr (record {
       before = i.before;
       work = record { stage = c.turns.stage; unfinished = i.unfinished };
@@ -67,7 +73,7 @@ returns-in-Err g c =
     let t = c.in-Err.ensures.turned i.unfinished i.codec_is in
     let buffer : List ℕ = c.deref.result.now in
     let did = subst (λ (x : List ℕ). g.C.Connection.does c.turns.connection (Read (length x) (take c.in-Ok-receive.n x)) c.receive.new.connection)
-        (sym c.deref.ensures.value) c.in-Ok-receive.ensures.did in
+    (sym c.deref.ensures.value) c.in-Ok-receive.ensures.did in
     let within = subst (λ (x : List ℕ). c.in-Ok-receive.n ≤ length x) (sym c.deref.ensures.value) c.in-Ok-receive.ensures.within in
     inr (record {
       before = i.before;
@@ -92,7 +98,7 @@ returns-then-not-goes_on g c =
     let t = c.in_default-serve_chunk.ensures.turned i.unfinished i.codec_is in
     let buffer : List ℕ = c.deref.result.now in
     let did = subst (λ (x : List ℕ). g.C.Connection.does c.turns.connection (Read (length x) (take c.in-Ok-receive.n x)) c.receive.new.connection)
-        (sym c.deref.ensures.value) c.in-Ok-receive.ensures.did in
+    (sym c.deref.ensures.value) c.in-Ok-receive.ensures.did in
     let within = subst (λ (x : List ℕ). c.in-Ok-receive.n ≤ length x) (sym c.deref.ensures.value) c.in-Ok-receive.ensures.within in
     inr (record {
       before = i.before;
@@ -102,7 +108,7 @@ returns-then-not-goes_on g c =
       ends = piece_ended g.C.Connection.does c.args.turns (length i.before) (record { stage = c.turns.stage; unfinished = i.unfinished }) c.turns.connection
           c.ended.result c.serve_chunk.new.connection (omega (arith, i.count, c.turns-test.true))
           (record { piece = take c.in-Ok-receive.n buffer; output = t.0 }) c.serve_chunk.new.stage c.serve_chunk.new.codec c.ended.ensures.well
-              c.ended.ensures.ill (sym c.goes_on.ensures ∙ c.if-not-goes_on.true)
+          c.ended.ensures.ill (sym c.goes_on.ensures ∙ c.if-not-goes_on.true)
           (record {
             middle = c.receive.new.connection;
             reads = reads_piece g.C.Connection.does c.turns.connection c.receive.new.connection buffer c.in-Ok-receive.n did (ap length c.deref.ensures.value
@@ -118,7 +124,7 @@ turns-preserved g c =
     let t = c.in_default-serve_chunk.ensures.turned i.unfinished i.codec_is in
     let buffer : List ℕ = c.deref.result.now in
     let did = subst (λ (x : List ℕ). g.C.Connection.does c.turns.connection (Read (length x) (take c.in-Ok-receive.n x)) c.receive.new.connection)
-        (sym c.deref.ensures.value) c.in-Ok-receive.ensures.did in
+    (sym c.deref.ensures.value) c.in-Ok-receive.ensures.did in
     let within = subst (λ (x : List ℕ). c.in-Ok-receive.n ≤ length x) (sym c.deref.ensures.value) c.in-Ok-receive.ensures.within in
     let piece : List ℕ = take c.in-Ok-receive.n buffer in
     let going : goes_on c.serve_chunk.new.stage ≡ true = sym c.goes_on.ensures ∙ c.if-not-goes_on.false in

@@ -10,5 +10,5 @@ unfolding answer_of
 returns-clause-fits g c =
     let long : length c.new.result ≡ c.args.table.now.digits.rows =
     ap length c.new.ensures.items ∙ ap length c.in_ok-answered.ensures
-        ∙ length-list_of c.args.table.now.digits.rows (λ i. dot (row c.args.table.now.digits i) c.as_slice-2.result.now) in
+    ∙ length-list_of c.args.table.now.digits.rows (λ i. dot (row c.args.table.now.digits i) c.as_slice-2.result.now) in
     omega (arith, long, c.requires.rows, c.requires.layout.groups)

@@ -9,6 +9,11 @@ returns-clause-read c =
     let scheme : c.in_ok-text_at.field-0.now ≡ scheme_text c.match-branch.scheme = elim c.match-branch.branch [
       | in-simple w ↦ w.in-simple.is ∙ ap scheme_text (sym w.scheme-is)
       | in-double w ↦ w.in-double.is ∙ ap scheme_text (sym w.scheme-is)
-    ] in
-    (c.in_ok-port.ensures.value, c.in_ok-seed.ensures.value, c.in_ok-number.ensures.value, c.in_ok-text_at.ensures.found
-        ∙ ap Some scheme, c.in_ok-index.ensures.value)
+    ] in (
+      c.in_ok-port.ensures.value,
+      c.in_ok-seed.ensures.value,
+      c.in_ok-number.ensures.value,
+      c.in_ok-text_at.ensures.found
+          ∙ ap Some scheme,
+      c.in_ok-index.ensures.value,
+    )

@@ -10,7 +10,7 @@ overflow_mul-result c =
     let l = c.args.layout.now in
     let digits : c.digits_per_record.result ≤ 4096 = rw c.digits_per_record.ensures.value (few_digits l c.digits_per_record.ensures.layout) in
     let word : c.split_count.result ≤ 6 =
-        rw (c.split_count.ensures ∙ ap split_count c.width.ensures.value) (few_in_word l.width c.width.ensures.layout.width.0) in
+    rw (c.split_count.ensures ∙ ap split_count c.width.ensures.value) (few_in_word l.width c.width.ensures.layout.width.0) in
     let part : c.digits_in_words-first.result + c.split_count.result ≤ 6150 = omega (arith, word, c.digits_in_words-first.ensures.small) in
     omega (arith, mul-le c.digits_per_record.result (c.digits_in_words-first.result + c.split_count.result) 4096 6150 digits part)
 
@@ -19,7 +19,10 @@ overflow_add-result c =
     let l = c.args.layout.now in
     let digits : c.digits_per_record.result ≤ 4096 = rw c.digits_per_record.ensures.value (few_digits l c.digits_per_record.ensures.layout) in
     let word : c.split_count.result ≤ 6 =
-        rw (c.split_count.ensures ∙ ap split_count c.width.ensures.value) (few_in_word l.width c.width.ensures.layout.width.0) in
+    rw (c.split_count.ensures ∙ ap split_count c.width.ensures.value) (few_in_word l.width c.width.ensures.layout.width.0) in
     let part : c.digits_in_words-first.result + c.split_count.result ≤ 6150 = omega (arith, word, c.digits_in_words-first.ensures.small) in
-    omega (arith, mul-le c.digits_per_record.result (c.digits_in_words-first.result + c.split_count.result) 4096 6150 digits part,
-        c.digits_in_words-first.ensures.small)
+    omega (
+      arith,
+      mul-le c.digits_per_record.result (c.digits_in_words-first.result + c.split_count.result) 4096 6150 digits part,
+      c.digits_in_words-first.ensures.small,
+    )

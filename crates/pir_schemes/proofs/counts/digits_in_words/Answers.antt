@@ -7,7 +7,7 @@ pub overflow_mul-result : goal.overflow_mul-result
 overflow_mul-result c =
     let w = c.args.layout.now.width in
     let is : c.args.n * c.split_count.result ≡ c.args.n * split_count w =
-        ap (λ k. c.args.n * k) (c.split_count.ensures ∙ ap split_count c.width.ensures.value) in
+    ap (λ k. c.args.n * k) (c.split_count.ensures ∙ ap split_count c.width.ensures.value) in
     let few : c.args.n * split_count w ≤ 6144 = few_rows w c.args.n (c.args.n * split_count w) c.width.ensures.layout.width.0 c.requires refl in
     omega (arith, is, few)
 
@@ -15,6 +15,6 @@ pub returns-clause-small : goal.returns-clause-small
 returns-clause-small c =
     let w = c.args.layout.now.width in
     let is : c.args.n * c.split_count.result ≡ c.args.n * split_count w =
-        ap (λ k. c.args.n * k) (c.split_count.ensures ∙ ap split_count c.width.ensures.value) in
+    ap (λ k. c.args.n * k) (c.split_count.ensures ∙ ap split_count c.width.ensures.value) in
     let few : c.args.n * split_count w ≤ 6144 = few_rows w c.args.n (c.args.n * split_count w) c.width.ensures.layout.width.0 c.requires refl in
     omega (arith, is, few)

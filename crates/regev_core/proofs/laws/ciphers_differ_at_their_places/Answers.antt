@@ -28,6 +28,6 @@ returns c = λ w a s e place other p q d. record {
   there = one_side w a s e other place q (λ x. d (sym x));
   elsewhere = λ k l x y.
       let inside : k < a.rows = omega
-          (arith, l, length-list_of a.rows (λ j. (dot (row a j) s + residue (slice_index_or e j (pos 0)) + (if j == place then delta w else 0)) % 2 ^ 32)) in
+      (arith, l, length-list_of a.rows (λ j. (dot (row a j) s + residue (slice_index_or e j (pos 0)) + (if j == place then delta w else 0)) % 2 ^ 32)) in
       omega (arith, at w a s e place k inside, at w a s e other k inside, off_place k place (delta w) x, off_place k other (delta w) y);
 }

@@ -6,7 +6,7 @@ pub returns-in-Err-Memory : goal.returns-in-Err-Memory
 returns-in-Err-Memory g c h s =
     let marked : c.args.store.now.marked ≡ true = not_false c.args.store.now.marked (λ e. let bad = c.in-Err-Memory.ensures.nothing.1 e in cc) in
     let more : (c.args.store.now.version + 1 == 2 ^ 64) ≡ false =
-        ne_eqb (c.args.store.now.version + 1) (2 ^ 64) (λ e. let bad = c.in-Err-Memory.ensures.used_up.1 (marked, e) in cc) in
+    ne_eqb (c.args.store.now.version + 1) (2 ^ 64) (λ e. let bad = c.in-Err-Memory.ensures.used_up.1 (marked, e) in cc) in
     search rules
   where
     not_false : (b : Bool) → (b ≡ false → ⊥) → b ≡ true

@@ -10,7 +10,7 @@ returns-in-Ok-take_piece-clause-turn g c =
     let t = c.in-Ok-take_piece.ensures in
     let buffer : List ℕ = c.deref.result.now in
     let did = subst (λ (x : List ℕ). g.C.Connection.does c.args.connection.now (Read (length x) (take c.in-Ok.n x)) c.receive.new.connection)
-        (sym c.deref.ensures.value) c.in-Ok.ensures.did in
+    (sym c.deref.ensures.value) c.in-Ok.ensures.did in
     let within = subst (λ (x : List ℕ). c.in-Ok.n ≤ length x) (sym c.deref.ensures.value) c.in-Ok.ensures.within in (
       record { piece = take c.in-Ok.n buffer; output = t.0 },
       record {
@@ -27,7 +27,7 @@ returns-in-Err-clause-turn g c =
     let t = c.in-Err.ensures in
     let buffer : List ℕ = c.deref.result.now in
     let did = subst (λ (x : List ℕ). g.C.Connection.does c.args.connection.now (Read (length x) (take c.in-Ok.n x)) c.receive.new.connection)
-        (sym c.deref.ensures.value) c.in-Ok.ensures.did in
+    (sym c.deref.ensures.value) c.in-Ok.ensures.did in
     let within = subst (λ (x : List ℕ). c.in-Ok.n ≤ length x) (sym c.deref.ensures.value) c.in-Ok.ensures.within in
     let turn : CallTurn = record { piece = take c.in-Ok.n buffer; output = t.0 } in
     deaf_turn g.C.Connection.does c.args.client.now c.args.connection.now c.in-Err.fault turn c.take_piece.new.client c.take_piece.new.connection

@@ -8,7 +8,7 @@ pub turns-preserved : goal.turns-preserved
 turns-preserved g c =
     let i = c.turns.invariant in
     let t = subst (λ o. ReceivesTurn g.C.Connection.does c.turns.client c.turns.connection (Ok o) c.converse_turn.new.client c.converse_turn.new.connection)
-        c.in-Ok-None.field-0-is c.in-Ok-None.ensures.turn in
+    c.in-Ok-None.field-0-is c.in-Ok-None.ensures.turn in
     record {
       before = i.before ++ t.0 ∷ [];
       go_on = receives_more g.C.Connection.does c.args.client.now c.args.connection.now i.before c.turns.client c.turns.connection t.0

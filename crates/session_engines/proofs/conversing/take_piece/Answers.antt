@@ -23,6 +23,6 @@ returns-in_default g c =
 pub returns : goal.returns
 returns g c =
     fault_answered g.C.Connection.does c.args.client.now c.args.connection.now c.args.piece.now c.deref.result.now c.feed-fed.result.out.items
-        c.feed-fed.result.events.items c.feed-fed.result.fault c.in-Some-fault.fault c.fault_of.result
+    c.feed-fed.result.events.items c.feed-fed.result.fault c.in-Some-fault.fault c.fault_of.result
     c.feed-fed.new.self c.send.new.connection c.fault_of.ensures c.deref.ensures.value c.in-Ok.ensures.all c.feed-fed.ensures
-        (grind (arith, common_steps)) c.in-Some-fault.is
+    (grind (arith, common_steps)) c.in-Some-fault.is

@@ -8,7 +8,7 @@ pub turns-preserved : goal.turns-preserved
 turns-preserved g c =
     let i = c.turns.invariant in
     let t = subst (λ o. ServesTurn g.C.Connection.does c.args.id c.turns.core c.turns.connection (Ok o) c.serve_turn.new.core c.serve_turn.new.connection)
-        c.in-Ok-None.field-0-is c.in-Ok-None.ensures.turn in
+    c.in-Ok-None.field-0-is c.in-Ok-None.ensures.turn in
     record {
       before = i.before ++ t.0 ∷ [];
       go_on = goes_on_more g.C.Connection.does c.args.id c.args.core.now c.args.connection.now i.before c.turns.core c.turns.connection t.0

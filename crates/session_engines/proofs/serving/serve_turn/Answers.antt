@@ -10,11 +10,11 @@ returns-in-Err-clause-turn g c =
     let t = c.in-Err.ensures.served in
     let buffer : List ℕ = c.deref.result.now in
     let did = subst (λ (x : List ℕ). g.C.Connection.does c.args.connection.now (Read (length x) (take c.in-Ok.n x)) c.receive.new.connection)
-        (sym c.deref.ensures.value) c.in-Ok.ensures.did in
+    (sym c.deref.ensures.value) c.in-Ok.ensures.did in
     let within = subst (λ (x : List ℕ). c.in-Ok.n ≤ length x) (sym c.deref.ensures.value) c.in-Ok.ensures.within in
     let turn : CallTurn = record { piece = take c.in-Ok.n buffer; output = t.0 } in
     faulty_turn g.C.Connection.does c.args.id c.args.core.now c.args.connection.now c.in-Err.fault turn c.serve_piece.new.core c.serve_piece.new.connection
-        c.in-Err.ensures.fault
+    c.in-Err.ensures.fault
     (record {
       middle = c.receive.new.connection;
       reads = reads_piece g.C.Connection.does c.args.connection.now c.receive.new.connection buffer c.in-Ok.n did (ap length c.deref.ensures.value
@@ -28,7 +28,7 @@ returns-then-is_open-clause-turn g c =
     let t = c.in_default-serve_piece.ensures.served in
     let buffer : List ℕ = c.deref.result.now in
     let did = subst (λ (x : List ℕ). g.C.Connection.does c.args.connection.now (Read (length x) (take c.in-Ok.n x)) c.receive.new.connection)
-        (sym c.deref.ensures.value) c.in-Ok.ensures.did in
+    (sym c.deref.ensures.value) c.in-Ok.ensures.did in
     let within = subst (λ (x : List ℕ). c.in-Ok.n ≤ length x) (sym c.deref.ensures.value) c.in-Ok.ensures.within in (
       record { piece = take c.in-Ok.n buffer; output = t.0 },
       record {
@@ -48,7 +48,7 @@ returns-else-is_open-clause-turn g c =
     let t = c.in_default-serve_piece.ensures.served in
     let buffer : List ℕ = c.deref.result.now in
     let did = subst (λ (x : List ℕ). g.C.Connection.does c.args.connection.now (Read (length x) (take c.in-Ok.n x)) c.receive.new.connection)
-        (sym c.deref.ensures.value) c.in-Ok.ensures.did in
+    (sym c.deref.ensures.value) c.in-Ok.ensures.did in
     let within = subst (λ (x : List ℕ). c.in-Ok.n ≤ length x) (sym c.deref.ensures.value) c.in-Ok.ensures.within in (
       record { piece = take c.in-Ok.n buffer; output = t.0 },
       record {

@@ -9,7 +9,7 @@ pub loop-i-preserved : goal.loop-i-preserved
 loop-i-preserved g c =
     let new = rw c.row_mut.ensures.value at c.add_digits.ensures in
     block_row (g.S.DigitStore.digits c.args.digits.now) c.args.a.now c.loop-i.hint c.args.start c.args.count c.loop-i.i _ c.add_digits.new.out (omega arith)
-        (λ k h. refl)
+    (λ k h. refl)
     new c.loop-i.invariant
 
 pub returns : goal.returns

@@ -17,5 +17,5 @@ returns c = λ l records seed number m i s certain d q.
     (rw (length-list_of (digit_cols l) (λ j. entry (digit_matrix l records) (first_row l i + d) j)) certain)
     (each-list_of below (digit_cols l) _ 0 (pow_pos l.width) (λ j.
     each-list_of below (digit_rows l * digit_cols l) _ 0 (pow_pos l.width) (λ k. c.digits_are_small.ensures l.width _ _)
-        ((first_row l i + d) * digit_cols l + j)))
+    ((first_row l i + d) * digit_cols l + j)))
     (each-list_of within m (λ k. noise (word seed (4 * number + 1) (0 + k))) (pos 0) (omega arith) (λ k. c.noise_is_bounded.ensures _))

@@ -15,7 +15,7 @@ returns c = λ l records a1 seed number i s p e quiet.
     let at : entry (digit_matrix l records) (first_row l i + d) (column_of l i) ≡ digit l.width (number_of 8 (record_at records i)) d =
     c.record_stands_in_its_column.ensures l records i d s p q in
     let small : entry (digit_matrix l records) (first_row l i + d) (column_of l i) < 2 ^ l.width =
-        omega (arith, at, c.digits_are_small.ensures l.width (number_of 8 (record_at records i)) d) in
+    omega (arith, at, c.digits_are_small.ensures l.width (number_of 8 (record_at records i)) d) in
     c.quiet_matrix_row_gives_its_entry.ensures l.width (digit_matrix l records) a1 (secret seed number a1.cols) (query_noise seed number a1.rows)
     (first_row l i + d) (column_of l i) s.small place.0 (sym e) (omega (arith, e, place.1)) small (quiet d q)
     ∙ at)

@@ -17,4 +17,4 @@ returns c =
     ∙ same-list_of n _ (λ k. noise (word c.args.seed.now c.args.stream (c.args.place + k))) (λ k _.
     ap noise (c.source_gives_words.ensures c.args.seed.now c.args.stream c.args.place k)) in
     kept c.in_ok-noise.noise c.fill_noise.new.out n (ap length out ∙ length-list_of n (λ k. noise (word c.args.seed.now c.args.stream (c.args.place + k))))
-        c.in_ok-noise.ensures.len ∙ out
+    c.in_ok-noise.ensures.len ∙ out

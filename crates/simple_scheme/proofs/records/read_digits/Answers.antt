@@ -8,5 +8,5 @@ use Rattle.simple_scheme.proofs.records.read_digits.Goals as goal
 pub returns : goal.returns
 returns g c =
     words_are c.loop-d.out (length c.args.out.now)
-        (λ d. nearest c.args.w (stripped (slice_index c.args.answer.now (c.args.first + d)) (row c.args.hint.now (c.args.first + d)) c.args.s.now))
+    (λ d. nearest c.args.w (stripped (slice_index c.args.answer.now (c.args.first + d)) (row c.args.hint.now (c.args.first + d)) c.args.s.now))
     c.loop-d.auto.out (λ k l. c.loop-d.invariant k (omega arith))

@@ -22,7 +22,7 @@ returns-clause-quiet g c = λ records a1 e whole eh ea quiet.
     ∙ ap (λ a. reading l (hint_of (digit_matrix l records) a1) c.args.seed.now c.args.number i a) ea
     ∙ c.quiet_retrieval_reads_the_record.ensures l records a1 c.args.seed.now c.args.number i shape c.requires.record e quiet in
     record_or_memory l (digit_rows l) c.args.answer.now (reading l c.args.hint.now c.args.seed.now c.args.number i c.args.answer.now) bytes
-        c.read_record-record.result
+    c.read_record-record.result
     (ap length ea ∙ length-list_of (digit_rows l) (λ r. dot (row (digit_matrix l records) r) (query_of l a1 c.args.seed.now c.args.number i)))
     (subst (FitsRecord l) (sym read) back.accepted)
     (ap (record_bytes l) read ∙ back.same)

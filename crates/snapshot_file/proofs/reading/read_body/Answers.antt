@@ -14,9 +14,11 @@ returns-in_err-digest-clause-err g c =
     let len : length c.in_ok-records.records.items ≡ records_len c.args.header.now = c.in_ok-records.ensures.ok.0 ∙ c.records_len.ensures in
     let is : IsSnapshot c.args.header.now c.in_ok-records.records.items = record { header = c.requires.header; accepted = c.requires.accepted; len = len } in
     let h : (read : List ℕ) × Consumes (g.R.Read.remaining c.args.reader.now) (g.R.Read.remaining c.read_array.new.reader) read
-    × StopsReadingAt c.in_err-digest.field-0.0 (header_bytes c.args.header.now ++ read) (g.R.Read.remaining c.read_array.new.reader) =
-    (c.in_ok-records.records.items ++ e.0, Consumes-trans _ _ _ _ _ c.in_ok-records.ensures.ok.1 e.1,
-        stops_in_digest _ c.args.header.now c.in_ok-records.records.items e.0 _ is e.2) in
+    × StopsReadingAt c.in_err-digest.field-0.0 (header_bytes c.args.header.now ++ read) (g.R.Read.remaining c.read_array.new.reader) = (
+      c.in_ok-records.records.items ++ e.0,
+      Consumes-trans _ _ _ _ _ c.in_ok-records.ensures.ok.1 e.1,
+      stops_in_digest _ c.args.header.now c.in_ok-records.records.items e.0 _ is e.2,
+    ) in
     search (rules, h)
 
 pub returns-then-ne-clause-err : goal.returns-then-ne-clause-err
@@ -24,7 +26,7 @@ returns-then-ne-clause-err g c =
     let len : length c.in_ok-records.records.items ≡ records_len c.args.header.now = c.in_ok-records.ensures.ok.0 ∙ c.records_len.ensures in
     let is : IsSnapshot c.args.header.now c.in_ok-records.records.items = record { header = c.requires.header; accepted = c.requires.accepted; len = len } in
     let same : c.digest_of.result ≡ sha256 (hashed_bytes c.args.header.now c.in_ok-records.records.items) =
-        cc (c.digest_of.ensures, c.deref.ensures.value, c.deref-2.ensures.value, c.in-Ok.ensures) in
+    cc (c.digest_of.ensures, c.deref.ensures.value, c.deref-2.ensures.value, c.in-Ok.ensures) in
     let other : ¬ (c.in_ok-digest.digest ≡ c.digest_of.result) = search rules in (
       c.in_ok-records.records.items ++ c.in_ok-digest.digest,
       Consumes-trans _ _ _ _ _ c.in_ok-records.ensures.ok.1 c.in_ok-digest.ensures.ok.1,
@@ -37,7 +39,7 @@ returns-in_err-read_end-clause-err g c =
     let len : length c.in_ok-records.records.items ≡ records_len c.args.header.now = c.in_ok-records.ensures.ok.0 ∙ c.records_len.ensures in
     let is : IsSnapshot c.args.header.now c.in_ok-records.records.items = record { header = c.requires.header; accepted = c.requires.accepted; len = len } in
     let same : c.digest_of.result ≡ sha256 (hashed_bytes c.args.header.now c.in_ok-records.records.items) =
-        cc (c.digest_of.ensures, c.deref.ensures.value, c.deref-2.ensures.value, c.in-Ok.ensures) in
+    cc (c.digest_of.ensures, c.deref.ensures.value, c.deref-2.ensures.value, c.in-Ok.ensures) in
     let right : c.in_ok-digest.digest ≡ c.digest_of.result = search rules in
     let h : (read : List ℕ) × Consumes (g.R.Read.remaining c.args.reader.now) (g.R.Read.remaining c.read_end.new.reader) read
     × StopsReadingAt c.in_err-read_end.field-0.0 (header_bytes c.args.header.now ++ read) (g.R.Read.remaining c.read_end.new.reader) = (
@@ -53,10 +55,10 @@ returns-clause-ok g c =
     let len : length c.in_ok-records.records.items ≡ records_len c.args.header.now = c.in_ok-records.ensures.ok.0 ∙ c.records_len.ensures in
     let is : IsSnapshot c.args.header.now c.in_ok-records.records.items = record { header = c.requires.header; accepted = c.requires.accepted; len = len } in
     let same : c.digest_of.result ≡ sha256 (hashed_bytes c.args.header.now c.in_ok-records.records.items) =
-        cc (c.digest_of.ensures, c.deref.ensures.value, c.deref-2.ensures.value, c.in-Ok.ensures) in
+    cc (c.digest_of.ensures, c.deref.ensures.value, c.deref-2.ensures.value, c.in-Ok.ensures) in
     let right : c.in_ok-digest.digest ≡ c.digest_of.result = search rules in
     let encoded : (c.in_ok-records.records.items ++ c.in_ok-digest.digest) ++ [] ≡ c.in_ok-records.records.items
-        ++ sha256 (hashed_bytes c.args.header.now c.in_ok-records.records.items) =
+    ++ sha256 (hashed_bytes c.args.header.now c.in_ok-records.records.items) =
     append-nil _ ∙ ap (λ (x : List ℕ). c.in_ok-records.records.items ++ x) (right ∙ same) in (
       is,
       subst (Consumes _ _) encoded (Consumes-trans _ _ _ _ _ (Consumes-trans _ _ _ _ _ c.in_ok-records.ensures.ok.1 c.in_ok-digest.ensures.ok.1) e.0),

@@ -9,7 +9,9 @@ pub returns-in_err-read_piece-clause-err : goal.returns-in_err-read_piece-clause
 returns-in_err-read_piece-clause-err g c =
     let e = c.in_err-read_piece.ensures.err in
     let h : (part : List ℕ) × Consumes (g.R.Read.remaining c.args.reader.now) (g.R.Read.remaining c.read_piece.new.reader) part
-    × EndsKept c.args.wanted c.in_err-read_piece.field-0.0 part (g.R.Read.remaining c.read_piece.new.reader) =
-    (c.loop-buffer.records.items ++ e.0, Consumes-trans _ _ _ _ _ c.loop-buffer.invariant.read e.1,
-        kept_more _ c.loop-buffer.records.items e.0 c.args.wanted _ (search rules) e.2) in
+    × EndsKept c.args.wanted c.in_err-read_piece.field-0.0 part (g.R.Read.remaining c.read_piece.new.reader) = (
+      c.loop-buffer.records.items ++ e.0,
+      Consumes-trans _ _ _ _ _ c.loop-buffer.invariant.read e.1,
+      kept_more _ c.loop-buffer.records.items e.0 c.args.wanted _ (search rules) e.2,
+    ) in
     search (rules, h)

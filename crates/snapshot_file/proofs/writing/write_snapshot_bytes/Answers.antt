@@ -47,7 +47,7 @@ returns-in_err-write_out-3-clause-part g c =
     let prefix : c.deref-2.result.now ≡ header_bytes c.args.header.now = c.deref-2.ensures.value ∙ c.in-Ok.ensures in
     let hashed : c.deref.result.now ≡ header_bytes c.args.header.now = c.deref.ensures.value ∙ c.in-Ok.ensures in
     let digest : c.digest_of-digest.result ≡ sha256 (hashed_bytes c.args.header.now c.args.records.now) = c.digest_of-digest.ensures
-        ∙ ap (λ (x : List ℕ). sha256 (x ++ c.args.records.now)) hashed in
+    ∙ ap (λ (x : List ℕ). sha256 (x ++ c.args.records.now)) hashed in
     let before : List ℕ = c.deref-2.result.now ++ c.args.records.now in
     let encoded : snapshot_bytes c.args.header.now c.args.records.now ≡ before ++ (c.digest_of-digest.result ++ []) =
     ap (λ (x : List ℕ). hashed_bytes c.args.header.now c.args.records.now ++ x) (sym (append-nil c.digest_of-digest.result ∙ digest))

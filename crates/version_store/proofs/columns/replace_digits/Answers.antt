@@ -31,23 +31,23 @@ loop-d-preserved g c =
     let across : c.args.col < here.cols = omega (arith, c.loop-d.invariant.written.cols, c.requires.col) in
     let long : here.rows ≡ length c.loop-d.marks = c.loop-d.invariant.written.rows ∙ sym c.requires.marks ∙ sym c.loop-d.invariant.marks.count in
     let marks : List Bool = slice_set c.loop-d.marks (c.args.first + c.loop-d.d)
-        (is_marked c.loop-d.marks (c.args.first + c.loop-d.d) || not (eqb c.get-old.result v)) in
+    (is_marked c.loop-d.marks (c.args.first + c.loop-d.d) || not (eqb c.get-old.result v)) in
     let marked : WordMatrix → Type 0 = λ m. MarksChanges old m c.args.marks.now marks in
     record {
       written = subst done (sym c.set.ensures)
           (one_written old here c.args.first c.args.col c.loop-d.d v c.args.written.now c.loop-d.invariant.written
-              (omega (arith, c.requires.rows)) c.requires.col refl);
+          (omega (arith, c.requires.rows)) c.requires.col refl);
       made = c.update_simple.ensures.follows here c.loop-d.invariant.written.whole (c.loop-d.invariant.written.cols ∙ c.requires.inner) below
           (sym c.get-old.ensures) c.loop-d.invariant.made
           ∙ ap (λ m. product m c.args.a1.now) (sym c.set.ensures);
       marks = subst marked (sym c.set.ensures)
           (one_marked old here c.args.marks.now c.loop-d.marks (c.args.first + c.loop-d.d) c.args.col v c.get-old.result c.loop-d.invariant.written.rows long
-              below across c.get-old.ensures c.loop-d.invariant.marks);
+          below across c.get-old.ensures c.loop-d.invariant.marks);
     }
 
 pub returns-clause-digits : goal.returns-clause-digits
 returns-clause-digits g c =
     let all : c.loop-d.d ≡ length c.args.written.now = omega arith in
     let done : ℕ → Type 0 = λ n. WritesFirst (g.S.DigitStore.digits c.args.digits.now)
-        (g.S.DigitStore.digits c.loop-d.digits) c.args.first c.args.col n c.args.written.now in
+    (g.S.DigitStore.digits c.loop-d.digits) c.args.first c.args.col n c.args.written.now in
     subst done all c.loop-d.invariant.written

@@ -65,7 +65,7 @@ loop-i-preserved g c =
           ∙ c.loop-i.invariant.draft;
       marks = more_marked (digits_at first.plan first.records) (digits_at c.loop-i.layer.plan c.loop-i.layer.records)
           (digits_at c.replace.new.self.plan c.replace.new.self.records) c.args.marks.now c.loop-i.marks c.replace.new.marks high c.loop-i.invariant.marks
-              c.replace.ensures.marks;
+          c.replace.ensures.marks;
     }
 
 pub returns-clause-records : goal.returns-clause-records

@@ -18,11 +18,11 @@ returns c =
     let rows : ℕ = c.self.inside.rows in
     let cols : ℕ = c.self.inside.cols in
     let inside : c.word_place-at.result < length c.self.inside.words.items =
-        omega (arith, c.len.ensures, c.self.inside.words.ok.0, c.word_place-at.ensures.inside) in
+    omega (arith, c.len.ensures, c.self.inside.words.ok.0, c.word_place-at.ensures.inside) in
     let word : c.index.result.now ≡ slice_index c.self.inside.words.items (c.args.i * packed_cols cols + c.args.j / 3) =
     c.index.ensures ∙ get_or_default_zero c.self.inside.words.items c.word_place-at.result c.index.result.now inside
-        ∙ ap (slice_index c.self.inside.words.items) c.word_place-at.ensures.value in
+    ∙ ap (slice_index c.self.inside.words.items) c.word_place-at.ensures.value in
     ap (λ y. y / 2 ^ (10 * (c.args.j % 3)) % 1024) word
     ∙ sym (entry-matrix_of rows cols (λ i j. digit 10 (slice_index c.self.inside.words.items (i * packed_cols cols + j / 3)) (j % 3)) c.args.i c.args.j
-        (omega (arith, ap (λ m. m.rows) c.self.view_is)) (omega (arith, ap (λ m. m.cols) c.self.view_is)))
+    (omega (arith, ap (λ m. m.rows) c.self.view_is)) (omega (arith, ap (λ m. m.cols) c.self.view_is)))
     ∙ ap (λ m. entry m c.args.i c.args.j) c.self.view_is

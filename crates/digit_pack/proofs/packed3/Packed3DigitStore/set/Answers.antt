@@ -13,9 +13,9 @@ word_place-at-requires-clause-count c = c.len.ensures ∙ c.self.inside.words.ok
 pub replaced-requires-clause-word : goal.replaced-requires-clause-word
 replaced-requires-clause-word c =
     let inside : c.word_place-at.result < length c.self.inside.words.items =
-        omega (arith, c.len.ensures, c.self.inside.words.ok.0, c.word_place-at.ensures.inside) in
+    omega (arith, c.len.ensures, c.self.inside.words.ok.0, c.word_place-at.ensures.inside) in
     let word : c.index.result.now ≡ slice_index c.self.inside.words.items c.word_place-at.result = c.index.ensures
-        ∙ get_or_default_zero c.self.inside.words.items c.word_place-at.result c.index.result.now inside in
+    ∙ get_or_default_zero c.self.inside.words.items c.word_place-at.result c.index.result.now inside in
     omega (
       arith,
       word,
@@ -26,22 +26,22 @@ replaced-requires-clause-word c =
 pub invariant_of-self : goal.invariant_of-self
 invariant_of-self c =
     let inside : c.word_place-at.result < length c.self.inside.words.items =
-        omega (arith, c.len.ensures, c.self.inside.words.ok.0, c.word_place-at.ensures.inside) in
+    omega (arith, c.len.ensures, c.self.inside.words.ok.0, c.word_place-at.ensures.inside) in
     let word : c.index.result.now ≡ slice_index c.self.inside.words.items c.word_place-at.result = c.index.ensures
-        ∙ get_or_default_zero c.self.inside.words.items c.word_place-at.result c.index.result.now inside in
+    ∙ get_or_default_zero c.self.inside.words.items c.word_place-at.result c.index.result.now inside in
     written_packed c.self.inside.rows c.self.inside.cols c.self.inside.words.items c.args.i c.args.j c.args.digit c.word_place-at.result c.replaced.result
-        c.self.invariant
+    c.self.invariant
     (omega (arith, ap (λ m. m.rows) c.self.view_is)) (omega (arith, ap (λ m. m.cols) c.self.view_is)) c.requires.small c.word_place-at.ensures.value
     (subst (λ y. IsReplaced y (c.args.j % 3) c.args.digit c.replaced.result) word c.replaced.ensures)
 
 pub returns : goal.returns
 returns c =
     let inside : c.word_place-at.result < length c.self.inside.words.items =
-        omega (arith, c.len.ensures, c.self.inside.words.ok.0, c.word_place-at.ensures.inside) in
+    omega (arith, c.len.ensures, c.self.inside.words.ok.0, c.word_place-at.ensures.inside) in
     let word : c.index.result.now ≡ slice_index c.self.inside.words.items c.word_place-at.result = c.index.ensures
-        ∙ get_or_default_zero c.self.inside.words.items c.word_place-at.result c.index.result.now inside in
+    ∙ get_or_default_zero c.self.inside.words.items c.word_place-at.result c.index.result.now inside in
     written c.self.inside.rows c.self.inside.cols c.self.inside.words.items c.args.i c.args.j c.args.digit c.word_place-at.result c.replaced.result
-        c.self.invariant
+    c.self.invariant
     (omega (arith, ap (λ m. m.rows) c.self.view_is)) (omega (arith, ap (λ m. m.cols) c.self.view_is)) c.requires.small c.word_place-at.ensures.value
     (subst (λ y. IsReplaced y (c.args.j % 3) c.args.digit c.replaced.result) word c.replaced.ensures)
     ∙ ap (λ m. with_entry m c.args.i c.args.j c.args.digit) c.self.view_is

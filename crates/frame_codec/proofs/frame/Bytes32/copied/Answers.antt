@@ -6,8 +6,11 @@ each_byte : (bytes copy : List ℕ) → copy ≡ bytes → ((i : ℕ) → get_or
 each_byte bytes copy e fits k d lt = rw (get_or_default copy k d 0 lt, e) (fits k)
 
 pub invariant_of-result : goal.invariant_of-result
-invariant_of-result c = (c.copy_from_slice.ensures.len, each_byte c.args.bytes.now c.copy_from_slice.new.self c.copy_from_slice.ensures.after
-    (λ i. omega (arith, c.type_inv.bytes i)))
+invariant_of-result c = (
+  c.copy_from_slice.ensures.len,
+  each_byte c.args.bytes.now c.copy_from_slice.new.self c.copy_from_slice.ensures.after
+      (λ i. omega (arith, c.type_inv.bytes i)),
+)
 
 pub returns-clause-fields : goal.returns-clause-fields
 returns-clause-fields c = each_byte c.args.bytes.now c.copy_from_slice.new.self c.copy_from_slice.ensures.after (λ i. omega (arith, c.type_inv.bytes i))

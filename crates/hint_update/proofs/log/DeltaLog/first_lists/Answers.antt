@@ -14,6 +14,6 @@ loop-k-preserved c =
     c.in_ok-extend_from_slice.ensures.items
     ∙ ap before (c.deref.ensures.value ∙ ap (λ rows. rows.items) c.index.ensures)
     ∙ ap (λ (x : List ℕ). x ++ (get_or c.self.inside.lists.items c.loop-k.k c.index.result.now).items) (c.loop-k.invariant
-        ∙ ap (λ (l : List (List ℕ)). flat_map (λ list. list) (take c.loop-k.k l)) (sym view))
+    ∙ ap (λ (l : List (List ℕ)). flat_map (λ list. list) (take c.loop-k.k l)) (sym view))
     ∙ sym (joined_more (λ rows. rows.items) c.self.inside.lists.items c.loop-k.k c.index.result.now many)
     ∙ ap (λ (l : List (List ℕ)). flat_map (λ list. list) (take (c.loop-k.k + 1) l)) view

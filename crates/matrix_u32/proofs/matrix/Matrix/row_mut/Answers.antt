@@ -16,8 +16,11 @@ returns c =
     let size : length inside.words.items ≡ inside.rows * inside.cols = c.self.invariant.0 in
     let room : at + inside.cols ≤ length inside.words.items = omega (arith, fits, size) in
     let cut : at + inside.cols - at ≡ inside.cols = omega arith in (
-      (refl, λ w. rw (← c.self.view_is)
-          (ap t (overwritten_cut inside.words.len at w inside.words.items (sym inside.words.ok.0) (omega (arith, fits, size, inside.words.ok.0))))),
+      (
+        refl,
+        λ w. rw (← c.self.view_is)
+            (ap t (overwritten_cut inside.words.len at w inside.words.items (sym inside.words.ok.0) (omega (arith, fits, size, inside.words.ok.0)))),
+      ),
       record {
         writes_back = tt;
         value = c.slice_mut.ensures.value ∙ piece-list_of inside.words.items at inside.cols room ∙ ap (λ m. row m c.args.i) c.self.view_is;

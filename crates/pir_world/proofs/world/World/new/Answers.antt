@@ -20,12 +20,12 @@ invariant_of-result g c alive =
     let all = subst (λ (b : List ℕ). All (λ (x : ℕ). x < 2 ^ 8) b) c.as_slice.ensures.value c.copy_of-copied.ensures.bytes in
     let ends = c.in-Ok-open_ends.ensures.ends ∙ ap (λ (s : List (List ℕ)). map fresh_side s) c.as_slice-2.ensures.value in
     let at = subst (λ (s : List (List ℕ)). (id : ℕ) → id < length s →
-        session_of c.open_ends.new.server.sessions id ≡ Some new_session) c.as_slice-2.ensures.value c.in-Ok-open_ends.ensures.opened in (
+    session_of c.open_ends.new.server.sessions id ≡ Some new_session) c.as_slice-2.ensures.value c.in-Ok-open_ends.ensures.opened in (
       opening h bytes seeds,
       opening_run h bytes seeds _ (record { sound = c.in-Ok.ensures.sound; bytes = all }) c.header-header.ensures (c.in-Ok-copied.ensures.items
           ∙ c.as_slice.ensures.value) refl c.new.ensures.items
           (opening_parts h bytes seeds c.open_ends.new.server c.in-Ok-open_ends.ends.items c.new-2.result.items (same
-              ∙ c.in-Ok.ensures.held) stands ends at c.new-2.ensures.items),
+          ∙ c.in-Ok.ensures.held) stands ends at c.new-2.ensures.items),
     )
 
 pub returns-clause-opened : goal.returns-clause-opened

@@ -12,17 +12,17 @@ invariant_of-self g c =
     let seen : c.deref.result.now ≡ frames = c.deref.ensures.value ∙ c.feed-read.ensures.1 ∙ rw c.new-frames.ensures.items refl in
     let h : History = history_of c.args.store.now in
     let s : ServedFrames (setting_of c.args.store.now) h c.self.inside.standing frames c.feed-read.result c.serve_piece.new.store c.in-Ok.standing
-        c.args.out.now.items c.serve_piece.new.out.items = rw (← seen) (c.in-Ok.ensures.ok h (stands_for_one c.args.store.now)) in
+    c.args.out.now.items c.serve_piece.new.out.items = rw (← seen) (c.in-Ok.ensures.ok h (stands_for_one c.args.store.now)) in
     stays_live c.self.inside.reader c.args.piece.now c.feed-read.result frames c.feed-read.new.self
-        (setting_of c.args.store.now) h c.self.inside.standing c.serve_piece.new.store c.in-Ok.standing c.args.out.now.items c.serve_piece.new.out.items
-        c.feed-read.ensures.2 s
+    (setting_of c.args.store.now) h c.self.inside.standing c.serve_piece.new.store c.in-Ok.standing c.args.out.now.items c.serve_piece.new.out.items
+    c.feed-read.ensures.2 s
 
 pub returns-in-Ok-clause-fed : goal.returns-in-Ok-clause-fed
 returns-in-Ok-clause-fed g c h s =
     let frames : List Frame = c.feed-read.ensures.0 in
     let seen : c.deref.result.now ≡ frames = c.deref.ensures.value ∙ c.feed-read.ensures.1 ∙ rw c.new-frames.ensures.items refl in
     let served : ServedFrames (setting_of c.args.store.now) h c.self.inside.standing frames c.feed-read.result c.serve_piece.new.store c.in-Ok.standing
-        c.args.out.now.items c.serve_piece.new.out.items = rw (← seen) (c.in-Ok.ensures.ok h s) in
+    c.args.out.now.items c.serve_piece.new.out.items = rw (← seen) (c.in-Ok.ensures.ok h s) in
     rw (← c.self.view_is) (fed_well (setting_of c.args.store.now) h (record { standing = c.self.inside.standing; unfinished = c.self.inside.reader })
-        c.args.piece.now tt c.serve_piece.new.store c.in-Ok.standing c.feed-read.new.self c.args.out.now.items c.serve_piece.new.out.items c.feed-read.result
-        frames (sym c.is_closed.ensures ∙ c.if-is_closed.false) c.feed-read.ensures.2 served)
+    c.args.piece.now tt c.serve_piece.new.store c.in-Ok.standing c.feed-read.new.self c.args.out.now.items c.serve_piece.new.out.items c.feed-read.result
+    frames (sym c.is_closed.ensures ∙ c.if-is_closed.false) c.feed-read.ensures.2 served)

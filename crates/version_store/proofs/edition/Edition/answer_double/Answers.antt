@@ -28,7 +28,7 @@ returns g c =
     let is : Shape → WordMatrix → WordMatrix → WordMatrix → Type 0 = λ l d s a2. IfOk c.answer.result (λ v. v.items ≡ answer_of l d s a2 words) in
     let made : Records → Type 0 = λ e. IfOk c.answer.result (λ v.
     v.items ≡ answer_of (version_shape e) (digits_at e.plan e.records) (server_hint e.plan e.records)
-        (second_public (version_shape e) e.plan.dimension e.plan.seed) words) in
+    (second_public (version_shape e) e.plan.dimension e.plan.seed) words) in
     let shape : is (version_shape e) c.digits-digits.result.now c.self.inside.server c.self.inside.a2 =
     subst (λ l. is l c.digits-digits.result.now c.self.inside.server c.self.inside.a2) c.layout-layout.ensures.value c.answer.ensures.words in
     let digits : is (version_shape e) (digits_at e.plan e.records) c.self.inside.server c.self.inside.a2 =

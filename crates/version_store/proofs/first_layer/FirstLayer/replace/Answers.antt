@@ -54,9 +54,9 @@ invariant_of-self g c =
     (ap (λ p. p.0) c.place-first.ensures.value) (ap (λ p. p.1) c.place-first.ensures.value) c.pack.ensures.digits c.replace_digits.ensures.digits in
     let digits : c.replace_digits.new.digits ≡ digits_at (plan_of l n seed) (records_in l bytes) =
     record_replaced l xs c.args.i c.args.bytes.now c.replace_digits.new.digits (shape_of_layout l c.self.invariant.layout) inside
-        (omega (arith, inside, many)) w
+    (omega (arith, inside, many)) w
     ∙ ap (digit_matrix l) (sym (ap (records_in l) kept ∙ c.write_record.ensures
-        ∙ ap (λ (b : List ℕ). slice_set (records_in l b) c.args.i c.args.bytes.now) c.deref_mut.ensures.value))
+    ∙ ap (λ (b : List ℕ). slice_set (records_in l b) c.args.i c.args.bytes.now) c.deref_mut.ensures.value))
     ∙ sym (digits_again l n seed bytes) in
     record {
       layout = c.self.invariant.layout;

@@ -11,6 +11,6 @@ returns g c =
     let e : Records = c.self.inside.edition in
     let many : length c.args.self.now.draft ≡ length e.records =
     sym (ap (λ s. length s.draft) c.self.view_is)
-        ∙ length-list_of (length e.records) (λ i. bytes_or (change_at c.self.inside.changes.entries i) (record_at e.records i)) in
+    ∙ length-list_of (length e.records) (λ i. bytes_or (change_at c.self.inside.changes.entries i) (record_at e.records i)) in
     let count : c.count.result ≡ length c.args.self.now.draft = c.count.ensures.value ∙ ap (λ l. l.count) c.layout.ensures.value ∙ sym many in
     rw count (ltb-true c.args.i (length c.args.self.now.draft), lt-ltb c.args.i (length c.args.self.now.draft))

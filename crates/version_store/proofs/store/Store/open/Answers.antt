@@ -27,9 +27,9 @@ returns-clause-held g c =
     } in
     let of : Shape → ℕ → Records = λ l n. record { plan = plan_of l n h.seed; records = records_in l bytes } in
     let with : List (List ℕ) →
-        StoreState = λ d. record { version = h.version; edition = of (shape_of h) h.dimension; draft = d; marked = false; publisher = h.publisher } in
+    StoreState = λ d. record { version = h.version; edition = of (shape_of h) h.dimension; draft = d; marked = false; publisher = h.publisher } in
     ap (λ e. made e c.new.result.entries) (c.in-Ok-open.ensures ∙ ap (λ l. of l c.from-dimension.result) c.in-Ok.ensures.sizes.0
-        ∙ ap (of (shape_of h)) c.from-dimension.ensures)
+    ∙ ap (of (shape_of h)) c.from-dimension.ensures)
     ∙ ap (made (of (shape_of h) h.dimension)) c.new.ensures.empty
     ∙ ap with (draft-none rs)
 

@@ -22,8 +22,14 @@ returns-clause-done g c =
     } in
     let with : List (List ℕ) → Records = λ rs. record e { records = rs } in
     let ends : List (List ℕ) →
-        StoreState = λ d. record { version = c.self.inside.version + 1; edition = with draft; draft = d; marked = false; publisher =
-        c.self.inside.publisher } in
+    StoreState = λ d. record {
+      version = c.self.inside.version + 1;
+      edition = with draft;
+      draft = d;
+      marked = false;
+      publisher =
+          c.self.inside.publisher;
+    } in
     ap (λ e. made e c.apply.new.changes.entries) c.apply.ensures.records
     ∙ ap (made (with draft)) c.apply.ensures.none
     ∙ ap ends (draft-none draft)
