@@ -6,7 +6,8 @@ ghost use Rattle.pir_world.specs.Headlines.{EveryRunIsRight};
 
 /// In every run of every list of steps, for all seeds: an answered retrieval whose noise sums stay below half
 /// of delta gives its record's bytes in the version that its hint names, a query is refused as stale exactly
-/// where it names another version than the current one, and no client fails.
+/// where it names another version than the current one, and no client fails. Each query sent is that of an
+/// accepted ask, with a number of its own, and each reply that ends a retrieval was served to its query.
 pub fn every_run_is_right()
     ensures { EveryRunIsRight }
 {

@@ -95,7 +95,8 @@ impl<K: Kernel> World<K> {
     ///
     /// They are what a run of the steps leaves, and all of it is right: an answered retrieval whose noise
     /// sums stay below half of delta gave exactly its record's bytes in the version that its hint names, and
-    /// a query was refused as stale, with the current version, exactly when it named another.
+    /// a query was refused as stale, with the current version, exactly when it named another. The log of the
+    /// run says by earlier entries which call, which query and which reply each retrieval had.
     pub fn outcomes(&self) -> &[Outcome]
         ensures kept { result.now ≡ self.now.outcomes }
         ensures right { self.now.broken ≡ false →
