@@ -55,6 +55,8 @@ pub struct Serving<'a> {
 pub enum Task<'a> {
     /// A snapshot file of records on standard input.
     Make(Making<'a>),
+    /// What the snapshot file of this name holds.
+    Show(&'a str),
     /// A snapshot file served over connections.
     Serve(Serving<'a>),
     /// One database served over standard input and output.
@@ -102,6 +104,22 @@ fn make_command<'a>(alloc: Global) -> Result<Command<'a>, AllocError> {
 const MAKE_EXAMPLE: &str =
     "Prints 'made COUNT 1', COUNT being how many records there are. Secrets will have 1024 words.\n\nExample, two records of one byte:\n  printf '\\012\\310' | pir_server make --out two.pir --width 8 --record 1 --groups 1 \\\n    --seed 0000000000000000000000000000000000000000000000000000000000000000 \\\n    --key 0101010101010101010101010101010101010101010101010101010101010101";
 
+// The command `show`.
+fn show_command<'a>(alloc: Global) -> Result<Command<'a>, AllocError> {
+    Command::new(alloc, "show")
+        .about("Shows what a snapshot file holds and how many bytes its retrievals take")
+        .after_help(SHOW_EXAMPLE)
+        .arg(option(
+            alloc,
+            "file",
+            "FILE",
+            "The snapshot file; it stays as it is",
+        ))
+}
+
+const SHOW_EXAMPLE: &str =
+    "Prints a line each: the version; how many records there are and their length; the bits of a digit; the records in a\ncolumn; the rows and columns of digits; the words of a secret; for each scheme the bytes of the words of a hint, a query\nand an answer; and for each scheme whether every retrieval is certain to give its record, or depends on the noise drawn.\n\nExample: pir_server show --file two.pir";
+
 // The command `serve`.
 fn serve_command<'a>(alloc: Global) -> Result<Command<'a>, AllocError> {
     Command::new(alloc, "serve")
@@ -147,6 +165,7 @@ fn whole_command<'a>(alloc: Global) -> Result<Command<'a>, AllocError> {
         .about("A server of private information retrieval on this machine")
         .after_help(EXIT_STATUSES)
         .subcommand(make_command(alloc)?)?
+        .subcommand(show_command(alloc)?)?
         .subcommand(serve_command(alloc)?)?
         .subcommand(once_command(alloc))
 }
@@ -185,6 +204,9 @@ pub fn task_of<'a>(alloc: Global, words: &'a [String]) -> Result<Task<'a>, BadLi
     let matches = whole_command(alloc)?.try_get_matches_from(words)?;
     if let Some(found) = matches.subcommand_matches("make") {
         return Ok(Task::Make(making_of(found)?));
+    }
+    if let Some(found) = matches.subcommand_matches("show") {
+        return Ok(Task::Show(text_at(found, "file", FILE_TAKES)?));
     }
     if let Some(found) = matches.subcommand_matches("serve") {
         return Ok(Task::Serve(serving_of(found)?));

@@ -3,6 +3,7 @@
 use crate::command_line::{Making, Task, task_of};
 use crate::making::make;
 use crate::serving::serve_file;
+use crate::showing::show;
 use command_words::{BadLine, Failure};
 use once_session::{OnceFault, once};
 use std::{env, io};
@@ -42,6 +43,7 @@ pub fn run(rt: &HostRuntime) -> u8 {
 fn done(rt: &HostRuntime, task: Task<'_>) -> Result<(), Failure> {
     match task {
         Task::Make(making) => make_file(rt, &making),
+        Task::Show(file) => show(rt, file),
         Task::Serve(serving) => serve_file(rt, &serving),
         Task::Once => serve_once(rt),
     }

@@ -1,10 +1,14 @@
 //! Snapshot files.
 
+ghost use Rattle.std.specs.Prelude.{◌≤◌, IfOk};
+
 use crate::making::open_failure;
 use command_words::Failure;
 use lane_kernels::Lanes;
 use std::fs::File;
-use version_store::{Snapshot, SnapshotFault, Store, WriteFault, read_snapshot, write_snapshot};
+use version_store::{
+    Header, Snapshot, SnapshotFault, Store, WriteFault, read_snapshot, write_snapshot,
+};
 
 /// The failure of a file that can't be opened or made.
 const NO_FILE: Failure = Failure::Fault("File");
@@ -22,8 +26,41 @@ pub fn store_of(rt: &HostRuntime, name: &str) -> Result<Store<Lanes>, Failure> {
     }
 }
 
+/// The fields of the snapshot in a file, but its records.
+///
+/// # Errors
+///
+/// In this order: `File`, the refusals of the snapshot.
+pub fn header_of(rt: &HostRuntime, name: &str) -> Result<Header, Failure>
+    ensures { IfOk result (λ h. h.dimension ≤ 1024) }
+{
+    let Snapshot {
+        width,
+        record_len,
+        groups,
+        count,
+        dimension,
+        version,
+        seed,
+        publisher,
+        ..
+    } = snapshot_of(rt, name)?;
+    Ok(Header {
+        width,
+        record_len,
+        groups,
+        count,
+        dimension,
+        version,
+        seed,
+        publisher,
+    })
+}
+
 // The snapshot in a file.
-fn snapshot_of(rt: &HostRuntime, name: &str) -> Result<Snapshot, Failure> {
+fn snapshot_of(rt: &HostRuntime, name: &str) -> Result<Snapshot, Failure>
+    ensures { IfOk result (λ s. s.dimension ≤ 1024) }
+{
     let Ok(mut file) = File::open(rt, name) else {
         return Err(NO_FILE);
     };

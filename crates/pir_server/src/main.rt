@@ -1,7 +1,8 @@
-//! A server of private information retrieval on this machine: it makes a snapshot file of records, and serves
-//! one to clients over connections. Without a command it serves one database over standard input and output.
+//! A server of private information retrieval on this machine: it makes a snapshot file of records, shows one,
+//! and serves one to clients over connections. Without a command it serves one database over standard input
+//! and output.
 //!
-//! Exit statuses: 0 done, 2 a bad command line, 3 a fault, 4 out of memory. What was done is one line on
+//! Exit statuses: 0 done, 2 a bad command line, 3 a fault, 4 out of memory. What was done is printed on
 //! standard output; a failure is one line on standard error.
 #![tactic(auto)]
 
@@ -10,6 +11,7 @@ mod commands;
 mod files;
 mod making;
 mod serving;
+mod showing;
 
 use std::process::ExitCode;
 
