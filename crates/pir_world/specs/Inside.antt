@@ -4,15 +4,19 @@ use Rattle.pir_world.specs.declared.world.World.TheInside.{Inside}
 use Rattle.pir_world.specs.Runs.{State}
 use Rattle.pir_world.specs.Worlds.{Kept, IsRunOf}
 
-<<<<<<< HEAD
--- a world as contracts see it
-=======
 -- what callers see of it
->>>>>>> h1
--- a world as contracts see it
 abbrev pub shown : {K : Type 0} → Inside K → Kept
-shown w = record { header = w.header; records = w.records.items; seeds = w.seeds.items; core = w.server; ends = w.ends.items; steps = w.steps.items; outcomes =
-    w.outcomes.items; broken = w.broken }
+shown w = record {
+  header = w.header;
+  records = w.records.items;
+  seeds = w.seeds.items;
+  core = w.server;
+  ends = w.ends.items;
+  steps = w.steps.items;
+  outcomes =
+      w.outcomes.items;
+  broken = w.broken;
+}
 
 -- until memory was refused, it is what a run of its steps leaves
 abbrev pub IsKept : {K : Type 0} → Inside K → Type 0

@@ -85,12 +85,7 @@ IsReplyOf x h v r answer =
     ⊎ ((now : ℕ) × (records : List (List ℕ)) × HasVersion h now records × (v < now) × (r ≡ frame.Stale now (length records)))
     ⊎ ((records : List (List ℕ)) × HasVersion h v records × (r ≡ answer records))
 
-<<<<<<< HEAD
--- the reply to a greeting while a version with these records is current
-=======
 -- the Welcome that tells of a version with these records
->>>>>>> h1
--- the reply to a greeting while a version with these records is current
 abbrev pub welcome_frame : Setting → ℕ → List (List ℕ) → Frame
 welcome_frame x v records =
     frame.Welcome (profile_of x.plan) x.plan.width x.plan.record_len x.plan.groups (length records) v x.plan.dimension x.plan.seed

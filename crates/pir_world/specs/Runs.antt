@@ -46,12 +46,7 @@ pub record Wire : Type 0 where
 abbrev pub silent : Wire
 silent = record { frames = []; got = 0 }
 
-<<<<<<< HEAD
--- frames are sent after those on their way
-=======
 -- more frames were sent
->>>>>>> h1
--- frames are sent after those on their way
 abbrev pub sent : Wire → List Frame → Wire
 sent w fs = record { frames = w.frames ++ fs; got = w.got }
 
@@ -60,12 +55,7 @@ abbrev pub whole : List Frame → ℕ → List Frame
 whole [] n = []
 whole (f ∷ fs) n = if nat_le (length (encoding f)) n then f ∷ whole fs (n - length (encoding f)) else []
 
-<<<<<<< HEAD
--- what stays on its way after n bytes
-=======
 -- what is on its way after them
->>>>>>> h1
--- what stays on its way after n bytes
 abbrev pub unread : List Frame → ℕ → Wire
 unread [] n = silent
 unread (f ∷ fs) n = if nat_le (length (encoding f)) n then unread fs (n - length (encoding f)) else record { frames = f ∷ fs; got = n }
@@ -78,12 +68,7 @@ reach w most = w.got + min most (length (flat_map encoding w.frames) - w.got)
 abbrev pub arrived : Wire → ℕ → List Frame
 arrived w most = whole w.frames (reach w most)
 
-<<<<<<< HEAD
--- what a delivery leaves on its way
-=======
 -- what stays on its way
->>>>>>> h1
--- what a delivery leaves on its way
 abbrev pub beyond : Wire → ℕ → Wire
 beyond w most = unread w.frames (reach w most)
 
@@ -114,12 +99,7 @@ outcome_of (Served k f now reply) = []
 outcome_of (Ended k r reply event) = Reported k event ∷ []
 outcome_of (Plain o) = o ∷ []
 
-<<<<<<< HEAD
--- the outcomes of a log
-=======
 -- the outcomes of a log, in order
->>>>>>> h1
--- the outcomes of a log
 abbrev pub outcomes_of : List Entry → List Outcome
 outcomes_of log = flat_map outcome_of log
 
@@ -130,12 +110,7 @@ abbrev pub served_or : Bool → Setting → History → Standing → Frame → R
 served_or false x h st f = outcome_of_frame x h st f
 served_or true x h st f = if takes_memory x h st f then refuses refusal.Memory st h else outcome_of_frame x h st f
 
-<<<<<<< HEAD
--- what some frames lead to: the history, the standing, the replies and the log
-=======
 -- what some frames lead to: the history and the standing after them, the replies, and what is written down
->>>>>>> h1
--- what some frames lead to: the history, the standing, the replies and the log
 pub record Turn : Type 0 where
   pub history : History
   pub standing : Standing
@@ -148,15 +123,15 @@ turn_more x short k t f =
     if is_closed t.standing then t
     else (
     let o = served_or short x t.history t.standing f in
-    record { history = o.history; standing = o.standing; replies = t.replies ++ option_to_list o.reply; log =
-        t.log ++ Served k f (current_version t.history) o.reply ∷ [] })
+    record {
+      history = o.history;
+      standing = o.standing;
+      replies = t.replies ++ option_to_list o.reply;
+      log =
+          t.log ++ Served k f (current_version t.history) o.reply ∷ [];
+    })
 
-<<<<<<< HEAD
--- frames are served one after another
-=======
 -- frames one after another
->>>>>>> h1
--- frames are served one after another
 abbrev pub turns : Setting → Bool → ℕ → Turn → List Frame → Turn
 turns x short k t [] = t
 turns x short k t (f ∷ fs) = turns x short k (turn_more x short k t f) fs
@@ -178,12 +153,7 @@ pub record Link : Type 0 where
 abbrev pub turn_of : Setting → Bool → ℕ → ℕ → History → Link → Turn
 turn_of x short k most h l = serves x short k h l.standing (arrived l.up most)
 
-<<<<<<< HEAD
--- a link after a delivery to the server
-=======
 -- the link after it
->>>>>>> h1
--- a link after a delivery to the server
 abbrev pub link_served : Setting → Bool → ℕ → ℕ → History → Link → Link
 link_served x short k most h l =
     let t = turn_of x short k most h l in
@@ -200,12 +170,7 @@ abbrev pub reports : ℕ → Call → Frame → Event → Entry
 reports k (call.Ask i s v n) reply e = Ended k (record { index = i; scheme = s; version = v; number = n }) reply e
 reports k _ reply e = Plain (Reported k e)
 
-<<<<<<< HEAD
--- what a reaction writes into the log
-=======
 -- what is written down of a reaction to a reply: an event, a fault, or the frame that asks for the next part of a hint
->>>>>>> h1
--- what a reaction writes into the log
 abbrev pub reacts : ℕ → Call → Frame → Reaction → List Entry
 reacts k c reply (Asks scheme version part) = Sent k (frame.HintAsk (scheme_byte scheme) version part) ∷ []
 reacts k c reply (Reports e) = reports k c reply e ∷ []
@@ -231,17 +196,6 @@ pub record State : Type 0 where
   pub links : List Link
   pub log : List Entry
 
-<<<<<<< HEAD
--- a state with another history and another link k, and more of the log
-abbrev pub with_link : State → History → ℕ → Link → List Entry → State
-with_link s h k l es = record { history = h; links = slice_set s.links k l; log = s.log ++ es }
-
--- a state with another history, and one more outcome
-abbrev pub with_history : State → History → Outcome → State
-with_history s h o = record { history = h; links = s.links; log = s.log ++ Plain o ∷ [] }
-
--- a state after a call that is accepted or refused
-=======
 -- the link of client k is replaced, and entries are written down
 abbrev pub with_link : State → History → ℕ → Link → List Entry → State
 with_link s h k l es = record { history = h; links = slice_set s.links k l; log = s.log ++ es }
@@ -251,8 +205,6 @@ abbrev pub with_history : State → History → Outcome → State
 with_history s h o = record { history = h; links = s.links; log = s.log ++ Plain o ∷ [] }
 
 -- a call at a link, where this refuses it
->>>>>>> h1
--- a state after a call that is accepted or refused
 abbrev pub call_at : State → ℕ → Want → Link → Option CallFault → State
 call_at s k w l (Some fault) = with_link s s.history k l (Called k w (Some fault) ∷ [])
 call_at s k w l None =
@@ -264,24 +216,14 @@ abbrev pub called_at : State → Want → ℕ → Option Link → State
 called_at s w k None = s
 called_at s w k (Some l) = call_at s k w l (refusal w l.client)
 
-<<<<<<< HEAD
--- a state after a delivery to the server
-=======
 -- a delivery of client k to the server
->>>>>>> h1
--- a state after a delivery to the server
 abbrev pub served_at : Setting → Bool → State → ℕ → ℕ → Option Link → State
 served_at x short s k most None = s
 served_at x short s k most (Some l) =
     let t = turn_of x short k most s.history l in
     with_link s t.history k (link_served x short k most s.history l) t.log
 
-<<<<<<< HEAD
--- a state after a delivery to a client
-=======
 -- a delivery to client k
->>>>>>> h1
--- a state after a delivery to a client
 abbrev pub reported_at : State → ℕ → ℕ → Option Link → State
 reported_at s k most None = s
 reported_at s k most (Some l) = with_link s s.history k (link_reported most l) (reported_by k l.client (arrived l.down most))
@@ -298,12 +240,7 @@ edit_after x s i bytes =
     else with_history s s.history (EditRefused i edit_error.BadLength))
     else with_history s s.history (EditRefused i edit_error.BadIndex)
 
-<<<<<<< HEAD
--- a state after the publisher's publication
-=======
 -- a publication
->>>>>>> h1
--- a state after the publisher's publication
 abbrev pub publish_after : State → State
 publish_after s =
     if s.history.marked then (
