@@ -43,8 +43,9 @@ pub fn shapes_hold_no_index()
     ensures { EqualShapes }
 {}
 
-/// All that a client writes are the frames of what happens to it: of accepted calls, and of the replies that it
-/// is fed, one after another. So the law of equal shapes speaks of each byte that calls and `feed` give.
+/// All that a client writes, where no feed was refused memory, are the frames of what happens to it: of
+/// accepted calls, and of the replies that it is fed, one after another. So the law of equal shapes speaks of
+/// each byte that calls and such feeds give.
 pub fn clients_happen()
     ensures { ClientsHappen }
 {}
