@@ -11,7 +11,7 @@ use Rattle.client_core.specs.declared.state.ClientFault.{ClientFault}
 use Rattle.client_core.specs.declared.state.ClientFault.TheVariants.{Memory}
 use Rattle.client_core.specs.declared.state.Event.{Event}
 use Rattle.client_core.specs.Calls.{Want, call_frame, Accepts, Refuses}
-use Rattle.client_core.specs.Replies.{Taken, reaction_to_reply}
+use Rattle.client_core.specs.Replies.{reaction_to_reply}
 use Rattle.client_core.specs.Feeding.{Client, Course, start, goes_on, course_more, runs, takes_all, sends_of, fault_of, failing, ends_with, codec_fault, Follows, BreaksOff, FeedsClient, FeedsOpen, FeedsFailed}
 use Rattle.client_core.specs.Laws.{Happening, Accepted, TurnedDown, Lacking, Taken as Reply, Failing, after}
 use Rattle.client_core.specs.Shapes.{frames_at, frames, after_all, IsFed, Happened, ClientsHappen}

@@ -1,18 +1,17 @@
 -- A client's frames have the shapes that its happenings without their indices give.
-use Rattle.std.proofs.Common.{◌≡◌, ℕ, ◌+◌, ◌*◌, ◌<◌, ◌^◌, Bool, true, false, cond, List, [], ◌∷◌, ◌++◌, length, Option, Some, None, refl, sym, ap, ◌∙◌}
+use Rattle.std.proofs.Common.{◌≡◌, ℕ, ◌+◌, ◌*◌, ◌^◌, Bool, true, false, cond, List, [], ◌∷◌, ◌++◌, length, Option, Some, None, refl, sym, ap, ◌∙◌}
 use Rattle.std.specs.Prelude.{map, ◌==◌, ◌&&◌, nat_lt, not, is_some, if◌then◌else◌}
 use Rattle.std.specs.List.{AllByRecursion}
 use Rattle.std.proofs.lemmas.Bool.{lt-ltb}
 use Rattle.std.proofs.lemmas.List.{length-append, map-append}
 use Rattle.frame_codec.specs.declared.frame.Frame.{Frame}
 use Rattle.frame_codec.specs.declared.frame.Frame.TheVariants as frame
-use Rattle.frame_codec.specs.Frames.{kind_of, payload_of, payload_size}
+use Rattle.frame_codec.specs.Frames.{kind_of, payload_size}
 use Rattle.frame_codec.proofs.Payloads.{payload_sized}
 use Rattle.digit_pack.specs.Layout.{Shape, shape}
 use Rattle.pir_schemes.specs.declared.scheme.Scheme.{Scheme}
 use Rattle.pir_schemes.specs.Schemes.{scheme_byte}
-use Rattle.pir_schemes.specs.Parts.{part_len}
-use Rattle.pir_schemes.specs.Retrievals.{hint_len, query_words}
+use Rattle.pir_schemes.specs.Retrievals.{hint_len}
 use Rattle.pir_schemes.proofs.Lengths.{length_query}
 use Rattle.client_core.specs.declared.state.ClientState.{ClientState}
 use Rattle.client_core.specs.declared.state.ServerInfo.{ServerInfo}
@@ -20,66 +19,13 @@ use Rattle.client_core.specs.declared.state.Hint.{Hint}
 use Rattle.client_core.specs.declared.state.Call.{Call}
 use Rattle.client_core.specs.declared.state.Call.TheVariants as call
 use Rattle.client_core.specs.declared.state.CallFault.{CallFault}
-use Rattle.client_core.specs.declared.state.CallFault.TheVariants.{NotReady, Busy, BadIndex, SeedUsedUp, Failed, AlreadyWelcome}
-use Rattle.client_core.specs.declared.state.Reaction.TheVariants.{Asks}
-use Rattle.client_core.specs.States.{is_layout, is_idle, is_ready, known_version, known_count, scheme_held}
+use Rattle.client_core.specs.declared.state.CallFault.TheVariants.{NotReady, Busy, SeedUsedUp, Failed, AlreadyWelcome}
+use Rattle.client_core.specs.States.{is_layout, is_idle, is_ready, known_count, scheme_held}
 use Rattle.client_core.specs.Calls.{Want, Hello, Sync, Ask, Edit, Publish, state_after_call, call_frame, call_words, refusal, spent}
-use Rattle.client_core.specs.Replies.{Taken, reaction_to_reply, faulty, ended, is_welcome, takes_welcome, is_part, more_parts, takes_asked_part, takes_part, is_answer, answered, takes_answer, with_count, staled, takes_stale, takes_done, takes_refused}
+use Rattle.client_core.specs.Replies.{Taken, reaction_to_reply, is_welcome, takes_welcome, is_part, more_parts, takes_asked_part, takes_part, is_answer, answered, takes_answer, with_count, staled, takes_stale, takes_done, takes_refused}
 use Rattle.client_core.specs.Feeding.{sends_of}
 use Rattle.client_core.specs.Laws.{Happening, Accepted, TurnedDown, Lacking, Taken as Reply, Failing, after}
-use Rattle.client_core.specs.Shapes.{
-  frames_at,
-  frames,
-  FrameShape,
-  shape_of,
-  frame_shape,
-  BlankCall,
-  BlankHello,
-  BlankSync,
-  BlankAsk,
-  BlankEdit,
-  BlankPublish,
-  blank_call,
-  blank_reply,
-  BlankHappening,
-  blank,
-  Awaited,
-  NoReply,
-  AWelcome,
-  APart,
-  AnAnswer,
-  ADone,
-  awaited,
-  HintName,
-  hint_name,
-  Outline,
-  outline,
-  asked_count,
-  call_shape,
-  outline_after_call,
-  outline_spent,
-  Reacted,
-  fails,
-  ends,
-  after_welcome,
-  after_good_part,
-  after_asked_part,
-  after_part,
-  after_asked_answer,
-  after_answer,
-  after_asked_stale,
-  after_stale,
-  after_done,
-  after_refused,
-  after_reply,
-  outline_after,
-  shapes_at,
-  shapes,
-  HasWholeKey,
-  KeyIsWhole,
-  IndexIsBelow,
-  EqualShapes,
-}
+use Rattle.client_core.specs.Shapes.{frames_at, frames, FrameShape, shape_of, frame_shape, BlankCall, BlankHello, BlankAsk, blank_call, blank_reply, BlankHappening, blank, Awaited, NoReply, APart, awaited, HintName, hint_name, Outline, outline, asked_count, call_shape, outline_after_call, outline_spent, Reacted, after_welcome, after_good_part, after_asked_part, after_part, after_asked_answer, after_answer, after_asked_stale, after_stale, after_done, after_refused, after_reply, outline_after, shapes_at, shapes, HasWholeKey, KeyIsWhole, IndexIsBelow, EqualShapes}
 
 -- a frame's shape by the size of its fields
 sized : (f : Frame) → shape_of f ≡ frame_shape (kind_of f) (payload_size f)

@@ -9,10 +9,9 @@ use Rattle.pir_schemes.specs.Parts.{part_of}
 use Rattle.pir_schemes.specs.Retrievals.{hint_rows, hint_len}
 use Rattle.client_core.specs.declared.state.ClientState.{ClientState}
 use Rattle.client_core.specs.declared.state.ServerInfo.{ServerInfo}
-use Rattle.client_core.specs.declared.state.Hint.{Hint}
 use Rattle.client_core.specs.declared.state.Call.TheVariants.{Sync}
 use Rattle.client_core.specs.declared.state.Event.TheVariants.{Synced}
-use Rattle.client_core.specs.Calls.{Want, Hello, Sync as sync, Ask, Edit, Publish, state_after_call, spent}
+use Rattle.client_core.specs.Calls.{Want, Ask, state_after_call, spent}
 use Rattle.client_core.specs.Replies.{reaction_to_reply, hint_made}
 use Rattle.client_core.specs.Feeding.{takes_all}
 

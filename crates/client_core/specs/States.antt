@@ -1,6 +1,6 @@
 -- What a client holds, and what is true of it as long as it lives.
 use Rattle.std.specs.Prelude.{◌≡◌, ◌≤◌, ◌<◌, ◌*◌, ◌^◌, ℕ, List, [], length, Bool, true, false, Option, Some, None, ◌==◌}
-use Rattle.digit_pack.specs.Layout.{Shape, IsLayout, digit_rows, digit_cols}
+use Rattle.digit_pack.specs.Layout.{IsLayout}
 unfoldable pub use Rattle.digit_pack.specs.Layout.{is_layout}
 use Rattle.pir_schemes.specs.declared.scheme.Scheme.{Scheme}
 use Rattle.pir_schemes.specs.declared.scheme.Scheme.TheVariants.{Simple}

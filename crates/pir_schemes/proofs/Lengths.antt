@@ -1,11 +1,8 @@
 -- How long queries, answers and hints are.
-use Rattle.std.proofs.Common.{◌≡◌, ◌*◌, ◌∙◌, ℕ, List, length, refl, ap}
-use Rattle.matrix_u32.specs.Matrix.{WordMatrix, IsWhole}
+use Rattle.std.proofs.Common.{◌≡◌, ℕ, List, length, refl}
 use Rattle.matrix_u32.proofs.Products.{length-list_of}
 use Rattle.digit_pack.specs.Layout.{Shape, digit_rows, digit_cols}
-use Rattle.lane_kernels.specs.Digit.{split_count}
 use Rattle.simple_scheme.specs.Simple.{hint_of, query_of, answer_of}
-use Rattle.double_scheme.specs.Double.{answer_of as double_answer_of}
 use Rattle.double_scheme.proofs.Lengths.{length-query_of, length-answer_of}
 use Rattle.pir_schemes.specs.declared.scheme.Scheme.{Scheme}
 use Rattle.pir_schemes.specs.declared.scheme.Scheme.TheVariants.{Simple, Double}

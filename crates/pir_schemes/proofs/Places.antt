@@ -1,5 +1,5 @@
 -- Where two queries of one seed and number differ.
-use Rattle.std.proofs.Common.{◌≡◌, ℕ, zero, suc, ◌+◌, ◌-◌, ◌*◌, ◌/◌, ◌%◌, ◌^◌, ◌<◌, ◌≤◌, Bool, true, false, cond, List, ◌++◌, length, take, drop, get_or, refl, sym, ap, ◌∙◌, arith}
+use Rattle.std.proofs.Common.{◌≡◌, ℕ, zero, suc, ◌+◌, ◌-◌, ◌*◌, ◌/◌, ◌%◌, ◌^◌, ◌<◌, ◌≤◌, Bool, true, false, List, ◌++◌, length, drop, refl, sym, ap, ◌∙◌, arith}
 use Rattle.std.specs.Prelude.{ℤ, pos, ◌==◌, nat_lt, slice_index, slice_index_or, flat_map, if◌then◌else◌}
 use Rattle.std.specs.List.{range_with_len}
 use Rattle.std.proofs.lemmas.Bool.{ltb-true, ltb-false}
@@ -18,7 +18,7 @@ use Rattle.pir_schemes.specs.declared.scheme.Scheme.{Scheme}
 use Rattle.pir_schemes.specs.declared.scheme.Scheme.TheVariants.{Simple, Double}
 use Rattle.pir_schemes.specs.Plans.{first_public, second_public}
 use Rattle.pir_schemes.specs.Retrievals.{query_count, query_words}
-use Rattle.pir_schemes.specs.Laws.{is_place, DifferAtTheirPlaces, QueriesDifferAtTheirPlaces}
+use Rattle.pir_schemes.specs.Laws.{is_place, QueriesDifferAtTheirPlaces}
 
 -- a word of an encryption before delta is added
 abbrev plain : WordMatrix → List ℕ → List ℤ → ℕ → ℕ

@@ -1,8 +1,8 @@
 -- How many words queries and answers have at most.
-use Rattle.std.proofs.Common.{◌≡◌, ◌≤◌, ◌<◌, ◌+◌, ◌-◌, ◌*◌, ℕ, refl, arith}
+use Rattle.std.proofs.Common.{◌≤◌, ◌<◌, ◌+◌, ◌-◌, ◌*◌, ℕ, refl, arith}
 use Rattle.std.proofs.lemmas.Nat.{mul-le, div_below}
 use Rattle.lane_kernels.specs.Digit.{split_count}
-use Rattle.digit_pack.specs.Layout.{Shape, IsLayout, digit_rows, digit_cols, digits_per_record}
+use Rattle.digit_pack.specs.Layout.{Shape, IsLayout, digit_rows, digits_per_record}
 use Rattle.double_scheme.proofs.Sizes.{few_in_word, few_rows}
 use Rattle.pir_schemes.specs.declared.scheme.Scheme.{Scheme}
 use Rattle.pir_schemes.specs.declared.scheme.Scheme.TheVariants.{Simple, Double}

@@ -1,5 +1,5 @@
 -- What stays the same in every version of some records, and how a version's records stand in digits.
-use Rattle.std.specs.Prelude.{◌≤◌, ◌<◌, ◌^◌, ◌*◌, ℕ, List, length, Bool, Option, Some, None, ◌==◌, nat_lt, if◌then◌else◌}
+use Rattle.std.specs.Prelude.{◌≤◌, ◌^◌, ◌*◌, ℕ, List, length, Bool, Option, Some, None, ◌==◌, nat_lt, if◌then◌else◌}
 use Rattle.matrix_u32.specs.Matrix.{WordMatrix}
 use Rattle.seed_expand.specs.Words.{public_rows}
 use Rattle.digit_pack.specs.Digits.{number_of}

@@ -1,24 +1,22 @@
 -- Feeds and queries that are alike.
-use Rattle.std.proofs.Common.{◌≡◌, ℕ, ◌+◌, ◌*◌, Bool, true, false, cond, List, ◌++◌, length, Option, Some, None, Result, Ok, refl, sym, ap, ◌∙◌}
-use Rattle.std.specs.Prelude.{◌==◌, if◌then◌else◌}
+use Rattle.std.proofs.Common.{◌≡◌, ℕ, ◌+◌, ◌*◌, Bool, true, false, cond, List, ◌++◌, length, Option, Some, None, refl, sym, ap, ◌∙◌}
+use Rattle.std.specs.Prelude.{◌==◌}
 use Rattle.std.specs.List.{flat_map}
 use Rattle.frame_codec.specs.declared.frame.Frame.{Frame}
-use Rattle.frame_codec.specs.declared.frame.Frame.TheVariants.{Answer, Stale, Refused}
+use Rattle.frame_codec.specs.declared.frame.Frame.TheVariants.{Answer, Stale}
 use Rattle.frame_codec.specs.declared.refusal.Refusal.{Refusal}
 use Rattle.frame_codec.specs.declared.refusal.Refusal.TheVariants as refusal
 use Rattle.frame_codec.specs.Refusals.{refused}
-use Rattle.frame_codec.specs.Frames.{kind_of, payload_of, payload_size, encoding}
+use Rattle.frame_codec.specs.Frames.{kind_of, payload_of, encoding}
 use Rattle.frame_codec.proofs.Payloads.{payload_sized}
 use Rattle.pir_schemes.specs.declared.scheme.Scheme.{Scheme}
 use Rattle.pir_schemes.specs.Schemes.{scheme_byte, scheme_of_byte}
 use Rattle.pir_schemes.specs.Retrievals.{answer_words}
 use Rattle.pir_schemes.proofs.Lengths.{length-answer}
-use Rattle.version_store.specs.Histories.{StoreState, History, current_version}
+use Rattle.version_store.specs.Histories.{History, current_version}
 use Rattle.server_core.specs.declared.standing.Standing.{Standing}
-use Rattle.server_core.specs.Courses.{lacks_memory}
-use Rattle.server_core.specs.Laws.{IsAlike, PiecesAgree, SameFeed, FeedsAreAlike, AreAlikeReplies, AnsweredAlike, RepliesHoldNoIndex}
-use Rattle.server_core.specs.Serving.{Setting, Outcome, outcome_of_frame, query_asked, replies_with, refuses, stale, words_asked, is_welcome}
-use Rattle.server_core.specs.Sessions.{Session, Fed}
+use Rattle.server_core.specs.Laws.{PiecesAgree, FeedsAreAlike, AreAlikeReplies, RepliesHoldNoIndex}
+use Rattle.server_core.specs.Serving.{Setting, Outcome, query_asked, replies_with, refuses, stale, words_asked, is_welcome}
 
 pub feeds_are_alike : PiecesAgree → FeedsAreAlike
 feeds_are_alike agree x h old old2 piece done done2 store store2 new new2 before after before2 after2 f g like clear clear2 =

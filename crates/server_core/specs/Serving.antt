@@ -1,5 +1,5 @@
 -- What the server does with a frame.
-use Rattle.std.specs.Prelude.{◌≡◌, ℕ, ◌+◌, ◌*◌, ◌^◌, ◌<◌, List, [], ◌∷◌, ◌++◌, length, take, replicate, Bool, true, false, not, Option, Some, None, ◌==◌, ◌⊎◌, nat_eq, nat_lt, if◌then◌else◌, MatchBool, option_to_list, vec_len, vec_capacity}
+use Rattle.std.specs.Prelude.{◌≡◌, ℕ, ◌+◌, ◌^◌, ◌<◌, List, [], ◌∷◌, ◌++◌, length, take, replicate, Bool, true, false, not, Option, Some, None, ◌==◌, ◌⊎◌, nat_eq, nat_lt, if◌then◌else◌, MatchBool, option_to_list, vec_len, vec_capacity}
 use Rattle.std.specs.Cmp.Lexicographic.{pointwise}
 use Rattle.std.specs.declared.vec.Vec.{Vec}
 use Rattle.std.specs.declared.alloc.Global.{Global}
@@ -12,13 +12,13 @@ use Rattle.pir_schemes.specs.Plans.{Plan, shape_at, profile_of, fits}
 use Rattle.pir_schemes.specs.Retrievals.{hint_matrix, query_count, answer_words}
 use Rattle.version_store.specs.Histories.{StoreState, History, StandsFor, current_version, after_edit, published}
 use Rattle.frame_codec.specs.declared.frame.Frame.{Frame}
-use Rattle.frame_codec.specs.declared.frame.Frame.TheVariants.{Load, Hello, HintAsk, Query, Edit, Publish, Bye, Welcome, HintPart, Answer, Stale, Done, Refused}
+use Rattle.frame_codec.specs.declared.frame.Frame.TheVariants.{Hello, HintAsk, Query, Edit, Publish, Bye, Welcome, HintPart, Answer, Stale, Done}
 use Rattle.frame_codec.specs.declared.refusal.Refusal.{Refusal}
 use Rattle.frame_codec.specs.declared.refusal.Refusal.TheVariants as refusal
 use Rattle.frame_codec.specs.Refusals.{refused}
 use Rattle.frame_codec.specs.Frames.{IsFrame, encoding}
 use Rattle.server_core.specs.declared.standing.Standing.{Standing}
-use Rattle.server_core.specs.declared.standing.Standing.TheVariants.{Stranger, Reader, Publisher, Closed}
+use Rattle.server_core.specs.declared.standing.Standing.TheVariants.{Reader, Publisher, Closed}
 
 -- what stays the same in every version: the plan, and the SHA-256 of the publisher's key
 pub record Setting : Type 0 where

@@ -1,7 +1,6 @@
-use Rattle.std.proofs.Common.{arith, ap, ◌∙◌, ◌≡◌, ◌+◌, ◌*◌, ◌≤◌, ℕ}
+use Rattle.std.proofs.Common.{arith, ap, ◌∙◌, ◌+◌, ◌≤◌}
 use Rattle.std.proofs.lemmas.Nat.{mul-le}
 use Rattle.lane_kernels.specs.Digit.{split_count}
-use Rattle.digit_pack.specs.Layout.{digits_per_record}
 use Rattle.double_scheme.proofs.Sizes.{few_digits, few_in_word}
 use Rattle.pir_schemes.proofs.counts.answer_count.Goals as goal
 
