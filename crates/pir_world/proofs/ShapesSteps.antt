@@ -81,20 +81,20 @@ module _ (x : Setting) (s t : State) (a : IsStateLike s t) where
       (either (current_version s.history + 1 == 2 ^ 64) _ _ _ _ (history_like _ _) (history_like _ _))
       (history_like _ _))
 
-  call_like : (k : ℕ) (v w : Want) → IsReaders v → IsWantLike v w
+  calls_like : (k : ℕ) (v w : Want) → IsReaders v → IsWantLike v w
       → ((l : Link) → slice_get s.links k ≡ Some l → IndexIsBelow v l.client) → ((l : Link) → slice_get t.links k ≡ Some l → IndexIsBelow w l.client)
       → IsStateLike (called_at s v k (slice_get s.links k)) (called_at t w k (slice_get t.links k))
-  call_like k v w r e below below2 = called_like s t a k v w (slice_get s.links k) (slice_get t.links k) refl refl (a.links k) r e below below2
+  calls_like k v w r e below below2 = called_like s t a k v w (slice_get s.links k) (slice_get t.links k) refl refl (a.links k) r e below below2
 
   pub after_like : (seeds : List (List ℕ)) → Inv x seeds s → (step other : Step) → IsStepLike step other
       → AskIsBelow s step → AskIsBelow t other → IsStateLike (after x false s step) (after x false t other)
   after_like seeds inv (Edit i bytes) other e b b2 = rw e (edit_like i bytes)
   after_like seeds inv Publish other e b b2 = rw e publish_like
-  after_like seeds inv (Hello k) other e b b2 = rw e (call_like k (want_hello reader_key) (want_hello reader_key) tt refl (λ l at. tt) (λ l at. tt))
-  after_like seeds inv (Sync k scheme) other e b b2 = rw e (call_like k (want_sync scheme) (want_sync scheme) tt refl (λ l at. tt) (λ l at. tt))
+  after_like seeds inv (Hello k) other e b b2 = rw e (calls_like k (want_hello reader_key) (want_hello reader_key) tt refl (λ l at. tt) (λ l at. tt))
+  after_like seeds inv (Sync k scheme) other e b b2 = rw e (calls_like k (want_sync scheme) (want_sync scheme) tt refl (λ l at. tt) (λ l at. tt))
   after_like seeds inv (Ask k i) other e b b2 =
       let P : Step → Type 0 = λ o. AskIsBelow t o → IsStateLike (after x false s (Ask k i)) (after x false t o) in
-      subst P (sym e.1) (λ b3. call_like k (want_ask i) (want_ask e.0) tt (e.0, refl) b b3) b2
+      subst P (sym e.1) (λ b3. calls_like k (want_ask i) (want_ask e.0) tt (e.0, refl) b b3) b2
   after_like seeds inv (ToServer k most) other e b b2 = rw e (served_like s t a k x most (slice_get s.links k) (slice_get t.links k) refl refl (a.links k))
   after_like seeds inv (ToClient k most) other e b b2 = rw e (reported_like s t a k most (slice_get s.links k) (slice_get t.links k) refl refl (a.links k) few)
     where
@@ -105,33 +105,33 @@ module _ (x : Setting) (s t : State) (a : IsStateLike s t) where
 
 module _ (x : Setting) (s : State) where
   module _ (P : Entry → Type 0) where
-    abbrev Kept : State → Type 0
-    Kept t = AllByRecursion P t.log → AllByRecursion P s.log
+    abbrev IsHeldBefore : State → Type 0
+    IsHeldBefore t = AllByRecursion P t.log → AllByRecursion P s.log
 
-    call_kept : (k : ℕ) (w : Want) (l : Link) (f : Option CallFault) → Kept (call_at s k w l f)
+    call_kept : (k : ℕ) (w : Want) (l : Link) (f : Option CallFault) → IsHeldBefore (call_at s k w l f)
     call_kept k w l (Some fault) all = all_first P s.log _ all
     call_kept k w l None all = all_first P s.log _ all
 
-    called_kept : (k : ℕ) (w : Want) (o : Option Link) → Kept (called_at s w k o)
+    called_kept : (k : ℕ) (w : Want) (o : Option Link) → IsHeldBefore (called_at s w k o)
     called_kept k w None all = all
     called_kept k w (Some l) all = call_kept k w l (refusal w l.client) all
 
-    served_kept : (short : Bool) (k most : ℕ) (o : Option Link) → Kept (served_at x short s k most o)
+    served_kept : (short : Bool) (k most : ℕ) (o : Option Link) → IsHeldBefore (served_at x short s k most o)
     served_kept short k most None all = all
     served_kept short k most (Some l) all = all_first P s.log _ all
 
-    reported_kept : (k most : ℕ) (o : Option Link) → Kept (reported_at s k most o)
+    reported_kept : (k most : ℕ) (o : Option Link) → IsHeldBefore (reported_at s k most o)
     reported_kept k most None all = all
     reported_kept k most (Some l) all = all_first P s.log _ all
 
-    step_kept : (short : Bool) (step : Step) → Kept (after x short s step)
+    step_kept : (short : Bool) (step : Step) → IsHeldBefore (after x short s step)
     step_kept short (Edit i bytes) =
-        cond_both (nat_lt i (length s.history.draft)) _ _ Kept
-        (λ e. cond_both (fits x.plan bytes) _ _ Kept (λ e all. all_first P s.log _ all) (λ e all. all_first P s.log _ all))
+        cond_both (nat_lt i (length s.history.draft)) _ _ IsHeldBefore
+        (λ e. cond_both (fits x.plan bytes) _ _ IsHeldBefore (λ e all. all_first P s.log _ all) (λ e all. all_first P s.log _ all))
         (λ e all. all_first P s.log _ all)
     step_kept short Publish =
-        cond_both s.history.marked _ _ Kept
-        (λ e. cond_both (current_version s.history + 1 == 2 ^ 64) _ _ Kept (λ e all. all_first P s.log _ all) (λ e all. all_first P s.log _ all))
+        cond_both s.history.marked _ _ IsHeldBefore
+        (λ e. cond_both (current_version s.history + 1 == 2 ^ 64) _ _ IsHeldBefore (λ e all. all_first P s.log _ all) (λ e all. all_first P s.log _ all))
         (λ e all. all_first P s.log _ all)
     step_kept short (Hello k) = called_kept k (want_hello reader_key) (slice_get s.links k)
     step_kept short (Sync k scheme) = called_kept k (want_sync scheme) (slice_get s.links k)
@@ -139,20 +139,20 @@ module _ (x : Setting) (s : State) where
     step_kept short (ToServer k most) = served_kept short k most (slice_get s.links k)
     step_kept short (ToClient k most) = reported_kept k most (slice_get s.links k)
 
-    pub steps_kept : (step : Step) (t : State) → Steps x s step t → Kept t
-    steps_kept step t (fits, inl e) = subst Kept (sym e) (step_kept false step)
-    steps_kept step t (fits, inr e) = subst Kept (sym e) (step_kept true step)
+    pub steps_kept : (step : Step) (t : State) → Steps x s step t → IsHeldBefore t
+    steps_kept step t (fits, inl e) = subst IsHeldBefore (sym e) (step_kept false step)
+    steps_kept step t (fits, inr e) = subst IsHeldBefore (sym e) (step_kept true step)
 
-  served_same : (k most : ℕ) (o : Option Link) → AllByRecursion HadMemory (served_at x true s k most o).log
+  delivery_same : (k most : ℕ) (o : Option Link) → AllByRecursion HadMemory (served_at x true s k most o).log
       → served_at x true s k most o ≡ served_at x false s k most o
-  served_same k most None all = refl
-  served_same k most (Some l) all =
+  delivery_same k most None all = refl
+  delivery_same k most (Some l) all =
       let link : Turn → Link = λ t. record { client = l.client; standing = t.standing; up = beyond l.up most; down = sent l.down t.replies } in
       let turned : Turn → State = λ t. with_link s t.history k (link t) t.log in
       ap turned (turns_same x k _ (arrived l.up most) (all_last HadMemory s.log _ all))
 
   short_same : (step : Step) → AllByRecursion HadMemory (after x true s step).log → after x true s step ≡ after x false s step
-  short_same (ToServer k most) all = served_same k most (slice_get s.links k) all
+  short_same (ToServer k most) all = delivery_same k most (slice_get s.links k) all
   short_same step all = refl
 
   pub step_is : (step : Step) (t : State) → Steps x s step t → AllByRecursion HadMemory t.log → t ≡ after x false s step

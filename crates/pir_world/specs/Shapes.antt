@@ -15,12 +15,12 @@ use Rattle.pir_world.specs.Worlds.{Kept}
 
 -- ---- shapes
 
--- the shape of the frame, where client k sent one
+-- the shape of an entry's frame, where client k sent it
 abbrev pub sent_shape : ℕ → Entry → List FrameShape
 sent_shape k (Sent j f) = cond (j == k) (shape_of f ∷ []) []
 sent_shape k _ = []
 
--- the shape of the reply, where a frame of client k was served with one
+-- the shape of an entry's reply, where it was to client k
 abbrev pub reply_shape : ℕ → Entry → List FrameShape
 reply_shape k (Served j f now (Some reply)) = cond (j == k) (shape_of reply ∷ []) []
 reply_shape k _ = []
@@ -33,7 +33,7 @@ sent_shapes k log = flat_map (sent_shape k) log
 abbrev pub reply_shapes : ℕ → List Entry → List FrameShape
 reply_shapes k log = flat_map (reply_shape k) log
 
--- over each link the same shapes went in the same order
+-- two logs say that over each link the same shapes went, each way in the same order
 pub record HaveEqualShapes (log other : List Entry) : Type 0 where
   pub sent : (k : ℕ) → sent_shapes k log ≡ sent_shapes k other
   pub replies : (k : ℕ) → reply_shapes k log ≡ reply_shapes k other
@@ -45,30 +45,30 @@ abbrev pub IsStepLike : Step → Step → Type 0
 IsStepLike (Ask k i) other = (j : ℕ) × (other ≡ Ask k j)
 IsStepLike step other = other ≡ step
 
--- as many steps, and each like the other's
+-- as many steps, each the same as the other's, or both asks of one client
 abbrev pub AreStepsLike : List Step → List Step → Type 0
 AreStepsLike [] [] = Unit {0}
 AreStepsLike (step ∷ steps) (other ∷ others) = IsStepLike step other × AreStepsLike steps others
 AreStepsLike _ _ = ⊥
 
--- ---- runs in which neither a refusal for memory nor one for an index comes between
+-- ---- runs without refusals for memory or for an index
 
--- the server wasn't out of memory
+-- no reply was refused here because the server was out of memory
 abbrev pub HadMemory : Entry → Type 0
 HadMemory (Served k f now reply) = reply ≢ Some (refused Memory)
 HadMemory _ = Unit {0}
 
--- an ask is of a record below the count that the client knows
+-- an ask is of a record below the count that its client knows
 abbrev pub AskIsBelow : State → Step → Type 0
 AskIsBelow s (Ask k i) = (l : Link) → slice_get s.links k ≡ Some l → i < known_count l.client.known
 AskIsBelow s _ = Unit {0}
 
--- so is each ask of some steps, one after another, where the server has memory
+-- each ask of some steps, one after another, is of a record below the count that its client knows then; the server has memory
 abbrev pub AsksAreBelow : Setting → State → List Step → Type 0
 AsksAreBelow x s [] = Unit {0}
 AsksAreBelow x s (step ∷ steps) = AskIsBelow s step × AsksAreBelow x (after x false s step) steps
 
--- a run of which both are so
+-- a run without refusals for memory, in which each ask is of a record below the count that its client knows
 pub record IsPlainRun (x : Setting) (s : State) (steps : List Step) (t : State) : Type 0 where
   pub run : Run x s steps t
   pub memory : AllByRecursion HadMemory t.log
@@ -76,15 +76,17 @@ pub record IsPlainRun (x : Setting) (s : State) (steps : List Step) (t : State) 
 
 -- ---- the law
 
--- Two such runs from one opening, whose steps differ in the indices of asks alone: over each link as many frames go each
--- way, in the same order, of the same kinds and lengths.
+-- In two runs from one opening, whose steps differ in the indices of asks alone, as many frames go each way over each link,
+-- in the same order, of the same kinds and lengths. In both no reply is refused for lack of memory, and each ask is of a
+-- record below the count that its client knows.
 abbrev pub IndicesChangeNoShape : Type 0
 IndicesChangeNoShape = (h : Header) (records : List ℕ) (seeds : List (List ℕ)) (steps others : List Step) (last last2 : State) →
     IsOpening h records → AreStepsLike steps others →
     IsPlainRun (setting_in h) (opening h records seeds) steps last → IsPlainRun (setting_in h) (opening h records seeds) others last2 →
     HaveEqualShapes last.log last2.log
 
--- so it is of a world's own steps, and of all that are like them
+-- in a world the same shapes went over each link as in each run from its opening whose steps differ from its own in the
+-- indices of asks alone
 abbrev pub HidesIndices : Kept → State → Type 0
 HidesIndices w s = (others : List Step) (last : State) → AreStepsLike w.steps others →
     AllByRecursion HadMemory s.log → AsksAreBelow (setting_in w.header) (opening w.header w.records w.seeds) w.steps →
