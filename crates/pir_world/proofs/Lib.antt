@@ -12,3 +12,8 @@ pub mod Deliveries
 pub mod Parts
 pub mod Sending
 pub mod Fresh
+pub mod ShapesFrames
+pub mod ShapesServed
+pub mod ShapesClients
+pub mod ShapesLinks
+pub mod ShapesSteps

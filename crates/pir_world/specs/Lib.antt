@@ -7,3 +7,4 @@ pub mod Sides
 pub mod Worlds
 pub mod Inside
 pub mod Freshness
+pub mod Shapes

@@ -3,6 +3,7 @@
 
 ghost use Rattle.pir_world.specs.Freshness.{AnswersAreFresh};
 ghost use Rattle.pir_world.specs.Headlines.{EveryRunIsRight};
+ghost use Rattle.pir_world.specs.Shapes.{IndicesChangeNoShape};
 
 /// In every run of every list of steps, for all seeds: an answered retrieval whose noise sums stay below half
 /// of delta gives its record's bytes in the version that its hint names, a query is refused as stale exactly
@@ -18,6 +19,15 @@ pub fn every_run_is_right()
 /// one before.
 pub fn answers_are_fresh()
     ensures { AnswersAreFresh }
+{
+    pir_schemes::laws::retrieval_gives_the_record();
+}
+
+/// What goes over the links, each frame by its kind and its length, is the same in two runs from one opening
+/// whose steps differ in the indices of asks alone. In both each ask is of a record below the count that its
+/// client knows then, and no reply is refused because the server is out of memory.
+pub fn indices_change_no_shape()
+    ensures { IndicesChangeNoShape }
 {
     pir_schemes::laws::retrieval_gives_the_record();
 }

@@ -1,0 +1,231 @@
+-- What clients of one outline do with calls that differ in the index alone, and with replies that differ in words alone.
+use Rattle.std.proofs.Common.{◌≡◌, ℕ, List, [], ◌∷◌, ◌++◌, length, Bool, true, false, cond, Option, Some, None, refl, sym, ap, ◌∙◌, ◌⊎◌, inl, inr}
+use Rattle.std.specs.Prelude.{map, ◌==◌, ◌&&◌, nat_lt, not}
+use Rattle.std.proofs.lemmas.List.{append-nil}
+use Rattle.frame_codec.specs.declared.frame.Frame.{Frame}
+use Rattle.frame_codec.specs.declared.frame.Frame.TheVariants as frame
+use Rattle.digit_pack.specs.Layout.{Shape, shape}
+use Rattle.pir_schemes.specs.declared.scheme.Scheme.{Scheme}
+use Rattle.pir_schemes.specs.declared.scheme.Scheme.TheVariants.{Simple}
+use Rattle.pir_schemes.specs.Schemes.{scheme_byte}
+use Rattle.pir_schemes.specs.Retrievals.{hint_len}
+use Rattle.pir_schemes.proofs.Lengths.{length_query}
+use Rattle.client_core.specs.declared.state.ClientState.{ClientState}
+use Rattle.client_core.specs.declared.state.ServerInfo.{ServerInfo}
+use Rattle.client_core.specs.declared.state.Hint.{Hint}
+use Rattle.client_core.specs.declared.state.Call.{Call}
+use Rattle.client_core.specs.declared.state.Call.TheVariants as call
+use Rattle.client_core.specs.States.{is_layout, known_version, scheme_held}
+use Rattle.client_core.specs.Calls.{Want, Hello, Sync, Ask, state_after_call, call_frame, call_words}
+use Rattle.client_core.specs.Replies.{
+  Taken,
+  reaction_to_reply,
+  is_welcome,
+  takes_welcome,
+  is_part,
+  takes_asked_part,
+  takes_part,
+  is_answer,
+  answered,
+  takes_answer,
+  with_count,
+  staled,
+  takes_stale,
+  takes_done,
+  takes_refused,
+}
+use Rattle.client_core.specs.Feeding.{sends_of}
+use Rattle.client_core.specs.Laws.{Taken as Reply, Accepted}
+use Rattle.client_core.specs.Shapes.{
+  FrameShape,
+  shape_of,
+  BlankCall,
+  blank_call,
+  BlankReply,
+  blank_reply,
+  BlankTaken,
+  APart,
+  awaited,
+  HintName,
+  hint_name,
+  Outline,
+  outline,
+  asked_count,
+  outline_after_call,
+  after_reply,
+}
+use Rattle.client_core.proofs.ShapeLaws.{no_index}
+use Rattle.pir_world.proofs.ShapesFrames.{IsFrameLike, same_blank}
+
+-- ---- calls
+
+-- the same call, or both times an ask
+abbrev pub IsWantLike : Want → Want → Type 0
+IsWantLike (Ask i) w = (j : ℕ) × (w ≡ Ask j)
+IsWantLike v w = w ≡ v
+
+pub same_want : (v w : Want) → IsWantLike v w → blank_call v ≡ blank_call w
+same_want (Ask i) w e = ap blank_call (sym e.1)
+same_want v w e = ap blank_call (sym e)
+
+pub called_outline : (c d : ClientState) (v w : Want) → outline c ≡ outline d → IsWantLike v w → outline (state_after_call v c) ≡ outline (state_after_call w d)
+called_outline c d v w a e =
+    no_index.outline_is c (Accepted v)
+    ∙ ap (λ (o : Outline). outline_after_call (blank_call v) o) a
+    ∙ ap (λ (b : BlankCall). outline_after_call b (outline d)) (same_want v w e)
+    ∙ sym (no_index.outline_is d (Accepted w))
+
+-- the scheme of the hint of this name
+held : Option HintName → Scheme
+held None = Simple
+held (Some h) = h.scheme
+
+held_is : (h : Option Hint) → scheme_held h ≡ held (hint_name h)
+unfolding held
+held_is None = refl
+held_is (Some h) = refl
+
+asked_length : (known : Option ServerInfo) (hint : Option Hint) (seed : List ℕ) (number i : ℕ)
+    → length (call_words known (scheme_held hint) seed number i) ≡ asked_count known (hint_name hint)
+asked_length None hint seed number i = refl
+asked_length (Some k) None seed number i = length_query _ k.layout k.dimension k.seed seed number i
+asked_length (Some k) (Some h) seed number i = length_query h.scheme k.layout k.dimension k.seed seed number i
+
+-- a call that a client of a run makes
+abbrev pub IsReaders : Want → Type 0
+IsReaders (Hello key) = Unit {0}
+IsReaders (Sync scheme) = Unit {0}
+IsReaders (Ask i) = Unit {0}
+IsReaders _ = ⊥
+
+pub call_frame_like : (c d : ClientState) (v w : Want) → IsReaders v → outline c ≡ outline d → IsWantLike v w
+    → IsFrameLike (call_frame (state_after_call v c) (state_after_call v c).call) (call_frame (state_after_call w d) (state_after_call w d).call)
+call_frame_like c d v w r a e = made v w r e
+  where
+    known : c.known ≡ d.known
+    known = ap (λ (o : Outline). o.known) a
+
+    scheme : scheme_held c.hint ≡ scheme_held d.hint
+    scheme = held_is c.hint ∙ ap (λ (o : Outline). held o.hint) a ∙ sym (held_is d.hint)
+
+    counts : asked_count c.known (hint_name c.hint) ≡ asked_count d.known (hint_name d.hint)
+    counts = ap (λ (o : Outline). asked_count o.known o.hint) a
+
+    other_words : ℕ → List ℕ
+    other_words j = call_words d.known (scheme_held d.hint) d.seed d.number j
+
+    made : (v w : Want) → IsReaders v → IsWantLike v w
+        → IsFrameLike (call_frame (state_after_call v c) (state_after_call v c).call) (call_frame (state_after_call w d) (state_after_call w d).call)
+    made (Hello key) w r e = rw e refl
+    made (Sync s) w r e = rw e (ap (λ (k : Option ServerInfo). frame.HintAsk (scheme_byte s) (known_version k) 0) (sym known))
+    made (Ask i) w r e = rw e.1 (
+      other_words e.0,
+      ap (λ (s : Scheme). frame.Query (scheme_byte s) (known_version d.known) (other_words e.0)) (sym scheme)
+          ∙ ap (λ (k : Option ServerInfo). frame.Query (scheme_byte (scheme_held c.hint)) (known_version k) (other_words e.0)) (sym known),
+      asked_length d.known d.hint d.seed d.number e.0 ∙ sym counts ∙ sym (asked_length c.known c.hint c.seed c.number i),
+    )
+    made v w r e = absurd r
+
+-- ---- replies
+
+-- the frame sent is the one for the part that is then awaited
+abbrev Sends : Taken → Type 0
+Sends t =
+    (sends_of t.reaction ≡ [])
+    ⊎ ((s : Scheme) × (v : ℕ) × (p : ℕ) × (t.state.call ≡ call.Sync s v p) × (sends_of t.reaction ≡ frame.HintAsk (scheme_byte s) v p ∷ []))
+
+either : (b : Bool) (t u : Taken) → Sends t → Sends u → Sends (cond b t u)
+either true t u a b = a
+either false t u a b = b
+
+part_sends : (k : Call) (c : ClientState) (scheme version part : ℕ) (words : List ℕ) → Sends (takes_part k c scheme version part words)
+part_sends (call.Sync s v p) c scheme version part words = asked c.known
+  where
+    asked : (known : Option ServerInfo) → Sends (takes_asked_part known s c v p scheme version part words)
+    asked None = inl refl
+    asked (Some k) =
+        either (is_part s (hint_len s k.layout k.dimension) v p scheme version part words) _ _
+        (either (length (c.parts ++ words) == hint_len s k.layout k.dimension) _ _ (inl refl) (inr (s, v, _, refl, refl)))
+        (inl refl)
+part_sends k c scheme version part words = inl refl
+
+welcome_sends : (k : Call) (c : ClientState) (profile : ℕ) (l : Shape) (n version : ℕ) (seed : List ℕ) → Sends (takes_welcome k c profile l n version seed)
+welcome_sends (call.Hello key) c profile l n version seed = either (is_welcome profile l n version) _ _ (inl refl) (inl refl)
+welcome_sends k c profile l n version seed = inl refl
+
+answer_sends : (k : Call) (c : ClientState) (scheme version : ℕ) (words : List ℕ) → Sends (takes_answer k c scheme version words)
+answer_sends (call.Ask i s v n) c scheme version words = asked c.known c.hint
+  where
+    asked : (known : Option ServerInfo) (hint : Option Hint) → Sends (answered known hint c i v n scheme version words)
+    asked None hint = inl refl
+    asked (Some k) None = inl refl
+    asked (Some k) (Some h) = either (is_answer h.scheme k v scheme version words) _ _ (inl refl) (inl refl)
+answer_sends k c scheme version words = inl refl
+
+stale_asked : (known : Option ServerInfo) (dropped c : ClientState) (asked version count : ℕ) → Sends (staled known dropped c asked version count)
+stale_asked None dropped c asked version count = inl refl
+stale_asked (Some k) dropped c asked version count =
+    either (not (version == asked) && (nat_lt 0 version && is_layout (with_count k.layout count))) _ _ (inl refl) (inl refl)
+
+stale_sends : (k : Call) (c : ClientState) (version count : ℕ) → Sends (takes_stale k c version count)
+stale_sends (call.Sync s v p) c version count = stale_asked c.known _ c v version count
+stale_sends (call.Ask i s v n) c version count = stale_asked c.known c c v version count
+stale_sends k c version count = inl refl
+
+done_sends : (k : Call) (c : ClientState) (version : ℕ) → Sends (takes_done k c version)
+done_sends call.Idle c version = inl refl
+done_sends (call.Edit i b) c version = inl refl
+done_sends call.Publish c version = inl refl
+done_sends k c version = inl refl
+
+refused_sends : (k : Call) (c : ClientState) (code : ℕ) → Sends (takes_refused k c code)
+refused_sends call.Idle c code = inl refl
+refused_sends (call.Sync s v p) c code = inl refl
+refused_sends k c code = inl refl
+
+reply_sends : (c : ClientState) (f : Frame) → Sends (reaction_to_reply c f)
+reply_sends c (frame.Welcome profile width record_len groups count version dimension seed) =
+    welcome_sends c.call c profile (shape width record_len groups count) dimension version seed
+reply_sends c (frame.HintPart scheme version part words) = part_sends c.call c scheme version part words
+reply_sends c (frame.Answer scheme version words) = answer_sends c.call c scheme version words
+reply_sends c (frame.Stale version count) = stale_sends c.call c version count
+reply_sends c (frame.Done version) = done_sends c.call c version
+reply_sends c (frame.Refused code) = refused_sends c.call c code
+reply_sends c f = inl refl
+
+pub replied_outline : (c d : ClientState) (f g : Frame) → outline c ≡ outline d → IsFrameLike f g
+    → outline (reaction_to_reply c f).state ≡ outline (reaction_to_reply d g).state
+replied_outline c d f g a e =
+    no_index.outline_is c (Reply f)
+    ∙ ap (λ (o : Outline). (after_reply o (blank_reply f)).outline) a
+    ∙ ap (λ (b : BlankReply). (after_reply (outline d) b).outline) (same_blank f g e)
+    ∙ sym (no_index.outline_is d (Reply g))
+
+replied_shapes : (c d : ClientState) (f g : Frame) → outline c ≡ outline d → IsFrameLike f g
+    → map shape_of (sends_of (reaction_to_reply c f).reaction) ≡ map shape_of (sends_of (reaction_to_reply d g).reaction)
+replied_shapes c d f g a e =
+    ap (map shape_of) (sym (append-nil (sends_of (reaction_to_reply c f).reaction)))
+    ∙ no_index.same_shapes c d (Reply f ∷ []) (Reply g ∷ []) (tt, tt) (tt, tt) a (ap (λ (b : BlankReply). BlankTaken b ∷ []) (same_blank f g e))
+    ∙ ap (map shape_of) (append-nil (sends_of (reaction_to_reply d g).reaction))
+
+same_part : (s t : Scheme) (v w p q : ℕ) → APart s v p ≡ APart t w q → frame.HintAsk (scheme_byte s) v p ≡ frame.HintAsk (scheme_byte t) w q
+same_part s t v w p q e = let a : s ≡ t = cc in let b : v ≡ w = cc in let d : p ≡ q = cc in cc
+
+-- they send the same frame, or none
+pub replied_sends : (c d : ClientState) (f g : Frame) → outline c ≡ outline d → IsFrameLike f g
+    → sends_of (reaction_to_reply c f).reaction ≡ sends_of (reaction_to_reply d g).reaction
+replied_sends c d f g a e = both (reply_sends c f) (reply_sends d g)
+  where
+    both : Sends (reaction_to_reply c f) → Sends (reaction_to_reply d g) → sends_of (reaction_to_reply c f).reaction ≡ sends_of (reaction_to_reply d g).reaction
+    both (inl p) (inl q) = p ∙ sym q
+    both (inl p) (inr q) =
+        let z : ◌≡◌ {A = List FrameShape} [] (shape_of (frame.HintAsk (scheme_byte q.0) q.1 q.2) ∷ []) =
+        ap (map shape_of) (sym p) ∙ replied_shapes c d f g a e ∙ ap (map shape_of) q.4 in
+        absurd cc
+    both (inr p) (inl q) =
+        let z : ◌≡◌ {A = List FrameShape} (shape_of (frame.HintAsk (scheme_byte p.0) p.1 p.2) ∷ []) [] =
+        ap (map shape_of) (sym p.4) ∙ replied_shapes c d f g a e ∙ ap (map shape_of) q in
+        absurd cc
+    both (inr p) (inr q) =
+        let z : APart p.0 p.1 p.2 ≡ APart q.0 q.1 q.2 = ap awaited (sym p.3) ∙ ap (λ (o : Outline). o.call) (replied_outline c d f g a e) ∙ ap awaited q.3 in
+        p.4 ∙ ap (λ (y : Frame). y ∷ []) (same_part p.0 q.0 p.1 q.1 p.2 q.2 z) ∙ sym q.4

@@ -1,0 +1,192 @@
+-- Steps that differ in the indices of asks alone keep states alike, and so do runs of them.
+use Rattle.std.proofs.Common.{◌≡◌, ℕ, ◌+◌, ◌^◌, List, [], ◌∷◌, length, Bool, true, false, cond, Option, Some, None, refl, sym, ap, subst, ◌∙◌, inl, inr}
+use Rattle.std.specs.Prelude.{nat_lt, ◌==◌, slice_get}
+use Rattle.std.specs.List.{AllByRecursion}
+use Rattle.std.proofs.lemmas.Bool.{cond_both}
+use Rattle.pir_schemes.specs.Plans.{fits}
+use Rattle.pir_schemes.specs.Laws.{RetrievalGivesTheRecord}
+use Rattle.version_store.specs.Histories.{History, current_version}
+use Rattle.server_core.specs.Serving.{Setting}
+use Rattle.client_core.specs.declared.state.CallFault.{CallFault}
+use Rattle.client_core.specs.Calls.{Want, refusal}
+use Rattle.client_core.specs.Calls.{Hello as want_hello, Sync as want_sync, Ask as want_ask}
+use Rattle.pir_world.specs.declared.steps.Step.{Step}
+use Rattle.pir_world.specs.declared.steps.Step.TheVariants.{Edit, Publish, Hello, Sync, Ask, ToServer, ToClient}
+use Rattle.pir_world.specs.declared.steps.Outcome.{Outcome}
+use Rattle.pir_world.specs.Runs.{
+  State,
+  Link,
+  Entry,
+  Plain,
+  Turn,
+  after,
+  called_at,
+  served_at,
+  reported_at,
+  call_at,
+  with_link,
+  with_history,
+  edit_after,
+  publish_after,
+  arrived,
+  beyond,
+  sent,
+  reader_key,
+  Steps,
+  Run,
+  opening,
+  setting_in,
+}
+use Rattle.pir_world.specs.Versions.{seed_of}
+use Rattle.pir_world.specs.Shapes.{IsStepLike, AreStepsLike, HadMemory, AskIsBelow, AsksAreBelow, IsPlainRun, IndicesChangeNoShape}
+use Rattle.pir_world.specs.Invariants.{Inv}
+use Rattle.pir_world.proofs.Calls.{few_frames}
+use Rattle.pir_world.proofs.Keeping.{step_inv}
+use Rattle.pir_world.proofs.Opening.{opening_inv}
+use Rattle.pir_world.proofs.Wires.{IsFew}
+use Rattle.pir_world.proofs.ShapesServed.{equal_append, all_first, all_last, turns_same}
+use Rattle.client_core.specs.Shapes.{IndexIsBelow}
+use Rattle.pir_world.proofs.ShapesClients.{IsWantLike, IsReaders}
+use Rattle.pir_world.proofs.ShapesLinks.{IsStateLike, state_itself, called_like, served_like, reported_like}
+
+-- ---- one step
+
+either : (b : Bool) (s s2 t t2 : State) → IsStateLike s t → IsStateLike s2 t2 → IsStateLike (cond b s s2) (cond b t t2)
+either true s s2 t t2 p q = p
+either false s s2 t t2 p q = q
+
+module _ (x : Setting) (s t : State) (a : IsStateLike s t) where
+  -- the other state with another history
+  abbrev other_at : History → State
+  other_at h = record { history = h; links = t.links; log = t.log }
+
+  history_like : (h : History) (o : Outcome) → IsStateLike (with_history s h o) (with_history t h o)
+  history_like h o = record {
+    history = refl;
+    links = a.links;
+    logs = equal_append s.log t.log (Plain o ∷ []) (Plain o ∷ []) a.logs (record { sent = λ k. refl; replies = λ k. refl });
+  }
+
+  edit_like : (i : ℕ) (bytes : List ℕ) → IsStateLike (edit_after x s i bytes) (edit_after x t i bytes)
+  edit_like i bytes =
+      subst (λ (h : History). IsStateLike (edit_after x s i bytes) (edit_after x (other_at h) i bytes)) (sym a.history)
+      (either (nat_lt i (length s.history.draft)) _ _ _ _
+      (either (fits x.plan bytes) _ _ _ _ (history_like _ _) (history_like _ _))
+      (history_like _ _))
+
+  publish_like : IsStateLike (publish_after s) (publish_after t)
+  publish_like =
+      subst (λ (h : History). IsStateLike (publish_after s) (publish_after (other_at h))) (sym a.history)
+      (either s.history.marked _ _ _ _
+      (either (current_version s.history + 1 == 2 ^ 64) _ _ _ _ (history_like _ _) (history_like _ _))
+      (history_like _ _))
+
+  calls_like : (k : ℕ) (v w : Want) → IsReaders v → IsWantLike v w
+      → ((l : Link) → slice_get s.links k ≡ Some l → IndexIsBelow v l.client) → ((l : Link) → slice_get t.links k ≡ Some l → IndexIsBelow w l.client)
+      → IsStateLike (called_at s v k (slice_get s.links k)) (called_at t w k (slice_get t.links k))
+  calls_like k v w r e below below2 = called_like s t a k v w (slice_get s.links k) (slice_get t.links k) refl refl (a.links k) r e below below2
+
+  pub after_like : (seeds : List (List ℕ)) → Inv x seeds s → (step other : Step) → IsStepLike step other
+      → AskIsBelow s step → AskIsBelow t other → IsStateLike (after x false s step) (after x false t other)
+  after_like seeds inv (Edit i bytes) other e b b2 = rw e (edit_like i bytes)
+  after_like seeds inv Publish other e b b2 = rw e publish_like
+  after_like seeds inv (Hello k) other e b b2 = rw e (calls_like k (want_hello reader_key) (want_hello reader_key) tt refl (λ l at. tt) (λ l at. tt))
+  after_like seeds inv (Sync k scheme) other e b b2 = rw e (calls_like k (want_sync scheme) (want_sync scheme) tt refl (λ l at. tt) (λ l at. tt))
+  after_like seeds inv (Ask k i) other e b b2 =
+      let P : Step → Type 0 = λ o. AskIsBelow t o → IsStateLike (after x false s (Ask k i)) (after x false t o) in
+      subst P (sym e.1) (λ b3. calls_like k (want_ask i) (want_ask e.0) tt (e.0, refl) b b3) b2
+  after_like seeds inv (ToServer k most) other e b b2 = rw e (served_like s t a k x most (slice_get s.links k) (slice_get t.links k) refl refl (a.links k))
+  after_like seeds inv (ToClient k most) other e b b2 = rw e (reported_like s t a k most (slice_get s.links k) (slice_get t.links k) refl refl (a.links k) few)
+    where
+      few : (l : Link) → slice_get s.links k ≡ Some l → IsFew l.down.frames
+      few l at = (few_frames x s.history l.standing (seed_of seeds k) l.client l.client.call l.up.frames l.down.frames (inv.links k l at).phase).1
+
+-- ---- what was written down stays, and where nobody is refused for memory the server had it
+
+module _ (x : Setting) (s : State) where
+  module _ (P : Entry → Type 0) where
+    abbrev IsHeldBefore : State → Type 0
+    IsHeldBefore t = AllByRecursion P t.log → AllByRecursion P s.log
+
+    call_kept : (k : ℕ) (w : Want) (l : Link) (f : Option CallFault) → IsHeldBefore (call_at s k w l f)
+    call_kept k w l (Some fault) all = all_first P s.log _ all
+    call_kept k w l None all = all_first P s.log _ all
+
+    called_kept : (k : ℕ) (w : Want) (o : Option Link) → IsHeldBefore (called_at s w k o)
+    called_kept k w None all = all
+    called_kept k w (Some l) all = call_kept k w l (refusal w l.client) all
+
+    served_kept : (short : Bool) (k most : ℕ) (o : Option Link) → IsHeldBefore (served_at x short s k most o)
+    served_kept short k most None all = all
+    served_kept short k most (Some l) all = all_first P s.log _ all
+
+    reported_kept : (k most : ℕ) (o : Option Link) → IsHeldBefore (reported_at s k most o)
+    reported_kept k most None all = all
+    reported_kept k most (Some l) all = all_first P s.log _ all
+
+    step_kept : (short : Bool) (step : Step) → IsHeldBefore (after x short s step)
+    step_kept short (Edit i bytes) =
+        cond_both (nat_lt i (length s.history.draft)) _ _ IsHeldBefore
+        (λ e. cond_both (fits x.plan bytes) _ _ IsHeldBefore (λ e all. all_first P s.log _ all) (λ e all. all_first P s.log _ all))
+        (λ e all. all_first P s.log _ all)
+    step_kept short Publish =
+        cond_both s.history.marked _ _ IsHeldBefore
+        (λ e. cond_both (current_version s.history + 1 == 2 ^ 64) _ _ IsHeldBefore (λ e all. all_first P s.log _ all) (λ e all. all_first P s.log _ all))
+        (λ e all. all_first P s.log _ all)
+    step_kept short (Hello k) = called_kept k (want_hello reader_key) (slice_get s.links k)
+    step_kept short (Sync k scheme) = called_kept k (want_sync scheme) (slice_get s.links k)
+    step_kept short (Ask k i) = called_kept k (want_ask i) (slice_get s.links k)
+    step_kept short (ToServer k most) = served_kept short k most (slice_get s.links k)
+    step_kept short (ToClient k most) = reported_kept k most (slice_get s.links k)
+
+    pub steps_kept : (step : Step) (t : State) → Steps x s step t → IsHeldBefore t
+    steps_kept step t (fits, inl e) = subst IsHeldBefore (sym e) (step_kept false step)
+    steps_kept step t (fits, inr e) = subst IsHeldBefore (sym e) (step_kept true step)
+
+  delivery_same : (k most : ℕ) (o : Option Link) → AllByRecursion HadMemory (served_at x true s k most o).log
+      → served_at x true s k most o ≡ served_at x false s k most o
+  delivery_same k most None all = refl
+  delivery_same k most (Some l) all =
+      let link : Turn → Link = λ t. record { client = l.client; standing = t.standing; up = beyond l.up most; down = sent l.down t.replies } in
+      let turned : Turn → State = λ t. with_link s t.history k (link t) t.log in
+      ap turned (turns_same x k _ (arrived l.up most) (all_last HadMemory s.log _ all))
+
+  short_same : (step : Step) → AllByRecursion HadMemory (after x true s step).log → after x true s step ≡ after x false s step
+  short_same (ToServer k most) all = delivery_same k most (slice_get s.links k) all
+  short_same step all = refl
+
+  pub step_is : (step : Step) (t : State) → Steps x s step t → AllByRecursion HadMemory t.log → t ≡ after x false s step
+  step_is step t (fits, inl e) all = e
+  step_is step t (fits, inr e) all = e ∙ short_same step (subst (λ (u : State). AllByRecursion HadMemory u.log) e all)
+
+run_kept : (P : Entry → Type 0) (x : Setting) (s : State) (steps : List Step) (t : State) → Run x s steps t → AllByRecursion P t.log → AllByRecursion P s.log
+run_kept P x s [] t e all = subst (λ (u : State). AllByRecursion P u.log) e all
+run_kept P x s (step ∷ steps) t r all = steps_kept x s P step r.0 r.1 (run_kept P x r.0 steps t r.2 all)
+
+-- ---- runs
+
+module _ (law : RetrievalGivesTheRecord) (x : Setting) (seeds : List (List ℕ)) where
+  runs_like : (s t : State) (steps others : List Step) (s2 t2 : State) → IsStateLike s t → Inv x seeds s → Inv x seeds t
+      → AreStepsLike steps others → IsPlainRun x s steps s2 → IsPlainRun x t others t2 → IsStateLike s2 t2
+  runs_like s t [] [] s2 t2 a i j e r q = rw (r.run, q.run) a
+  runs_like s t (step ∷ steps) (other ∷ others) s2 t2 a i j e r q =
+      let here = r.run in
+      let there = q.run in
+      let first = step_is x s step here.0 here.1 (run_kept HadMemory x here.0 steps s2 here.2 r.memory) in
+      let second = step_is x t other there.0 there.1 (run_kept HadMemory x there.0 others t2 there.2 q.memory) in
+      let like = after_like x s t a seeds i step other e.0 r.below.0 q.below.0 in
+      runs_like here.0 there.0 steps others s2 t2
+      (subst (λ (u : State). IsStateLike u there.0) (sym first) (subst (λ (u : State). IsStateLike (after x false s step) u) (sym second) like))
+      (step_inv law x seeds s step here.0 here.1 i)
+      (step_inv law x seeds t other there.0 there.1 j)
+      e.1
+      (record { run = here.2; memory = r.memory; below = subst (λ (u : State). AsksAreBelow x u steps) (sym first) r.below.1 })
+      (record { run = there.2; memory = q.memory; below = subst (λ (u : State). AsksAreBelow x u others) (sym second) q.below.1 })
+  runs_like s t [] (other ∷ others) s2 t2 a i j e r q = absurd e
+  runs_like s t (step ∷ steps) [] s2 t2 a i j e r q = absurd e
+
+pub no_shape_changes : RetrievalGivesTheRecord → IndicesChangeNoShape
+no_shape_changes law h bytes seeds steps others last last2 o e r q =
+    let s = opening h bytes seeds in
+    let i = opening_inv h bytes seeds o in
+    (runs_like law (setting_in h) seeds s s steps others last last2 (state_itself s) i i e r q).logs
