@@ -5,6 +5,8 @@ use std::alloc::Global;
 use std::process::Abort;
 use std::test::Fail;
 
+mod shapes;
+
 // The session's number: any.
 const SESSION: u64 = 7;
 
