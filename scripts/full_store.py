@@ -94,11 +94,12 @@ def spent_millis(pid):
     return (int(fields[11]) + int(fields[12])) * 1000 / os.sysconf("SC_CLK_TCK")
 
 
-def made(folder):
-    """The store's file, and its records."""
-    records = b"".join(struct.pack("<Q", i * 0x9E3779B97F4A7C15 % 2**64) for i in range(RECORDS * RECORD // 8))
+def made(folder, record=RECORD, groups=GROUPS):
+    """The store's file, and its records; they may be shorter, with more groups, so that the digits are as many."""
+    count = groups * SIDE * record
+    records = b"".join(struct.pack("<Q", i * 0x9E3779B97F4A7C15 % 2**64) for i in range(count // 8))
     name = os.path.join(folder, "store.pir")
-    words = ["make", "--out", name, "--width", "10", "--record", str(RECORD), "--groups", str(GROUPS)]
+    words = ["make", "--out", name, "--width", "10", "--record", str(record), "--groups", str(groups)]
     keys = ["--seed", "00" * 32, "--key", PUBLISHER.hex()]
     if subprocess.run([SERVER, *words, *keys], input=records).returncode != 0:
         stop("make failed")
