@@ -9,6 +9,7 @@ use client_core::{ClientCore, Scheme};
 use command_words::{BadLine, Failure};
 use lane_kernels::Lanes;
 use rehearsal::{RehearseFault, rehearse};
+use std::io::ErrorKind;
 use std::net::{Ipv4Addr, TcpStream};
 use std::{env, io};
 
@@ -18,9 +19,13 @@ const BAD_LINE: u8 = 2;
 /// The program: reads its command line, does what it asks for, and answers the exit status.
 pub fn run(rt: &HostRuntime) -> u8 {
     let mut words = Vec::new(rt.alloc());
-    let Ok(arguments) = env::args(rt) else {
-        let _ = eprintln!(rt; "error: the command line is not text");
-        return BAD_LINE;
+    let arguments = match env::args(rt) {
+        Ok(arguments) => arguments,
+        Err(fault) if fault.kind() == ErrorKind::OutOfMemory => return BadLine::Memory.report(rt),
+        Err(_) => {
+            let _ = eprintln!(rt; "error: the command line is not text");
+            return BAD_LINE;
+        }
     };
     for word in arguments {
         if words.push(word).is_err() {

@@ -6,6 +6,7 @@ use crate::serving::serve_file;
 use crate::showing::show;
 use command_words::{BadLine, Failure};
 use once_session::{OnceFault, once};
+use std::io::ErrorKind;
 use std::{env, io};
 
 /// The status of a bad command line.
@@ -17,9 +18,13 @@ const TURNS: u64 = 1_000_000;
 /// The program: reads its command line, does what it asks for, and answers the exit status.
 pub fn run(rt: &HostRuntime) -> u8 {
     let mut words = Vec::new(rt.alloc());
-    let Ok(arguments) = env::args(rt) else {
-        let _ = eprintln!(rt; "error: the command line is not text");
-        return BAD_LINE;
+    let arguments = match env::args(rt) {
+        Ok(arguments) => arguments,
+        Err(fault) if fault.kind() == ErrorKind::OutOfMemory => return BadLine::Memory.report(rt),
+        Err(_) => {
+            let _ = eprintln!(rt; "error: the command line is not text");
+            return BAD_LINE;
+        }
     };
     for word in arguments {
         if words.push(word).is_err() {
