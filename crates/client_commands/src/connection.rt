@@ -46,7 +46,7 @@ pub(crate) fn exchange<K: Kernel, R: Read, W: Write>(
     }
 }
 
-/// The failure that an event tells of.
+/// The failure that an event reports.
 fn said_against(event: &Event) -> Option<Failure>
     ensures { result ≡ failure_of event.now }
 {

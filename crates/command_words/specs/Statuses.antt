@@ -16,7 +16,7 @@ status_of (Unreadable index version) = 1
 status_of (Fault name) = 3
 status_of Memory = 4
 
--- the text is what was asked for, and tells of no mistake
+-- the text is what was asked for, and reports no mistake
 abbrev pub AsksForHelp : ErrorKind → Type 0
 AsksForHelp kind = (kind ≡ DisplayHelp) ⊎ (kind ≡ DisplayVersion)
 

@@ -30,7 +30,7 @@ const NO_CONNECTION: Failure = Failure::Fault("Connect");
 ///
 /// In this order: those of the file, the snapshot and the store, `Connect` where the port can't be listened
 /// on, and at the end `File` where the file can't be made anew and `Write` where it can't be written. `Memory`
-/// where there was none. A connection that ends with a fault is told on standard error, and ends nothing else.
+/// where there was none. A connection that ends with a fault is reported on standard error, and ends nothing else.
 pub fn serve_file(rt: &HostRuntime, serving: &Serving<'_>) -> Result<(), Failure> {
     let store = store_of(rt, serving.file)?;
     let opened = store.version();

@@ -184,7 +184,7 @@ module _ (law : RetrievalGivesTheRecord) (x : Setting) (seeds : List (List ℕ))
     right = tt;
   })
 
-  -- after a reply without a fault nothing more is told of none
+  -- after a reply without a fault nothing more is reported of none
   abbrev reported_one : Frame → List Entry
   reported_one r = reported_by k l.client (r ∷ [])
 

@@ -99,7 +99,7 @@ IsRight x seeds h (Ended k r reply event) = IsRightEnd x h (seed_of seeds k) r r
 IsRight x seeds h (Plain o) = IsRightOutcome h o
 
 -- In a run from an opening: all that was written down is right, by itself and by what came before it. Every hint is
--- right, and it is the one that the log tells of.
+-- right, and it is the one that the log names.
 pub record Headline (x : Setting) (seeds : List (List ℕ)) (s : State) : Type 0 where
   pub entries : AllByRecursion (IsRight x seeds s.history) s.log
   pub earlier : AllWithEarlier (HasEarlier x seeds s.history) s.log

@@ -85,7 +85,7 @@ IsReplyOf x h v r answer =
     ⊎ ((now : ℕ) × (records : List (List ℕ)) × HasVersion h now records × (v < now) × (r ≡ frame.Stale now (length records)))
     ⊎ ((records : List (List ℕ)) × HasVersion h v records × (r ≡ answer records))
 
--- the Welcome that tells of a version with these records
+-- the Welcome that names a version with these records
 abbrev pub welcome_frame : Setting → ℕ → List (List ℕ) → Frame
 welcome_frame x v records =
     frame.Welcome (profile_of x.plan) x.plan.width x.plan.record_len x.plan.groups (length records) v x.plan.dimension x.plan.seed

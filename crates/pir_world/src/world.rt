@@ -126,7 +126,7 @@ impl<K: Kernel> World<K> {
     /// `Broken` exactly when memory was refused in an earlier step; else `NoClient` exactly when the step
     /// names a client that there is none of, and the world is as it was; else it is made, or `Memory`: then
     /// outcomes and steps are as they were, and every later step answers `Broken`. A reply that the server
-    /// is refused memory for is no such fault: the client is told of it, and the world goes on.
+    /// is refused memory for is no such fault: the client is refused with code 12, and the world goes on.
     pub fn step(&mut self, step: Step) -> Result<(), StepFault>
         ensures extends { OnOk result ((s : State) → IsRunOf self.old s → (t : State) ×
             Steps (setting_in self.old.header) s step t × IsRunOf self.new t) }

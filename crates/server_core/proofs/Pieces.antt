@@ -181,7 +181,7 @@ pub on_err : {T E P Q : Type 0} (r : Result T E) → OnErr r P → (P → Q) →
 on_err (Ok x) p f = tt
 on_err (Err x) p f = f p
 
--- a fault is told
+-- a fault is reported
 pub reported : (answer : Result (Unit {0}) ReadFault) (middle : Standing) (r : Result Standing AllocError) (out new : List ℕ) →
     ((after : Standing) → after ≡ Closed → AfterReading answer middle after (refused refusal.BadFrame ∷ []))
     → IfOk r (λ after. after ≡ Closed) → OnOk r (new ≡ out ++ encoding (refused refusal.BadFrame)) → OnOk r (IsFrame (refused refusal.BadFrame)) →

@@ -44,7 +44,7 @@ FeedsInTurn x old (fed ∷ later) outcomes new =
     × FeedsSession x fed.0 old fed.1 (Ok done) after between replies × (lacks_memory replies ≡ false) × (outcomes ≡ (after, replies) ∷ others)
     × FeedsInTurn x between later others new
 
--- All that a session is told, and what it does to the history, is decided by its own pieces and by the histories on which they are served.
+-- All that a session is answered, and what it does to the history, is decided by its own pieces and by the histories on which they are served.
 abbrev pub SessionsNeverMeet : Type 0
 SessionsNeverMeet = (x : Setting) (pieces : List (History × List ℕ)) (old old2 : Session) (outcomes outcomes2 : List (History × List Frame))
     (new new2 : Session)

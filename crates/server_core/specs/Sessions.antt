@@ -44,7 +44,7 @@ EndsPiece answer middle after more = MatchBool (is_closed middle) ((after ≡ mi
 abbrev pub IsStop : Result (Unit {0}) ReadFault → List Frame → ℕ → Type 0
 IsStop answer frames count = (count < length frames) ⊎ ((count ≡ length frames) × IsErr answer)
 
--- the frames that the piece completes are served in order, and then a fault is told
+-- the frames that the piece completes are served in order, and then a fault is reported
 pub record ServesPiece (x : Setting) (h : History) (old : Session) (piece : List ℕ) (h2 : History) (new : Session) (replies : List Frame) : Type 0 where
   pub answer : Result (Unit {0}) ReadFault
   pub frames : List Frame

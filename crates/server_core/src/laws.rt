@@ -24,7 +24,7 @@ pub fn frames_decide()
 {}
 
 /// What a feed leads to is decided by the setting, the history, this session and the piece, where memory isn't refused: the frames that the
-/// session's stream completes are served in order, and then a fault of the stream is told. A closed session's bytes matter no more.
+/// session's stream completes are served in order, and then a fault of the stream is reported. A closed session's bytes matter no more.
 pub fn pieces_decide()
     ensures decided { PiecesDecide }
     ensures alike { PiecesAgree }
@@ -32,7 +32,7 @@ pub fn pieces_decide()
     frame_codec::laws::feeds_decide();
 }
 
-/// Sessions don't meet: all that a session is told is decided by its own pieces and by the histories on which they are served,
+/// Sessions don't meet: all that a session is answered is decided by its own pieces and by the histories on which they are served,
 /// whatever other sessions send between them.
 pub fn sessions_never_meet()
     ensures { SessionsNeverMeet }

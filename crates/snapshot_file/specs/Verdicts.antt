@@ -62,7 +62,7 @@ MayRefuse faults.TrailingBytes bytes = HasSnapshotFault faults.TrailingBytes byt
 MayRefuse faults.Read bytes = Unit {0}
 MayRefuse faults.Memory bytes = (h : Header) × (rest : List ℕ) × HasHeader bytes h rest
 
--- what had been read when reading stopped, and what was left: a fault is told with the first byte that makes it
+-- what had been read when reading stopped, and what was left: a fault is reported with the first byte that makes it
 abbrev pub StopsReadingAt : SnapshotFault → List ℕ → Option (List ℕ) → Type 0
 StopsReadingAt faults.NotSnapshot read left = (length read ≡ 8) × ¬ (read ≡ magic)
 StopsReadingAt faults.BadLayout read left = HasBadHeader read []
