@@ -1,0 +1,407 @@
+"""What is tried: random cases of each area, run by the built programs and compared with the model.
+
+A case is a dictionary whose "parts" is a list that may be cut when a failing case is made smaller.
+"""
+import hashlib
+import os
+import socket
+import subprocess
+import tempfile
+
+from client import CallRefused, Client
+from formats import (
+    BYE, DOUBLE, EDIT, HELLO, KINDS, LOAD, PUBLISH, QUERY, SIMPLE, Layout, Reader, answer_count, frame, hint_count, is_layout, query_count,
+    snapshot_bytes, snapshot_fault,
+)  # fmt: skip
+from script import rehearse
+from server import Session, Store, once
+from streams import KEY, damaged, near, pieces, random_ask, random_frame, random_store
+
+SECONDS = 60
+READER = bytes(32)
+
+
+def compared(wanted, got):
+    return None if wanted == got else f"wanted {wanted!r}\ngot    {got!r}"
+
+
+def file_of(store):
+    return snapshot_bytes(store.layout, store.n, store.version(), store.seed, store.publisher, store.versions[-1])
+
+
+class Streams:
+    """Streams to the sessions of one server, connection after connection, and the file that it leaves."""
+
+    name = "streams"
+    count = 100
+
+    def case(self, chance):
+        store = random_store(chance, hashlib.sha256(KEY).digest(), last=True)
+        opening = file_of(store)
+        return {"opening": opening, "parts": [self.stream(chance, store) for _ in range(self.count)]}
+
+    def stream(self, chance, store):
+        session = Session(store)
+        key = chance.choice((READER, KEY, KEY))
+        data = frame(HELLO, 1, key) if chance.random() < 0.85 else b""
+        session.feed(data)
+        for _ in range(chance.randint(0, 6)):
+            more = random_frame(chance, store)
+            if chance.random() < 0.06:
+                more = damaged(chance, more)
+            session.feed(more)
+            data += more
+        if chance.random() < 0.1:
+            data = data[: chance.randrange(len(data) + 1)]
+        return pieces(chance, data)
+
+    def difference(self, case, programs):
+        store = store_of(case["opening"])
+        with tempfile.TemporaryDirectory() as room:
+            path = os.path.join(room, "store")
+            with open(path, "wb") as file:
+                file.write(case["opening"])
+            words = ["serve", "--file", path, "--port", "0", "--connections", str(len(case["parts"]))]
+            serving = subprocess.Popen([programs[0], *words], stdout=subprocess.PIPE, stderr=subprocess.PIPE)
+            try:
+                return self.served(case, serving, store, path)
+            finally:
+                serving.kill()
+                serving.communicate()
+
+    def served(self, case, serving, store, path):
+        before = store.version()
+        port = int(serving.stdout.readline().split()[1])
+        for at, parts in enumerate(case["parts"]):
+            session = Session(store)
+            wanted = b"".join(session.feed(piece) for piece in parts)
+            try:
+                got = spoken(port, parts)
+            except OSError as error:
+                got = repr(error)
+            if wanted != got:
+                return f"stream {at}: {compared(hexed(wanted), hexed(got))}"
+        status, (_, said) = serving.wait(SECONDS), serving.communicate()
+        with open(path, "rb") as file:
+            left = file.read()
+        wanted = file_of(store) if store.version() != before else case["opening"]
+        return compared((0, b"", wanted), (status, said, left))
+
+
+class Orders(Streams):
+    """Every order of three frames of every kind, in sessions of one store."""
+
+    name = "orders"
+
+    def all_cases(self):
+        store = small_store()
+        frames = [
+            frame(HELLO, 1, READER), frame(HELLO, 1, KEY), frame(HELLO, 9, READER), frame(HELLO, 1, bytes([2]) * 32),
+            frame(3, SIMPLE, 1, 0), frame(3, DOUBLE, 2, 0), frame(4, 1), frame(4, 9), frame(QUERY, SIMPLE, 1, rest=[1, 2]),
+            frame(QUERY, DOUBLE, 2, rest=[1, 2, 3]), frame(QUERY, SIMPLE, 1, rest=[1]), frame(EDIT, 0, rest=b"\5"), frame(EDIT, 2, rest=b"\5"),
+            frame(PUBLISH), frame(BYE), frame(LOAD, 1, 1, 8, rest=b"ab"), frame(0x87, 1), b"\0\0\0\0\x7f", b"\1\0\0\0\x8f",
+        ]  # fmt: skip
+        streams = [[a + b + c] for a in frames for b in frames for c in frames]
+        for at in range(0, len(streams), 500):
+            yield {"opening": file_of(store), "parts": streams[at : at + 500]}
+
+
+def small_store():
+    return Store(Layout(8, 1, 1, 2), 1, 1, bytes(32), hashlib.sha256(KEY).digest(), [b"\x0a", b"\xc8"])
+
+
+def hexed(data):
+    return data.hex() if isinstance(data, bytes) else data
+
+
+def store_of(data):
+    """The store of a snapshot."""
+    width, record_len, groups = data[8], int.from_bytes(data[9:11], "little"), int.from_bytes(data[11:13], "little")
+    count, n, version = (int.from_bytes(data[a:b], "little") for a, b in ((13, 17), (17, 19), (19, 27)))
+    records = [data[91 + i * record_len : 91 + (i + 1) * record_len] for i in range(count)]
+    return Store(Layout(width, record_len, groups, count), n, version, data[27:59], data[59:91], records)
+
+
+def spoken(port, parts):
+    """What a server says to a stream, until it closes."""
+    said = b""
+    with socket.create_connection(("127.0.0.1", port), SECONDS) as stream:
+        stream.setsockopt(socket.IPPROTO_TCP, socket.TCP_NODELAY, 1)
+        for piece in parts:
+            stream.sendall(piece)
+        stream.shutdown(socket.SHUT_WR)
+        while piece := stream.recv(65_536):
+            said += piece
+    return said
+
+
+class Once:
+    """One database over standard input."""
+
+    name = "once"
+
+    def case(self, chance):
+        record_len, groups, count = chance.choice((1, 2, 3)), chance.randint(1, 3), chance.randint(1, 5)
+        width = near(chance, chance.choice((6, 8, 10)), 255)
+        data = chance.randbytes(near(chance, record_len * count, 40))
+        parts = [frame(LOAD, near(chance, record_len, 65_535), near(chance, groups, 65_535), width, rest=data)]
+        cols = -(-count // groups)
+        for _ in range(chance.randint(0, 4)):
+            words = [chance.getrandbits(32) for _ in range(near(chance, cols, cols + 2))]
+            ask = frame(QUERY, near(chance, 0, 255), near(chance, 1, (1 << 64) - 1), rest=words)
+            parts.append(ask if chance.random() < 0.9 else chance.choice((frame(BYE), frame(4, 1), frame(PUBLISH), parts[0])))
+        return {"parts": [damaged(chance, part) if chance.random() < 0.04 else part for part in parts]}
+
+    def difference(self, case, programs):
+        data = b"".join(case["parts"])
+        said, good = once(data)
+        done = subprocess.run([programs[0]], input=data, capture_output=True, timeout=SECONDS)
+        wanted = (said.hex(), b"" if good else b"fault: BadInput\n", 0 if good else 3)
+        return compared(wanted, (done.stdout.hex(), done.stderr, done.returncode))
+
+
+class Replies:
+    """Random and damaged replies to the commands of a client."""
+
+    name = "replies"
+
+    def case(self, chance):
+        store = random_store(chance, hashlib.sha256(KEY).digest())
+        store.edited = chance.random() < 0.5
+        index = chance.randrange(store.layout.count) if chance.random() < 0.9 else near(chance, store.layout.count, (1 << 32) - 1)
+        command = chance.choice(("get", "get", "get", "put", "publish"))
+        scheme = chance.choice(("simple", "double"))
+        case = {"command": command, "scheme": scheme, "index": index, "number": chance.choice((0, 1, (1 << 62) - 1)), "parts": []}
+        session, conversation = Session(store), Conversation(case)
+        for sent in conversation:
+            right = session.feed(sent)
+            if not right:
+                break
+            case["parts"] += self.replies(chance, store, right)
+        return case
+
+    def replies(self, chance, store, right):
+        """The pieces that come for a frame of the client."""
+        if chance.random() < 0.75:
+            return [right]
+        kind = chance.randrange(5)
+        if kind == 0:
+            return pieces(chance, damaged(chance, right))
+        if kind == 1:
+            return pieces(chance, right)
+        if kind == 2:
+            return [right + random_frame(chance, store)]
+        if kind == 3:
+            return [altered(chance, right)]
+        return [self.any_reply(chance, store)]
+
+    def any_reply(self, chance, store):
+        layout, version = store.layout, near(chance, store.version(), (1 << 64) - 1)
+        return chance.choice((
+            frame(0x86, near(chance, version + 1, 9) if version < 9 else version, near(chance, layout.count, 9000)), frame(0x87, version),
+            frame(0x88, version, layout.count), frame(0x8F, chance.randrange(256)), frame(0x84, version, version, layout.count, store.n),
+            frame(0x83, SIMPLE, version, 0, rest=[0] * near(chance, hint_count(SIMPLE, layout, store.n), 99)),
+            frame(0x85, SIMPLE, version, rest=[0] * near(chance, answer_count(SIMPLE, layout, store.n), 99)), random_ask(chance, store),
+        ))  # fmt: skip
+
+    def difference(self, case, programs):
+        words = {
+            "get": ["--seed", "11" * 32, "--number", str(case["number"]), "--scheme", case["scheme"], str(case["index"])],
+            "put": ["--key", "01" * 32, str(case["index"]), "6465"],
+            "publish": ["--key", "01" * 32],
+        }[case["command"]]
+        conversation = Conversation(case)
+        steps = list(conversation)
+        with socket.create_server(("127.0.0.1", 0)) as listener:
+            listener.settimeout(SECONDS)
+            port = str(listener.getsockname()[1])
+            asking = subprocess.Popen(
+                [programs[1], case["command"], "--port", port, *words], stdout=subprocess.PIPE, stderr=subprocess.PIPE
+            )
+            try:
+                stream, _ = listener.accept()
+                with stream:
+                    fault = talked(stream, steps, case["parts"], conversation.left)
+                said, told = asking.communicate(timeout=SECONDS)
+            finally:
+                asking.kill()
+        return fault or compared(conversation.end, (said.decode(), told.decode(), asking.returncode))
+
+
+def altered(chance, right):
+    """A reply with another number in one of its fields."""
+    if len(right) < 6:
+        return right + b"\0"
+    at = chance.randrange(5, min(len(right), 60))
+    data = bytearray(right)
+    data[at] = (data[at] + chance.choice((1, 255))) % 256
+    return bytes(data)
+
+
+def talked(stream, steps, parts, left):
+    """Gives the pieces of the replies, each after the bytes that the client owes first; then ends the stream."""
+    stream.settimeout(SECONDS)
+    stream.setsockopt(socket.IPPROTO_TCP, socket.TCP_NODELAY, 1)
+    for owed, piece in zip(steps, [*parts, b""]):
+        got = b""
+        while len(got) < len(owed) and (more := stream.recv(len(owed) - len(got))):
+            got += more
+        if got != owed:
+            return f"sent: {compared(owed.hex(), got.hex())}"
+        stream.sendall(piece)
+    stream.shutdown(socket.SHUT_WR)
+    rest = b""
+    try:
+        while more := stream.recv(65_536):
+            rest += more
+    except ConnectionResetError:
+        pass
+    return None if rest == left else f"sent at the end: {compared(left.hex(), rest.hex())}"
+
+
+class Failure(Exception):
+    """How a command failed: its line, and its status."""
+
+
+class Conversation:
+    """A command of the client against the pieces of a case: iterates over what it sends before each piece; then `end` is
+    what it prints on both outputs, and its status. The pieces may be added to the case while it is iterated over."""
+
+    def __init__(self, case):
+        self.case, self.taken, self.end, self.left = case, 0, None, b""
+
+    def __iter__(self):
+        case = self.case
+        client = Client(bytes([0x11]) * 32 if case["command"] == "get" else bytes(32), case["number"] if case["command"] == "get" else 0)
+        try:
+            key = READER if case["command"] == "get" else KEY
+            yield from self.exchange(client, client.hello, key)
+            if case["command"] == "get":
+                yield from self.exchange(client, client.sync, ("simple", "double").index(case["scheme"]))
+                yield from self.exchange(client, client.ask, case["index"])
+                line = self.event
+            elif case["command"] == "put":
+                yield from self.exchange(client, client.edit, case["index"], b"de")
+                line = self.event
+            else:
+                yield from self.exchange(client, client.publish)
+                line = self.event.replace("done", "published")
+            self.end = (line + "\n", "", 0)
+        except Failure as failure:
+            line, status = failure.args
+            self.end = ("", line + "\n", status)
+
+    def exchange(self, client, call, *words):
+        try:
+            owed = self.left + call(*words)
+        except CallRefused as refusal:
+            raise Failure(f"fault: {refusal}", 3) from None
+        while True:
+            self.left = b""
+            yield owed
+            if self.taken == len(self.case["parts"]):
+                raise Failure("fault: Ended", 3)
+            owed, events, fault = client.feed(self.case["parts"][self.taken])
+            self.taken += 1
+            self.left = owed
+            if events:
+                break
+            if fault:
+                raise Failure(f"fault: {fault}", 3)
+        self.event = events[0]
+        if self.event.startswith("server refused"):
+            raise Failure(self.event.removeprefix("server "), 1)
+        if self.event.startswith(("stale", "unreadable")):
+            raise Failure(self.event, 1)
+
+
+class Scripts:
+    """Random scripts of a world, and damaged ones."""
+
+    name = "scripts"
+
+    def case(self, chance):
+        store = random_store(chance, READER)
+        layout = store.layout
+        sizes = [near(chance, value, 300) if chance.random() < 0.1 else value for value in (layout.width, layout.record_len, layout.groups, store.n)]
+        lines = [" ".join(map(str, ["world", *sizes])), f"seed {store.seed.hex()}"]
+        lines += [f"record {record.hex()}" for record in store.draft]
+        clients = chance.randint(1, 3)
+        lines += [f"client {chance.randbytes(1).hex() * 32}" for _ in range(clients)]
+        for _ in range(chance.randint(0, 60)):
+            lines += self.steps(chance, layout, clients)
+        if chance.random() < 0.1:
+            at = chance.randrange(len(lines))
+            lines[at] = damaged(chance, lines[at].encode()).decode("latin-1")
+        if chance.random() < 0.02:
+            del lines[chance.randrange(len(lines))]
+        return {"parts": [line.encode("latin-1") + b"\n" for line in lines]}
+
+    def steps(self, chance, layout, clients):
+        who = near(chance, chance.randrange(clients), 1 << 63) if chance.random() < 0.05 else chance.randrange(clients)
+        index = chance.randrange(layout.count) if chance.random() < 0.95 else near(chance, layout.count, (1 << 32) - 1)
+        whole = [f"to-server {who} all", f"to-client {who} all"]
+        kind = chance.randrange(12)
+        if kind < 2:
+            return [f"edit {index} {chance.randbytes(max(1, near(chance, layout.record_len, 4))).hex()}"]
+        if kind == 2:
+            return ["publish"]
+        if kind < 7:
+            call = chance.choice((f"hello {who}", f"sync {who} simple", f"sync {who} double", f"ask {who} {index}", f"ask {who} {index}"))
+            return [call, *whole] if chance.random() < 0.8 else [call]
+        if kind < 9:
+            return [f"hello {who}", *whole, f"sync {who} {chance.choice(('simple', 'double'))}", *whole, *whole]
+        most = chance.choice(("all", str(chance.randrange(60))))
+        return [f"{chance.choice(('to-server', 'to-client'))} {who} {most}"]
+
+    def difference(self, case, programs):
+        script = b"".join(case["parts"])
+        done = subprocess.run([programs[1]], input=script, capture_output=True, timeout=SECONDS)
+        return compared((*rehearse(script), b""), (done.stdout.decode(), done.returncode, done.stderr))
+
+
+class Snapshots:
+    """Snapshot files, whole and damaged, as `pir_server show` prints them."""
+
+    name = "snapshots"
+
+    def case(self, chance):
+        data = file_of(random_store(chance, hashlib.sha256(KEY).digest(), last=True))
+        kind = chance.randrange(5)
+        if kind == 0:
+            at = chance.randrange(27)
+            data = data[:at] + bytes([chance.randrange(256)]) + data[at + 1 :]
+        elif kind == 1:
+            data = damaged(chance, data)
+        elif kind == 2:
+            data = data[: chance.randrange(len(data))]
+        if kind == 0 and chance.random() < 0.7:
+            data = data[:-32] + hashlib.sha256(data[:-32]).digest()
+        return {"parts": [data]}
+
+    def difference(self, case, programs):
+        data = b"".join(case["parts"])
+        with tempfile.NamedTemporaryFile() as file:
+            file.write(data)
+            file.flush()
+            done = subprocess.run([programs[0], "show", "--file", file.name], capture_output=True, text=True, timeout=SECONDS)
+        fault = snapshot_fault(data)
+        wanted = ("", f"fault: {fault}\n", 3) if fault else ("".join(f"{line}\n" for line in shown(store_of(data))), "", 0)
+        return compared(wanted, (done.stdout, done.stderr, done.returncode))
+
+
+def is_certain(layout, terms):
+    """Whether each noise sum of so many terms stays below half of delta."""
+    return 27 * ((1 << layout.width) - 1) * terms < layout.delta // 2
+
+
+def shown(store):
+    layout, n = store.layout, store.n
+    yield from (f"version {store.version()}", f"records {layout.count} of {layout.record_len} bytes", f"width {layout.width}")
+    yield from (f"groups {layout.groups}", f"digits {layout.rows} rows {layout.cols} columns", f"dimension {n}")
+    for name, scheme in (("simple", SIMPLE), ("double", DOUBLE)):
+        sizes = (hint_count(scheme, layout, n), query_count(scheme, layout), answer_count(scheme, layout, n))
+        hint, query, answer = (4 * words for words in sizes)
+        yield f"{name}: hint {hint}, query {query}, answer {answer} bytes"
+    for name, good in (("simple", is_certain(layout, layout.cols)), ("double", is_certain(layout, max(layout.cols, layout.rows)))):
+        yield f"{name}: {'certain' if good else 'depends on the noise'}"
