@@ -1,5 +1,5 @@
 -- What a program's exit status says of a command that was not done.
-use Rattle.std.specs.Prelude.{◌≡◌, ◌⊎◌, ℕ}
+use Rattle.std.specs.Prelude.{◌≡◌, ◌⊎◌, ℕ, List, Option, Some, None}
 use Rattle.clap.specs.declared.error.kind.ErrorKind.TheVariants.{DisplayHelp, DisplayVersion}
 use Rattle.clap.specs.declared.error.kind.ErrorKind.{ErrorKind}
 use Rattle.clap.specs.Values.{kind_of}
@@ -24,4 +24,11 @@ AsksForHelp kind = (kind ≡ DisplayHelp) ⊎ (kind ≡ DisplayVersion)
 abbrev pub Reports : BadLine → ℕ → Type 0
 Reports (line.Form e) status = ((status ≡ 0) × AsksForHelp (kind_of e)) ⊎ ((status ≡ 2) × (AsksForHelp (kind_of e) → ⊥))
 Reports (line.Value takes) status = status ≡ 2
+Reports (line.Given takes given) status = status ≡ 2
 Reports line.Memory status = status ≡ 4
+
+-- a bad command line by what is taken, and by the value given where there is one
+abbrev pub Shows : List ℕ → Option (List ℕ) → BadLine → Type 0
+Shows takes None (line.Value shown) = shown.now ≡ takes
+Shows takes (Some given) (line.Given shown text) = (shown.now ≡ takes) × (text.now ≡ given)
+Shows takes _ _ = ⊥

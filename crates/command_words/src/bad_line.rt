@@ -11,22 +11,24 @@ use std::alloc::{AllocError, AllocFailed};
 
 /// Why a command line asks for nothing that can be done.
 #[derive(Drop)]
-pub enum BadLine {
+pub enum BadLine<'a> {
     /// It is not of the program's form, or asks for help: the text that says so.
     Form(Error),
-    /// A value is not one that its option or word takes: what that takes.
+    /// A value is not one that its option or word takes: what that takes. The value is not shown, since it may be a secret.
     Value(&'static str),
+    /// The same with the value given.
+    Given(&'static str, &'a str),
     /// There was no memory to read it.
     Memory,
 }
 
-impl From<Error> for BadLine {
+impl<'a> From<Error> for BadLine<'a> {
     ghost use Rattle.command_words.specs.declared.bad_line.BadLine.{BadLine};
 
     ghost from_gives = { λ error bad. (bad ≡ BadLine.Form error) ⊎
         ((bad ≡ BadLine.Memory) × (kind_of error ≡ OutOfMemory)) };
 
-    fn from(error: Error) -> BadLine {
+    fn from(error: Error) -> Self {
         if error.kind() == ErrorKind::OutOfMemory {
             return BadLine::Memory;
         }
@@ -34,27 +36,27 @@ impl From<Error> for BadLine {
     }
 }
 
-impl From<AllocError> for BadLine {
+impl<'a> From<AllocError> for BadLine<'a> {
     ghost use Rattle.command_words.specs.declared.bad_line.BadLine.{BadLine};
 
     ghost from_gives = { λ _ bad. bad ≡ BadLine.Memory };
 
-    fn from(_error: AllocError) -> BadLine {
+    fn from(_error: AllocError) -> Self {
         BadLine::Memory
     }
 }
 
-impl<T: Drop> From<AllocFailed<T>> for BadLine {
+impl<'a, T: Drop> From<AllocFailed<T>> for BadLine<'a> {
     ghost use Rattle.command_words.specs.declared.bad_line.BadLine.{BadLine};
 
     ghost from_gives = { λ _ bad. bad ≡ BadLine.Memory };
 
-    fn from(_error: AllocFailed<T>) -> BadLine {
+    fn from(_error: AllocFailed<T>) -> Self {
         BadLine::Memory
     }
 }
 
-impl BadLine {
+impl BadLine<'_> {
     /// Prints what is to be said, and answers the exit status: 0 for help, 2 for a bad command line and 4 for
     /// refused memory.
     pub fn report<R: Print + Eprint>(&self, rt: &R) -> u8
@@ -67,6 +69,12 @@ impl BadLine {
             }
             BadLine::Value(takes) => {
                 let _ = eprintln!(rt; "error: {takes}\n\nFor more information, try '--help'.");
+                2
+            }
+            BadLine::Given(takes, given) => {
+                let _ = eprintln!(rt;
+                    "error: {takes}, not '{given}'\n\nFor more information, try '--help'."
+                );
                 2
             }
             BadLine::Memory => {

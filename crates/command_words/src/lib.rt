@@ -1,11 +1,13 @@
 //! Words of command lines as values, and how a command that was not done says so.
 #![tactic(auto)]
 
+mod arguments;
 mod bad_line;
 mod failure;
 mod options;
 mod words;
 
+pub use arguments::program_words;
 pub use bad_line::BadLine;
 pub use failure::Failure;
 pub use options::{bytes32_at, key_at, number_at, option, text_at, word};

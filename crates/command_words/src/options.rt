@@ -5,6 +5,7 @@ ghost use Rattle.std.specs.Str.Parse.{IsNumeral, digits_value};
 ghost use Rattle.clap.specs.declared.builder.action.ArgAction.{ArgAction};
 ghost use Rattle.clap.specs.Matches.{first_value, found_of};
 ghost use Rattle.hex.specs.Hex.{decode_of};
+ghost use Rattle.command_words.specs.Statuses.{Shows};
 ghost use Rattle.command_words.specs.Values.{IsNoNumber, IsNoBytes32, IsNoKey};
 
 use crate::bad_line::BadLine;
@@ -50,7 +51,7 @@ pub fn text_at<'a>(
     found: &ArgMatches<'a>,
     name: &str,
     takes: &'static str,
-) -> Result<&'a str, BadLine>
+) -> Result<&'a str, BadLine<'a>>
     ensures found { IfOk result (λ text. first_value (found_of found.now) name.now ≡
         Some text.now) }
     ensures missing { IfErr result (λ bad. (bad ≡ BadLine.Value takes.entry) ×
@@ -66,22 +67,24 @@ pub fn text_at<'a>(
 ///
 /// # Errors
 ///
-/// `Value`, with what it takes, where none was given, and where it is no number or a larger one.
-pub fn number_at(
-    found: &ArgMatches<'_>,
+/// `Value`, with what it takes, where none was given; `Given`, with the text too, where it is no number or a larger one.
+pub fn number_at<'a>(
+    found: &ArgMatches<'a>,
     name: &str,
     most: u64,
     takes: &'static str,
-) -> Result<u64, BadLine>
+) -> Result<u64, BadLine<'a>>
     ensures most { IfOk result (λ n. n ≤ most) }
     ensures value { IfOk result (λ n. MatchOption (first_value (found_of found.now) name.now) ⊥
         (λ text. IsNumeral 10 text × (digits_value 10 text ≡ n))) }
-    ensures refused { IfErr result (λ bad. (bad ≡ BadLine.Value takes.entry) ×
+    ensures refused { IfErr result (λ bad.
+        Shows takes.now (first_value (found_of found.now) name.now) bad ×
         IsNoNumber most (first_value (found_of found.now) name.now)) }
 {
-    match decimal(text_at(found, name, takes)?) {
+    let text = text_at(found, name, takes)?;
+    match decimal(text) {
         Some(number) if number <= most => Ok(number),
-        _ => Err(BadLine::Value(takes)),
+        _ => Err(BadLine::Given(takes, text)),
     }
 }
 
@@ -90,11 +93,11 @@ pub fn number_at(
 /// # Errors
 ///
 /// `Value`, with what it takes, where none were given, and where they are not 64 hex digits.
-pub fn bytes32_at(
-    found: &ArgMatches<'_>,
+pub fn bytes32_at<'a>(
+    found: &ArgMatches<'a>,
     name: &str,
     takes: &'static str,
-) -> Result<[u8; 32], BadLine>
+) -> Result<[u8; 32], BadLine<'a>>
     ensures value { IfOk result
         (λ bytes. MatchOption (first_value (found_of found.now) name.now) ⊥
         (λ text. decode_of text ≡ Ok bytes)) }
@@ -112,7 +115,11 @@ pub fn bytes32_at(
 /// # Errors
 ///
 /// As those of [`bytes32_at`], and where all bytes are zero.
-pub fn key_at(found: &ArgMatches<'_>, name: &str, takes: &'static str) -> Result<[u8; 32], BadLine>
+pub fn key_at<'a>(
+    found: &ArgMatches<'a>,
+    name: &str,
+    takes: &'static str,
+) -> Result<[u8; 32], BadLine<'a>>
     ensures value { IfOk result (λ key. MatchOption (first_value (found_of found.now) name.now) ⊥
         (λ text. decode_of text ≡ Ok key)) }
     ensures not_zero { IfOk result (λ key. key ≢ replicate 32 0) }

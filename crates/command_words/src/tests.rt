@@ -1,5 +1,6 @@
 //! Words that are taken and refused, and the lines of failures.
 
+use crate::arguments::{file_of, with_secret};
 use crate::{Failure, bytes32_from_hex, decimal, publisher_key, record_bytes};
 use std::alloc::Global;
 use std::process::Abort;
@@ -111,4 +112,34 @@ fn each_failure_has_its_line_and_status(rt: HostRuntime) -> Result<(), Fail> {
         assert_eq!(rt; failure.status(), status, "{line}");
     }
     Ok(())
+}
+
+#[test]
+fn secrets_may_stand_in_files(rt: HostRuntime) {
+    assert_eq!(rt; file_of("--seed", "@a"), Some(("", "a")));
+    assert_eq!(rt; file_of("--key", "@"), Some(("", "")));
+    assert_eq!(rt; file_of("get", "--seed=@a=@b"), Some(("--seed", "a=@b")));
+    assert_eq!(rt; file_of("", "--key=@a"), Some(("--key", "a")));
+    for (before, word) in [
+        ("--seed", "01"),
+        ("--seed", "--key=@a"),
+        ("--file", "@a"),
+        ("--port", "--file=@a"),
+        ("", "@a"),
+        ("get", "--seed=01"),
+    ] {
+        assert_eq!(rt; file_of(before, word), None, "{before} {word}");
+    }
+}
+
+#[test]
+fn the_end_of_a_secrets_line_is_dropped(rt: HostRuntime) {
+    for text in ["0a", "0a\n", "0a\r\n"] {
+        let word = with_secret(rt.alloc(), "", text);
+        assert_eq!(rt; word.as_ref().map(|word| word.as_str()), Some("0a"));
+        let word = with_secret(rt.alloc(), "--key", text);
+        assert_eq!(rt; word.as_ref().map(|word| word.as_str()), Some("--key=0a"));
+    }
+    let word = with_secret(rt.alloc(), "", "0a\n\n");
+    assert_eq!(rt; word.as_ref().map(|word| word.as_str()), Some("0a\n"));
 }
