@@ -14,9 +14,10 @@ const NUMBERS: u64 = 1 << 62;
 
 const PORT_TAKES: &str = "--port takes a number from 0 to 65535";
 
-const SEED_TAKES: &str = "--seed takes 32 bytes as 64 hex digits";
+const SEED_TAKES: &str = "--seed takes 32 bytes as 64 hex digits, or @FILE with them in the file";
 
-const KEY_TAKES: &str = "--key takes 32 bytes as 64 hex digits that are not all 0";
+const KEY_TAKES: &str =
+    "--key takes 32 bytes as 64 hex digits that are not all 0, or @FILE with them in the file";
 
 const NUMBER_TAKES: &str = "--number takes a number below 4611686018427387904";
 
@@ -63,7 +64,7 @@ fn get_command<'a>(alloc: Global) -> Result<Command<'a>, AllocError> {
             alloc,
             "seed",
             "HEX",
-            "Your secret: 32 bytes as 64 hex digits, all that hides INDEX",
+            "Your secret: 32 bytes as 64 hex digits, or @FILE, all that hides INDEX",
         ))?
         .arg(option(
             alloc,
@@ -76,7 +77,7 @@ fn get_command<'a>(alloc: Global) -> Result<Command<'a>, AllocError> {
 }
 
 const GET_EXAMPLE: &str =
-    "Prints 'retrieved INDEX VERSION HEX', HEX being the record's bytes. Two retrievals with one seed and one\nnumber can tell the server what they ask, so count N up and keep the seed to yourself.\n\nExample: pir_client get --port 7000 --seed 1111111111111111111111111111111111111111111111111111111111111111 --number 0 --scheme simple 1";
+    "Prints 'retrieved INDEX VERSION HEX', HEX being the record's bytes. Two retrievals with one seed and one\nnumber can tell the server what they ask, so count N up, also after a get that failed, and keep the seed to yourself.\n\nExample: pir_client get --port 7000 --seed 1111111111111111111111111111111111111111111111111111111111111111 --number 0 --scheme simple 1";
 
 // The command `put`.
 fn put_command<'a>(alloc: Global) -> Result<Command<'a>, AllocError> {
@@ -88,7 +89,7 @@ fn put_command<'a>(alloc: Global) -> Result<Command<'a>, AllocError> {
             alloc,
             "key",
             "HEX",
-            "The publisher's key: 32 bytes as 64 hex digits, as given to pir_server make",
+            "The publisher's key: 32 bytes as 64 hex digits, or @FILE, as given to pir_server make",
         ))?
         .arg(word(alloc, "INDEX", "Which record, counted from 0"))?
         .arg(word(alloc, "HEX", "The record's new bytes, two hex digits each"))
@@ -107,7 +108,7 @@ fn publish_command<'a>(alloc: Global) -> Result<Command<'a>, AllocError> {
             alloc,
             "key",
             "HEX",
-            "The publisher's key: 32 bytes as 64 hex digits, as given to pir_server make",
+            "The publisher's key: 32 bytes as 64 hex digits, or @FILE, as given to pir_server make",
         ))
 }
 
@@ -129,6 +130,7 @@ const REHEARSE_EXAMPLE: &str =
 // The whole command line.
 fn whole_command<'a>(alloc: Global) -> Result<Command<'a>, AllocError> {
     Command::new(alloc, "pir_client")
+        .version(VERSION)
         .about("A client of one pir_server on this machine")
         .after_help(EXIT_STATUSES)
         .subcommand(get_command(alloc)?)?
@@ -137,11 +139,14 @@ fn whole_command<'a>(alloc: Global) -> Result<Command<'a>, AllocError> {
         .subcommand(rehearse_command(alloc))
 }
 
+/// What `--version` prints after the program's name.
+const VERSION: &str = "0.1.0";
+
 const EXIT_STATUSES: &str =
-    "Exit status: 0 done, 1 refused by the server (or stale, or unreadable), 2 a bad command line,\n3 a fault of a file, a store or a connection, 4 out of memory.";
+    "A value @FILE of --seed or --key is read from that file; one on the command line itself stands in the list of\nprocesses, for other users of this machine to see.\n\nExit status: 0 done, 1 refused by the server (or stale, or unreadable), 2 a bad command line, 3 a fault,\n4 out of memory. Whatever the status, a number that was given to get is never to be used again with its seed.\n\nThe server's refusals are one line on standard error, 'refused CODE':\n  1 BadFrame   2 NotWelcome   3 BadProfile   4 BadKey   5 NotPublisher   6 BadIndex   7 BadLength\n  8 NothingToPublish   9 VersionsUsedUp   10 BadPart   11 BadQueryLength   12 Memory   13 BadScheme\n\nA fault is one line on standard error, 'fault: NAME':\n  File           the file of a seed or key can't be read\n  Connect        the server's port can't be connected to\n  Read, Write    reading or writing failed\n  Ended          the server closed the connection\n  BadWelcome     the server's greeting is none that this client accepts\n  BadReply       a reply that doesn't fit what was asked\n  Failed         a reply came with more after it, and then a call was made\n  BadIndex       there is no such record\n  TurnsUsedUp    more reads than a call has\n  Memory         memory was refused (status 4)";
 
 // What the words of `get` ask for.
-fn get_task(found: &ArgMatches<'_>) -> Result<Task, BadLine>
+fn get_task<'a>(found: &ArgMatches<'a>) -> Result<Task, BadLine<'a>>
     ensures fits { IfOk result TaskFits }
     ensures read { IfOk result (ReadsGet (found_of found.now)) }
 {
@@ -151,7 +156,7 @@ fn get_task(found: &ArgMatches<'_>) -> Result<Task, BadLine>
     let scheme = match text_at(found, "scheme", SCHEME_TAKES)? {
         "simple" => Scheme::Simple,
         "double" => Scheme::Double,
-        _ => return Err(BadLine::Value(SCHEME_TAKES)),
+        other => return Err(BadLine::Given(SCHEME_TAKES, other)),
     };
     let index = number_at(found, "INDEX", u64::from(u32::MAX), INDEX_TAKES)? as u32;
     Ok(Task::Get {
@@ -164,7 +169,7 @@ fn get_task(found: &ArgMatches<'_>) -> Result<Task, BadLine>
 }
 
 // What the words of `put` ask for.
-fn put_task(alloc: Global, found: &ArgMatches<'_>) -> Result<Task, BadLine>
+fn put_task<'a>(alloc: Global, found: &ArgMatches<'a>) -> Result<Task, BadLine<'a>>
     ensures fits { IfOk result TaskFits }
     ensures read { IfOk result (ReadsPut (found_of found.now)) }
 {
@@ -183,7 +188,7 @@ fn put_task(alloc: Global, found: &ArgMatches<'_>) -> Result<Task, BadLine>
 }
 
 // What the words of `publish` ask for.
-fn publish_task(found: &ArgMatches<'_>) -> Result<Task, BadLine>
+fn publish_task<'a>(found: &ArgMatches<'a>) -> Result<Task, BadLine<'a>>
     ensures fits { IfOk result TaskFits }
     ensures read { IfOk result (ReadsPublish (found_of found.now)) }
 {
@@ -193,7 +198,7 @@ fn publish_task(found: &ArgMatches<'_>) -> Result<Task, BadLine>
 }
 
 /// What the program's words ask for, its name first.
-pub fn task_of<'a>(alloc: Global, words: &'a [String]) -> Result<Task, BadLine>
+pub fn task_of<'a>(alloc: Global, words: &'a [String]) -> Result<Task, BadLine<'a>>
     ensures { IfOk result TaskFits }
 {
     let matches = whole_command(alloc)?.try_get_matches_from(words)?;

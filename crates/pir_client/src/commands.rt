@@ -6,32 +6,18 @@ ghost use Rattle.pir_client.specs.Tasks.{TaskFits};
 use crate::command_line::{Task, task_of};
 use client_commands::{get, publish, put};
 use client_core::{ClientCore, Scheme};
-use command_words::{BadLine, Failure};
+use command_words::{Failure, program_words};
 use lane_kernels::Lanes;
 use rehearsal::{RehearseFault, rehearse};
-use std::io::ErrorKind;
+use std::io;
 use std::net::{Ipv4Addr, TcpStream};
-use std::{env, io};
-
-/// The status of a bad command line.
-const BAD_LINE: u8 = 2;
 
 /// The program: reads its command line, does what it asks for, and answers the exit status.
 pub fn run(rt: &HostRuntime) -> u8 {
-    let mut words = Vec::new(rt.alloc());
-    let arguments = match env::args(rt) {
-        Ok(arguments) => arguments,
-        Err(fault) if fault.kind() == ErrorKind::OutOfMemory => return BadLine::Memory.report(rt),
-        Err(_) => {
-            let _ = eprintln!(rt; "error: the command line is not text");
-            return BAD_LINE;
-        }
+    let words = match program_words(rt) {
+        Ok(words) => words,
+        Err(status) => return status,
     };
-    for word in arguments {
-        if words.push(word).is_err() {
-            return BadLine::Memory.report(rt);
-        }
-    }
     let task = match task_of(rt.alloc(), &words) {
         Ok(task) => task,
         Err(bad) => return bad.report(rt),

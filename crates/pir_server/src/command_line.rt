@@ -14,9 +14,10 @@ const RECORD_TAKES: &str = "--record takes a number from 0 to 65535";
 
 const GROUPS_TAKES: &str = "--groups takes a number from 0 to 65535";
 
-const SEED_TAKES: &str = "--seed takes 32 bytes as 64 hex digits";
+const SEED_TAKES: &str = "--seed takes 32 bytes as 64 hex digits, or @FILE with them in the file";
 
-const KEY_TAKES: &str = "--key takes 32 bytes as 64 hex digits that are not all 0";
+const KEY_TAKES: &str =
+    "--key takes 32 bytes as 64 hex digits that are not all 0, or @FILE with them in the file";
 
 const PORT_TAKES: &str = "--port takes a number from 0 to 65535";
 
@@ -91,13 +92,13 @@ fn make_command<'a>(alloc: Global) -> Result<Command<'a>, AllocError> {
             alloc,
             "seed",
             "HEX",
-            "The public seed of the matrix that all clients use: 32 bytes as 64 hex digits",
+            "The public seed of the matrix that all clients use: 32 bytes as 64 hex digits, or @FILE",
         ))?
         .arg(option(
             alloc,
             "key",
             "HEX",
-            "The publisher's key: 32 bytes as 64 hex digits, not all 0; the file keeps its SHA-256 alone",
+            "The publisher's key: 32 bytes as 64 hex digits, not all 0, or @FILE; the snapshot keeps its SHA-256 alone",
         ))
 }
 
@@ -162,6 +163,7 @@ const ONCE_EXAMPLE: &str = "The same as no command.\n\nExample: pir_server once 
 // The whole command line.
 fn whole_command<'a>(alloc: Global) -> Result<Command<'a>, AllocError> {
     Command::new(alloc, "pir_server")
+        .version(VERSION)
         .about("A server of private information retrieval on this machine")
         .after_help(EXIT_STATUSES)
         .subcommand(make_command(alloc)?)?
@@ -170,11 +172,14 @@ fn whole_command<'a>(alloc: Global) -> Result<Command<'a>, AllocError> {
         .subcommand(once_command(alloc))
 }
 
+/// What `--version` prints after the program's name.
+const VERSION: &str = "0.1.0";
+
 const EXIT_STATUSES: &str =
-    "Without a command: once.\n\nExit status: 0 done, 2 a bad command line, 3 a fault of a file, a store, input or a port, 4 out of memory.";
+    "Without a command: once.\n\nA value @FILE of --seed or --key is read from that file; one on the command line itself stands in the list of\nprocesses, for other users of this machine to see.\n\nExit status: 0 done, 2 a bad command line, 3 a fault, 4 out of memory.\n\nA fault is one line on standard error, 'fault: NAME':\n  File           a file can't be opened or made\n  Read, Write    reading or writing failed\n  BadRecords     the input of make is not whole records, or too many bytes\n  BadLayout      no store has these sizes\n  NotSnapshot, Short, BadDigest, TrailingBytes   a file that is no whole snapshot\n  Connect        the port can't be listened on\n  BadInput       the input of once can't be served; its last reply is Refused 1\n  TurnsUsedUp    more reads than a session has\n  Memory         memory was refused (status 4)";
 
 // What the words of `make` ask for.
-fn making_of<'a>(found: &ArgMatches<'a>) -> Result<Making<'a>, BadLine> {
+fn making_of<'a>(found: &ArgMatches<'a>) -> Result<Making<'a>, BadLine<'a>> {
     Ok(Making {
         out: text_at(found, "out", OUT_TAKES)?,
         width: number_at(found, "width", u64::from(u8::MAX), WIDTH_TAKES)? as u8,
@@ -186,7 +191,7 @@ fn making_of<'a>(found: &ArgMatches<'a>) -> Result<Making<'a>, BadLine> {
 }
 
 // What the words of `serve` ask for.
-fn serving_of<'a>(found: &ArgMatches<'a>) -> Result<Serving<'a>, BadLine> {
+fn serving_of<'a>(found: &ArgMatches<'a>) -> Result<Serving<'a>, BadLine<'a>> {
     Ok(Serving {
         file: text_at(found, "file", FILE_TAKES)?,
         port: number_at(found, "port", u64::from(u16::MAX), PORT_TAKES)? as u16,
@@ -200,7 +205,7 @@ fn serving_of<'a>(found: &ArgMatches<'a>) -> Result<Serving<'a>, BadLine> {
 }
 
 /// What the program's words ask for, its name first. Without others it is `once`.
-pub fn task_of<'a>(alloc: Global, words: &'a [String]) -> Result<Task<'a>, BadLine> {
+pub fn task_of<'a>(alloc: Global, words: &'a [String]) -> Result<Task<'a>, BadLine<'a>> {
     let matches = whole_command(alloc)?.try_get_matches_from(words)?;
     if let Some(found) = matches.subcommand_matches("make") {
         return Ok(Task::Make(making_of(found)?));

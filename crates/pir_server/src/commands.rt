@@ -4,33 +4,19 @@ use crate::command_line::{Making, Task, task_of};
 use crate::making::make;
 use crate::serving::serve_file;
 use crate::showing::show;
-use command_words::{BadLine, Failure};
+use command_words::{Failure, program_words};
 use once_session::{OnceFault, once};
-use std::io::ErrorKind;
-use std::{env, io};
-
-/// The status of a bad command line.
-const BAD_LINE: u8 = 2;
+use std::io;
 
 /// The most reads that `once` makes.
 const TURNS: u64 = 1_000_000;
 
 /// The program: reads its command line, does what it asks for, and answers the exit status.
 pub fn run(rt: &HostRuntime) -> u8 {
-    let mut words = Vec::new(rt.alloc());
-    let arguments = match env::args(rt) {
-        Ok(arguments) => arguments,
-        Err(fault) if fault.kind() == ErrorKind::OutOfMemory => return BadLine::Memory.report(rt),
-        Err(_) => {
-            let _ = eprintln!(rt; "error: the command line is not text");
-            return BAD_LINE;
-        }
+    let words = match program_words(rt) {
+        Ok(words) => words,
+        Err(status) => return status,
     };
-    for word in arguments {
-        if words.push(word).is_err() {
-            return BadLine::Memory.report(rt);
-        }
-    }
     let task = match task_of(rt.alloc(), &words) {
         Ok(task) => task,
         Err(bad) => return bad.report(rt),

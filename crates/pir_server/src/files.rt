@@ -2,13 +2,28 @@
 
 ghost use Rattle.std.specs.Prelude.{◌≤◌, IfOk};
 
-use crate::making::open_failure;
 use command_words::Failure;
 use lane_kernels::Lanes;
+use snapshot_file::write_snapshot_bytes;
+use std::fs;
 use std::fs::File;
 use version_store::{
-    Header, Snapshot, SnapshotFault, Store, WriteFault, read_snapshot, write_snapshot,
+    Header, OpenError, Snapshot, SnapshotFault, Store, WriteFault, read_snapshot, write_snapshot,
 };
+
+/// What a snapshot file is made of.
+#[derive(Clone, Copy)]
+pub enum Content<'a> {
+    /// The current version of a store.
+    Version(&'a Store<Lanes>),
+    /// Records of which no store is made.
+    Records {
+        /// What they are records of.
+        header: &'a Header,
+        /// Their bytes, one record after the other.
+        bytes: &'a [u8],
+    },
+}
 
 /// The failure of a file that can't be opened or made.
 const NO_FILE: Failure = Failure::Fault("File");
@@ -70,19 +85,70 @@ fn snapshot_of(rt: &HostRuntime, name: &str) -> Result<Snapshot, Failure>
     }
 }
 
-/// Writes the current version of a store to a file, which is made or made anew.
+/// Writes a snapshot to a file that is made, or takes the place of the file of this name: first to a file beside it, with
+/// `.new` after its name, which is then given its name. So the file is whole at any time, the old one or the new one.
+/// What is no file, as a terminal, is written to as it is.
 ///
 /// # Errors
 ///
-/// `File` where it can't be made, `Write`, `Memory`.
-pub fn write_file(rt: &HostRuntime, name: &str, store: &Store<Lanes>) -> Result<(), Failure> {
+/// `File` where the file beside it can't be made or can't be given the name, `Write`, `Memory`. The old file is then left
+/// as it was, and none stands beside it.
+pub fn write_file(rt: &HostRuntime, name: &str, content: &Content<'_>) -> Result<(), Failure> {
+    if is_written_in_place(rt, name) {
+        return write_new(rt, name, content);
+    }
+    let Ok(beside) = format!(in rt.alloc(); "{name}.new") else {
+        return Err(Failure::Memory);
+    };
+    let Err(failure) = write_beside(rt, name, &beside, content) else {
+        return Ok(());
+    };
+    // It has done what it could; the first failure is the one to report.
+    let _ = fs::remove_file(rt, beside.as_str());
+    Err(failure)
+}
+
+// Whether there is something of this name that is no file.
+fn is_written_in_place(rt: &HostRuntime, name: &str) -> bool {
+    match fs::metadata(rt, name) {
+        Ok(found) => !found.is_file(),
+        Err(_) => false,
+    }
+}
+
+// Writes a file beside another, and gives it that one's name.
+fn write_beside(
+    rt: &HostRuntime,
+    name: &str,
+    beside: &str,
+    content: &Content<'_>,
+) -> Result<(), Failure> {
+    write_new(rt, beside, content)?;
+    match fs::rename(rt, beside, name) {
+        Ok(()) => Ok(()),
+        Err(_) => Err(NO_FILE),
+    }
+}
+
+// Makes a file, or empties it, and writes a snapshot to it, all the way to its device.
+fn write_new(rt: &HostRuntime, name: &str, content: &Content<'_>) -> Result<(), Failure> {
     let Ok(mut file) = File::create(rt, name) else {
         return Err(NO_FILE);
     };
-    match write_snapshot(rt.alloc(), store, &mut file) {
+    let written = match content {
+        Content::Version(store) => write_snapshot(rt.alloc(), store, &mut file),
+        Content::Records { header, bytes } => {
+            write_snapshot_bytes(rt.alloc(), header, bytes, &mut file)
+        }
+    };
+    match written {
+        Ok(()) => {}
+        Err(WriteFault::Write) => return Err(Failure::Fault("Write")),
+        Err(WriteFault::Memory) => return Err(Failure::Memory),
+    }
+    match file.sync_all() {
         Ok(()) => Ok(()),
-        Err(WriteFault::Write) => Err(Failure::Fault("Write")),
-        Err(WriteFault::Memory) => Err(Failure::Memory),
+        Err(_) => Err(Failure::Fault("Write")),
     }
 }
 
@@ -96,5 +162,15 @@ fn snapshot_failure(fault: SnapshotFault) -> Failure {
         SnapshotFault::TrailingBytes => Failure::Fault("TrailingBytes"),
         SnapshotFault::Read => Failure::Fault("Read"),
         SnapshotFault::Memory => Failure::Memory,
+    }
+}
+
+// The failure that a refused store is.
+fn open_failure(fault: OpenError) -> Failure {
+    match fault {
+        OpenError::BadLayout => Failure::Fault("BadLayout"),
+        OpenError::BadVersion => Failure::Fault("BadVersion"),
+        OpenError::BadRecords => Failure::Fault("BadRecords"),
+        OpenError::Memory => Failure::Memory,
     }
 }

@@ -4,14 +4,13 @@ ghost use Rattle.std.specs.Prelude.{◌≡◌, ◌≤◌, ◌<◌, length, IfOk}
 ghost use Rattle.std.specs.Io.KnownBytes.{Consumes, IsAtEnd};
 
 use crate::command_line::Making;
-use crate::files::write_file;
+use crate::files::{Content, write_file};
 use command_words::Failure;
 use engine_io::{piece_buffer, read_piece};
-use lane_kernels::Lanes;
 use sha2::{Digest, Sha256};
 use std::alloc::Global;
 use std::io::Read;
-use version_store::{Header, OpenError, Snapshot, Store};
+use version_store::Header;
 
 /// The most record bytes: as many as there are words in the largest matrix.
 const MAX_RECORD_BYTES: usize = 33_554_432;
@@ -23,22 +22,28 @@ const DIMENSION: u16 = 1024;
 const BAD_RECORDS: Failure = Failure::Fault("BadRecords");
 
 /// Makes a snapshot file of version 1 of the record bytes on standard input, and answers how many records
-/// there are.
+/// there are. No hint is made for it.
 ///
 /// # Errors
 ///
-/// In this order: those of the input (`Read`, `BadRecords` where there are more than 33,554,432 bytes), the
-/// refusals of the store, those of the file (`File`, `Write`). `Memory` where there was none.
+/// In this order: those of the input (`Read`, `BadRecords` where there are more than 33,554,432 bytes), `BadLayout` where
+/// no store has this layout, `BadRecords` where these are not whole records, those of the file (`File`, `Write`). `Memory`
+/// where there was none.
 pub fn make(rt: &HostRuntime, making: &Making<'_>) -> Result<u32, Failure> {
     let records = read_records(rt.alloc(), &mut rt.reader())?;
-    let snapshot = snapshot_of(making, records);
-    let count = snapshot.count;
-    let store = match Store::open(rt.alloc(), Lanes, snapshot) {
-        Ok(store) => store,
-        Err(fault) => return Err(open_failure(fault)),
+    let header = header_of(making, records.len());
+    if !header.is_accepted() {
+        return Err(Failure::Fault("BadLayout"));
+    }
+    if records.len() != header.records_len() {
+        return Err(BAD_RECORDS);
+    }
+    let content = Content::Records {
+        header: &header,
+        bytes: &records,
     };
-    write_file(rt, making.out, &store)?;
-    Ok(count)
+    write_file(rt, making.out, &content)?;
+    Ok(header.count)
 }
 
 // All bytes of a reader, where they are not too many.
@@ -69,17 +74,19 @@ fn read_records<R: Read>(alloc: Global, reader: &mut R) -> Result<Vec<u8>, Failu
     Err(BAD_RECORDS)
 }
 
-// The snapshot of version 1 of some record bytes. Records of no bytes are none.
-fn snapshot_of(making: &Making<'_>, records: Vec<u8>) -> Snapshot
-    requires { length records.items ≤ 33554432 }
+// The header of version 1 of so many record bytes. Records of no bytes are none.
+fn header_of(making: &Making<'_>, bytes: usize) -> Header
+    requires { bytes ≤ 33554432 }
+    ensures count { result.count ≤ 33554432 }
+    ensures length { result.record_len ≡ making.now.record_len }
 {
     let record_len = usize::from(making.record_len);
     let count = if record_len == 0 {
         0
     } else {
-        records.len() / record_len
+        bytes / record_len
     };
-    let header = Header {
+    Header {
         width: making.width,
         record_len: making.record_len,
         groups: making.groups,
@@ -88,16 +95,5 @@ fn snapshot_of(making: &Making<'_>, records: Vec<u8>) -> Snapshot
         version: 1,
         seed: making.seed,
         publisher: Sha256::digest(making.key.as_slice()),
-    };
-    header.with_records(records)
-}
-
-/// The failure that a refused store is.
-pub fn open_failure(fault: OpenError) -> Failure {
-    match fault {
-        OpenError::BadLayout => Failure::Fault("BadLayout"),
-        OpenError::BadVersion => Failure::Fault("BadVersion"),
-        OpenError::BadRecords => BAD_RECORDS,
-        OpenError::Memory => Failure::Memory,
     }
 }

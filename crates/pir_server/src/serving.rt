@@ -1,7 +1,7 @@
 //! The command `serve`.
 
 use crate::command_line::Serving;
-use crate::files::{store_of, write_file};
+use crate::files::{Content, store_of, write_file};
 use command_words::Failure;
 use engine_io::{piece_buffer, read_piece};
 use lane_kernels::Lanes;
@@ -45,7 +45,7 @@ pub fn serve_file(rt: &HostRuntime, serving: &Serving<'_>) -> Result<(), Failure
     if core.store().version() == opened {
         return Ok(());
     }
-    write_file(rt, serving.file, core.store())
+    write_file(rt, serving.file, &Content::Version(core.store()))
 }
 
 // Listens on a port of 127.0.0.1, and tells which one it is.
