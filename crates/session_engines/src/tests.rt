@@ -1,14 +1,18 @@
 //! Sessions over memory: readers that give a few bytes at a time or fail, and writers that take a few or fail.
 
-use client_core::ClientCore;
+ghost use Rattle.std.specs.Prelude.{◌≤◌, length};
+
+use crate::{ConverseFault, Ending, ServeFault, converse, converse_over, serve, serve_over};
+use client_core::{CallFault, ClientCore, Event, Scheme};
+use connection_io::Connection;
 use matrix_u32::Plain;
-use server_core::ServerCore;
+use server_core::{OpenError, ServerCore};
 use std::alloc::{AllocError, Global};
 use std::io;
 use std::io::{Read, Write};
 use std::process::Abort;
 use std::test::Fail;
-use version_store::{Header, Store};
+use version_store::{Header, PublishError, Store};
 
 mod conversing;
 mod large;
@@ -124,4 +128,74 @@ fn server(rt: &impl Abort, alloc: Global) -> Result<ServerCore<Plain>, Fail> {
 
 fn client(alloc: Global) -> ClientCore<Plain> {
     ClientCore::new(alloc, Plain, ZEROS, 0)
+}
+
+// The calls below have no clause, so that a test doesn't carry theirs.
+
+fn serve_all<R: Read, W: Write>(
+    alloc: Global,
+    server: &mut ServerCore<Plain>,
+    id: u64,
+    reader: &mut R,
+    writer: &mut W,
+    turns: u64,
+) -> Result<Ending, ServeFault> {
+    serve(alloc, server, id, reader, writer, turns)
+}
+
+fn serve_all_over<C: Connection>(
+    alloc: Global,
+    server: &mut ServerCore<Plain>,
+    id: u64,
+    connection: &mut C,
+    turns: u64,
+) -> Result<Ending, ServeFault> {
+    serve_over(alloc, server, id, connection, turns)
+}
+
+fn converse_all<R: Read, W: Write>(
+    alloc: Global,
+    client: &mut ClientCore<Plain>,
+    first: &[u8],
+    reader: &mut R,
+    writer: &mut W,
+    turns: u64,
+) -> Result<Event, ConverseFault> {
+    converse(alloc, client, first, reader, writer, turns)
+}
+
+fn converse_all_over<C: Connection>(
+    alloc: Global,
+    client: &mut ClientCore<Plain>,
+    first: &[u8],
+    connection: &mut C,
+    turns: u64,
+) -> Result<Event, ConverseFault> {
+    converse_over(alloc, client, first, connection, turns)
+}
+
+fn hello(client: &mut ClientCore<Plain>, key: [u8; 32]) -> Result<Vec<u8>, CallFault> {
+    client.hello(key)
+}
+
+fn sync(client: &mut ClientCore<Plain>, scheme: Scheme) -> Result<Vec<u8>, CallFault> {
+    client.sync(scheme)
+}
+
+fn ask(client: &mut ClientCore<Plain>, index: u32) -> Result<Vec<u8>, CallFault> {
+    client.ask(index)
+}
+
+fn edit(client: &mut ClientCore<Plain>, index: u32, bytes: &[u8]) -> Result<Vec<u8>, CallFault>
+    requires { length bytes.now ≤ 65535 }
+{
+    client.edit(index, bytes)
+}
+
+fn open_session(server: &mut ServerCore<Plain>, id: u64) -> Result<(), OpenError> {
+    server.open_session(id)
+}
+
+fn publish(server: &mut ServerCore<Plain>) -> Result<u64, PublishError> {
+    server.publish()
 }

@@ -3,7 +3,7 @@
 ghost use Rattle.std.specs.Prelude.{◌≤◌};
 
 use super::*;
-use crate::{ConverseFault, converse};
+use crate::ConverseFault;
 use client_core::{CallFault, Event, Scheme};
 use frame_codec::{Bytes32, Frame, Words, write_frame};
 
@@ -25,11 +25,11 @@ fn shown(answer: &Result<Event, ConverseFault>) -> Result<(char, u64), ConverseF
 // A client that was let in with a key.
 fn welcomed(rt: &impl Abort, alloc: Global, key: [u8; 32]) -> Result<ClientCore<Plain>, Fail> {
     let mut client = client(alloc);
-    let first = client.hello(key)?;
+    let first = hello(&mut client, key)?;
     let welcome = joined(alloc, &[WELCOME, &ZEROS])?;
     let mut reader = welcome.as_slice();
     let mut writer = Vec::new(alloc);
-    let result = converse(alloc, &mut client, &first, &mut reader, &mut writer, TURNS);
+    let result = converse_all(alloc, &mut client, &first, &mut reader, &mut writer, TURNS);
     assert_eq!(rt; shown(&result), Ok(('w', 1)));
     assert_eq!(rt; writer.as_slice(), first.as_slice());
     Ok(client)
@@ -41,14 +41,14 @@ fn a_greeting_is_welcomed(rt: HostRuntime) -> Result<(), Fail> {
     let welcome = joined(rt.alloc(), &[WELCOME, &ZEROS])?;
     for most in [1, 7, PIECE] {
         let mut client = client(rt.alloc());
-        assert_eq!(rt; client.hello(ZEROS)?.as_slice(), first.as_slice());
+        assert_eq!(rt; hello(&mut client, ZEROS)?.as_slice(), first.as_slice());
         let mut reader = Input {
             bytes: &welcome,
             most,
             fails: true,
         };
         let mut writer = Vec::new(rt.alloc());
-        let result = converse(
+        let result = converse_all(
             rt.alloc(),
             &mut client,
             &first,
@@ -65,10 +65,10 @@ fn a_greeting_is_welcomed(rt: HostRuntime) -> Result<(), Fail> {
 #[test]
 fn a_publishers_edit_is_done(rt: HostRuntime) -> Result<(), Fail> {
     let mut client = welcomed(&rt, rt.alloc(), ONES)?;
-    let first = client.edit(1, &[100])?;
+    let first = edit(&mut client, 1, &[100])?;
     let mut reader = DONE;
     let mut writer = Vec::new(rt.alloc());
-    let result = converse(
+    let result = converse_all(
         rt.alloc(),
         &mut client,
         &first,
@@ -111,10 +111,10 @@ fn a_hint_of_two_parts_is_asked_for_part_by_part(rt: HostRuntime) -> Result<(), 
         seed: Bytes32::copied(&ZEROS),
     };
     write_frame(&welcome, &mut stream)?;
-    let first = client.hello(ZEROS)?;
+    let first = hello(&mut client, ZEROS)?;
     let mut reader = stream.as_slice();
     let mut writer = Vec::new(rt.alloc());
-    let result = converse(
+    let result = converse_all(
         rt.alloc(),
         &mut client,
         &first,
@@ -126,10 +126,10 @@ fn a_hint_of_two_parts_is_asked_for_part_by_part(rt: HostRuntime) -> Result<(), 
     let mut parts = Vec::new(rt.alloc());
     put_part(rt.alloc(), 0, PIECE, &mut parts)?;
     put_part(rt.alloc(), 1, 2048, &mut parts)?;
-    let first = client.sync(Scheme::Simple)?;
+    let first = sync(&mut client, Scheme::Simple)?;
     let mut reader = parts.as_slice();
     let mut writer = Vec::new(rt.alloc());
-    let result = converse(
+    let result = converse_all(
         rt.alloc(),
         &mut client,
         &first,
@@ -151,10 +151,10 @@ fn the_servers_stream_may_end(rt: HostRuntime) -> Result<(), Fail> {
     let first = joined(rt.alloc(), &[GREETING, &ZEROS])?;
     for len in [0, 26] {
         let mut client = client(rt.alloc());
-        client.hello(ZEROS)?;
+        hello(&mut client, ZEROS)?;
         let mut reader = &WELCOME[..len];
         let mut writer = Vec::new(rt.alloc());
-        let result = converse(
+        let result = converse_all(
             rt.alloc(),
             &mut client,
             &first,
@@ -172,14 +172,14 @@ fn the_servers_stream_may_end(rt: HostRuntime) -> Result<(), Fail> {
 fn a_reader_that_fails(rt: HostRuntime) -> Result<(), Fail> {
     for len in [0, 26] {
         let mut client = client(rt.alloc());
-        let first = client.hello(ZEROS)?;
+        let first = hello(&mut client, ZEROS)?;
         let mut reader = Input {
             bytes: &WELCOME[..len],
             most: 9,
             fails: true,
         };
         let mut writer = Vec::new(rt.alloc());
-        let result = converse(
+        let result = converse_all(
             rt.alloc(),
             &mut client,
             &first,
@@ -198,14 +198,14 @@ fn a_writer_that_fails_or_takes_nothing(rt: HostRuntime) -> Result<(), Fail> {
     for room in [0, 30] {
         for fails in [false, true] {
             let mut client = client(rt.alloc());
-            let first = client.hello(ZEROS)?;
+            let first = hello(&mut client, ZEROS)?;
             let mut reader = WELCOME;
             let mut writer = Output {
                 bytes: Vec::new(rt.alloc()),
                 room,
                 fails,
             };
-            let result = converse(
+            let result = converse_all(
                 rt.alloc(),
                 &mut client,
                 &first,
@@ -225,14 +225,14 @@ fn a_writer_that_fails_or_takes_nothing(rt: HostRuntime) -> Result<(), Fail> {
 fn all_turns_are_used_up(rt: HostRuntime) -> Result<(), Fail> {
     for turns in [0, 25] {
         let mut client = client(rt.alloc());
-        let first = client.hello(ZEROS)?;
+        let first = hello(&mut client, ZEROS)?;
         let mut reader = Input {
             bytes: WELCOME,
             most: 1,
             fails: false,
         };
         let mut writer = Vec::new(rt.alloc());
-        let result = converse(
+        let result = converse_all(
             rt.alloc(),
             &mut client,
             &first,
@@ -254,10 +254,10 @@ fn a_bad_welcome(rt: HostRuntime) -> Result<(), Fail> {
         *profile = 9;
     }
     let mut client = client(rt.alloc());
-    let first = client.hello(ZEROS)?;
+    let first = hello(&mut client, ZEROS)?;
     let mut reader = welcome.as_slice();
     let mut writer = Vec::new(rt.alloc());
-    let result = converse(
+    let result = converse_all(
         rt.alloc(),
         &mut client,
         &first,
@@ -272,10 +272,10 @@ fn a_bad_welcome(rt: HostRuntime) -> Result<(), Fail> {
 #[test]
 fn an_answer_of_two_words_is_a_bad_reply(rt: HostRuntime) -> Result<(), Fail> {
     let mut client = welcomed(&rt, rt.alloc(), ZEROS)?;
-    let first = client.sync(Scheme::Simple)?;
+    let first = sync(&mut client, Scheme::Simple)?;
     let mut reader = HINT_PART;
     let mut writer = Vec::new(rt.alloc());
-    let result = converse(
+    let result = converse_all(
         rt.alloc(),
         &mut client,
         &first,
@@ -284,12 +284,12 @@ fn an_answer_of_two_words_is_a_bad_reply(rt: HostRuntime) -> Result<(), Fail> {
         TURNS,
     );
     assert_eq!(rt; shown(&result), Ok(('s', 1)));
-    let first = client.ask(1)?;
+    let first = ask(&mut client, 1)?;
     let answer: &[u8] = &[
         0x11, 0, 0, 0, 0x85, 0, 1, 0, 0, 0, 0, 0, 0, 0, 1, 0, 0, 0, 2, 0, 0, 0,
     ];
     let mut reader = answer;
-    let result = converse(
+    let result = converse_all(
         rt.alloc(),
         &mut client,
         &first,
@@ -299,7 +299,7 @@ fn an_answer_of_two_words_is_a_bad_reply(rt: HostRuntime) -> Result<(), Fail> {
     );
     assert_eq!(rt; shown(&result), Err(ConverseFault::BadReply));
     let mut reader = answer;
-    let result = converse(
+    let result = converse_all(
         rt.alloc(),
         &mut client,
         &first,
@@ -314,11 +314,11 @@ fn an_answer_of_two_words_is_a_bad_reply(rt: HostRuntime) -> Result<(), Fail> {
 #[test]
 fn an_event_is_answered_also_before_a_fault(rt: HostRuntime) -> Result<(), Fail> {
     let mut client = client(rt.alloc());
-    let first = client.hello(ZEROS)?;
+    let first = hello(&mut client, ZEROS)?;
     let stream = joined(rt.alloc(), &[WELCOME, &ZEROS, DONE])?;
     let mut reader = stream.as_slice();
     let mut writer = Vec::new(rt.alloc());
-    let result = converse(
+    let result = converse_all(
         rt.alloc(),
         &mut client,
         &first,

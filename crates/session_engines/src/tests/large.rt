@@ -3,7 +3,7 @@
 ghost use Rattle.std.specs.Prelude.{◌≤◌};
 
 use super::*;
-use crate::{Ending, converse_over, serve};
+use crate::Ending;
 use client_core::{Event, Scheme};
 use connection_io::Connection;
 use engine_io::{ReadFailed, WriteFailed};
@@ -82,22 +82,22 @@ fn retrieves(
     asked: &[u32],
 ) -> Result<(), Fail> {
     let mut server = large_server(rt, alloc, count, record_len, dimension)?;
-    server.open_session(0)?;
+    open_session(&mut server, 0)?;
     let mut wire = Wire {
         server,
         replies: Vec::new(alloc),
         read: 0,
     };
     let mut client = client(alloc);
-    let hello = client.hello(ZEROS)?;
-    let welcomed = converse_over(alloc, &mut client, &hello, &mut wire, TURNS);
+    let hello = hello(&mut client, ZEROS)?;
+    let welcomed = converse_all_over(alloc, &mut client, &hello, &mut wire, TURNS);
     assert!(rt; matches!(welcomed, Ok(Event::Welcomed(1))));
-    let sync = client.sync(Scheme::Simple)?;
-    let synced = converse_over(alloc, &mut client, &sync, &mut wire, TURNS);
+    let sync = sync(&mut client, Scheme::Simple)?;
+    let synced = converse_all_over(alloc, &mut client, &sync, &mut wire, TURNS);
     assert!(rt; matches!(synced, Ok(Event::Synced(Scheme::Simple, 1))));
     for index in asked {
-        let ask = client.ask(*index)?;
-        let reported = converse_over(alloc, &mut client, &ask, &mut wire, TURNS);
+        let ask = ask(&mut client, *index)?;
+        let reported = converse_all_over(alloc, &mut client, &ask, &mut wire, TURNS);
         let Ok(Event::Retrieved { bytes, .. }) = reported else {
             panic!(rt; "record {index} was not retrieved");
         };
@@ -158,7 +158,7 @@ fn more_than_100000_pieces_of_one_byte_are_served(rt: HostRuntime) -> Result<(),
         fails: true,
     };
     let mut writer = Vec::new(rt.alloc());
-    let ended = serve(
+    let ended = serve_all(
         rt.alloc(),
         &mut server,
         0,
@@ -188,7 +188,7 @@ fn replies_of_more_than_65536_bytes_are_written(rt: HostRuntime) -> Result<(), F
     assert!(rt; input.len() < PIECE);
     let mut reader = input.as_slice();
     let mut writer = Vec::new(rt.alloc());
-    let ended = serve(rt.alloc(), &mut server, 0, &mut reader, &mut writer, 2);
+    let ended = serve_all(rt.alloc(), &mut server, 0, &mut reader, &mut writer, 2);
     assert_eq!(rt; ended, Ok(Ending::EndOfInput));
     assert_eq!(rt; writer.len(), 58 + 22 * 3600);
     for k in 0..3600usize {
@@ -214,10 +214,10 @@ fn a_record_is_edited_three_times(rt: HostRuntime) -> Result<(), Fail> {
             fails: false,
         };
         let mut writer = Vec::new(rt.alloc());
-        let ended = serve(rt.alloc(), &mut server, 0, &mut reader, &mut writer, TURNS);
+        let ended = serve_all(rt.alloc(), &mut server, 0, &mut reader, &mut writer, TURNS);
         assert_eq!(rt; ended, Ok(Ending::EndOfInput));
         assert_eq!(rt; writer.as_slice(), said.as_slice());
     }
-    assert_eq!(rt; server.publish(), Ok(2));
+    assert_eq!(rt; publish(&mut server), Ok(2));
     Ok(())
 }

@@ -1,7 +1,7 @@
 //! The server's side.
 
 use super::*;
-use crate::{Ending, ServeFault, serve};
+use crate::{Ending, ServeFault};
 
 // Serves the parts as session 0, whole and a few bytes at a time, and compares what was said and how it ended.
 fn check(
@@ -25,7 +25,7 @@ fn check(
             room: PIECE,
             fails: false,
         };
-        let result = serve(alloc, &mut server, 0, &mut reader, &mut writer, TURNS);
+        let result = serve_all(alloc, &mut server, 0, &mut reader, &mut writer, TURNS);
         assert_eq!(rt; result, ended, "{most} bytes a read");
         assert_eq!(rt;
             writer.bytes.as_slice(),
@@ -84,7 +84,7 @@ fn nothing_is_read_after_the_piece_that_closes(rt: HostRuntime) -> Result<(), Fa
         fails: true,
     };
     let mut writer = Vec::new(rt.alloc());
-    let result = serve(rt.alloc(), &mut server, 0, &mut reader, &mut writer, 1);
+    let result = serve_all(rt.alloc(), &mut server, 0, &mut reader, &mut writer, 1);
     assert_eq!(rt; result, Ok(Ending::Closed));
     Ok(())
 }
@@ -106,7 +106,7 @@ fn a_reader_that_fails(rt: HostRuntime) -> Result<(), Fail> {
             fails: true,
         };
         let mut writer = Vec::new(rt.alloc());
-        let result = serve(rt.alloc(), &mut server, 0, &mut reader, &mut writer, TURNS);
+        let result = serve_all(rt.alloc(), &mut server, 0, &mut reader, &mut writer, TURNS);
         assert_eq!(rt; result, Err(ServeFault::Read));
         assert_eq!(rt; writer.as_slice(), said);
         assert_eq!(rt; server.has_session(0), false);
@@ -126,7 +126,7 @@ fn all_turns_are_used_up(rt: HostRuntime) -> Result<(), Fail> {
             fails: false,
         };
         let mut writer = Vec::new(rt.alloc());
-        let result = serve(rt.alloc(), &mut server, 0, &mut reader, &mut writer, turns);
+        let result = serve_all(rt.alloc(), &mut server, 0, &mut reader, &mut writer, turns);
         assert_eq!(rt; result, Err(ServeFault::TurnsUsedUp), "{turns}");
         assert_eq!(rt; writer.as_slice(), said, "{turns}");
         assert_eq!(rt;
@@ -151,11 +151,11 @@ fn a_writer_that_fails_leaves_the_edit_accepted(rt: HostRuntime) -> Result<(), F
             room: 60,
             fails,
         };
-        let result = serve(rt.alloc(), &mut server, 7, &mut reader, &mut writer, TURNS);
+        let result = serve_all(rt.alloc(), &mut server, 7, &mut reader, &mut writer, TURNS);
         assert_eq!(rt; result, Err(ServeFault::Write));
         assert_eq!(rt; writer.bytes.as_slice(), said.as_slice());
         assert_eq!(rt; server.has_session(7), false);
-        assert_eq!(rt; server.publish(), Ok(2));
+        assert_eq!(rt; publish(&mut server), Ok(2));
     }
     Ok(())
 }
@@ -170,7 +170,7 @@ fn a_writer_that_takes_nothing(rt: HostRuntime) -> Result<(), Fail> {
         room: 0,
         fails: false,
     };
-    let result = serve(rt.alloc(), &mut server, 0, &mut reader, &mut writer, TURNS);
+    let result = serve_all(rt.alloc(), &mut server, 0, &mut reader, &mut writer, TURNS);
     assert_eq!(rt; result, Err(ServeFault::Write));
     Ok(())
 }
@@ -179,10 +179,10 @@ fn a_writer_that_takes_nothing(rt: HostRuntime) -> Result<(), Fail> {
 fn a_session_of_this_number_is_left_alone(rt: HostRuntime) -> Result<(), Fail> {
     for turns in [0, TURNS] {
         let mut server = server(&rt, rt.alloc())?;
-        server.open_session(3)?;
+        open_session(&mut server, 3)?;
         let mut reader = BYE;
         let mut writer = Vec::new(rt.alloc());
-        let result = serve(rt.alloc(), &mut server, 3, &mut reader, &mut writer, turns);
+        let result = serve_all(rt.alloc(), &mut server, 3, &mut reader, &mut writer, turns);
         assert_eq!(rt; result, Err(ServeFault::IdInUse));
         assert_eq!(rt; reader, BYE);
         assert_eq!(rt; server.is_open(3), true);

@@ -1,7 +1,7 @@
 //! Turns over a connection: which calls are made, and in which order.
 
 use super::*;
-use crate::{Ending, ServeFault, converse_over, serve_over};
+use crate::{Ending, ServeFault};
 use client_core::Event;
 use connection_io::Connection;
 use engine_io::{ReadFailed, WriteFailed};
@@ -66,7 +66,7 @@ fn each_reply_is_written_before_the_next_read(rt: HostRuntime) -> Result<(), Fai
     let replies = joined(rt.alloc(), &[WELCOME, &ZEROS, HINT_PART, DONE])?;
     let mut server = server(&rt, rt.alloc())?;
     let mut peer = make_peer(rt.alloc(), &says, &[39, 67, 69, 72], &[0, 58, 93, 93])?;
-    let ended = serve_over(rt.alloc(), &mut server, 0, &mut peer, TURNS);
+    let ended = serve_all_over(rt.alloc(), &mut server, 0, &mut peer, TURNS);
     assert_eq!(rt; ended, Ok(Ending::Closed));
     assert_eq!(rt; peer.parts, 4);
     assert_eq!(rt; peer.received.as_slice(), replies.as_slice());
@@ -79,7 +79,7 @@ fn a_read_that_fails_is_reported_as_such(rt: HostRuntime) -> Result<(), Fail> {
     let welcome = joined(rt.alloc(), &[WELCOME, &ZEROS])?;
     let mut server = server(&rt, rt.alloc())?;
     let mut peer = make_peer(rt.alloc(), &greeting, &[39], &[0])?;
-    let ended = serve_over(rt.alloc(), &mut server, 0, &mut peer, TURNS);
+    let ended = serve_all_over(rt.alloc(), &mut server, 0, &mut peer, TURNS);
     assert_eq!(rt; ended, Err(ServeFault::Read));
     assert_eq!(rt; peer.received.as_slice(), welcome.as_slice());
     Ok(())
@@ -88,10 +88,10 @@ fn a_read_that_fails_is_reported_as_such(rt: HostRuntime) -> Result<(), Fail> {
 #[test]
 fn nothing_is_read_after_the_event(rt: HostRuntime) -> Result<(), Fail> {
     let mut client = client(rt.alloc());
-    let first = client.hello(ZEROS)?;
+    let first = hello(&mut client, ZEROS)?;
     let welcome = joined(rt.alloc(), &[WELCOME, &ZEROS])?;
     let mut peer = make_peer(rt.alloc(), &welcome, &[26, 58], &[39, 39])?;
-    let result = converse_over(rt.alloc(), &mut client, &first, &mut peer, TURNS);
+    let result = converse_all_over(rt.alloc(), &mut client, &first, &mut peer, TURNS);
     assert!(rt; matches!(result, Ok(Event::Welcomed(1))));
     assert_eq!(rt; peer.parts, 2);
     Ok(())
