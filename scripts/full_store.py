@@ -38,7 +38,7 @@ def hello(key):
 
 def build():
     print("building both programs and kernel_bench", flush=True)
-    if subprocess.run([os.path.join(ROOT, "scripts", "build")]).returncode != 0:
+    if subprocess.run([os.path.join(ROOT, "scripts", "build"), "--default"]).returncode != 0:
         stop("scripts/build failed")
     done = subprocess.run(["rt", "run"], cwd=KERNELS, capture_output=True, text=True)
     if done.returncode != 0:

@@ -233,7 +233,7 @@ fn product_of<S: DigitStore + Drop>(
 
 #[test]
 fn packed_and_flat_give_the_same_products(rt: HostRuntime) -> Result<(), Fail> {
-    for cols in [1, 2, 3, 4, 5, 7] {
+    for cols in [1, 2, 3, 4, 5, 7, 4096] {
         for rows in [1, 2, 5] {
             let flat = product_of::<Flat>(&rt, rows, cols)?;
             let packed = product_of::<Packed3>(&rt, rows, cols)?;

@@ -1,12 +1,15 @@
 -- Answers, put together from their parts.
-use Rattle.std.proofs.Common.{◌≡◌, ℕ, zero, suc, ◌+◌, ◌*◌, ◌<◌, ◌++◌, arith, ap, ◌∙◌, sym, refl, List, length, append_assoc, add-one, append-nil}
+use Rattle.std.proofs.Common.{◌≡◌, ℕ, zero, suc, ◌+◌, ◌*◌, ◌/◌, ◌%◌, ◌<◌, ◌++◌, arith, ap, ◌∙◌, sym, refl, List, length, append_assoc, add-one, append-nil}
+use Rattle.std.proofs.lemmas.Nat.{div-mul-add, mod-mul-add}
 use Rattle.std.specs.Prelude.{slice_index, flat_map}
 use Rattle.std.specs.List.{range_with_len}
 use Rattle.matrix_u32.specs.Sum.{dot}
-use Rattle.matrix_u32.specs.Matrix.{WordMatrix, entry, row, column, product, transpose, times_vector}
-use Rattle.matrix_u32.proofs.Changes.{same-matrix_of}
-use Rattle.matrix_u32.proofs.Products.{at-list_of, list_of-at, same-list_of, dot_comm, column-transpose}
-use Rattle.double_scheme.specs.Double.{one_row}
+use Rattle.matrix_u32.specs.Matrix.{WordMatrix, entry, matrix_of, row, column, product, transpose, times_vector}
+use Rattle.matrix_u32.proofs.Changes.{same-matrix_of, matrix_by_entries}
+use Rattle.matrix_u32.proofs.Products.{at-list_of, list_of-at, same-list_of, dot_comm, column-transpose, length-list_of, entry-matrix_of}
+use Rattle.lane_kernels.specs.Digit.{digit, split_count}
+use Rattle.digit_pack.specs.Digits.{decomposed, decomposed_at}
+use Rattle.double_scheme.specs.Double.{one_row, one_column}
 
 -- one part more
 pub parts_more : (f : ℕ → List ℕ) (a n : ℕ) → flat_map f (range_with_len a (suc n)) ≡ flat_map f (range_with_len a n) ++ f (a + n)
@@ -23,6 +26,33 @@ one_part f prefix n =
     append_assoc prefix (flat_map f (range_with_len 0 n)) (f n)
     ∙ ap (λ l. prefix ++ l) (ap (λ k. flat_map f (range_with_len 0 n) ++ f k) (omega arith) ∙ sym (parts_more f 0 n)
     ∙ ap (λ k. flat_map f (range_with_len 0 k)) (sym (add-one n)))
+
+div_small : (t k : ℕ) → t < k → t / k ≡ 0
+div_small t k l =
+    let e : t ≡ 0 * k + t = omega arith in
+    ap (λ n. n / k) e ∙ div-mul-add 0 k t l
+
+mod_small : (t k : ℕ) → t < k → t % k ≡ t
+mod_small t k l =
+    let e : t ≡ 0 * k + t = omega arith in
+    ap (λ n. n % k) e ∙ mod-mul-add 0 k t l
+
+-- the digits of words, a row for each place of a digit, are those of the words as a column, read across
+pub digits_across : (w : ℕ) (words : List ℕ) →
+    matrix_of (split_count w) (length words) (λ t j. digit w (slice_index words j) t) ≡ decomposed w (transpose (one_column words))
+digits_across w words =
+    let k : ℕ = split_count w in
+    let n : ℕ = length words in
+    let one : 1 * k ≡ k = omega arith in
+    matrix_by_entries (matrix_of k n (λ t j. digit w (slice_index words j) t)) (1 * k) n (decomposed_at w (transpose (one_column words)))
+    (sym one) refl (length-list_of (k * n) _) (λ t j p q.
+    let low : t < k = omega (arith, one) in
+    let here : entry (transpose (one_column words)) 0 j ≡ slice_index words j =
+    entry-matrix_of 1 n (λ i j. entry (one_column words) j i) 0 j (omega arith) q ∙ ap (slice_index words) (omega arith) in
+    entry-matrix_of k n (λ t j. digit w (slice_index words j) t) t j low q
+    ∙ ap (λ x. digit w x t) (sym here)
+    ∙ ap (λ r. digit w (entry (transpose (one_column words)) r j) t) (sym (div_small t k low))
+    ∙ ap (λ r. digit w (entry (transpose (one_column words)) (t / k) j) r) (sym (mod_small t k low)))
 
 -- the digits times a query's words, as a column, is the query's words as a row times the digits transposed
 pub column_is_row : (d : WordMatrix) (c : List ℕ) → length c ≡ d.cols →

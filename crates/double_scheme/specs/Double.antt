@@ -32,6 +32,10 @@ client_hint_of server_hint a2 = product server_hint a2
 abbrev pub one_row : List ℕ → WordMatrix
 one_row words = record { rows = 1; cols = length words; words = words }
 
+-- words as a matrix of one column
+abbrev pub one_column : List ℕ → WordMatrix
+one_column words = record { rows = length words; cols = 1; words = words }
+
 -- the digits of c^T D^T, the first answer to the words c of a first query
 abbrev pub first_answer_of : ℕ → WordMatrix → List ℕ → WordMatrix
 first_answer_of w digits c = decomposed w (product (one_row c) (transpose digits))
@@ -62,12 +66,16 @@ part_of_query l words d = take (digit_rows l) (drop (digit_cols l + d * digit_ro
 abbrev pub part_answer_of : WordMatrix → WordMatrix → List ℕ → List ℕ
 part_answer_of server_hint first_answer part = times_vector server_hint part ++ times_vector first_answer part
 
+-- the answers to all parts of a query's words
+abbrev pub part_answers_of : Shape → WordMatrix → WordMatrix → List ℕ → List ℕ
+part_answers_of l server_hint first_answer words =
+    flat_map (λ d. part_answer_of server_hint first_answer (part_of_query l words d)) (range_with_len 0 (digits_per_record l))
+
 -- the answer to a query: the first answer's hint, and the answers to the parts
 unfoldable pub answer_of : Shape → WordMatrix → WordMatrix → WordMatrix → List ℕ → List ℕ
 answer_of l digits server_hint a2 words =
     let first_answer = first_answer_of l.width digits (take (digit_cols l) words) in
-    (product first_answer a2).words
-    ++ flat_map (λ d. part_answer_of server_hint first_answer (part_of_query l words d)) (range_with_len 0 (digits_per_record l))
+    (product first_answer a2).words ++ part_answers_of l server_hint first_answer words
 
 -- ---- reading, from the words of an answer: the first answer's hint h, and of each part the words
 -- how many words a part of an answer has

@@ -1,5 +1,8 @@
 use super::*;
-use digit_pack::{DigitStore, Flat, Layout, digits_of_records, join_word, split_count, split_word};
+use digit_pack::{
+    DigitStore, Flat, Layout, Packed3, digits_of_records, join_word, split_count, split_word,
+};
+use lane_kernels::Lanes;
 use matrix_u32::{Kernel, Matrix, Plain};
 use regev_core::{encrypt, round, strip};
 use seed_expand::expand;
@@ -215,8 +218,9 @@ fn retrieve<K: Kernel, S: DigitStore + Drop>(
 }
 
 // Retrieves record i with the public matrices of n columns of the zero seed.
-fn from_zero_seed(
+fn from_zero_seed<K: Kernel, S: DigitStore + Drop>(
     rt: &(impl Abort + AllocGlobal),
+    kernel: K,
     layout: &Layout,
     records: &[u8],
     n: usize,
@@ -224,67 +228,77 @@ fn from_zero_seed(
     i: usize,
 ) -> Result<Retrieved, Fail> {
     assert!(rt; layout.rows() <= 4096 && layout.cols() <= 4096 && n >= 1 && n <= 1024);
-    let digits: Flat = store(rt, layout, records)?;
+    let digits: S = store(rt, layout, records)?;
     let a1 = expand(rt.alloc(), &ZERO_SEED, 0, 0, layout.cols(), n)?;
     let a2 = expand(rt.alloc(), &ZERO_SEED, 1, 0, layout.rows(), n)?;
     let hint = first_hint(rt, &digits, &a1)?;
-    retrieve(rt, Plain, layout, &digits, &hint, &a1, &a2, number, i)
+    retrieve(rt, kernel, layout, &digits, &hint, &a1, &a2, number, i)
 }
 
 // The words were computed from the definitions by a program of another language.
-#[test]
-fn both_records_of_a_store_of_two(rt: HostRuntime) -> Result<(), Fail> {
+fn retrieves_both<K: Kernel, S: DigitStore + Drop>(
+    rt: &(impl Abort + AllocGlobal),
+    kernel: K,
+) -> Result<(), Fail> {
     let layout = Layout::new(8, 1, 1, 2)?;
-    let first = from_zero_seed(&rt, &layout, &[0x0a, 0xc8], 1, 0, 0)?;
+    let first = from_zero_seed::<K, S>(rt, kernel, &layout, &[0x0a, 0xc8], 1, 0, 0)?;
     assert_eq!(rt;
         first.words.as_slice(),
         [3_496_597_096, 2_386_059_201, 1_867_373_875].as_slice()
     );
     assert_eq!(rt; first.record.as_slice(), [0x0a].as_slice());
-    let second = from_zero_seed(&rt, &layout, &[0x0a, 0xc8], 1, 0, 1)?;
+    let second = from_zero_seed::<K, S>(rt, kernel, &layout, &[0x0a, 0xc8], 1, 0, 1)?;
     assert_eq!(rt;
         second.words.as_slice(),
         [3_479_819_880, 2_402_836_417, 1_867_373_875].as_slice()
     );
     assert_eq!(rt; second.record.as_slice(), [0xc8].as_slice());
+    are_words(rt, &second.answered, &SECOND_ANSWER);
     Ok(())
 }
 
-// Its words, too, were computed so.
+// The answer to the second query, computed so, too.
+const SECOND_ANSWER: [u32; 12] = [
+    1_281_225_128,
+    2_619_178_226,
+    3_309_190_403,
+    830_566_178,
+    3_547_515_668,
+    1_119_626_907,
+    2_987_665_297,
+    2_053_719_937,
+    3_920_798_472,
+    4_294_819_626,
+    2_427_445_751,
+    1_866_561_690,
+];
+
 #[test]
-fn an_answer_word_by_word(rt: HostRuntime) -> Result<(), Fail> {
-    let layout = Layout::new(8, 1, 1, 2)?;
-    let got = from_zero_seed(&rt, &layout, &[0x0a, 0xc8], 1, 0, 1)?;
-    let words = [
-        1_281_225_128,
-        2_619_178_226,
-        3_309_190_403,
-        830_566_178,
-        3_547_515_668,
-        1_119_626_907,
-        2_987_665_297,
-        2_053_719_937,
-        3_920_798_472,
-        4_294_819_626,
-        2_427_445_751,
-        1_866_561_690,
-    ];
-    assert_eq!(rt; got.answered.as_slice(), words.as_slice());
+fn both_records_of_a_store_of_two(rt: HostRuntime) -> Result<(), Fail> {
+    retrieves_both::<Plain, Flat>(&rt, Plain)?;
+    retrieves_both::<Lanes, Packed3>(&rt, Lanes)
+}
+
+fn retrieves_long_records<K: Kernel, S: DigitStore + Drop>(
+    rt: &(impl Abort + AllocGlobal),
+    kernel: K,
+) -> Result<(), Fail> {
+    let layout = Layout::new(6, 2, 2, 3)?;
+    let records = [0xab, 0xcd, 0x12, 0xff, 0x34, 0x56];
+    let first = from_zero_seed::<K, S>(rt, kernel, &layout, &records, 2, 0, 0)?;
+    assert_eq!(rt; first.record.as_slice(), [0xab, 0xcd].as_slice());
+    assert_eq!(rt; (first.words.len(), first.answered.len()), (20, 66));
+    let second = from_zero_seed::<K, S>(rt, kernel, &layout, &records, 2, 0, 1)?;
+    assert_eq!(rt; second.record.as_slice(), [0x12, 0xff].as_slice());
+    let third = from_zero_seed::<K, S>(rt, kernel, &layout, &records, 2, 5, 2)?;
+    assert_eq!(rt; third.record.as_slice(), [0x34, 0x56].as_slice());
     Ok(())
 }
 
 #[test]
 fn records_of_several_digits(rt: HostRuntime) -> Result<(), Fail> {
-    let layout = Layout::new(6, 2, 2, 3)?;
-    let records = [0xab, 0xcd, 0x12, 0xff, 0x34, 0x56];
-    let first = from_zero_seed(&rt, &layout, &records, 2, 0, 0)?;
-    assert_eq!(rt; first.record.as_slice(), [0xab, 0xcd].as_slice());
-    assert_eq!(rt; (first.words.len(), first.answered.len()), (20, 66));
-    let second = from_zero_seed(&rt, &layout, &records, 2, 0, 1)?;
-    assert_eq!(rt; second.record.as_slice(), [0x12, 0xff].as_slice());
-    let third = from_zero_seed(&rt, &layout, &records, 2, 5, 2)?;
-    assert_eq!(rt; third.record.as_slice(), [0x34, 0x56].as_slice());
-    Ok(())
+    retrieves_long_records::<Plain, Flat>(&rt, Plain)?;
+    retrieves_long_records::<Lanes, Packed3>(&rt, Lanes)
 }
 
 // What words read as under a hint of zeros, where a word stands for its nearest digit: six words of h, then

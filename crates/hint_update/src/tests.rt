@@ -1,5 +1,6 @@
 use super::*;
-use digit_pack::{DigitStore, Flat};
+use digit_pack::{DigitStore, Flat, Packed3};
+use lane_kernels::Lanes;
 use matrix_u32::{Kernel, Plain};
 use std::process::Abort;
 use std::test::Fail;
@@ -16,7 +17,8 @@ fn follows_one_digit<K: Kernel>(rt: &(impl Abort + AllocGlobal), kernel: K) -> R
 
 #[test]
 fn a_digit_goes_down(rt: HostRuntime) -> Result<(), Fail> {
-    follows_one_digit(&rt, Plain)
+    follows_one_digit(&rt, Plain)?;
+    follows_one_digit(&rt, Lanes)
 }
 
 #[test]
@@ -30,20 +32,21 @@ fn an_equal_digit_changes_nothing(rt: HostRuntime) -> Result<(), Fail> {
 }
 
 // The hints of both sides for the first hint's words, one for each row of D: A2 = (2), (7), digits of 8 bits.
-fn both_hints(
+fn both_hints<K: Kernel, S: DigitStore + Drop>(
     rt: &(impl Abort + AllocGlobal),
+    kernel: K,
     words: &[u32],
     a2: &Matrix,
-) -> Result<(Flat, Matrix), Fail> {
+) -> Result<(S, Matrix), Fail> {
     let hint = Matrix::from_words(2, 1, words.to_vec(rt.alloc())?)?;
     assert!(rt; a2.rows() == hint.rows() && a2.cols() == hint.cols());
     assert!(rt; hint.rows() <= 4096 && hint.cols() <= 1024);
-    let hints = double_scheme::setup(rt.alloc(), Plain, &hint, a2, 8)?;
+    let hints = double_scheme::setup(rt.alloc(), kernel, &hint, a2, 8)?;
     Ok(hints)
 }
 
 // Both columns of the server's hint.
-fn columns(rt: &(impl Abort + AllocGlobal), server: &Flat) -> Result<Vec<u32>, Fail> {
+fn columns<S: DigitStore>(rt: &(impl Abort + AllocGlobal), server: &S) -> Result<Vec<u32>, Fail> {
     assert!(rt; server.cols() == 2);
     let mut digits = Vec::new(rt.alloc());
     for j in 0..2 {
@@ -55,21 +58,29 @@ fn columns(rt: &(impl Abort + AllocGlobal), server: &Flat) -> Result<Vec<u32>, F
 }
 
 // Digits 1 2 over 3 4 under A1 = (3), (5) have the first hint 13, 29; with 200 for the 2 it is 1003, 29.
-#[test]
-fn both_hints_follow_a_row(rt: HostRuntime) -> Result<(), Fail> {
+fn follows_one_row<K: Kernel, S: DigitStore + Drop>(
+    rt: &(impl Abort + AllocGlobal),
+    kernel: K,
+) -> Result<(), Fail> {
     let a2 = Matrix::from_words(2, 1, vec![in rt.alloc(); 2u32, 7]?)?;
-    let (mut server, mut client) = both_hints(&rt, &[13, 29], &a2)?;
+    let (mut server, mut client): (S, Matrix) = both_hints(rt, kernel, &[13, 29], &a2)?;
     assert_eq!(rt; client.words(), [229, 0, 0, 0].as_slice());
     assert!(rt; server.rows() == split_count(8) && server.cols() == 2 && a2.rows() == 2);
     assert!(rt; client.rows() == server.rows() && client.cols() == a2.cols());
-    update_double(Plain, &mut server, &mut client, &a2, 8, 0, &[1003]);
+    update_double(kernel, &mut server, &mut client, &a2, 8, 0, &[1003]);
     assert_eq!(rt;
-        columns(&rt, &server)?.as_slice(),
+        columns(rt, &server)?.as_slice(),
         [235, 3, 0, 0, 29, 0, 0, 0].as_slice()
     );
     assert_eq!(rt; client.words(), [673, 6, 0, 0].as_slice());
-    let (fresh, fresh_client) = both_hints(&rt, &[1003, 29], &a2)?;
-    assert!(rt; columns(&rt, &server)? == columns(&rt, &fresh)?);
+    let (fresh, fresh_client): (S, Matrix) = both_hints(rt, kernel, &[1003, 29], &a2)?;
+    assert!(rt; columns(rt, &server)? == columns(rt, &fresh)?);
     assert_eq!(rt; client.words(), fresh_client.words());
     Ok(())
+}
+
+#[test]
+fn both_hints_follow_a_row(rt: HostRuntime) -> Result<(), Fail> {
+    follows_one_row::<Plain, Flat>(&rt, Plain)?;
+    follows_one_row::<Lanes, Packed3>(&rt, Lanes)
 }

@@ -4,13 +4,16 @@ ghost use Rattle.std.specs.Prelude.{◌≡◌, ◌<◌, ◌≤◌, ◌*◌, ◌^
 ghost use Rattle.matrix_u32.specs.Matrix.{product};
 ghost use Rattle.lane_kernels.specs.Packed.{packed_cols};
 
+use digit_pack::{DigitStore, Packed3};
 use lane_kernels::{Lanes, packed_mul_vec, split_row};
 use matrix_u32::{Kernel, Matrix};
+use std::alloc::Global;
 use std::io;
 use std::rt::Runtime;
 use std::time::Instant;
 
-fn nanos_since(rt: &impl Runtime, start: Instant) -> io::Result<u64> {
+/// The nanoseconds since a start.
+pub fn nanos_since(rt: &impl Runtime, start: Instant) -> io::Result<u64> {
     let took = start.elapsed(rt)?;
     Ok(u64::try_from(took.as_nanos()).unwrap_or(u64::MAX))
 }
@@ -67,6 +70,58 @@ pub fn packed(
         least = least.min(nanos_since(rt, start)?);
     }
     Ok(least)
+}
+
+/// The answer to a query, over digits as a store keeps them.
+pub fn answer(
+    rt: &impl Runtime,
+    alloc: Global,
+    turns: u32,
+    digits: &Packed3,
+    query: &[u32],
+) -> anyhow::Result<(u64, Vec<u32>)>
+    requires { length query.now ≡ digits.now.cols }
+{
+    let mut least = u64::MAX;
+    let mut words = Vec::new(alloc);
+    for _turn in 0..turns {
+        let start = Instant::now(rt)?;
+        words = simple_scheme::answer(alloc, Lanes, digits, query)?;
+        least = least.min(nanos_since(rt, start)?);
+    }
+    Ok((least, words))
+}
+
+/// SimplePIR's hint, made in one turn.
+pub fn simple_setup(
+    rt: &impl Runtime,
+    alloc: Global,
+    digits: &Packed3,
+    a1: &Matrix,
+) -> anyhow::Result<(u64, Matrix)>
+    requires rows { a1.now.rows ≡ digits.now.cols }
+    requires size { digits.now.rows * a1.now.cols ≤ 33554432 }
+{
+    let start = Instant::now(rt)?;
+    let hint = simple_scheme::setup(alloc, Lanes, digits, a1)?;
+    Ok((nanos_since(rt, start)?, hint))
+}
+
+/// Both hints of DoublePIR in digits of ten bits, made in one turn; the client's is given back.
+pub fn double_setup(
+    rt: &impl Runtime,
+    alloc: Global,
+    hint: &Matrix,
+    a2: &Matrix,
+) -> anyhow::Result<(u64, Matrix)>
+    requires rows { a2.now.rows ≡ hint.now.rows }
+    requires cols { a2.now.cols ≡ hint.now.cols }
+    requires row_limit { hint.now.rows ≤ 4096 }
+    requires col_limit { hint.now.cols ≤ 1024 }
+{
+    let start = Instant::now(rt)?;
+    let (_server, client): (Packed3, Matrix) = double_scheme::setup(alloc, Lanes, hint, a2, 10)?;
+    Ok((nanos_since(rt, start)?, client))
 }
 
 /// Adds each row of `a` to one list.

@@ -1,5 +1,6 @@
 use super::*;
-use digit_pack::{DigitStore, Flat, Layout, pack};
+use digit_pack::{DigitStore, Flat, Layout, Packed3, pack};
+use lane_kernels::Lanes;
 use matrix_u32::{Kernel, Matrix, Plain};
 use seed_expand::expand;
 use std::process::Abort;
@@ -66,13 +67,16 @@ fn retrieve<K: Kernel, S: DigitStore>(
     Ok((words, record))
 }
 
-#[test]
-fn both_records_of_a_store_of_two(rt: HostRuntime) -> Result<(), Fail> {
+// Both records of one byte.
+fn retrieves_both<K: Kernel, S: DigitStore + Drop>(
+    rt: &(impl Abort + AllocGlobal),
+    kernel: K,
+) -> Result<(), Fail> {
     let layout = Layout::new(8, 1, 1, 2)?;
-    let (digits, a1): (Flat, Matrix) = two_records(&rt, &layout, &[0x0a, 0xc8])?;
-    let (first, record) = retrieve(&rt, Plain, &layout, &digits, &a1, 0)?;
+    let (digits, a1): (S, Matrix) = two_records(rt, &layout, &[0x0a, 0xc8])?;
+    let (first, record) = retrieve(rt, kernel, &layout, &digits, &a1, 0)?;
     assert_eq!(rt; record.as_slice(), [0x0a].as_slice());
-    let (second, record) = retrieve(&rt, Plain, &layout, &digits, &a1, 1)?;
+    let (second, record) = retrieve(rt, kernel, &layout, &digits, &a1, 1)?;
     assert_eq!(rt; record.as_slice(), [0xc8].as_slice());
     // the two queries differ by delta at the two columns
     assert_eq!(rt; (first.len(), second.len()), (2, 2));
@@ -82,23 +86,84 @@ fn both_records_of_a_store_of_two(rt: HostRuntime) -> Result<(), Fail> {
 }
 
 #[test]
-fn the_hint_of_a_store_of_two(rt: HostRuntime) -> Result<(), Fail> {
+fn both_records_of_a_store_of_two(rt: HostRuntime) -> Result<(), Fail> {
+    retrieves_both::<Plain, Flat>(&rt, Plain)?;
+    retrieves_both::<Lanes, Packed3>(&rt, Lanes)
+}
+
+// Its hint.
+fn makes_the_hint<K: Kernel, S: DigitStore + Drop>(
+    rt: &(impl Abort + AllocGlobal),
+    kernel: K,
+) -> Result<(), Fail> {
     let layout = Layout::new(8, 1, 1, 2)?;
-    let (digits, a1): (Flat, Matrix) = two_records(&rt, &layout, &[0x0a, 0xc8])?;
+    let (digits, a1): (S, Matrix) = two_records(rt, &layout, &[0x0a, 0xc8])?;
     assert!(rt; digits.rows() == 1 && digits.cols() == 2 && a1.rows() == 2 && a1.cols() == 1);
-    let hint = setup(rt.alloc(), Plain, &digits, &a1)?;
+    let hint = setup(rt.alloc(), kernel, &digits, &a1)?;
     assert_eq!(rt; hint.words(), [2_066_479_516].as_slice());
     Ok(())
 }
 
 #[test]
-fn records_of_several_digits(rt: HostRuntime) -> Result<(), Fail> {
+fn the_hint_of_a_store_of_two(rt: HostRuntime) -> Result<(), Fail> {
+    makes_the_hint::<Plain, Flat>(&rt, Plain)?;
+    makes_the_hint::<Lanes, Packed3>(&rt, Lanes)
+}
+
+// Both records of two bytes, of three digits each.
+fn retrieves_long_records<K: Kernel, S: DigitStore + Drop>(
+    rt: &(impl Abort + AllocGlobal),
+    kernel: K,
+) -> Result<(), Fail> {
     let layout = Layout::new(6, 2, 1, 2)?;
-    let (digits, a1): (Flat, Matrix) = two_records(&rt, &layout, &[0xab, 0xcd, 0x12, 0xff])?;
-    let (_, record) = retrieve(&rt, Plain, &layout, &digits, &a1, 0)?;
+    let (digits, a1): (S, Matrix) = two_records(rt, &layout, &[0xab, 0xcd, 0x12, 0xff])?;
+    let (_, record) = retrieve(rt, kernel, &layout, &digits, &a1, 0)?;
     assert_eq!(rt; record.as_slice(), [0xab, 0xcd].as_slice());
-    let (_, record) = retrieve(&rt, Plain, &layout, &digits, &a1, 1)?;
+    let (_, record) = retrieve(rt, kernel, &layout, &digits, &a1, 1)?;
     assert_eq!(rt; record.as_slice(), [0x12, 0xff].as_slice());
+    Ok(())
+}
+
+#[test]
+fn records_of_several_digits(rt: HostRuntime) -> Result<(), Fail> {
+    retrieves_long_records::<Plain, Flat>(&rt, Plain)?;
+    retrieves_long_records::<Lanes, Packed3>(&rt, Lanes)
+}
+
+// Digits of a shape, and the hint that they have under a public matrix of two columns.
+fn hint_of_shape<K: Kernel, S: DigitStore + Drop>(
+    rt: &(impl Abort + AllocGlobal),
+    kernel: K,
+    rows: usize,
+    cols: usize,
+) -> Result<Matrix, Fail> {
+    let Ok(mut digits) = S::zeros(rt.alloc(), rows, cols) else {
+        panic!(rt; "no memory");
+    };
+    let mut state = 1u32;
+    for i in 0..rows {
+        for j in 0..cols {
+            state = state.wrapping_mul(1_664_525).wrapping_add(1_013_904_223);
+            assert!(rt; i < digits.rows() && j < digits.cols());
+            digits.set(i, j, state >> 22);
+        }
+    }
+    let a1 = expand(rt.alloc(), &ZERO_SEED, 0, 0, cols, 2)?;
+    assert!(rt; a1.rows() == digits.cols() && digits.rows() <= 100 && a1.cols() == 2);
+    let hint = setup(rt.alloc(), kernel, &digits, &a1)?;
+    Ok(hint)
+}
+
+// 70 rows are made in two blocks.
+#[test]
+fn packed_and_flat_digits_have_the_same_hint(rt: HostRuntime) -> Result<(), Fail> {
+    for cols in [1, 2, 3, 4, 5, 7, 4096] {
+        for rows in [1, 64, 70] {
+            let flat = hint_of_shape::<Plain, Flat>(&rt, Plain, rows, cols)?;
+            let packed = hint_of_shape::<Lanes, Packed3>(&rt, Lanes, rows, cols)?;
+            assert_eq!(rt; flat.words(), packed.words(), "{rows} rows, {cols} columns");
+        }
+    }
     Ok(())
 }
 

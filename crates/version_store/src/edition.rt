@@ -2,8 +2,9 @@
 
 ghost use Rattle.std.specs.Prelude.{◌≡◌, [], ◌*◌, ◌<◌, ◌≤◌, IfOk, length};
 ghost use Rattle.digit_pack.specs.Layout.{digit_rows, digit_cols, digits_per_record, record_at, records_in};
-ghost use Rattle.pir_schemes.specs.Plans.{IsPlan, plan_of};
-ghost use Rattle.pir_schemes.specs.Retrievals.{hint_matrix, query_count, answer_words};
+ghost use Rattle.digit_pack.specs.Packed.{packed};
+ghost use Rattle.pir_schemes.specs.Plans.{IsPlan, plan_of, digits_at};
+ghost use Rattle.pir_schemes.specs.Retrievals.{hint_matrix, server_hint, query_count, answer_words};
 ghost use Rattle.version_store.specs.Drafts.{draft_of, FitRecords};
 ghost use Rattle.version_store.specs.Editions.{Records, version_shape};
 ghost use Rattle.version_store.specs.Openings.{bytes_of_records};
@@ -124,6 +125,20 @@ impl<K: Kernel> Edition<K> {
             Scheme::Simple => self.layer.hint(),
             Scheme::Double => &self.client,
         }
+    }
+
+    /// The words of the digits, three digits in each, as they are kept.
+    pub fn digit_words(&self) -> &[u32]
+        ensures { result.now ≡ packed (digits_at self.now.plan self.now.records) }
+    {
+        self.layer.digits().words()
+    }
+
+    /// The words of DoublePIR's server hint, three digits in each, as they are kept.
+    pub fn server_words(&self) -> &[u32]
+        ensures { result.now ≡ packed (server_hint self.now.plan self.now.records) }
+    {
+        self.server.words()
     }
 
     /// The answer to the words of a query. Only refused memory gives an `Err`.

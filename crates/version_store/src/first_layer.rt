@@ -8,15 +8,15 @@ ghost use Rattle.version_store.specs.Editions.{Records, version_shape, MarksChan
 ghost use Rattle.version_store.specs.Openings.{bytes_of_records};
 
 use crate::columns::replace_digits;
-use digit_pack::{DigitStore, Flat, Layout, digits_of_records, pack, record_of, write_record};
+use digit_pack::{DigitStore, Layout, Packed3, digits_of_records, pack, record_of, write_record};
 use matrix_u32::{Kernel, Matrix};
 use pir_schemes::Scheme;
 use seed_expand::expand;
 use std::alloc::{AllocError, Global};
 use std::marker::Model;
 
-/// What keeps the digits.
-pub type Digits = Flat;
+/// What keeps the digits: three in a word.
+pub type Digits = Packed3;
 
 /// The records of one version, their digit matrix, the first public matrix and the SimplePIR hint. A
 /// contract sees it as `Records`: the hint is always the one that is made from scratch.

@@ -3,9 +3,10 @@
 ghost use Rattle.std.specs.Prelude.{ℕ, ◌≡◌, ◌≢◌, ◌+◌, ◌*◌, ◌^◌, ◌<◌, ◌≤◌, ◌↔◌, length, true, false, OnOk, OnErr, IfErr, IfOk, IfSome, IsNone, take, slice_set, IsErrOf, IsTrue};
 ghost use Rattle.matrix_u32.specs.Matrix.{row};
 ghost use Rattle.digit_pack.specs.Layout.{digits_per_record, digit_rows, record_at, records_in};
-ghost use Rattle.pir_schemes.specs.Plans.{IsPlan, fits};
+ghost use Rattle.digit_pack.specs.Packed.{packed};
+ghost use Rattle.pir_schemes.specs.Plans.{IsPlan, fits, digits_at};
 ghost use Rattle.pir_schemes.specs.Parts.{part_of};
-ghost use Rattle.pir_schemes.specs.Retrievals.{hint_matrix, query_count, answer_words};
+ghost use Rattle.pir_schemes.specs.Retrievals.{hint_matrix, server_hint, query_count, answer_words};
 ghost use Rattle.version_store.specs.Editions.{version_shape};
 ghost use Rattle.snapshot_file.specs.Snapshots.{header_of, shape_of};
 ghost use Rattle.version_store.specs.Openings.{IsSound, IsOpenFault, held_of, header_of_held, bytes_of_records, snapshot_of};
@@ -226,6 +227,25 @@ impl<K: Kernel> Store<K> {
         ensures count { length result.now ≡ self.now.edition.plan.dimension }
     {
         self.edition.hint(Scheme::Simple).row(r)
+    }
+
+    /// The digits of the current version as they are kept, three in a word: row by row, a row in as many words as
+    /// its digits divided by 3, rounded up; digit 3 t + u of a row stands in bits 10 u to 10 u + 9 of its word
+    /// t, and the other bits are 0. It takes no memory.
+    pub fn digit_words(&self) -> &[u32]
+        ensures { result.now ≡
+            packed (digits_at self.now.edition.plan self.now.edition.records) }
+    {
+        self.edition.digit_words()
+    }
+
+    /// DoublePIR's server hint of the current version, kept and lent in the same way: κ n rows of digits, one
+    /// digit of a row for each row of the records' digits. It takes no memory.
+    pub fn server_words(&self) -> &[u32]
+        ensures { result.now ≡
+            packed (server_hint self.now.edition.plan self.now.edition.records) }
+    {
+        self.edition.server_words()
     }
 
     /// The answer to the words of a scheme's query on the current version. Only refused memory gives an

@@ -3,8 +3,10 @@
 mod counting;
 
 use super::*;
-use matrix_u32::Plain;
+use lane_kernels::Lanes;
+use matrix_u32::{Kernel, Plain};
 use std::alloc::Global;
+use std::process::Abort;
 use std::test::Fail;
 
 mod texts;
@@ -35,25 +37,28 @@ const FIRST_HINT: u32 = 2066479516;
 const DOUBLE_HINT: [u32; 4] = [4027250084, 4280627063, 394247461, 1027848149];
 
 // The fault of opening a snapshot.
-fn refusal(alloc: Global, header: Header, bytes: &[u8]) -> Result<Option<OpenError>, Fail> {
+fn refusal<K: Kernel>(
+    alloc: Global,
+    kernel: K,
+    header: Header,
+    bytes: &[u8],
+) -> Result<Option<OpenError>, Fail> {
     let snapshot = header.with_records(bytes.to_vec(alloc)?);
-    match Store::open(alloc, Plain, snapshot) {
+    match Store::open(alloc, kernel, snapshot) {
         Ok(_) => Ok(None),
         Err(fault) => Ok(Some(fault)),
     }
 }
 
 // The store of two records, at some version.
-fn two_records(alloc: Global, version: u64) -> Result<Store<Plain>, Fail> {
+fn two_records<K: Kernel>(alloc: Global, kernel: K, version: u64) -> Result<Store<K>, Fail> {
     let header = Header { version, ..STORE };
     let snapshot = header.with_records([10u8, 200].to_vec(alloc)?);
-    let store = Store::open(alloc, Plain, snapshot)?;
+    let store = Store::open(alloc, kernel, snapshot)?;
     Ok(store)
 }
 
-#[test]
-fn a_store_reports_its_sizes(rt: HostRuntime) -> Result<(), Fail> {
-    let store = two_records(rt.alloc(), 1)?;
+fn reports_its_sizes<K: Kernel>(rt: &impl Abort, store: &Store<K>) {
     assert_eq!(rt; store.version(), 1);
     assert_eq!(rt; store.layout().count(), 2);
     assert_eq!(rt; store.dimension(), 1);
@@ -72,12 +77,29 @@ fn a_store_reports_its_sizes(rt: HostRuntime) -> Result<(), Fail> {
     assert_eq!(rt; store.hint_words(Scheme::Double, 0), Some(&DOUBLE_HINT[..]));
     assert_eq!(rt; store.hint_words(Scheme::Double, 1), None);
     assert_eq!(rt; store.header(), STORE);
-    Ok(())
 }
 
 #[test]
-fn an_answer_is_of_the_current_version(rt: HostRuntime) -> Result<(), Fail> {
-    let store = two_records(rt.alloc(), 1)?;
+fn a_store_reports_its_sizes(rt: HostRuntime) -> Result<(), Fail> {
+    reports_its_sizes(&rt, &two_records(rt.alloc(), Plain, 1)?);
+    reports_its_sizes(&rt, &two_records(rt.alloc(), Lanes, 1)?);
+    Ok(())
+}
+
+// 204810 is 10 + 200 * 1024; the server's hint has the four bytes of the first hint, one in a row.
+fn lends_its_words<K: Kernel>(rt: &impl Abort, store: &Store<K>) {
+    assert_eq!(rt; store.digit_words(), &[204810u32][..]);
+    assert_eq!(rt; store.server_words(), &[156u32, 249, 43, 123][..]);
+}
+
+#[test]
+fn digits_are_lent_three_in_a_word(rt: HostRuntime) -> Result<(), Fail> {
+    lends_its_words(&rt, &two_records(rt.alloc(), Plain, 1)?);
+    lends_its_words(&rt, &two_records(rt.alloc(), Lanes, 1)?);
+    Ok(())
+}
+
+fn answers_the_current_version<K: Kernel>(rt: &impl Abort, store: &Store<K>) -> Result<(), Fail> {
     let words = [22, 16777249];
     assert_eq!(rt; store.query_words(Scheme::Simple), words.len());
     let answer = store.answer_simple(&words)?;
@@ -85,11 +107,15 @@ fn an_answer_is_of_the_current_version(rt: HostRuntime) -> Result<(), Fail> {
     Ok(())
 }
 
+#[test]
+fn an_answer_is_of_the_current_version(rt: HostRuntime) -> Result<(), Fail> {
+    answers_the_current_version(&rt, &two_records(rt.alloc(), Plain, 1)?)?;
+    answers_the_current_version(&rt, &two_records(rt.alloc(), Lanes, 1)?)
+}
+
 // 12 words: the digits of 3355450020 times the second public matrix; the digits of the hint times 44; and the
 // digits of 3355450020 times 44.
-#[test]
-fn a_double_answer_is_of_the_current_version(rt: HostRuntime) -> Result<(), Fail> {
-    let store = two_records(rt.alloc(), 1)?;
+fn answers_double<K: Kernel>(rt: &impl Abort, store: &Store<K>) -> Result<(), Fail> {
     let words = [22, 16777249, 44];
     assert_eq!(rt; store.query_words(Scheme::Double), words.len());
     let answer = store.answer_double(&words)?;
@@ -101,12 +127,17 @@ fn a_double_answer_is_of_the_current_version(rt: HostRuntime) -> Result<(), Fail
 }
 
 #[test]
-fn an_edit_is_seen_after_its_publication(rt: HostRuntime) -> Result<(), Fail> {
-    let mut store = two_records(rt.alloc(), 1)?;
+fn a_double_answer_is_of_the_current_version(rt: HostRuntime) -> Result<(), Fail> {
+    answers_double(&rt, &two_records(rt.alloc(), Plain, 1)?)?;
+    answers_double(&rt, &two_records(rt.alloc(), Lanes, 1)?)
+}
+
+fn sees_an_edit_after_its_publication<K: Kernel>(rt: &impl Abort, store: &mut Store<K>) {
     assert_eq!(rt; store.publish(), Err(PublishError::NothingToPublish));
     assert_eq!(rt; store.edit(1, &[100]), Ok(()));
     assert_eq!(rt; store.version(), 1);
     assert_eq!(rt; store.bytes(), &[10u8, 200][..]);
+    assert_eq!(rt; store.digit_words(), &[204810u32][..]);
     assert_eq!(rt;
         store.hint_words(Scheme::Simple, 0),
         Some(&[FIRST_HINT][..])
@@ -114,6 +145,7 @@ fn an_edit_is_seen_after_its_publication(rt: HostRuntime) -> Result<(), Fail> {
     assert_eq!(rt; store.publish(), Ok(2));
     assert_eq!(rt; store.version(), 2);
     assert_eq!(rt; store.bytes(), &[10u8, 100][..]);
+    assert_eq!(rt; store.digit_words(), &[102410u32][..]);
     assert_eq!(rt;
         store.hint_words(Scheme::Simple, 0),
         Some(&[586782492u32][..])
@@ -121,12 +153,16 @@ fn an_edit_is_seen_after_its_publication(rt: HostRuntime) -> Result<(), Fail> {
     let double = [2154495524, 3182343673, 4280627063, 2309389758];
     assert_eq!(rt; store.hint_words(Scheme::Double, 0), Some(&double[..]));
     assert_eq!(rt; store.publish(), Err(PublishError::NothingToPublish));
-    Ok(())
 }
 
 #[test]
-fn the_later_of_two_edits_counts(rt: HostRuntime) -> Result<(), Fail> {
-    let mut store = two_records(rt.alloc(), 7)?;
+fn an_edit_is_seen_after_its_publication(rt: HostRuntime) -> Result<(), Fail> {
+    sees_an_edit_after_its_publication(&rt, &mut two_records(rt.alloc(), Plain, 1)?);
+    sees_an_edit_after_its_publication(&rt, &mut two_records(rt.alloc(), Lanes, 1)?);
+    Ok(())
+}
+
+fn counts_the_later_edit<K: Kernel>(rt: &impl Abort, store: &mut Store<K>) {
     assert_eq!(rt; store.edit(0, &[1]), Ok(()));
     assert_eq!(rt; store.edit(0, &[10]), Ok(()));
     assert_eq!(rt; store.publish(), Ok(8));
@@ -135,36 +171,52 @@ fn the_later_of_two_edits_counts(rt: HostRuntime) -> Result<(), Fail> {
         store.hint_words(Scheme::Simple, 0),
         Some(&[FIRST_HINT][..])
     );
-    Ok(())
 }
 
 #[test]
-fn edits_are_refused(rt: HostRuntime) -> Result<(), Fail> {
-    let mut store = two_records(rt.alloc(), 1)?;
+fn the_later_of_two_edits_counts(rt: HostRuntime) -> Result<(), Fail> {
+    counts_the_later_edit(&rt, &mut two_records(rt.alloc(), Plain, 7)?);
+    counts_the_later_edit(&rt, &mut two_records(rt.alloc(), Lanes, 7)?);
+    Ok(())
+}
+
+fn refuses_edits<K: Kernel>(rt: &impl Abort, store: &mut Store<K>) {
     assert_eq!(rt; store.edit(2, &[]), Err(EditError::BadIndex));
     assert_eq!(rt; store.edit(1, &[]), Err(EditError::BadLength));
     assert_eq!(rt; store.edit(0, &[1, 2]), Err(EditError::BadLength));
     assert_eq!(rt; store.publish(), Err(PublishError::NothingToPublish));
-    Ok(())
 }
 
 #[test]
-fn the_last_version_stays(rt: HostRuntime) -> Result<(), Fail> {
-    let mut store = two_records(rt.alloc(), u64::MAX)?;
+fn edits_are_refused(rt: HostRuntime) -> Result<(), Fail> {
+    refuses_edits(&rt, &mut two_records(rt.alloc(), Plain, 1)?);
+    refuses_edits(&rt, &mut two_records(rt.alloc(), Lanes, 1)?);
+    Ok(())
+}
+
+fn stays_at_the_last_version<K: Kernel>(rt: &impl Abort, store: &mut Store<K>) {
     assert_eq!(rt; store.edit(1, &[100]), Ok(()));
     assert_eq!(rt; store.publish(), Err(PublishError::VersionsUsedUp));
     assert_eq!(rt; store.publish(), Err(PublishError::VersionsUsedUp));
     assert_eq!(rt; store.version(), u64::MAX);
     assert_eq!(rt; store.bytes(), &[10u8, 200][..]);
-    Ok(())
 }
 
 #[test]
-fn snapshots_are_refused_by_their_first_cause(rt: HostRuntime) -> Result<(), Fail> {
+fn the_last_version_stays(rt: HostRuntime) -> Result<(), Fail> {
+    stays_at_the_last_version(&rt, &mut two_records(rt.alloc(), Plain, u64::MAX)?);
+    stays_at_the_last_version(&rt, &mut two_records(rt.alloc(), Lanes, u64::MAX)?);
+    Ok(())
+}
+
+fn refuses_by_the_first_cause<K: Kernel>(
+    rt: &(impl Abort + AllocGlobal),
+    kernel: K,
+) -> Result<(), Fail> {
     let two = [10u8, 200];
     let three = [10u8, 200, 3];
     let alloc = rt.alloc();
-    assert_eq!(rt; refusal(alloc, STORE, &two)?, None);
+    assert_eq!(rt; refusal(alloc, kernel, STORE, &two)?, None);
     for header in [
         Header {
             dimension: 1025,
@@ -182,25 +234,47 @@ fn snapshots_are_refused_by_their_first_cause(rt: HostRuntime) -> Result<(), Fai
         },
         Header { groups: 0, ..STORE },
     ] {
-        assert_eq!(rt; refusal(alloc, header, &three)?, Some(OpenError::BadLayout));
+        assert_eq!(rt;
+            refusal(alloc, kernel, header, &three)?,
+            Some(OpenError::BadLayout)
+        );
     }
     let none = Header {
         version: 0,
         ..STORE
     };
-    assert_eq!(rt; refusal(alloc, none, &two)?, Some(OpenError::BadVersion));
-    assert_eq!(rt; refusal(alloc, none, &three)?, Some(OpenError::BadVersion));
-    assert_eq!(rt; refusal(alloc, STORE, &three)?, Some(OpenError::BadRecords));
-    assert_eq!(rt; refusal(alloc, STORE, &[])?, Some(OpenError::BadRecords));
+    assert_eq!(rt;
+        refusal(alloc, kernel, none, &two)?,
+        Some(OpenError::BadVersion)
+    );
+    assert_eq!(rt;
+        refusal(alloc, kernel, none, &three)?,
+        Some(OpenError::BadVersion)
+    );
+    assert_eq!(rt;
+        refusal(alloc, kernel, STORE, &three)?,
+        Some(OpenError::BadRecords)
+    );
+    assert_eq!(rt;
+        refusal(alloc, kernel, STORE, &[])?,
+        Some(OpenError::BadRecords)
+    );
     Ok(())
 }
 
 #[test]
-fn a_store_is_written_and_read_back(rt: HostRuntime) -> Result<(), Fail> {
-    let mut store = two_records(rt.alloc(), 1)?;
+fn snapshots_are_refused_by_their_first_cause(rt: HostRuntime) -> Result<(), Fail> {
+    refuses_by_the_first_cause(&rt, Plain)?;
+    refuses_by_the_first_cause(&rt, Lanes)
+}
+
+fn is_written_and_read_back<K: Kernel>(
+    rt: &(impl Abort + AllocGlobal),
+    store: &mut Store<K>,
+) -> Result<(), Fail> {
     assert_eq!(rt; store.edit(1, &[100]), Ok(()));
     let mut file = Vec::with_capacity(rt.alloc(), 125)?;
-    assert_eq!(rt; write_snapshot(rt.alloc(), &store, &mut file), Ok(()));
+    assert_eq!(rt; write_snapshot(rt.alloc(), store, &mut file), Ok(()));
     assert_eq!(rt; file.len(), 125);
     let mut reader = file.as_slice();
     let snapshot = read_snapshot(rt.alloc(), &mut reader)?;
@@ -210,7 +284,13 @@ fn a_store_is_written_and_read_back(rt: HostRuntime) -> Result<(), Fail> {
 }
 
 #[test]
-fn edits_across_columns_keep_the_hint(rt: HostRuntime) -> Result<(), Fail> {
+fn a_store_is_written_and_read_back(rt: HostRuntime) -> Result<(), Fail> {
+    is_written_and_read_back(&rt, &mut two_records(rt.alloc(), Plain, 1)?)?;
+    is_written_and_read_back(&rt, &mut two_records(rt.alloc(), Lanes, 1)?)
+}
+
+// The store of seven records of three bytes, two to a column; some of them are others where `is_changed`.
+fn seven_records<K: Kernel>(alloc: Global, kernel: K, is_changed: bool) -> Result<Store<K>, Fail> {
     let header = Header {
         width: 6,
         record_len: 3,
@@ -219,29 +299,46 @@ fn edits_across_columns_keep_the_hint(rt: HostRuntime) -> Result<(), Fail> {
         dimension: 5,
         ..STORE
     };
-    let mut before = Vec::new(rt.alloc());
-    let mut after = Vec::new(rt.alloc());
+    let mut bytes = Vec::new(alloc);
     for i in 0..21u8 {
-        before.push(i * 11)?;
-        after.push(match i {
-            4 => 9,
-            9 => 0,
-            20 => 255,
+        bytes.push(match i {
+            4 if is_changed => 9,
+            9 if is_changed => 0,
+            20 if is_changed => 255,
             _ => i * 11,
         })?;
     }
-    let first = header.with_records(before);
-    let second = header.with_records(after);
-    let mut kept = Store::open(rt.alloc(), Plain, first)?;
-    let made = Store::open(rt.alloc(), Plain, second)?;
+    let store = Store::open(alloc, kernel, header.with_records(bytes))?;
+    Ok(store)
+}
+
+fn keeps_its_hints<K: Kernel>(rt: &impl Abort, kept: &mut Store<K>, made: &Store<K>) {
     for i in [1, 6, 3] {
+        assert!(rt; i < made.layout().count());
         assert_eq!(rt; kept.edit(i, made.bytes_of(i)), Ok(()));
     }
     assert_eq!(rt; kept.publish(), Ok(2));
     assert_eq!(rt; kept.bytes(), made.bytes());
+    assert_eq!(rt; kept.digit_words(), made.digit_words());
+    assert_eq!(rt; kept.server_words(), made.server_words());
     for scheme in [Scheme::Simple, Scheme::Double] {
         assert_eq!(rt; kept.hint_words(scheme, 0), made.hint_words(scheme, 0));
     }
+}
+
+#[test]
+fn edits_across_columns_keep_the_hints(rt: HostRuntime) -> Result<(), Fail> {
+    let alloc = rt.alloc();
+    keeps_its_hints(
+        &rt,
+        &mut seven_records(alloc, Plain, false)?,
+        &seven_records(alloc, Plain, true)?,
+    );
+    keeps_its_hints(
+        &rt,
+        &mut seven_records(alloc, Lanes, false)?,
+        &seven_records(alloc, Lanes, true)?,
+    );
     Ok(())
 }
 

@@ -1,0 +1,13 @@
+use Rattle.std.proofs.Common.{◌≤◌, ◌-◌}
+use Rattle.matrix_u32.specs.Matrix.{product}
+use Rattle.simple_scheme.specs.Blocks.{HasRowsOf}
+use Rattle.simple_scheme.proofs.hints.setup.Given as goal
+
+abbrev pub invariant-loop-start : goal.invariant-loop-start
+invariant-loop-start g l = record {
+  within : l.start ≤ l.rows;
+  written : HasRowsOf (product (g.S.DigitStore.digits l.digits) l.a1) l.start l.hint;
+}
+
+abbrev pub decreases-loop-start : goal.decreases-loop-start
+decreases-loop-start g l = l.rows - l.start
