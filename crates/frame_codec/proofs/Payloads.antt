@@ -1,5 +1,5 @@
 -- What each kind's payload says.
-use Rattle.std.proofs.Common.{◌≡◌, ℕ, ◌+◌, ◌*◌, ◌^◌, ◌<◌, ◌≤◌, List, [], ◌∷◌, ◌++◌, length, get_or, drop, All, refl, sym, ap, ◌∙◌, arith}
+use Rattle.std.proofs.Common.{◌≡◌, ℕ, ◌+◌, ◌*◌, ◌/◌, ◌%◌, ◌^◌, ◌<◌, ◌≤◌, List, [], ◌∷◌, ◌++◌, length, get_or, drop, All, refl, sym, ap, ◌∙◌, arith}
 use Rattle.std.specs.Prelude.{MatchBool, ◌==◌}
 use Rattle.std.proofs.lemmas.List.{length-append, append-nil, nil_from_length, length-drop, drop-drop, drop_more}
 use Rattle.std.proofs.lemmas.List.Elements.{All-from_get_or}
@@ -308,6 +308,17 @@ is_refused bytes fits e = record {
       ∙ byte_first bytes (omega arith);
   fields = fits 0;
 }
+
+-- a multiple of a row's length
+pub rows_divide : (n count : ℕ) → count % (n + 1) ≡ 0 → count ≡ (count / (n + 1)) * (n + 1)
+rows_divide n count zero = omega arith
+
+-- words that encode some bytes are whole rows, where their number is a multiple of a row's
+pub whole_rows : (n : ℕ) (words bytes : List ℕ) (count : ℕ) → word_bytes words ≡ bytes → length bytes ≡ 4 * count → count % (n + 1) ≡ 0 →
+    HasWholeRows (record { dimension = n; words = words })
+whole_rows n words bytes count e len zero =
+    let size : length words ≡ count = omega (arith, length-words words, ap length e) in
+    record { count = count / (n + 1); len = size ∙ rows_divide n count zero }
 
 -- ---- the payloads of kinds that want memory
 

@@ -1,7 +1,7 @@
 //! The frames, and the lists in them.
 
 ghost use Rattle.std.specs.Prelude.{◌≡◌, ◌<◌, ◌^◌, List, ℕ, All, length};
-ghost use Rattle.frame_codec.specs.Rows.{RowList, HasWholeRows};
+ghost use Rattle.frame_codec.specs.Rows.{RowList, HasWholeRows, row_count, row_at};
 
 use std::marker::Model;
 
@@ -121,6 +121,25 @@ impl Rows {
         ensures { result ≡ self.now.dimension }
     {
         self.dimension
+    }
+
+    /// How many rows there are.
+    pub fn len(&self) -> usize
+        ensures { result ≡ row_count self.now }
+    {
+        self.words.as_slice().len() / (self.dimension as usize + 1)
+    }
+
+    /// The number and the words of row `j`, counted from 0.
+    pub fn row(&self, j: usize) -> (u32, &[u32])
+        requires { j < row_count self.now }
+        ensures number { result.0 ≡ (row_at self.now j).number }
+        ensures words { result.1.now ≡ (row_at self.now j).words }
+        ensures len { length result.1.now ≡ self.now.dimension }
+    {
+        let len = self.dimension as usize + 1;
+        let row = &self.words.as_slice()[j * len..(j + 1) * len];
+        (row[0], &row[1..])
     }
 
     /// The numbers and the words of the rows, lent.

@@ -1,8 +1,9 @@
-use Rattle.std.proofs.Common.{◌≡◌, ℕ, length, ◌+◌, ◌-◌, ◌*◌, ◌/◌, ◌%◌, arith, rules, ◌∙◌, drop, sym}
+use Rattle.std.proofs.Common.{◌≡◌, ℕ, length, ◌+◌, ◌-◌, ◌*◌, ◌/◌, ◌%◌, arith, rules, ◌∙◌, drop, sym, ap, rw}
 use Rattle.std.proofs.lemmas.List.{take_rest, length-drop}
 use Rattle.frame_codec.specs.Numbers.{number_in, word_bytes}
 use Rattle.frame_codec.specs.Frames.{IsPayload}
-use Rattle.frame_codec.proofs.Payloads.{no_stands, has_delta, is_delta, DeltaFields, words_of_rows}
+use Rattle.frame_codec.specs.Rows.{RowList, HasWholeRows}
+use Rattle.frame_codec.proofs.Payloads.{no_stands, has_delta, is_delta, DeltaFields, whole_rows, rows_divide}
 use Rattle.frame_codec.proofs.payload.delta_of.Goals as goal
 
 pub words_of-requires : goal.words_of-requires
