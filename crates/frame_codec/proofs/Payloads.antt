@@ -89,8 +89,7 @@ length-payload (Hello profile key) fits = omega (arith, payload_sized (Hello pro
 length-payload (HintAsk scheme version part) fits = payload_sized (HintAsk scheme version part)
 length-payload (Query scheme version words) fits = (length words, payload_sized (Query scheme version words))
 length-payload (DeltaAsk since) fits = payload_sized (DeltaAsk since)
-length-payload (Edit index bytes) fits = omega (arith, payload_sized (DeltaAsk since) = length-number 8 since
-payload_sized (Edit index bytes))
+length-payload (Edit index bytes) fits = omega (arith, payload_sized (Edit index bytes))
 length-payload Publish fits = payload_sized Publish
 length-payload Bye fits = payload_sized Bye
 length-payload (Welcome profile width record_len groups count version dimension seed) fits =
@@ -100,8 +99,7 @@ length-payload (Delta since now count rows) fits = (
   fits.4.count,
   rw (dimension_back since now count rows fits.3, ← fits.4.len) (payload_sized (Delta since now count rows)),
 )
-length-payload (Answer scheme version words) fits = (length words, payload_sized (Delta since now count rows) = omega (arith, length-append {A = ℕ}, length-number, length-words)
-payload_sized (Answer scheme version words))
+length-payload (Answer scheme version words) fits = (length words, payload_sized (Answer scheme version words))
 length-payload (Stale version count) fits = payload_sized (Stale version count)
 length-payload (Done version) fits = payload_sized (Done version)
 length-payload (NoDelta version count) fits = payload_sized (NoDelta version count)

@@ -1,7 +1,7 @@
 -- What a frame is on the wire: the length of its payload in four bytes, its kind in one byte, its payload.
 use Rattle.std.specs.Prelude.{◌≡◌, ◌<◌, ◌≤◌, ◌+◌, ◌*◌, ◌^◌, ℕ, List, [], ◌∷◌, ◌++◌, length, All}
 use Rattle.frame_codec.specs.Numbers.{number_bytes, word_bytes}
-use Rattle.frame_codec.specs.Rows.{RowList, HasWholeRows}
+use Rattle.frame_codec.specs.Rows.{HasWholeRows}
 use Rattle.frame_codec.specs.declared.frame.Frame.{Frame}
 use Rattle.frame_codec.specs.declared.frame.Frame.TheVariants.{Load, Hello, HintAsk, DeltaAsk, Query, Edit, Publish, Bye, Welcome, HintPart, Delta, Answer, Stale, Done, NoDelta, Refused}
 

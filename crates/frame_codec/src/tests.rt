@@ -464,7 +464,10 @@ fn a_row_may_have_no_words(rt: HostRuntime) -> Result<(), Fail> {
     let mut reader = Reader::new(rt.alloc());
     let mut frames = Vec::new(rt.alloc());
     reader.feed(&stream, &mut frames)?;
-    assert_eq!(rt; encoded(&rt, rt.alloc(), &frames)?.as_slice(), stream.as_slice());
+    assert_eq!(rt;
+        encoded(&rt, rt.alloc(), &frames)?.as_slice(),
+        stream.as_slice()
+    );
     Ok(())
 }
 
