@@ -146,6 +146,11 @@ words_small (suc n) bytes fits len =
       | suc i ↦ λ lt. words_small n (drop 4 bytes) (IsBytes-drop 4 bytes fits) (omega (arith, length-drop 4 bytes)) i d (omega arith)
     ] lt
 
+pub length-words_in : (n : ℕ) (bytes : List ℕ) → length (words_in n bytes) ≡ n
+unfolding words_in
+length-words_in zero bytes = refl
+length-words_in (suc n) bytes = ap suc (length-words_in n (drop 4 bytes))
+
 pub words_back : (ws : List ℕ) → AllByRecursion (λ w. w < 2 ^ 32) ws → words_in (length ws) (word_bytes ws) ≡ ws
 unfolding word_bytes words_in
 words_back [] all = refl

@@ -1,13 +1,14 @@
 -- What each kind's payload says.
-use Rattle.std.proofs.Common.{◌≡◌, ℕ, ◌+◌, ◌*◌, ◌^◌, ◌<◌, ◌≤◌, List, [], ◌∷◌, ◌++◌, length, get_or, drop, All, refl, sym, ap, ◌∙◌, arith}
+use Rattle.std.proofs.Common.{◌≡◌, ℕ, ◌+◌, ◌*◌, ◌/◌, ◌%◌, ◌^◌, ◌<◌, ◌≤◌, List, [], ◌∷◌, ◌++◌, length, get_or, drop, All, refl, sym, ap, ◌∙◌, arith}
 use Rattle.std.specs.Prelude.{MatchBool, ◌==◌}
 use Rattle.std.proofs.lemmas.List.{length-append, append-nil, nil_from_length, length-drop, drop-drop, drop_more}
 use Rattle.std.proofs.lemmas.List.Elements.{All-from_get_or}
 use Rattle.frame_codec.specs.declared.frame.Frame.{Frame}
-use Rattle.frame_codec.specs.declared.frame.Frame.TheVariants.{Load, Hello, HintAsk, Query, Edit, Publish, Bye, Welcome, HintPart, Answer, Stale, Done, Refused}
+use Rattle.frame_codec.specs.declared.frame.Frame.TheVariants.{Load, Hello, HintAsk, DeltaAsk, Query, Edit, Publish, Bye, Welcome, HintPart, Delta, Answer, Stale, Done, NoDelta, Refused}
 use Rattle.frame_codec.specs.Numbers.{number_bytes, number_in, word_bytes}
+use Rattle.frame_codec.specs.Rows.{RowList, HasWholeRows}
 use Rattle.frame_codec.specs.Frames.{kind_of, payload_of, HasFields, Stands, IsPayload, payload_size}
-use Rattle.frame_codec.proofs.NumberBytes.{IsBytes, IsBytes-drop, prefix, length-number, length-words, number_in-lt, words_in, words_encode, words_small}
+use Rattle.frame_codec.proofs.NumberBytes.{IsBytes, IsBytes-drop, prefix, length-number, length-words, length-words_in, number_in-lt, number_back, drop_number, words_in, words_encode, words_small}
 
 -- the lengths that a kind's payload may have
 abbrev pub HasLength : ℕ → List ℕ → Type 0
@@ -15,16 +16,19 @@ HasLength k p =
     MatchBool (k == 1) (5 ≤ length p) (
     MatchBool (k == 2) (length p ≡ 34) (
     MatchBool (k == 3) (length p ≡ 13) (
+    MatchBool (k == 4) (length p ≡ 8) (
     MatchBool (k == 5) ((m : ℕ) × (length p ≡ 9 + 4 * m)) (
     MatchBool (k == 6) (4 ≤ length p) (
     MatchBool (k == 7) (length p ≡ 0) (
     MatchBool (k == 8) (length p ≡ 0) (
     MatchBool (k == 130) (length p ≡ 53) (
     MatchBool (k == 131) ((m : ℕ) × (length p ≡ 13 + 4 * m)) (
+    MatchBool (k == 132) ((m : ℕ) × (length p ≡ 22 + 4 * (m * (number_in 2 (drop 20 p) + 1)))) (
     MatchBool (k == 133) ((m : ℕ) × (length p ≡ 9 + 4 * m)) (
     MatchBool (k == 134) (length p ≡ 12) (
     MatchBool (k == 135) (length p ≡ 8) (
-    length p ≡ 1))))))))))))
+    MatchBool (k == 136) (length p ≡ 12) (
+    length p ≡ 1)))))))))))))))
 
 -- a scheme, a version and words
 pub scheme_words_length : (scheme version : ℕ) (words : List ℕ) → length (scheme ∷ (number_bytes 8 version ++ word_bytes words)) ≡ 9 + 4 * length words
@@ -44,6 +48,7 @@ payload_sized (Hello profile key) = omega (arith, length-append (number_bytes 2 
 payload_sized (HintAsk scheme version part) =
     omega (arith, length-append (number_bytes 8 version) (number_bytes 4 part), length-number 8 version, length-number 4 part)
 payload_sized (Query scheme version words) = scheme_words_length scheme version words
+payload_sized (DeltaAsk since) = length-number 8 since
 payload_sized (Edit index bytes) = omega (arith, length-append (number_bytes 4 index) bytes, length-number 4 index)
 payload_sized Publish = refl
 payload_sized Bye = refl
@@ -57,26 +62,47 @@ payload_sized (HintPart scheme version part words) =
       length-number 4 part,
       length-words words,
     )
+payload_sized (Delta since now count rows) = omega (arith, length-append {A = ℕ}, length-number, length-words)
 payload_sized (Answer scheme version words) = scheme_words_length scheme version words
 payload_sized (Stale version count) =
     omega (arith, length-append (number_bytes 8 version) (number_bytes 4 count), length-number 8 version, length-number 4 count)
 payload_sized (Done version) = length-number 8 version
+payload_sized (NoDelta version count) =
+    omega (arith, length-append (number_bytes 8 version) (number_bytes 4 count), length-number 8 version, length-number 4 count)
 payload_sized (Refused code) = refl
+
+-- the dimension in the payload of a Delta
+dimension_back : (since now count : ℕ) (rows : RowList) → rows.dimension < 2 ^ 16 →
+    number_in 2 (drop 20 (payload_of (Delta since now count rows))) ≡ rows.dimension
+unfolding payload_of
+dimension_back since now count rows small =
+    let p20 : List ℕ = number_bytes 2 rows.dimension ++ word_bytes rows.words in
+    let p16 : List ℕ = number_bytes 4 count ++ p20 in
+    let p8 : List ℕ = number_bytes 8 now ++ p16 in
+    let e : drop 20 (number_bytes 8 since ++ p8) ≡ p20 = sym (drop-drop 12 8 (number_bytes 8 since ++ p8)) ∙ ap (drop 12) (drop_number 8 since p8)
+    ∙ sym (drop-drop 4 8 p8) ∙ ap (drop 4) (drop_number 8 now p16) ∙ drop_number 4 count p20 in
+    ap (number_in 2) e ∙ number_back 2 rows.dimension (word_bytes rows.words) small
 
 length-payload : (f : Frame) → HasFields f → HasLength (kind_of f) (payload_of f)
 length-payload (Load record_len groups width records) fits = omega (arith, payload_sized (Load record_len groups width records))
 length-payload (Hello profile key) fits = omega (arith, payload_sized (Hello profile key), fits.1)
 length-payload (HintAsk scheme version part) fits = payload_sized (HintAsk scheme version part)
 length-payload (Query scheme version words) fits = (length words, payload_sized (Query scheme version words))
+length-payload (DeltaAsk since) fits = payload_sized (DeltaAsk since)
 length-payload (Edit index bytes) fits = omega (arith, payload_sized (Edit index bytes))
 length-payload Publish fits = payload_sized Publish
 length-payload Bye fits = payload_sized Bye
 length-payload (Welcome profile width record_len groups count version dimension seed) fits =
     omega (arith, payload_sized (Welcome profile width record_len groups count version dimension seed), fits.7)
 length-payload (HintPart scheme version part words) fits = (length words, payload_sized (HintPart scheme version part words))
+length-payload (Delta since now count rows) fits = (
+  fits.4.count,
+  rw (dimension_back since now count rows fits.3, ← fits.4.len) (payload_sized (Delta since now count rows)),
+)
 length-payload (Answer scheme version words) fits = (length words, payload_sized (Answer scheme version words))
 length-payload (Stale version count) fits = payload_sized (Stale version count)
 length-payload (Done version) fits = payload_sized (Done version)
+length-payload (NoDelta version count) fits = payload_sized (NoDelta version count)
 length-payload (Refused code) fits = payload_sized (Refused code)
 
 -- no payload of another length stands for a frame of this kind
@@ -143,6 +169,11 @@ is_hint_ask bytes fits len version part small small2 e e2 =
     is_version_number (drop 1 bytes) (IsBytes-drop 1 bytes fits) (omega (arith, length-drop 1 bytes)) version part e e3 in
     record { kind = refl; payload = ap (λ (x : List ℕ). get_or bytes 0 0 ∷ x) tail ∙ byte_first bytes (omega arith); fields = (fits 0, small, small2) }
 
+pub is_delta_ask : (bytes : List ℕ) → IsBytes bytes → length bytes ≡ 8 → (since : ℕ) → since < 2 ^ 64 → since ≡ number_in 8 bytes →
+    Stands 4 bytes (DeltaAsk since)
+unfolding payload_of
+is_delta_ask bytes fits len since small e = record { kind = refl; payload = number_alone 8 bytes fits len since e; fields = small }
+
 pub is_edit : (bytes : List ℕ) → IsBytes bytes → 4 ≤ length bytes → (index : ℕ) (content : List ℕ) → index < 2 ^ 32 → index ≡ number_in 4 bytes →
     content ≡ drop 4 bytes → All (λ b. b < 2 ^ 8) content → Stands 6 bytes (Edit index content)
 unfolding payload_of
@@ -204,6 +235,27 @@ is_hint_part bytes fits le version part words small small2 e e2 ew all =
     number_at 1 8 9 bytes fits refl (omega arith) version (number_bytes 4 part ++ word_bytes words) e at9 in
     record { kind = refl; payload = ap (λ (x : List ℕ). get_or bytes 0 0 ∷ x) at1 ∙ byte_first bytes (omega arith); fields = (fits 0, small, small2, all) }
 
+-- the fields of a Delta, as they stand in its payload
+pub record DeltaFields (bytes : List ℕ) (since now count : ℕ) (rows : RowList) : Type 0 where
+  pub since_is : since ≡ number_in 8 bytes
+  pub now_is : now ≡ number_in 8 (drop 8 bytes)
+  pub count_is : count ≡ number_in 4 (drop 16 bytes)
+  pub dimension_is : rows.dimension ≡ number_in 2 (drop 20 bytes)
+  pub words_are : word_bytes rows.words ≡ drop 22 bytes
+
+pub is_delta : (bytes : List ℕ) → IsBytes bytes → 22 ≤ length bytes → (since now count : ℕ) (rows : RowList) → DeltaFields bytes since now count rows →
+    since < 2 ^ 64 → now < 2 ^ 64 → count < 2 ^ 32 → rows.dimension < 2 ^ 16 → HasWholeRows rows → All (λ w. w < 2 ^ 32) rows.words
+    → Stands 132 bytes (Delta since now count rows)
+unfolding payload_of
+is_delta bytes fits le since now count rows d ss sn sc sd whole all =
+    let at20 : number_bytes 2 rows.dimension ++ word_bytes rows.words ≡ drop 20 bytes =
+    number_at 20 2 22 bytes fits refl le rows.dimension (word_bytes rows.words) d.dimension_is d.words_are in
+    let at16 : number_bytes 4 count ++ (number_bytes 2 rows.dimension ++ word_bytes rows.words) ≡ drop 16 bytes =
+    number_at 16 4 20 bytes fits refl (omega arith) count _ d.count_is at20 in
+    let at8 : number_bytes 8 now ++ (number_bytes 4 count ++ (number_bytes 2 rows.dimension ++ word_bytes rows.words)) ≡ drop 8 bytes =
+    number_at 8 8 16 bytes fits refl (omega arith) now _ d.now_is at16 in
+    record { kind = refl; payload = number_first 8 bytes fits (omega arith) since _ d.since_is at8; fields = (ss, sn, sc, sd, whole, all) }
+
 -- a scheme, a version and words that are all
 pub is_scheme_words : (bytes : List ℕ) → IsBytes bytes → 9 ≤ length bytes → (version : ℕ) (words : List ℕ) → version ≡ number_in 8 (drop 1 bytes) →
     word_bytes words ≡ drop 9 bytes
@@ -240,6 +292,12 @@ pub is_done : (bytes : List ℕ) → IsBytes bytes → length bytes ≡ 8 → (v
 unfolding payload_of
 is_done bytes fits len version small e = record { kind = refl; payload = number_alone 8 bytes fits len version e; fields = small }
 
+pub is_no_delta : (bytes : List ℕ) → IsBytes bytes → length bytes ≡ 12 → (version count : ℕ) → version < 2 ^ 64 → count < 2 ^ 32 →
+    version ≡ number_in 8 bytes → count ≡ number_in 4 (drop 8 bytes) → Stands 136 bytes (NoDelta version count)
+unfolding payload_of
+is_no_delta bytes fits len version count small small2 e e2 =
+    record { kind = refl; payload = is_version_number bytes fits len version count e e2; fields = (small, small2) }
+
 pub is_refused : (bytes : List ℕ) → IsBytes bytes → length bytes ≡ 1 → Stands 143 bytes (Refused (get_or bytes 0 0))
 unfolding payload_of
 is_refused bytes fits e = record {
@@ -248,6 +306,17 @@ is_refused bytes fits e = record {
       ∙ byte_first bytes (omega arith);
   fields = fits 0;
 }
+
+-- a multiple of a row's length
+pub rows_divide : (n count : ℕ) → count % (n + 1) ≡ 0 → count ≡ (count / (n + 1)) * (n + 1)
+rows_divide n count zero = omega arith
+
+-- words that encode some bytes are whole rows, where their number is a multiple of a row's
+pub whole_rows : (n : ℕ) (words bytes : List ℕ) (count : ℕ) → word_bytes words ≡ bytes → length bytes ≡ 4 * count → count % (n + 1) ≡ 0 →
+    HasWholeRows (record { dimension = n; words = words })
+whole_rows n words bytes count e len zero =
+    let size : length words ≡ count = omega (arith, length-words words, ap length e) in
+    record { count = count / (n + 1); len = size ∙ rows_divide n count zero }
 
 -- ---- the payloads of kinds that want memory
 
@@ -276,6 +345,29 @@ has_hint_part bytes fits n len =
       is_hint_part bytes fits (omega arith) _ _ _ (number_in-lt 8 (drop 1 bytes) (IsBytes-drop 1 bytes fits) (omega (arith, length-drop 1 bytes)))
           (number_in-lt 4 (drop 9 bytes) (IsBytes-drop 9 bytes fits) (omega (arith, length-drop 9 bytes))) refl refl
           (words_encode n (drop 13 bytes) beyond rest) (words_small n (drop 13 bytes) beyond rest),
+    )
+
+pub has_delta : (bytes : List ℕ) → IsBytes bytes → (count : ℕ) → length bytes ≡ 22 + 4 * (count * (number_in 2 (drop 20 bytes) + 1)) → IsPayload 132 bytes
+has_delta bytes fits count len =
+    let n : ℕ = count * (number_in 2 (drop 20 bytes) + 1) in
+    let le : 22 ≤ length bytes = omega arith in
+    let rest : length (drop 22 bytes) ≡ 4 * n = omega (arith, length-drop 22 bytes) in
+    let beyond : IsBytes (drop 22 bytes) = IsBytes-drop 22 bytes fits in
+    let rows : RowList = record { dimension = number_in 2 (drop 20 bytes); words = words_in n (drop 22 bytes) } in
+    let fields : DeltaFields bytes (number_in 8 bytes) (number_in 8 (drop 8 bytes)) (number_in 4 (drop 16 bytes)) rows = record {
+      since_is = refl;
+      now_is = refl;
+      count_is = refl;
+      dimension_is = refl;
+      words_are = words_encode n (drop 22 bytes) beyond rest;
+    } in (
+      Delta (number_in 8 bytes) (number_in 8 (drop 8 bytes)) (number_in 4 (drop 16 bytes)) rows,
+      is_delta bytes fits le _ _ _ rows fields (number_in-lt 8 bytes fits (omega arith))
+          (number_in-lt 8 (drop 8 bytes) (IsBytes-drop 8 bytes fits) (omega (arith, length-drop 8 bytes)))
+          (number_in-lt 4 (drop 16 bytes) (IsBytes-drop 16 bytes fits) (omega (arith, length-drop 16 bytes)))
+          (number_in-lt 2 (drop 20 bytes) (IsBytes-drop 20 bytes fits) (omega (arith, length-drop 20 bytes)))
+          (record { count = count; len = length-words_in n (drop 22 bytes) })
+          (words_small n (drop 22 bytes) beyond rest),
     )
 
 -- the fields of a scheme, a version and words

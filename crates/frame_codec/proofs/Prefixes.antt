@@ -3,7 +3,7 @@ use Rattle.std.proofs.Common.{◌≡◌, ℕ, ◌+◌, ◌<◌, ◌≤◌, true,
 use Rattle.std.proofs.lemmas.Bool.{cases_lt}
 use Rattle.std.proofs.lemmas.List.{length-append, take_at, drop_at, take-append-drop, length-drop, length-take-le, drop-drop, drop_more, get_or_append_left, take-append-le, get_or_at, get_or-take, drop-take}
 use Rattle.frame_codec.specs.declared.frame.Frame.{Frame}
-use Rattle.frame_codec.specs.declared.frame.Frame.TheVariants.{Load, Hello, HintAsk, Query, Edit, Publish, Bye, Welcome, HintPart, Answer, Stale, Done, Refused}
+use Rattle.frame_codec.specs.declared.frame.Frame.TheVariants.{Load, Hello, HintAsk, DeltaAsk, Query, Edit, Publish, Bye, Welcome, HintPart, Delta, Answer, Stale, Done, NoDelta, Refused}
 use Rattle.frame_codec.specs.declared.reader.ReadFault.{ReadFault}
 use Rattle.frame_codec.specs.declared.reader.ReadFault.TheVariants.{TooLong, UnknownKind, BadPayload, Memory, Failed}
 use Rattle.frame_codec.specs.Numbers.{number_bytes, number_in}
@@ -17,14 +17,17 @@ kinds_are (Load record_len groups width records) = refl
 kinds_are (Query scheme version words) = refl
 kinds_are (Hello profile key) = refl
 kinds_are (HintAsk scheme version part) = refl
+kinds_are (DeltaAsk since) = refl
 kinds_are (Edit index bytes) = refl
 kinds_are Publish = refl
 kinds_are Bye = refl
 kinds_are (Welcome profile width record_len groups count version dimension seed) = refl
 kinds_are (HintPart scheme version part words) = refl
+kinds_are (Delta since now count rows) = refl
 kinds_are (Answer scheme version words) = refl
 kinds_are (Stale version count) = refl
 kinds_are (Done version) = refl
+kinds_are (NoDelta version count) = refl
 kinds_are (Refused code) = refl
 
 -- ---- an encoding at the beginning

@@ -6,7 +6,7 @@ use Rattle.std.proofs.lemmas.List.{append-nil}
 use Rattle.std.proofs.lemmas.List.Concat.{flat_map-cons}
 use Rattle.std.proofs.lemmas.List.Elements.{recursion_from_All}
 use Rattle.frame_codec.specs.declared.frame.Frame.{Frame}
-use Rattle.frame_codec.specs.declared.frame.Frame.TheVariants.{Load, Hello, HintAsk, Query, Edit, Publish, Bye, Welcome, HintPart, Answer, Stale, Done, Refused}
+use Rattle.frame_codec.specs.declared.frame.Frame.TheVariants.{Load, Hello, HintAsk, DeltaAsk, Query, Edit, Publish, Bye, Welcome, HintPart, Delta, Answer, Stale, Done, NoDelta, Refused}
 use Rattle.frame_codec.specs.declared.reader.ReadFault.{ReadFault}
 use Rattle.frame_codec.specs.declared.reader.ReadFault.TheVariants.{TooLong, UnknownKind, BadPayload, Memory, Failed}
 use Rattle.frame_codec.specs.Numbers.{number_bytes, number_in, word_bytes}
@@ -36,28 +36,39 @@ welcome_in p =
     let p19 : List ℕ = drop 8 p11 in
     Welcome (number_in 2 p) (get_or p2 0 0) (number_in 2 p3) (number_in 2 p5) (number_in 4 p7) (number_in 8 p11) (number_in 2 p19) (drop 2 p19)
 
+-- a Delta's fields, each after the one before
+delta_in : List ℕ → Frame
+delta_in p =
+    let p8 : List ℕ = drop 8 p in
+    let p16 : List ℕ = drop 8 p8 in
+    let p20 : List ℕ = drop 4 p16 in
+    Delta (number_in 8 p) (number_in 8 p8) (number_in 4 p16) (record { dimension = number_in 2 p20; words = words_all (drop 2 p20) })
+
 -- the frame of a kind and a payload, where there is one
 frame_of : ℕ → List ℕ → Frame
 frame_of k p =
     if k == 1 then Load (number_in 2 p) (number_in 2 (drop 2 p)) (get_or (drop 2 (drop 2 p)) 0 0) (drop 1 (drop 2 (drop 2 p)))
     else (if k == 2 then Hello (number_in 2 p) (drop 2 p)
     else (if k == 3 then HintAsk (get_or p 0 0) (number_in 8 (drop 1 p)) (number_in 4 (drop 8 (drop 1 p)))
+    else (if k == 4 then DeltaAsk (number_in 8 p)
     else (if k == 5 then Query (get_or p 0 0) (number_in 8 (drop 1 p)) (words_all (drop 8 (drop 1 p)))
     else (if k == 6 then Edit (number_in 4 p) (drop 4 p)
     else (if k == 7 then Publish
     else (if k == 8 then Bye
     else (if k == 130 then welcome_in p
     else (if k == 131 then HintPart (get_or p 0 0) (number_in 8 (drop 1 p)) (number_in 4 (drop 8 (drop 1 p))) (words_all (drop 4 (drop 8 (drop 1 p))))
+    else (if k == 132 then delta_in p
     else (if k == 133 then Answer (get_or p 0 0) (number_in 8 (drop 1 p)) (words_all (drop 8 (drop 1 p)))
     else (if k == 134 then Stale (number_in 8 p) (number_in 4 (drop 8 p))
     else (if k == 135 then Done (number_in 8 p)
-    else Refused (get_or p 0 0))))))))))))
+    else (if k == 136 then NoDelta (number_in 8 p) (number_in 4 (drop 8 p))
+    else Refused (get_or p 0 0)))))))))))))))
 
 number_alone_back : (n x : ℕ) → x < 256 ^ n → number_in n (number_bytes n x) ≡ x
 number_alone_back n x h = ap (number_in n) (sym (append-nil (number_bytes n x))) ∙ number_back n x [] h
 
 frame_back : (f : Frame) → HasFields f → frame_of (kind_of f) (payload_of f) ≡ f
-unfolding frame_of payload_of welcome_in
+unfolding frame_of payload_of welcome_in delta_in
 frame_back (Load record_len groups width records) fits =
     rw (
       number_back 2 record_len (number_bytes 2 groups ++ (width ∷ records)) fits.0,
@@ -70,6 +81,7 @@ frame_back (Query scheme version words) fits =
 frame_back (Hello profile key) fits = rw (number_back 2 profile key fits.0, drop_number 2 profile key) refl
 frame_back (HintAsk scheme version part) fits =
     rw (number_back 8 version (number_bytes 4 part) fits.1, drop_number 8 version (number_bytes 4 part), number_alone_back 4 part fits.2) refl
+frame_back (DeltaAsk since) fits = rw (number_alone_back 8 since fits) refl
 frame_back (Edit index bytes) fits = rw (number_back 4 index bytes fits.0, drop_number 4 index bytes) refl
 frame_back Publish fits = refl
 frame_back Bye fits = refl
@@ -103,11 +115,28 @@ frame_back (HintPart scheme version part words) fits =
       drop_number 4 part (word_bytes words),
       words_all_back words fits.3,
     ) refl
+frame_back (Delta since now count rows) fits =
+    let p20 : List ℕ = number_bytes 2 rows.dimension ++ word_bytes rows.words in
+    let p16 : List ℕ = number_bytes 4 count ++ (number_bytes 2 rows.dimension ++ word_bytes rows.words) in
+    let p8 : List ℕ = number_bytes 8 now ++ (number_bytes 4 count ++ (number_bytes 2 rows.dimension ++ word_bytes rows.words)) in
+    rw (
+      number_back 8 since p8 fits.0,
+      drop_number 8 since p8,
+      number_back 8 now p16 fits.1,
+      drop_number 8 now p16,
+      number_back 4 count p20 fits.2,
+      drop_number 4 count p20,
+      number_back 2 rows.dimension (word_bytes rows.words) fits.3,
+      drop_number 2 rows.dimension (word_bytes rows.words),
+      words_all_back rows.words fits.5,
+    ) refl
 frame_back (Answer scheme version words) fits =
     rw (number_back 8 version (word_bytes words) fits.1, drop_number 8 version (word_bytes words), words_all_back words fits.2) refl
 frame_back (Stale version count) fits =
     rw (number_back 8 version (number_bytes 4 count) fits.0, drop_number 8 version (number_bytes 4 count), number_alone_back 4 count fits.1) refl
 frame_back (Done version) fits = rw (number_alone_back 8 version fits) refl
+frame_back (NoDelta version count) fits =
+    rw (number_back 8 version (number_bytes 4 count) fits.0, drop_number 8 version (number_bytes 4 count), number_alone_back 4 count fits.1) refl
 frame_back (Refused code) fits = refl
 
 one_frame : (k : ℕ) (p : List ℕ) (f g : Frame) → Stands k p f → Stands k p g → f ≡ g

@@ -1,23 +1,27 @@
 -- What a frame is on the wire: the length of its payload in four bytes, its kind in one byte, its payload.
 use Rattle.std.specs.Prelude.{◌≡◌, ◌<◌, ◌≤◌, ◌+◌, ◌*◌, ◌^◌, ℕ, List, [], ◌∷◌, ◌++◌, length, All}
 use Rattle.frame_codec.specs.Numbers.{number_bytes, word_bytes}
+use Rattle.frame_codec.specs.Rows.{HasWholeRows}
 use Rattle.frame_codec.specs.declared.frame.Frame.{Frame}
-use Rattle.frame_codec.specs.declared.frame.Frame.TheVariants.{Load, Hello, HintAsk, Query, Edit, Publish, Bye, Welcome, HintPart, Answer, Stale, Done, Refused}
+use Rattle.frame_codec.specs.declared.frame.Frame.TheVariants.{Load, Hello, HintAsk, DeltaAsk, Query, Edit, Publish, Bye, Welcome, HintPart, Delta, Answer, Stale, Done, NoDelta, Refused}
 
 -- the byte that names a frame's kind
 abbrev pub kind_of : Frame → ℕ
 kind_of (Load record_len groups width records) = 1
 kind_of (Hello profile key) = 2
 kind_of (HintAsk scheme version part) = 3
+kind_of (DeltaAsk since) = 4
 kind_of (Query scheme version words) = 5
 kind_of (Edit index bytes) = 6
 kind_of Publish = 7
 kind_of Bye = 8
 kind_of (Welcome profile width record_len groups count version dimension seed) = 130
 kind_of (HintPart scheme version part words) = 131
+kind_of (Delta since now count rows) = 132
 kind_of (Answer scheme version words) = 133
 kind_of (Stale version count) = 134
 kind_of (Done version) = 135
+kind_of (NoDelta version count) = 136
 kind_of (Refused code) = 143
 
 -- a frame's fields in their order, each number as its bytes
@@ -25,6 +29,7 @@ unfoldable pub payload_of : Frame → List ℕ
 payload_of (Load record_len groups width records) = number_bytes 2 record_len ++ (number_bytes 2 groups ++ (width ∷ records))
 payload_of (Hello profile key) = number_bytes 2 profile ++ key
 payload_of (HintAsk scheme version part) = scheme ∷ (number_bytes 8 version ++ number_bytes 4 part)
+payload_of (DeltaAsk since) = number_bytes 8 since
 payload_of (Query scheme version words) = scheme ∷ (number_bytes 8 version ++ word_bytes words)
 payload_of (Edit index bytes) = number_bytes 4 index ++ bytes
 payload_of Publish = []
@@ -34,9 +39,12 @@ payload_of (Welcome profile width record_len groups count version dimension seed
     (width ∷ (number_bytes 2 record_len
     ++ (number_bytes 2 groups ++ (number_bytes 4 count ++ (number_bytes 8 version ++ (number_bytes 2 dimension ++ seed))))))
 payload_of (HintPart scheme version part words) = scheme ∷ (number_bytes 8 version ++ (number_bytes 4 part ++ word_bytes words))
+payload_of (Delta since now count rows) =
+    number_bytes 8 since ++ (number_bytes 8 now ++ (number_bytes 4 count ++ (number_bytes 2 rows.dimension ++ word_bytes rows.words)))
 payload_of (Answer scheme version words) = scheme ∷ (number_bytes 8 version ++ word_bytes words)
 payload_of (Stale version count) = number_bytes 8 version ++ number_bytes 4 count
 payload_of (Done version) = number_bytes 8 version
+payload_of (NoDelta version count) = number_bytes 8 version ++ number_bytes 4 count
 payload_of (Refused code) = code ∷ []
 
 -- how many bytes these are
@@ -44,22 +52,26 @@ abbrev pub payload_size : Frame → ℕ
 payload_size (Load record_len groups width records) = 5 + length records
 payload_size (Hello profile key) = 2 + length key
 payload_size (HintAsk scheme version part) = 13
+payload_size (DeltaAsk since) = 8
 payload_size (Query scheme version words) = 9 + 4 * length words
 payload_size (Edit index bytes) = 4 + length bytes
 payload_size Publish = 0
 payload_size Bye = 0
 payload_size (Welcome profile width record_len groups count version dimension seed) = 21 + length seed
 payload_size (HintPart scheme version part words) = 13 + 4 * length words
+payload_size (Delta since now count rows) = 22 + 4 * length rows.words
 payload_size (Answer scheme version words) = 9 + 4 * length words
 payload_size (Stale version count) = 12
 payload_size (Done version) = 8
+payload_size (NoDelta version count) = 12
 payload_size (Refused code) = 1
 
--- a frame's fields are numbers of their types
+-- a frame's fields are numbers of their types, and its rows are whole
 abbrev pub HasFields : Frame → Type 0
 HasFields (Load record_len groups width records) = (record_len < 2 ^ 16) × (groups < 2 ^ 16) × (width < 2 ^ 8) × All (λ b. b < 2 ^ 8) records
 HasFields (Hello profile key) = (profile < 2 ^ 16) × (length key ≡ 32) × All (λ b. b < 2 ^ 8) key
 HasFields (HintAsk scheme version part) = (scheme < 2 ^ 8) × (version < 2 ^ 64) × (part < 2 ^ 32)
+HasFields (DeltaAsk since) = since < 2 ^ 64
 HasFields (Query scheme version words) = (scheme < 2 ^ 8) × (version < 2 ^ 64) × All (λ w. w < 2 ^ 32) words
 HasFields (Edit index bytes) = (index < 2 ^ 32) × All (λ b. b < 2 ^ 8) bytes
 HasFields Publish = Unit {0}
@@ -68,9 +80,12 @@ HasFields (Welcome profile width record_len groups count version dimension seed)
     (profile < 2 ^ 16) × (width < 2 ^ 8) × (record_len < 2 ^ 16) × (groups < 2 ^ 16) × (count < 2 ^ 32) × (version < 2 ^ 64) × (dimension < 2 ^ 16)
     × (length seed ≡ 32) × All (λ b. b < 2 ^ 8) seed
 HasFields (HintPart scheme version part words) = (scheme < 2 ^ 8) × (version < 2 ^ 64) × (part < 2 ^ 32) × All (λ w. w < 2 ^ 32) words
+HasFields (Delta since now count rows) =
+    (since < 2 ^ 64) × (now < 2 ^ 64) × (count < 2 ^ 32) × (rows.dimension < 2 ^ 16) × HasWholeRows rows × All (λ w. w < 2 ^ 32) rows.words
 HasFields (Answer scheme version words) = (scheme < 2 ^ 8) × (version < 2 ^ 64) × All (λ w. w < 2 ^ 32) words
 HasFields (Stale version count) = (version < 2 ^ 64) × (count < 2 ^ 32)
 HasFields (Done version) = version < 2 ^ 64
+HasFields (NoDelta version count) = (version < 2 ^ 64) × (count < 2 ^ 32)
 HasFields (Refused code) = code < 2 ^ 8
 
 -- the one encoding of a frame

@@ -1,4 +1,5 @@
 pub mod Numbers
+pub mod Rows
 pub mod Frames
 pub mod Laws
 pub mod Streams

@@ -1,6 +1,7 @@
 //! The frames, and the lists in them.
 
 ghost use Rattle.std.specs.Prelude.{◌≡◌, ◌<◌, ◌^◌, List, ℕ, All, length};
+ghost use Rattle.frame_codec.specs.Rows.{RowList, HasWholeRows, row_count, row_at};
 
 use std::marker::Model;
 
@@ -88,6 +89,69 @@ impl Words {
     }
 }
 
+/// Rows of a hint one after another: of each its number, and then as many words as the dimension says.
+#[derive(Drop)]
+pub struct Rows {
+    dimension: u16,
+    words: Words,
+}
+
+impl Model for Rows {
+    ghost use Rattle.std.specs.Prelude.{◌<◌, ◌^◌};
+    ghost use Rattle.frame_codec.specs.Rows.{RowList, HasWholeRows};
+
+    ghost Value = { RowList };
+
+    ghost view = { λ r. record { dimension = r.dimension; words = r.words } };
+
+    ghost invariant = { λ r. HasWholeRows (record { dimension = r.dimension; words = r.words }) };
+}
+
+impl Rows {
+    /// These rows, each of its number and `dimension` words.
+    pub fn new(dimension: u16, words: Words) -> Rows
+        requires { HasWholeRows (record { dimension = dimension; words = words }) }
+        ensures { result ≡ record { dimension = dimension; words = words } }
+    {
+        Rows { dimension, words }
+    }
+
+    /// How many words a row has after its number.
+    pub fn dimension(&self) -> u16
+        ensures { result ≡ self.now.dimension }
+    {
+        self.dimension
+    }
+
+    /// How many rows there are.
+    pub fn len(&self) -> usize
+        ensures { result ≡ row_count self.now }
+    {
+        self.words.as_slice().len() / (self.dimension as usize + 1)
+    }
+
+    /// The number and the words of row `j`, counted from 0.
+    pub fn row(&self, j: usize) -> (u32, &[u32])
+        requires { j < row_count self.now }
+        ensures number { result.0 ≡ (row_at self.now j).number }
+        ensures words { result.1.now ≡ (row_at self.now j).words }
+        ensures len { length result.1.now ≡ self.now.dimension }
+    {
+        let len = self.dimension as usize + 1;
+        let row = &self.words.as_slice()[j * len..(j + 1) * len];
+        (row[0], &row[1..])
+    }
+
+    /// The numbers and the words of the rows, lent.
+    pub fn as_slice(&self) -> &[u32]
+        ensures items { result.now ≡ self.now.words }
+        ensures whole { HasWholeRows self.now }
+        ensures fields { All (λ w. w < 2 ^ 32) self.now.words }
+    {
+        self.words.as_slice()
+    }
+}
+
 /// Thirty-two bytes in order.
 #[derive(Drop)]
 pub struct Bytes32 {
@@ -148,6 +212,10 @@ pub enum Frame {
         version: u64,
         part: u32,
     },
+    /// Kind 04: the rows of the SimplePIR hint that have changed since a version are asked for.
+    DeltaAsk {
+        since: u64,
+    },
     /// Kind 05: a query to a version of the database.
     Query {
         scheme: u8,
@@ -181,6 +249,14 @@ pub enum Frame {
         part: u32,
         words: Words,
     },
+    /// Kind 84: the rows of the SimplePIR hint of version `now`, with so many records, that have
+    /// changed since version `since`.
+    Delta {
+        since: u64,
+        now: u64,
+        count: u32,
+        rows: Rows,
+    },
     /// Kind 85: the answer to a query.
     Answer {
         scheme: u8,
@@ -195,6 +271,12 @@ pub enum Frame {
     /// Kind 87: an edit or a publication is done.
     Done {
         version: u64,
+    },
+    /// Kind 88: the rows that have changed aren't known or are too many; this version is current, with so
+    /// many records.
+    NoDelta {
+        version: u64,
+        count: u32,
     },
     /// Kind 8f: the request was refused, for the reason that the code names.
     Refused {

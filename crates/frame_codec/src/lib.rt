@@ -15,7 +15,7 @@ mod refusal;
 mod tests;
 mod writer;
 
-pub use frame::{Bytes, Bytes32, Frame, Words};
+pub use frame::{Bytes, Bytes32, Frame, Rows, Words};
 pub use reader::{ReadFault, Reader};
 pub use refusal::Refusal;
 pub use writer::write_frame;

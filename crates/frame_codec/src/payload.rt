@@ -5,7 +5,7 @@ ghost use Rattle.frame_codec.specs.declared.frame.Frame.{Frame};
 ghost use Rattle.frame_codec.specs.Numbers.{number_bytes, word_bytes};
 ghost use Rattle.frame_codec.specs.Frames.{IsPayload, Stands};
 
-use crate::frame::{Bytes, Bytes32, Frame, Words};
+use crate::frame::{Bytes, Bytes32, Frame, Rows, Words};
 use crate::numbers::{u16_at, u32_at, u64_at};
 use byteorder::{ByteOrder, LittleEndian};
 use std::alloc::{AllocError, Global};
@@ -78,6 +78,18 @@ fn hint_ask_of(payload: &[u8]) -> Option<Frame>
         scheme: payload[0],
         version: u64_at(&payload[1..]),
         part: u32_at(&payload[9..]),
+    })
+}
+
+fn delta_ask_of(payload: &[u8]) -> Option<Frame>
+    ensures some { IfSome result (λ f. Stands 4 payload.now f) }
+    ensures none { IfNone result ((f : Frame) → Stands 4 payload.now f → ⊥) }
+{
+    if payload.len() != 8 {
+        return None;
+    }
+    Some(Frame::DeltaAsk {
+        since: u64_at(payload),
     })
 }
 
@@ -167,6 +179,28 @@ fn hint_part_of(alloc: Global, payload: &[u8]) -> Result<Option<Frame>, AllocErr
     }))
 }
 
+fn delta_of(alloc: Global, payload: &[u8]) -> Result<Option<Frame>, AllocError>
+    ensures some { IfOk result (λ o. IfSome o (λ f. Stands 132 payload.now f)) }
+    ensures none { IfOk result (λ o. IfNone o ((f : Frame) → Stands 132 payload.now f → ⊥)) }
+    ensures memory { OnErr result (IsPayload 132 payload.now) }
+{
+    if payload.len() < 22 || (payload.len() - 22) % 4 != 0 {
+        return Ok(None);
+    }
+    let dimension = u16_at(&payload[20..]);
+    let count = (payload.len() - 22) / 4;
+    if count % (dimension as usize + 1) != 0 {
+        return Ok(None);
+    }
+    let words = words_of(alloc, &payload[22..])?;
+    Ok(Some(Frame::Delta {
+        since: u64_at(payload),
+        now: u64_at(&payload[8..]),
+        count: u32_at(&payload[16..]),
+        rows: Rows::new(dimension, words),
+    }))
+}
+
 fn answer_of(alloc: Global, payload: &[u8]) -> Result<Option<Frame>, AllocError>
     ensures some { IfOk result (λ o. IfSome o (λ f. Stands 133 payload.now f)) }
     ensures none { IfOk result (λ o. IfNone o ((f : Frame) → Stands 133 payload.now f → ⊥)) }
@@ -207,6 +241,19 @@ fn done_of(payload: &[u8]) -> Option<Frame>
     })
 }
 
+fn no_delta_of(payload: &[u8]) -> Option<Frame>
+    ensures some { IfSome result (λ f. Stands 136 payload.now f) }
+    ensures none { IfNone result ((f : Frame) → Stands 136 payload.now f → ⊥) }
+{
+    if payload.len() != 12 {
+        return None;
+    }
+    Some(Frame::NoDelta {
+        version: u64_at(payload),
+        count: u32_at(&payload[8..]),
+    })
+}
+
 fn refused_of(payload: &[u8]) -> Option<Frame>
     ensures some { IfSome result (λ f. Stands 143 payload.now f) }
     ensures none { IfNone result ((f : Frame) → Stands 143 payload.now f → ⊥) }
@@ -227,15 +274,18 @@ pub fn decode(alloc: Global, kind: u8, payload: &[u8]) -> Result<Option<Frame>, 
         0x01 => load_of(alloc, payload),
         0x02 => Ok(hello_of(payload)),
         0x03 => Ok(hint_ask_of(payload)),
+        0x04 => Ok(delta_ask_of(payload)),
         0x05 => query_of(alloc, payload),
         0x06 => edit_of(alloc, payload),
         0x07 => Ok(publish_of(payload)),
         0x08 => Ok(bye_of(payload)),
         0x82 => Ok(welcome_of(payload)),
         0x83 => hint_part_of(alloc, payload),
+        0x84 => delta_of(alloc, payload),
         0x85 => answer_of(alloc, payload),
         0x86 => Ok(stale_of(payload)),
         0x87 => Ok(done_of(payload)),
+        0x88 => Ok(no_delta_of(payload)),
         0x8f => Ok(refused_of(payload)),
         _ => Ok(None),
     }

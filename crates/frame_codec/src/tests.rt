@@ -1,6 +1,6 @@
 //! Each kind's bytes, each fault and its byte, and long streams.
 
-use crate::{Bytes, Bytes32, Frame, ReadFault, Reader, Words, write_frame};
+use crate::{Bytes, Bytes32, Frame, ReadFault, Reader, Rows, Words, write_frame};
 use std::alloc::Global;
 use std::process::Abort;
 use std::test::Fail;
@@ -15,6 +15,9 @@ const HELLO: [u8; 7] = [0x22, 0, 0, 0, 0x02, 0x01, 0];
 const HINT_ASK: [u8; 18] = [
     0x0d, 0, 0, 0, 0x03, 0, 0x01, 0, 0, 0, 0, 0, 0, 0, 0, 0, 0, 0,
 ];
+
+/// The rows changed since version 1.
+const DELTA_ASK: [u8; 13] = [0x08, 0, 0, 0, 0x04, 0x01, 0, 0, 0, 0, 0, 0, 0];
 
 /// The words 22 and 16777249 to version 1.
 const QUERY: [u8; 22] = [
@@ -38,6 +41,12 @@ const HINT_PART: [u8; 22] = [
     0x11, 0, 0, 0, 0x83, 0, 0x01, 0, 0, 0, 0, 0, 0, 0, 0, 0, 0, 0, 0x9c, 0xf9, 0x2b, 0x7b,
 ];
 
+/// From version 1 to version 2 with two records: row 0 has the word 586782492.
+const DELTA: [u8; 35] = [
+    0x1e, 0, 0, 0, 0x84, 0x01, 0, 0, 0, 0, 0, 0, 0, 0x02, 0, 0, 0, 0, 0, 0, 0, 0x02, 0, 0, 0, 0x01,
+    0, 0, 0, 0, 0, 0x1c, 0x97, 0xf9, 0x22,
+];
+
 /// The word 3355450020 of version 1.
 const ANSWER: [u8; 18] = [
     0x0d, 0, 0, 0, 0x85, 0, 0x01, 0, 0, 0, 0, 0, 0, 0, 0xa4, 0x1a, 0, 0xc8,
@@ -51,6 +60,11 @@ const STALE: [u8; 17] = [
 /// Version 1.
 const DONE: [u8; 13] = [0x08, 0, 0, 0, 0x87, 0x01, 0, 0, 0, 0, 0, 0, 0];
 
+/// Version 2 with 2000 records.
+const NO_DELTA: [u8; 17] = [
+    0x0c, 0, 0, 0, 0x88, 0x02, 0, 0, 0, 0, 0, 0, 0, 0xd0, 0x07, 0, 0,
+];
+
 const REFUSED: [u8; 6] = [0x01, 0, 0, 0, 0x8f, 0x01];
 
 const BYE: [u8; 5] = [0, 0, 0, 0, 0x08];
@@ -62,6 +76,7 @@ fn each_kind_encoded(alloc: Global) -> Result<Vec<u8>, Fail> {
     stream.extend_from_slice(&HELLO)?;
     stream.extend_from_slice(&[0; 32])?;
     stream.extend_from_slice(&HINT_ASK)?;
+    stream.extend_from_slice(&DELTA_ASK)?;
     stream.extend_from_slice(&QUERY)?;
     stream.extend_from_slice(&EDIT)?;
     stream.extend_from_slice(&PUBLISH)?;
@@ -69,9 +84,11 @@ fn each_kind_encoded(alloc: Global) -> Result<Vec<u8>, Fail> {
     stream.extend_from_slice(&WELCOME)?;
     stream.extend_from_slice(&[0; 32])?;
     stream.extend_from_slice(&HINT_PART)?;
+    stream.extend_from_slice(&DELTA)?;
     stream.extend_from_slice(&ANSWER)?;
     stream.extend_from_slice(&STALE)?;
     stream.extend_from_slice(&DONE)?;
+    stream.extend_from_slice(&NO_DELTA)?;
     stream.extend_from_slice(&REFUSED)?;
     Ok(stream)
 }
@@ -101,6 +118,7 @@ fn push_asked(alloc: Global, frames: &mut Vec<Frame>) -> Result<(), Fail> {
         version: 1,
         part: 0,
     })?;
+    frames.push(Frame::DeltaAsk { since: 1 })?;
     frames.push(Frame::Query {
         scheme: 0,
         version: 1,
@@ -113,6 +131,12 @@ fn push_asked(alloc: Global, frames: &mut Vec<Frame>) -> Result<(), Fail> {
     frames.push(Frame::Publish)?;
     frames.push(Frame::Bye)?;
     Ok(())
+}
+
+/// Row 0 of one word.
+fn one_row(alloc: Global) -> Result<Rows, Fail> {
+    let words = Words::new(vec![in alloc; 0, 586_782_492]?);
+    Ok(Rows::new(1, words))
 }
 
 /// A frame of each kind that a server sends.
@@ -133,6 +157,12 @@ fn push_replied(alloc: Global, frames: &mut Vec<Frame>) -> Result<(), Fail> {
         part: 0,
         words: Words::new(vec![in alloc; 2_066_479_516]?),
     })?;
+    frames.push(Frame::Delta {
+        since: 1,
+        now: 2,
+        count: 2,
+        rows: one_row(alloc)?,
+    })?;
     frames.push(Frame::Answer {
         scheme: 0,
         version: 1,
@@ -143,6 +173,10 @@ fn push_replied(alloc: Global, frames: &mut Vec<Frame>) -> Result<(), Fail> {
         count: 5,
     })?;
     frames.push(Frame::Done { version: 1 })?;
+    frames.push(Frame::NoDelta {
+        version: 2,
+        count: 2000,
+    })?;
     frames.push(Frame::Refused { code: 1 })?;
     Ok(())
 }
@@ -184,6 +218,7 @@ fn has_its_fields(frame: Frame) -> bool {
             version,
             part,
         } => scheme == 0 && version == 1 && part == 0,
+        Frame::DeltaAsk { since } => since == 1,
         Frame::Query {
             scheme,
             version,
@@ -222,6 +257,15 @@ fn has_its_reply_fields(frame: Frame) -> bool {
                 && part == 0
                 && words.as_slice() == [2_066_479_516].as_slice()
         }
+        Frame::Delta {
+            since,
+            now,
+            count,
+            rows,
+        } => {
+            (since, now, count, rows.dimension()) == (1, 2, 2, 1)
+                && rows.as_slice() == [0, 586_782_492].as_slice()
+        }
         Frame::Answer {
             scheme,
             version,
@@ -231,6 +275,7 @@ fn has_its_reply_fields(frame: Frame) -> bool {
         }
         Frame::Stale { version, count } => version == 3 && count == 5,
         Frame::Done { version } => version == 1,
+        Frame::NoDelta { version, count } => version == 2 && count == 2000,
         Frame::Refused { code } => code == 1,
         _ => false,
     }
@@ -246,14 +291,16 @@ fn reads_the_fields_of_each_kind(rt: HostRuntime) -> Result<(), Fail> {
         assert!(rt; has_its_fields(frame), "frame {seen}");
         seen = u32::wrapping_add(seen, 1);
     }
-    assert_eq!(rt; seen, 13);
+    assert_eq!(rt; seen, 16);
     Ok(())
 }
 
 #[test]
 fn reads_the_same_frames_however_cut(rt: HostRuntime) -> Result<(), Fail> {
     let stream = each_kind_encoded(rt.alloc())?;
-    let ends = [12, 51, 69, 91, 101, 106, 111, 169, 191, 209, 226, 239, 245];
+    let ends = [
+        12, 51, 69, 82, 104, 114, 119, 124, 182, 204, 239, 257, 274, 287, 304, 310,
+    ];
     for cut in 0..=stream.len() {
         let (piece, later) = stream.split_at(cut);
         let mut reader = Reader::new(rt.alloc());
@@ -344,7 +391,8 @@ fn a_long_payload_fails_at_byte_four(rt: HostRuntime) -> Result<(), Fail> {
 #[test]
 fn an_unknown_kind_fails_at_byte_five(rt: HostRuntime) -> Result<(), Fail> {
     let known = [
-        0x01, 0x02, 0x03, 0x05, 0x06, 0x07, 0x08, 0x82, 0x83, 0x85, 0x86, 0x87, 0x8f,
+        0x01, 0x02, 0x03, 0x04, 0x05, 0x06, 0x07, 0x08, 0x82, 0x83, 0x84, 0x85, 0x86, 0x87, 0x88,
+        0x8f,
     ];
     for kind in 0..=255u8 {
         if !known.contains(&kind) {
@@ -368,6 +416,8 @@ fn a_bad_payload_fails_at_its_last_byte(rt: HostRuntime) -> Result<(), Fail> {
         (0x02, 35),
         (0x03, 12),
         (0x03, 14),
+        (0x04, 7),
+        (0x04, 9),
         (0x05, 0),
         (0x05, 8),
         (0x05, 10),
@@ -380,6 +430,9 @@ fn a_bad_payload_fails_at_its_last_byte(rt: HostRuntime) -> Result<(), Fail> {
         (0x82, 54),
         (0x83, 12),
         (0x83, 14),
+        (0x84, 21),
+        (0x84, 23),
+        (0x84, 26),
         (0x85, 8),
         (0x85, 12),
         (0x86, 0),
@@ -387,6 +440,8 @@ fn a_bad_payload_fails_at_its_last_byte(rt: HostRuntime) -> Result<(), Fail> {
         (0x86, 13),
         (0x87, 7),
         (0x87, 9),
+        (0x88, 11),
+        (0x88, 13),
         (0x8f, 0),
         (0x8f, 2),
     ];
@@ -397,6 +452,22 @@ fn a_bad_payload_fails_at_its_last_byte(rt: HostRuntime) -> Result<(), Fail> {
         }
         must_fail_at_last(&rt, rt.alloc(), &frame, ReadFault::BadPayload)?;
     }
+    Ok(())
+}
+
+#[test]
+fn a_row_may_have_no_words(rt: HostRuntime) -> Result<(), Fail> {
+    let mut stream = vec![in rt.alloc(); 30, 0, 0, 0, 0x84]?;
+    for _ in 0..30 {
+        stream.push(0)?;
+    }
+    let mut reader = Reader::new(rt.alloc());
+    let mut frames = Vec::new(rt.alloc());
+    reader.feed(&stream, &mut frames)?;
+    assert_eq!(rt;
+        encoded(&rt, rt.alloc(), &frames)?.as_slice(),
+        stream.as_slice()
+    );
     Ok(())
 }
 

@@ -3,9 +3,9 @@
 ghost use Rattle.std.specs.Prelude.{◌≡◌, ◌≤◌, ◌<◌, ◌+◌, ◌*◌, ◌^◌, ◌∷◌, ◌++◌, All, length, vec_len, vec_capacity, IsOk, OnOk, OnErr};
 ghost use Rattle.frame_codec.specs.Frames.{HasFields, IsFrame, encoding, payload_of, payload_size, kind_of, payload_limit};
 ghost use Rattle.frame_codec.specs.Numbers.{number_bytes, word_bytes};
-ghost use Rattle.frame_codec.specs.declared.frame.Frame.TheVariants.{Load};
+ghost use Rattle.frame_codec.specs.declared.frame.Frame.TheVariants.{Delta, Load};
 
-use crate::frame::{Bytes, Frame, Words};
+use crate::frame::{Bytes, Frame, Rows, Words};
 use crate::numbers::{put, put_u16, put_u32, put_u64, put_words};
 use std::alloc::AllocError;
 
@@ -16,15 +16,18 @@ fn kind_number(frame: &Frame) -> u8
         Frame::Load { .. } => 0x01,
         Frame::Hello { .. } => 0x02,
         Frame::HintAsk { .. } => 0x03,
+        Frame::DeltaAsk { .. } => 0x04,
         Frame::Query { .. } => 0x05,
         Frame::Edit { .. } => 0x06,
         Frame::Publish => 0x07,
         Frame::Bye => 0x08,
         Frame::Welcome { .. } => 0x82,
         Frame::HintPart { .. } => 0x83,
+        Frame::Delta { .. } => 0x84,
         Frame::Answer { .. } => 0x85,
         Frame::Stale { .. } => 0x86,
         Frame::Done { .. } => 0x87,
+        Frame::NoDelta { .. } => 0x88,
         Frame::Refused { .. } => 0x8f,
     }
 }
@@ -41,12 +44,13 @@ impl Frame {
             }
             Frame::Hello { key, .. } => 2 + key.as_slice().len(),
             Frame::HintAsk { .. } => 13,
-            Frame::Done { .. } => 8,
+            Frame::DeltaAsk { .. } | Frame::Done { .. } => 8,
             Frame::Edit { bytes, .. } => 4 + bytes.as_slice().len(),
             Frame::Publish | Frame::Bye => 0,
             Frame::Welcome { seed, .. } => 21 + seed.as_slice().len(),
             Frame::HintPart { words, .. } => 13 + 4 * words.as_slice().len(),
-            Frame::Stale { .. } => 12,
+            Frame::Delta { rows, .. } => 22 + 4 * rows.as_slice().len(),
+            Frame::Stale { .. } | Frame::NoDelta { .. } => 12,
             Frame::Refused { .. } => 1,
         }
     }
@@ -78,6 +82,7 @@ fn put_payload(out: &mut Vec<u8>, frame: &Frame)
             put_scheme(out, *scheme, *version);
             put_u32(out, *part);
         }
+        Frame::DeltaAsk { since } => put_u64(out, *since),
         Frame::Query {
             scheme,
             version,
@@ -113,12 +118,18 @@ fn put_reply(out: &mut Vec<u8>, frame: &Frame)
             put_u32(out, *part);
             put_words(out, words.as_slice());
         }
+        Frame::Delta {
+            since,
+            now,
+            count,
+            rows,
+        } => put_delta(out, *since, *now, *count, rows),
         Frame::Answer {
             scheme,
             version,
             words,
         } => put_scheme_words(out, *scheme, *version, words),
-        Frame::Stale { version, count } => {
+        Frame::Stale { version, count } | Frame::NoDelta { version, count } => {
             put_u64(out, *version);
             put_u32(out, *count);
         }
@@ -172,6 +183,20 @@ fn put_load(out: &mut Vec<u8>, record_len: u16, groups: u16, width: u8, records:
     put_u16(out, groups);
     put(out, &[width]);
     put(out, records.as_slice());
+}
+
+#[tactic(auto, using(crate::proofs::NumberBytes::lengths), unfolding(crate::specs::Frames::payload_of))]
+fn put_delta(out: &mut Vec<u8>, since: u64, now: u64, count: u32, rows: &Rows)
+    requires { vec_len out.old + (22 + 4 * length rows.now.words) ≤ vec_capacity out.old }
+    ensures items { out.new.items ≡ out.old.items ++ payload_of (Delta since now count rows.now) }
+    ensures fields { HasFields (Delta since now count rows.now) }
+    ensures capacity { vec_capacity out.old ≤ vec_capacity out.new }
+{
+    put_u64(out, since);
+    put_u64(out, now);
+    put_u32(out, count);
+    put_u16(out, rows.dimension());
+    put_words(out, rows.as_slice());
 }
 
 fn put_scheme(out: &mut Vec<u8>, scheme: u8, version: u64)
