@@ -11,7 +11,8 @@ ghost use Rattle.client_core.specs.Calls.{Want, Accepts, Refuses};
 ghost use Rattle.client_core.specs.Feeding.{Client, FeedsClient};
 
 use crate::calls::{
-    base_of, edit_bytes, encoded, may_ask, may_change, may_hello, query_bytes, scheme_of, spend_number,
+    base_of, edit_bytes, encoded, may_ask, may_change, may_hello, query_bytes, scheme_of,
+    spend_number,
 };
 use crate::parts::Parts;
 use crate::state::{Call, CallFault, ClientFault, ClientState, Event};

@@ -15,7 +15,7 @@ returns-then-since-asked c =
           other_dimension c.args.known.now c.args.asked c.args.since c.args.now c.args.count c.args.rows.now.dimension numbers (λ e. omega arith)
       | then-since-asked-via-else-since-asked+else-dimension-known+then-len-gt-MAX_ROWS w ↦
           too_many c.args.known.now c.args.asked c.args.since c.args.now c.args.count c.args.rows.now.dimension numbers
-              (omega (arith, length-numbers c.args.rows.now))
+          (omega (arith, length-numbers c.args.rows.now))
     ]
 
 pub returns : goal.returns
