@@ -4,3 +4,4 @@ pub mod Hints
 pub mod Pieces
 pub mod Runs
 pub mod Alike
+pub mod Deltas

@@ -1,7 +1,7 @@
 -- What a piece does to a session.
 use Rattle.std.proofs.Common.{◌≡◌, ◌≢◌, ℕ, Bool, true, false, List, [], ◌∷◌, ◌++◌, length, Some, None, Option, refl, sym, ap, subst, ◌∙◌, append_assoc, arith, inl, inr, Result, Ok, Err, IsErr, OnErr, OnOk, IfOk}
 use Rattle.std.proofs.Math.Seq.{take-length}
-use Rattle.std.specs.Prelude.{MatchBool}
+use Rattle.std.specs.Prelude.{MatchBool, IsOk}
 use Rattle.std.specs.List.{flat_map, AllByRecursion}
 use Rattle.std.specs.declared.alloc.AllocError.{AllocError}
 use Rattle.std.proofs.lemmas.List.{append-nil}
@@ -141,41 +141,14 @@ fed_short x h old piece e store u before new answer frames open_ reads s =
 
 -- ---- an open session's stream has not failed
 
-reading_goes_on : (answer : Result (Unit {0}) ReadFault) (middle after : Standing) (more : List Frame) → AfterReading answer middle after more →
-    (after ≡ Closed → ⊥) → (d : Unit {0}) × (answer ≡ Ok d)
-reading_goes_on (Ok d) middle after more r open_ = (d, refl)
-reading_goes_on (Err TooLong) middle after more r open_ = absurd (open_ r.0)
-reading_goes_on (Err UnknownKind) middle after more r open_ = absurd (open_ r.0)
-reading_goes_on (Err BadPayload) middle after more r open_ = absurd (open_ r.0)
-reading_goes_on (Err Memory) middle after more r open_ = absurd r
-reading_goes_on (Err Failed) middle after more r open_ = absurd r
-
-open_means : (answer : Result (Unit {0}) ReadFault) (middle after : Standing) (more : List Frame) → EndsPiece answer middle after more →
-    is_closed after ≡ false → (d : Unit {0}) × (answer ≡ Ok d)
-open_means answer middle after more e open_ = by_middle (is_closed middle) refl e
-  where
-    by_middle : (b : Bool) → b ≡ is_closed middle → MatchBool b ((after ≡ middle) × (more ≡ [])) (AfterReading answer middle after more) → (d : Unit {0})
-        × (answer ≡ Ok d)
-    by_middle true is r = absurd (let bad : true ≡ false = is ∙ ap is_closed (sym r.0) ∙ open_ in cc)
-    by_middle false is r = reading_goes_on answer middle after more r (λ shut. let bad : true ≡ false = sym (ap is_closed shut) ∙ open_ in cc)
-
 reads_on : (old : Option (List ℕ)) (piece : List ℕ) (d : Unit {0}) (frames : List Frame) (u : Option (List ℕ)) → Feeds old piece (Ok d) frames u → u ≢ None
 reads_on None piece d frames u f n = let bad : Ok d ≡ Err Failed = f.0 in cc
 reads_on (Some bytes) piece d frames u f n = let bad : Some f.0 ≡ None = sym f.2 ∙ n in cc
 
-pub stays_live : (old : Option (List ℕ)) (piece : List ℕ) (answer : Result (Unit {0}) ReadFault) (frames : List Frame) (u : Option (List ℕ)) (x : Setting)
-    (h : History) (st : Standing) (store : StoreState) (after : Standing) (before new : List ℕ)
-    → Feeds old piece answer frames u → ServedFrames x h st frames answer store after before new → IsLive after u
-stays_live old piece answer frames u x h st store after before new f s open_ =
-    let m = open_means answer s.middle after s.more s.ends open_ in
-    reads_on old piece m.0 frames u (subst (λ (a : Result (Unit {0}) ReadFault). Feeds old piece a frames u) m.1 f)
-
--- every store stands for a history
-abbrev pub history_of : StoreState → History
-history_of s = record { first = s.version; past = []; current = s.edition.records; draft = s.draft; marked = s.marked }
-
-pub stands_for_one : (s : StoreState) → StandsFor s (history_of s)
-stands_for_one s = record { version = omega arith; current = refl; draft = refl; marked = refl }
+pub stays_live : (old : Option (List ℕ)) (piece : List ℕ) (answer : Result (Unit {0}) ReadFault) (frames : List Frame) (u : Option (List ℕ)) (after : Standing) →
+    Feeds old piece answer frames u → (is_closed after ≡ false → IsOk answer) → IsLive after u
+stays_live old piece (Ok d) frames u after f live open_ = reads_on old piece d frames u f
+stays_live old piece (Err e) frames u after f live open_ = let bad : false ≡ true = live open_ in absurd cc
 
 pub on_err : {T E P Q : Type 0} (r : Result T E) → OnErr r P → (P → Q) → OnErr r Q
 on_err (Ok x) p f = tt

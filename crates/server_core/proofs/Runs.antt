@@ -1,6 +1,6 @@
 -- Frames served one after another.
-use Rattle.std.proofs.Common.{◌≡◌, ℕ, ◌+◌, ◌<◌, true, false, List, [], ◌∷◌, ◌++◌, length, Some, None, Option, take, get_or, refl, sym, ap, subst, ◌∙◌, append_assoc, inl, inr}
-use Rattle.std.specs.Prelude.{option_to_list}
+use Rattle.std.proofs.Common.{◌≡◌, ℕ, ◌+◌, ◌<◌, true, false, List, [], ◌∷◌, ◌++◌, length, Some, None, Option, take, get_or, refl, sym, ap, subst, ◌∙◌, append_assoc, inl, inr, Result, Ok, Err}
+use Rattle.std.specs.Prelude.{option_to_list, OnErr}
 use Rattle.std.specs.List.{flat_map, AllByRecursion}
 use Rattle.std.proofs.lemmas.List.{append-nil, take_more}
 use Rattle.std.proofs.lemmas.List.Concat.{flat_map-cons, flat_map-append}
@@ -123,3 +123,8 @@ drops_one x h st fs i store1 st1 old out1 lt shut a =
       written = a.written;
       each = a.each;
     }
+
+-- what holds anyway holds at an error
+pub at_err : {T E P : Type 0} (r : Result T E) → P → OnErr r P
+at_err (Ok x) p = tt
+at_err (Err e) p = p

@@ -1,22 +1,25 @@
 -- What the server does with a frame.
-use Rattle.std.specs.Prelude.{◌≡◌, ℕ, ◌+◌, ◌^◌, ◌<◌, List, [], ◌∷◌, ◌++◌, length, take, replicate, Bool, true, false, not, Option, Some, None, ◌==◌, ◌⊎◌, nat_eq, nat_lt, if◌then◌else◌, MatchBool, option_to_list, vec_len, vec_capacity}
+use Rattle.std.specs.Prelude.{◌≡◌, ℕ, ◌+◌, ◌^◌, ◌<◌, List, [], ◌∷◌, ◌++◌, length, map, take, replicate, Bool, true, false, not, Option, Some, None, ◌==◌, ◌⊎◌, nat_eq, nat_le, nat_lt, if◌then◌else◌, MatchBool, option_to_list, vec_len, vec_capacity}
 use Rattle.std.specs.Cmp.Lexicographic.{pointwise}
 use Rattle.std.specs.declared.vec.Vec.{Vec}
 use Rattle.std.specs.declared.alloc.Global.{Global}
 use Rattle.std.specs.List.{flat_map, AllByRecursion}
 use Rattle.sha2.specs.Sha256.{sha256}
+use Rattle.matrix_u32.specs.Matrix.{row}
 use Rattle.pir_schemes.specs.declared.scheme.Scheme.{Scheme}
+use Rattle.pir_schemes.specs.declared.scheme.Scheme.TheVariants.{Simple}
 use Rattle.pir_schemes.specs.Schemes.{scheme_byte, scheme_of_byte}
 use Rattle.pir_schemes.specs.Parts.{part_of, is_part_of}
 use Rattle.pir_schemes.specs.Plans.{Plan, shape_at, profile_of, fits}
 use Rattle.pir_schemes.specs.Retrievals.{hint_matrix, query_count, answer_words}
-use Rattle.version_store.specs.Histories.{StoreState, History, StandsFor, current_version, after_edit, published}
+use Rattle.version_store.specs.Histories.{StoreState, History, StandsFor, current_version, after_edit, published, delta_rows}
 use Rattle.frame_codec.specs.declared.frame.Frame.{Frame}
-use Rattle.frame_codec.specs.declared.frame.Frame.TheVariants.{Hello, HintAsk, Query, Edit, Publish, Bye, Welcome, HintPart, Answer, Stale, Done}
+use Rattle.frame_codec.specs.declared.frame.Frame.TheVariants.{Hello, HintAsk, DeltaAsk, Query, Edit, Publish, Bye, Welcome, HintPart, Delta, Answer, Stale, Done, NoDelta}
 use Rattle.frame_codec.specs.declared.refusal.Refusal.{Refusal}
 use Rattle.frame_codec.specs.declared.refusal.Refusal.TheVariants as refusal
 use Rattle.frame_codec.specs.Refusals.{refused}
 use Rattle.frame_codec.specs.Frames.{IsFrame, encoding}
+use Rattle.frame_codec.specs.Rows.{Row, RowList, row_list}
 use Rattle.server_core.specs.declared.standing.Standing.{Standing}
 use Rattle.server_core.specs.declared.standing.Standing.TheVariants.{Reader, Publisher, Closed}
 
@@ -48,6 +51,14 @@ has_part x scheme records part = is_part_of (length (hint_words x scheme records
 -- a part of a hint of some records
 unfoldable pub part_words : Setting → Scheme → List (List ℕ) → ℕ → List ℕ
 part_words x scheme records part = part_of (hint_words x scheme records) part
+
+-- a row of the SimplePIR hint of some records, with its number
+abbrev pub hint_row : Setting → List (List ℕ) → ℕ → Row
+hint_row x records r = record { number = r; words = row (hint_matrix Simple x.plan records) r }
+
+-- some of its rows, one after another
+unfoldable pub hint_rows : Setting → List (List ℕ) → List ℕ → RowList
+hint_rows x records rows = row_list x.plan.dimension (map (hint_row x records) rows)
 
 -- how many words a query on some records has
 abbrev pub words_asked : Setting → Scheme → List (List ℕ) → ℕ
@@ -103,6 +114,18 @@ hint_asked x h st (Some scheme) version part =
     else refuses refusal.BadPart st h)
     else stale st h
 
+-- no rows can be given, and the hint has to be fetched whole
+abbrev pub no_delta : Standing → History → Outcome
+no_delta st h = replies_with (NoDelta (current_version h) (length h.current)) st h
+
+-- the rows that changed since a version are asked for, and these are they: at most 1024 of them are given, with the words of the current hint
+abbrev pub delta_asked : Setting → History → Standing → ℕ → Option (List ℕ) → Outcome
+delta_asked x h st since None = no_delta st h
+delta_asked x h st since (Some rows) =
+    if nat_le (length rows) 1024
+    then replies_with (Delta since (current_version h) (length h.current) (hint_rows x h.current rows)) st h
+    else no_delta st h
+
 -- a query is asked
 abbrev pub query_asked : Setting → History → Standing → Option Scheme → ℕ → List ℕ → Outcome
 query_asked x h st None version words = refuses refusal.BadScheme st h
@@ -123,6 +146,8 @@ outcome_of_frame x h st (Hello profile key) =
     else refuses refusal.BadProfile st h
 outcome_of_frame x h st (HintAsk scheme version part) =
     if is_welcome st then hint_asked x h st (scheme_of_byte scheme) version part else refuses refusal.NotWelcome st h
+outcome_of_frame x h st (DeltaAsk since) =
+    if is_welcome st then delta_asked x h st since (delta_rows x.plan h since) else refuses refusal.NotWelcome st h
 outcome_of_frame x h st (Query scheme version words) =
     if is_welcome st then query_asked x h st (scheme_of_byte scheme) version words else refuses refusal.NotWelcome st h
 outcome_of_frame x h st (Edit index bytes) =
@@ -162,6 +187,7 @@ has_asked_query x h (Some scheme) version words =
 abbrev pub takes_memory : Setting → History → Standing → Frame → Bool
 takes_memory x h st (HintAsk scheme version part) =
     if is_welcome st then has_asked_part x h (scheme_of_byte scheme) version part else false
+takes_memory x h st (DeltaAsk since) = is_welcome st
 takes_memory x h st (Query scheme version words) =
     if is_welcome st then has_asked_query x h (scheme_of_byte scheme) version words else false
 takes_memory x h st (Edit index bytes) =

@@ -1,22 +1,27 @@
 //! Replies, written after those before.
 
-ghost use Rattle.std.specs.Prelude.{◌≡◌, ◌≤◌, ◌<◌, ◌+◌, ◌*◌, ◌++◌, length, vec_len, vec_capacity, OnOk, OnErr, IfOk, IfSome, IfNone, true, false};
+ghost use Rattle.std.specs.Prelude.{All, ◌≡◌, ◌≤◌, ◌<◌, ◌+◌, ◌*◌, ◌++◌, length, vec_len, vec_capacity, OnOk, OnErr, IfOk, IfSome, IfNone, true, false};
 ghost use Rattle.frame_codec.specs.Frames.{IsFrame, encoding, payload_size};
-ghost use Rattle.frame_codec.specs.declared.frame.Frame.TheVariants.{Answer, Done, HintPart, Stale, Welcome};
+ghost use Rattle.frame_codec.specs.declared.frame.Frame.TheVariants.{Answer, Delta, Done, HintPart, NoDelta, Stale, Welcome};
 ghost use Rattle.frame_codec.specs.Refusals.{refused};
 ghost use Rattle.pir_schemes.specs.Schemes.{scheme_byte};
 ghost use Rattle.pir_schemes.specs.Plans.{profile_of};
 ghost use Rattle.pir_schemes.specs.Retrievals.{answer_words};
-ghost use Rattle.server_core.specs.Serving.{setting_of, has_part, part_words, words_asked};
+ghost use Rattle.digit_pack.specs.Layout.{digit_rows};
+ghost use Rattle.version_store.specs.Editions.{version_shape};
+ghost use Rattle.server_core.specs.Serving.{setting_of, has_part, part_words, hint_rows, words_asked};
 
-use frame_codec::{Bytes32, Frame, Refusal, Words, write_frame};
+use frame_codec::{Bytes32, Frame, Refusal, Rows, Words, write_frame};
 use matrix_u32::Kernel;
 use pir_schemes::{PROFILE, Scheme};
 use std::alloc::{AllocError, Global};
 use version_store::Store;
 
-/// The room that every reply but a hint's part and an answer fits into.
+/// The room that every reply but a hint's part, a delta and an answer fits into.
 pub const SHORT_REPLY: usize = 64;
+
+/// How many rows a delta has at most.
+pub const MOST_ROWS: usize = 1024;
 
 /// Adds a short reply for which there is room.
 fn put(reply: &Frame, out: &mut Vec<u8>)
@@ -124,6 +129,73 @@ pub fn put_part(
         words,
     };
     write_frame(&reply, out)
+}
+
+/// Adds that no rows can be given, with the current version and its record count.
+pub fn put_no_delta<K: Kernel>(store: &Store<K>, out: &mut Vec<u8>)
+    requires { vec_len out.old + 64 ≤ vec_capacity out.old }
+    ensures items { out.new.items ≡ out.old.items ++ encoding
+        (NoDelta store.now.version (length store.now.edition.records)) }
+    ensures fits { IsFrame (NoDelta store.now.version (length store.now.edition.records)) }
+{
+    let reply = Frame::NoDelta {
+        version: store.version(),
+        count: store.layout().count() as u32,
+    };
+    put(&reply, out);
+}
+
+/// Adds rows of the current SimplePIR hint, in the order in which they are named. Only refused memory gives an
+/// `Err`, and then nothing was added.
+///
+/// Each row is copied once, and its bytes are written once.
+pub fn put_delta<K: Kernel>(
+    alloc: Global,
+    store: &Store<K>,
+    since: u64,
+    rows: &[u32],
+    out: &mut Vec<u8>,
+) -> Result<(), AllocError>
+    requires few { length rows.now ≤ 1024 }
+    requires inside { All (λ r. r < digit_rows (version_shape store.now.edition)) rows.now }
+    ensures ok { OnOk result (out.new.items ≡ out.old.items ++ encoding
+        (Delta since store.now.version (length store.now.edition.records)
+        (hint_rows (setting_of store.now) store.now.edition.records rows.now))) }
+    ensures fits { OnOk result (IsFrame
+        (Delta since store.now.version (length store.now.edition.records)
+        (hint_rows (setting_of store.now) store.now.edition.records rows.now))) }
+    ensures err { OnErr result (out.new.items ≡ out.old.items) }
+    ensures room { vec_capacity out.old ≤ vec_capacity out.new }
+{
+    let rows = rows_of_hint(alloc, store, rows)?;
+    let reply = Frame::Delta {
+        since,
+        now: store.version(),
+        count: store.layout().count() as u32,
+        rows,
+    };
+    write_frame(&reply, out)
+}
+
+/// Rows of the current SimplePIR hint.
+fn rows_of_hint<K: Kernel>(
+    alloc: Global,
+    store: &Store<K>,
+    rows: &[u32],
+) -> Result<Rows, AllocError>
+    requires few { length rows.now ≤ 1024 }
+    requires inside { All (λ r. r < digit_rows (version_shape store.now.edition)) rows.now }
+    ensures rows { IfOk result (λ sent.
+        sent ≡ hint_rows (setting_of store.now) store.now.edition.records rows.now) }
+    ensures few { IfOk result (λ sent. length sent.words ≤ 1049600) }
+{
+    let dimension = store.dimension();
+    let mut words = Vec::with_capacity(alloc, rows.len() * (dimension + 1))?;
+    for row in rows {
+        words.push(*row)?;
+        words.extend_from_slice(store.hint_row(*row as usize))?;
+    }
+    Ok(Rows::new(dimension as u16, Words::new(words)))
 }
 
 /// Adds the answer to a query. Only refused memory gives an `Err`, and then nothing was added.

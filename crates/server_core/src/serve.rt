@@ -2,13 +2,14 @@
 
 ghost use Rattle.std.specs.Prelude.{◌≡◌, ◌≤◌, ◌+◌, ◌++◌, vec_len, vec_capacity, OnErr, IfOk};
 ghost use Rattle.frame_codec.specs.Frames.{IsFrame, encoding};
-ghost use Rattle.frame_codec.specs.declared.frame.Frame.TheVariants.{Edit, Hello, HintAsk, Publish, Query};
+ghost use Rattle.frame_codec.specs.declared.frame.Frame.TheVariants.{DeltaAsk, Edit, Hello, HintAsk, Publish, Query};
 ghost use Rattle.frame_codec.specs.Refusals.{refused};
 ghost use Rattle.version_store.specs.Histories.{History, StandsFor};
 ghost use Rattle.server_core.specs.Serving.{setting_of, is_publisher_key, is_reader_key, Serves, ServedAll, BrokenOff, IsFull};
 
 use crate::replies::{
-    SHORT_REPLY, part_of_hint, put_answer, put_done, put_part, put_refused, put_stale, put_welcome,
+    MOST_ROWS, SHORT_REPLY, part_of_hint, put_answer, put_delta, put_done, put_no_delta, put_part,
+    put_refused, put_stale, put_welcome,
 };
 use crate::standing::Standing;
 use frame_codec::{Bytes, Bytes32, Frame, Refusal, Words};
@@ -92,6 +93,36 @@ fn serve_hint_ask<K: Kernel>(
                 put_refused(Refusal::Memory, out);
             }
         }
+    }
+}
+
+/// Gives the rows of the SimplePIR hint that have changed since a version.
+fn serve_delta_ask<K: Kernel>(
+    alloc: Global,
+    store: &Store<K>,
+    standing: Standing,
+    since: u64,
+    out: &mut Vec<u8>,
+)
+    requires { vec_len out.old + 64 ≤ vec_capacity out.old }
+    ensures { (h : History) → StandsFor store.now h →
+        Serves (setting_of store.now) h standing
+        (DeltaAsk since) store.now standing out.old.items out.new.items }
+{
+    if !standing.is_welcome() {
+        return put_refused(Refusal::NotWelcome, out);
+    }
+    let Ok(found) = store.delta_since(since) else {
+        return put_refused(Refusal::Memory, out);
+    };
+    let Some(rows) = found else {
+        return put_no_delta(store, out);
+    };
+    if rows.len() > MOST_ROWS {
+        return put_no_delta(store, out);
+    }
+    if put_delta(alloc, store, since, &rows, out).is_err() {
+        put_refused(Refusal::Memory, out);
     }
 }
 
@@ -210,6 +241,10 @@ fn serve_with_room<K: Kernel>(
             part,
         } => {
             serve_hint_ask(alloc, store, standing, *scheme, *version, *part, out);
+            standing
+        }
+        Frame::DeltaAsk { since } => {
+            serve_delta_ask(alloc, store, standing, *since, out);
             standing
         }
         Frame::Query {

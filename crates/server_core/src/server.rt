@@ -2,7 +2,7 @@
 
 ghost use Rattle.std.specs.Prelude.{◌≡◌, ◌≢◌, ◌⊎◌, ◌≤◌, ◌<◌, ◌^◌, ◌+◌, ◌↔◌, ℕ, length, OnOk, OnErr, IfOk, IsSome, Some, None, IsErrOf, is_some, slice_set, true, false};
 ghost use Rattle.pir_schemes.specs.Plans.{fits};
-ghost use Rattle.version_store.specs.Histories.{History, StandsFor, after_edit, published};
+ghost use Rattle.version_store.specs.Histories.{History, StandsFor, after_edit, published, held_published};
 ghost use Rattle.server_core.specs.Cores.{session_of, is_open, FeedsCore, HasFailed, OnNoSession};
 ghost use Rattle.server_core.specs.Serving.{setting_of, IsFull};
 ghost use Rattle.server_core.specs.Sessions as sessions;
@@ -148,11 +148,7 @@ impl<K: Kernel> ServerCore<K> {
     /// changes.
     pub fn publish(&mut self) -> Result<u64, PublishError>
         ensures version { IfOk result (λ v. (v ≡ self.old.store.version + 1) × (v < 2 ^ 64)) }
-        ensures done { OnOk result (self.new.store ≡ record self.old.store {
-          version = self.old.store.version + 1;
-          edition = record self.old.store.edition { records = self.old.store.draft };
-          marked = false;
-        }) }
+        ensures done { OnOk result (self.new.store ≡ held_published self.old.store) }
         ensures history { OnOk result ((h : History) → StandsFor self.old.store h →
             StandsFor self.new.store (published h)) }
         ensures nothing { IsErrOf result PublishError.NothingToPublish ↔ (self.old.store.marked ≡

@@ -1,6 +1,6 @@
 //! One session.
 
-ghost use Rattle.std.specs.Prelude.{◌≡◌, ◌⊎◌, ◌++◌, IfOk, IsErr, None, OnErr, OnOk};
+ghost use Rattle.std.specs.Prelude.{◌≡◌, ◌⊎◌, ◌++◌, IfOk, IsErr, IsOk, None, OnErr, OnOk, false};
 ghost use Rattle.frame_codec.specs.Refusals.{refused};
 ghost use Rattle.frame_codec.specs.Frames.{IsFrame, encoding};
 ghost use Rattle.version_store.specs.Histories.{History, StandsFor};
@@ -100,6 +100,7 @@ fn serve_piece<K: Kernel>(
     ensures err { OnErr result ((h : History) → StandsFor store.old h →
         StoppedFrames (setting_of store.old) h standing frames.now read store.new out.old.items
         out.new.items) }
+    ensures live { IfOk result (λ after. (is_closed after ≡ false) → IsOk read) }
     ensures full { OnErr result (IsFull out.new ⊎ IsErr read) }
 {
     let middle = match serve_frames(alloc, store, standing, frames, out) {
@@ -121,6 +122,7 @@ fn end_piece(
 ) -> Result<Standing, AllocError>
     ensures ok { IfOk result (λ after. Ended read middle after out.old.items out.new.items) }
     ensures err { OnErr result (IsErr read × (out.new.items ≡ out.old.items)) }
+    ensures live { IfOk result (λ after. (is_closed after ≡ false) → IsOk read) }
     ensures full { OnErr result (IsFull out.new ⊎ IsErr read) }
 {
     match read {

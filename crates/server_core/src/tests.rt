@@ -8,6 +8,7 @@ use std::process::Abort;
 use std::test::Fail;
 use version_store::{Header, Store};
 
+mod deltas;
 mod texts;
 
 /// The SHA-256 digest of 32 bytes 01.

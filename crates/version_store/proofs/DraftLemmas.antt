@@ -50,6 +50,18 @@ draft-popped records m n k v is u inside =
           ∙ ap (bytes_or (change_at m.entries i)) (get_or-set_other records k i v.items [] apart)
     ])
 
+-- the records with waiting changes are as they were, after another has gone into the records
+pub still-waiting : (first old : List (List ℕ)) (m n : BTreeMap ℕ (Vec ℕ Global)) (i : ℕ) (bytes : List ℕ) → Updates nat_cmp m n i None →
+    ((k : ℕ) (v : Vec ℕ Global) → change_at m.entries k ≡ Some v → record_at old k ≡ record_at first k) →
+    (k : ℕ) (v : Vec ℕ Global) → change_at n.entries k ≡ Some v → record_at (set old i bytes) k ≡ record_at first k
+still-waiting first old m n i bytes u waiting k v is = elim (cases_eq k i) [
+  | inl same ↦
+      let gone : change_at n.entries k ≡ None = ap (change_at n.entries) same ∙ updated_here m n i None u in
+      let bad : Some v ≡ None = sym is ∙ gone in absurd cc
+  | inr apart ↦
+      get_or-set_other old i k bytes [] apart ∙ waiting k v (sym (updated_elsewhere m n i k None u apart) ∙ is)
+]
+
 -- an edit replaces one record of the draft
 pub draft-inserted : (records : List (List ℕ)) (m n : BTreeMap ℕ (Vec ℕ Global)) (k : ℕ) (v : Vec ℕ Global) → Updates nat_cmp m n k (Some v) →
     k < length records → draft_of records n.entries ≡ set (draft_of records m.entries) k v.items

@@ -1,11 +1,15 @@
 -- What a store stands for after an edit and after a publication.
-use Rattle.std.proofs.Common.{◌≡◌, ℕ, ◌+◌, arith, ap, ◌∙◌, sym, refl, List, [], ◌∷◌, Some, None}
+use Rattle.std.proofs.Common.{◌≡◌, ℕ, ◌+◌, arith, ap, ◌∙◌, sym, refl, List, [], ◌∷◌, length, take, lit≤, Option, Some, None}
+use Rattle.std.proofs.lemmas.List.{take-take}
 use Rattle.std.specs.Prelude.{slice_set}
 use Rattle.digit_pack.specs.Layout.{records_in}
 use Rattle.snapshot_file.specs.declared.snapshot.Header.{Header}
 use Rattle.snapshot_file.specs.Snapshots.{shape_of}
+use Rattle.digit_pack.specs.Layout.{digit_rows}
+use Rattle.pir_schemes.specs.Plans.{Plan, shape_at, digits_at}
+use Rattle.version_store.specs.Deltas.{changed_rows, changes_of, rows_logged}
 use Rattle.version_store.specs.Openings.{held_of}
-use Rattle.version_store.specs.Histories.{StoreState, History, StandsFor, opened, after_edit, published, held_edited, held_published, Change, history_after, held_after}
+use Rattle.version_store.specs.Histories.{StoreState, History, StandsFor, current_version, delta_rows, held_rows, opened, after_edit, published, held_edited, held_published, Change, history_after, held_after}
 
 pub edit_stands : (old new : StoreState) (i : ℕ) (bytes : List ℕ) → new ≡ held_edited i bytes old →
     (h : History) → StandsFor old h → StandsFor new (after_edit i bytes h)
@@ -14,7 +18,20 @@ edit_stands old new i bytes e h s = record {
   current = s.current ∙ sym (ap (λ t. t.edition.records) e);
   draft = ap (λ (d : List (List ℕ)). slice_set d i bytes) s.draft ∙ sym (ap (λ t. t.draft) e);
   marked = sym (ap (λ t. t.marked) e);
+  log = ap (λ t. take 16 (changes_of t.edition.plan h.current h.past)) e ∙ s.log ∙ sym (ap (λ t. t.log) e);
 }
+
+-- a list before others, of which so many are kept
+first_of : (x : List ℕ) (xs ys : List (List ℕ)) → take 16 xs ≡ ys → take 16 (x ∷ xs) ≡ take 16 (x ∷ ys)
+first_of x xs ys e =
+    let fewer : take 15 xs ≡ take 15 (take 16 xs) = sym (take-take 15 16 xs (lit≤ tt)) in
+    ap (λ (zs : List (List ℕ)). x ∷ zs) (fewer ∙ ap (take 15) e)
+
+-- the log of a history with one more version
+one_more : (p : Plan) (current draft : List (List ℕ)) (past : List (List (List ℕ))) (log : List (List ℕ)) → take 16 (changes_of p current past) ≡ log →
+    take 16 (changes_of p draft (current ∷ past)) ≡ take 16 (changed_rows (digits_at p current) (digits_at p draft) ∷ log)
+unfolding changes_of
+one_more p current draft past log e = first_of (changed_rows (digits_at p current) (digits_at p draft)) (changes_of p current past) log e
 
 pub publish_stands : (old new : StoreState) → new ≡ held_published old → (h : History) → StandsFor old h → StandsFor new (published h)
 publish_stands old new e h s =
@@ -24,15 +41,35 @@ publish_stands old new e h s =
       current = s.draft ∙ sym (ap (λ t. t.edition.records) e);
       draft = s.draft ∙ sym (ap (λ t. t.draft) e);
       marked = sym (ap (λ t. t.marked) e);
+      log = ap (λ t. take 16 (changes_of t.edition.plan h.draft (h.current ∷ h.past))) e
+          ∙ one_more old.edition.plan h.current h.draft h.past old.log s.log
+          ∙ ap (λ (rs : List (List ℕ)). take 16 (changed_rows (digits_at old.edition.plan rs) (digits_at old.edition.plan h.draft) ∷ old.log)) s.current
+          ∙ ap (λ (rs : List (List ℕ)). take 16 (changed_rows (digits_at old.edition.plan old.edition.records) (digits_at old.edition.plan rs) ∷ old.log))
+          s.draft
+          ∙ sym (ap (λ t. t.log) e);
     }
 
 pub open_stands : (s : StoreState) (h : Header) (bytes : List ℕ) → s ≡ held_of h bytes → StandsFor s (opened h.version (records_in (shape_of h) bytes))
+unfolding changes_of
 open_stands s h bytes e = record {
   version = omega (arith, ap (λ t. t.version) e);
   current = sym (ap (λ t. t.edition.records) e);
   draft = sym (ap (λ t. t.draft) e);
   marked = sym (ap (λ t. t.marked) e);
+  log = sym (ap (λ t. t.log) e);
 }
+
+-- the rows that a store and its history give
+pub held_as_history : (s : StoreState) (h : History) (since : ℕ) → StandsFor s h → held_rows s since ≡ delta_rows s.edition.plan h since
+unfolding delta_rows
+held_as_history s h since stands =
+    let p : Plan = s.edition.plan in
+    let n : ℕ = digit_rows (shape_at p (length h.current)) in
+    let at : ℕ → List (List ℕ) → Option (List ℕ) = λ v lists. rows_logged n (record { version = v; lists = lists }) since in
+    let rows : digit_rows (shape_at p (length s.edition.records)) ≡ n = ap (λ (rs : List (List ℕ)). digit_rows (shape_at p (length rs))) (sym stands.current) in
+    ap (λ m. rows_logged m (record { version = s.version; lists = s.log }) since) rows
+    ∙ ap (λ v. at v s.log) (sym stands.version)
+    ∙ ap (at (current_version h)) (sym stands.log)
 
 -- a store stands for its history after any changes
 pub run_stands : (changes : List Change) (s : StoreState) (h : History) → StandsFor s h → StandsFor (held_after changes s) (history_after changes h)

@@ -3,5 +3,8 @@ pub mod HistoryLemmas
 pub mod RecordBytes
 pub mod Versions
 pub mod Marks
+pub mod ChangedRows
+pub mod RowUnions
+pub mod Publications
 pub mod RowLemmas
 pub mod DoubleLemmas

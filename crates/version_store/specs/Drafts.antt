@@ -1,14 +1,14 @@
 -- The draft: the records of the current version with the changes that no publication has taken yet.
-use Rattle.std.specs.Prelude.{◌≡◌, ℕ, ◌<◌, List, [], ◌∷◌, length, Bool, true, false, Option, Some, None, MatchOption}
+use Rattle.std.specs.Prelude.{◌≡◌, ℕ, ◌<◌, All, List, [], ◌∷◌, length, Bool, true, false, Option, Some, None, MatchOption}
 use Rattle.std.specs.declared.vec.Vec.{Vec}
 use Rattle.std.specs.declared.alloc.Global.{Global}
 use Rattle.std.specs.Map.{lookup}
 use Rattle.std.specs.BTreeMap.{is_at}
 use Rattle.std.specs.Ordering.{nat_cmp}
 use Rattle.matrix_u32.specs.Sum.{list_of}
-use Rattle.digit_pack.specs.Layout.{record_at}
+use Rattle.digit_pack.specs.Layout.{record_at, digit_rows}
 use Rattle.pir_schemes.specs.Plans.{fits}
-use Rattle.version_store.specs.Editions.{Records}
+use Rattle.version_store.specs.Editions.{Records, version_shape}
 
 -- changed records by their indices
 abbrev pub Changes : Type 0
@@ -36,3 +36,8 @@ FitRecords e changes =
 abbrev pub is_some_change : Changes → Bool
 is_some_change [] = false
 is_some_change (c ∷ cs) = true
+
+-- the changes fit, and only rows that there are were logged
+pub record IsHeld (e : Records) (changes : Changes) (log : List (List ℕ)) : Type 0 where
+  pub fit : FitRecords e changes
+  pub rows : All (λ (rows : List ℕ). All (λ r. r < digit_rows (version_shape e)) rows) log

@@ -1,5 +1,6 @@
 -- The records of one version, and what is made from them.
-use Rattle.std.specs.Prelude.{◌≡◌, ℕ, ◌*◌, ◌<◌, ◌≤◌, List, length, Bool, false, slice_index_or}
+use Rattle.std.specs.Prelude.{◌≡◌, ℕ, ◌*◌, ◌<◌, ◌≤◌, List, length, filter, Bool, false, slice_index_or}
+use Rattle.std.specs.List.{range_with_len}
 use Rattle.matrix_u32.specs.Matrix.{WordMatrix, IsWhole, row, product}
 use Rattle.digit_pack.specs.Layout.{Shape, IsLayout, records_in}
 use Rattle.pir_schemes.specs.declared.scheme.Scheme.TheVariants.{Simple, Double}
@@ -37,10 +38,15 @@ pub record IsMadeTwice (e : Records) (a2 server client : WordMatrix) : Type 0 wh
 abbrev pub is_marked : List Bool → ℕ → Bool
 is_marked marks r = slice_index_or marks r false
 
--- rows that differ are marked, and marked rows stay marked
+-- the rows that are marked, ascending
+abbrev pub marked_rows : List Bool → List ℕ
+marked_rows marks = filter (is_marked marks) (range_with_len 0 (length marks))
+
+-- rows that differ are marked, and marked rows stay marked; no other row is marked
 pub record MarksChanges (old new : WordMatrix) (before after : List Bool) : Type 0 where
   pub count : length after ≡ length before
   pub kept : (r : ℕ) → r < old.rows → is_marked after r ≡ false → (is_marked before r ≡ false) × (row new r ≡ row old r)
+  pub only : (r : ℕ) → r < old.rows → is_marked before r ≡ false → row new r ≡ row old r → is_marked after r ≡ false
 
 -- two matrices of digits that differ in marked rows alone, and the hint of the new one
 pub record IsRowChange (hint a1 old new : WordMatrix) (marks : List Bool) : Type 0 where

@@ -1,15 +1,21 @@
 -- All versions of the records, a draft, and a mark.
-use Rattle.std.specs.Prelude.{◌≡◌, ℕ, ◌+◌, ◌-◌, List, [], ◌∷◌, length, Bool, true, false, Option, Some, None, nat_lt, if◌then◌else◌, slice_set, slice_get}
-use Rattle.version_store.specs.Editions.{Records}
+use Rattle.std.specs.Prelude.{◌≡◌, ℕ, ◌+◌, ◌-◌, List, [], ◌∷◌, length, Bool, true, false, Option, Some, None, nat_lt, if◌then◌else◌, slice_set, slice_get, take}
+use Rattle.digit_pack.specs.Layout.{digit_rows}
+use Rattle.pir_schemes.specs.Plans.{Plan, shape_at, digits_at}
+use Rattle.hint_update.specs.Logs.{Log}
+use Rattle.version_store.specs.Deltas.{changed_rows, changes_of, rows_logged}
+use Rattle.version_store.specs.Editions.{Records, version_shape}
 
 -- what a store keeps: the number of the current version and its records, the draft, whether an edit was accepted since
--- the last publication, and the digest of the publisher's key
+-- the last publication, the digest of the publisher's key, and the rows of digits that each of the newest 16
+-- publications changed, the newest first
 pub record StoreState : Type 0 where
   pub version : ℕ
   pub edition : Records
   pub draft : List (List ℕ)
   pub marked : Bool
   pub publisher : List ℕ
+  pub log : List (List ℕ)
 
 -- a history: the number of the opening version, the versions before the current one, the newest first, the current one,
 -- the draft, and the mark
@@ -44,9 +50,18 @@ published h = record h { past = h.current ∷ h.past; current = h.draft; marked 
 abbrev pub held_edited : ℕ → List ℕ → StoreState → StoreState
 held_edited i bytes s = record s { draft = slice_set s.draft i bytes; marked = true }
 
+-- the rows of digits that a publication of the draft changes
+abbrev pub draft_rows : StoreState → List ℕ
+draft_rows s = changed_rows (digits_at s.edition.plan s.edition.records) (digits_at s.edition.plan s.draft)
+
 -- what is kept after a publication
 abbrev pub held_published : StoreState → StoreState
-held_published s = record s { version = s.version + 1; edition = record s.edition { records = s.draft }; marked = false }
+held_published s = record s {
+  version = s.version + 1;
+  edition = record s.edition { records = s.draft };
+  marked = false;
+  log = take 16 (draft_rows s ∷ s.log);
+}
 
 -- an accepted edit of a record by its bytes, or (where there is none) a publication
 abbrev pub Change : Type 0
@@ -70,3 +85,16 @@ pub record StandsFor (s : StoreState) (h : History) : Type 0 where
   pub current : h.current ≡ s.edition.records
   pub draft : h.draft ≡ s.draft
   pub marked : h.marked ≡ s.marked
+  pub log : take 16 (changes_of s.edition.plan h.current h.past) ≡ s.log
+
+-- ---- what publications changed
+-- the rows of digits, ascending, in which some two consecutive versions from one on differ; none where that one is
+-- neither the current version nor one of the 16 before it
+unfoldable pub delta_rows : Plan → History → ℕ → Option (List ℕ)
+delta_rows p h since =
+    rows_logged (digit_rows (shape_at p (length h.current)))
+    (record { version = current_version h; lists = take 16 (changes_of p h.current h.past) }) since
+
+-- the same of what a store keeps
+abbrev pub held_rows : StoreState → ℕ → Option (List ℕ)
+held_rows s since = rows_logged (digit_rows (version_shape s.edition)) (record { version = s.version; lists = s.log }) since

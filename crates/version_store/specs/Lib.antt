@@ -1,5 +1,6 @@
 pub mod Editions
 pub mod Drafts
+pub mod Deltas
 pub mod Histories
 pub mod Openings
 pub mod Laws

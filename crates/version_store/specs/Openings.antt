@@ -1,5 +1,5 @@
 -- What a store can be opened with.
-use Rattle.std.specs.Prelude.{◌≡◌, ◌≤◌, ℕ, List, length, false}
+use Rattle.std.specs.Prelude.{◌≡◌, ◌≤◌, ℕ, List, [], length, false}
 use Rattle.digit_pack.specs.Layout.{IsLayout, records_in}
 use Rattle.snapshot_file.specs.declared.snapshot.Header.{Header}
 use Rattle.std.specs.List.{flat_map}
@@ -36,6 +36,7 @@ held_of h records = record {
   draft = records_in (shape_of h) records;
   marked = false;
   publisher = h.publisher;
+  log = [];
 }
 
 -- the fields of a snapshot of what a store holds

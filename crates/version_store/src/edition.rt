@@ -2,10 +2,10 @@
 
 ghost use Rattle.std.specs.Prelude.{◌≡◌, [], ◌*◌, ◌<◌, ◌≤◌, IfOk, length};
 ghost use Rattle.digit_pack.specs.Layout.{digit_rows, digit_cols, digits_per_record, record_at, records_in};
-ghost use Rattle.pir_schemes.specs.Plans.{IsPlan, plan_of};
+ghost use Rattle.pir_schemes.specs.Plans.{IsPlan, plan_of, digits_at};
 ghost use Rattle.pir_schemes.specs.Retrievals.{hint_matrix, query_count, answer_words};
 ghost use Rattle.version_store.specs.Drafts.{draft_of, FitRecords};
-ghost use Rattle.version_store.specs.Editions.{Records, version_shape};
+ghost use Rattle.version_store.specs.Editions.{Records, version_shape, MarksChanges};
 ghost use Rattle.version_store.specs.Openings.{bytes_of_records};
 
 use crate::drafts::{Changes, apply_changes};
@@ -162,8 +162,8 @@ impl<K: Kernel> Edition<K> {
         )
     }
 
-    /// Puts each change into the records, and leaves none. `scratch` has room for a record's digits, and
-    /// `marks` a mark for each row of digits.
+    /// Puts each change into the records, marks the rows whose digits change, and leaves no change. `scratch`
+    /// has room for a record's digits, and `marks` a mark for each row of digits.
     ///
     /// The hint of SimplePIR follows each digit that changes; those of DoublePIR follow each row that has
     /// one, once. It takes no memory.
@@ -174,6 +174,8 @@ impl<K: Kernel> Edition<K> {
         ensures records { self.new ≡
             record self.old { records = draft_of self.old.records changes.old.entries } }
         ensures none { changes.new.entries ≡ [] }
+        ensures marks { MarksChanges (digits_at self.old.plan self.old.records)
+            (digits_at self.new.plan self.new.records) marks.old marks.new }
     {
         apply_changes(self.kernel, &mut self.layer, changes, scratch, marks);
         let w = self.layer.layout().width();

@@ -7,6 +7,7 @@ mod edition;
 mod first_layer;
 pub mod laws;
 mod opening;
+mod row_marks;
 mod rows;
 mod store;
 

@@ -1,6 +1,6 @@
 //! The store: the current version, a draft, and their publication.
 
-ghost use Rattle.std.specs.Prelude.{ℕ, ◌≡◌, ◌≢◌, ◌+◌, ◌*◌, ◌^◌, ◌<◌, ◌≤◌, ◌↔◌, length, true, false, OnOk, OnErr, IfErr, IfOk, IfSome, IsNone, take, slice_set, IsErrOf, IsTrue};
+ghost use Rattle.std.specs.Prelude.{All, ℕ, ◌≡◌, ◌≢◌, ◌+◌, ◌*◌, ◌^◌, ◌<◌, ◌≤◌, ◌↔◌, length, true, false, OnOk, OnErr, IfErr, IfOk, IfSome, IsNone, option_map, take, slice_set, IsErrOf, IsTrue, vec_capacity, []};
 ghost use Rattle.matrix_u32.specs.Matrix.{row};
 ghost use Rattle.digit_pack.specs.Layout.{digits_per_record, digit_rows, record_at, records_in};
 ghost use Rattle.pir_schemes.specs.Plans.{IsPlan, fits};
@@ -10,12 +10,14 @@ ghost use Rattle.version_store.specs.Editions.{version_shape};
 ghost use Rattle.snapshot_file.specs.Snapshots.{header_of, shape_of};
 ghost use Rattle.version_store.specs.Openings.{IsSound, IsOpenFault, held_of, header_of_held, bytes_of_records, snapshot_of};
 ghost use Rattle.std.specs.Io.KnownBytes.{Appends};
-ghost use Rattle.version_store.specs.Histories.{StoreState, History, StandsFor, opened, after_edit, published, held_edited, held_published};
+ghost use Rattle.version_store.specs.Histories.{StoreState, History, StandsFor, opened, after_edit, published, held_edited, held_published, delta_rows, held_rows};
 
 use crate::drafts::Changes;
 use crate::edition::Edition;
 use crate::opening::{OpenError, sizes_of};
+use crate::row_marks::{marks_for, push_marked};
 use digit_pack::Layout;
+use hint_update::DeltaLog;
 use matrix_u32::Kernel;
 use pir_schemes::{Scheme, part_words};
 use snapshot_file::{Header, Snapshot, WriteFault, write_snapshot_bytes};
@@ -53,7 +55,8 @@ pub enum PublishError {
     Memory,
 }
 
-/// The current version of the records, with its hints, and the draft of the next.
+/// The current version of the records, with its hints, the draft of the next, and a log of the rows of
+/// digits that the latest publications changed.
 ///
 /// The draft is kept as its changes alone. Contracts see a store as what it holds, `StoreState`, and say what a
 /// call does to every history that the store stands for.
@@ -62,25 +65,26 @@ pub struct Store<K: Kernel> {
     alloc: Global,
     edition: Edition<K>,
     changes: Changes,
-    version: u64,
+    log: DeltaLog,
     publisher: [u8; 32],
 }
 
 impl<K: Kernel> Model for Store<K> {
     ghost use Rattle.version_store.specs.Histories.{StoreState};
-    ghost use Rattle.version_store.specs.Drafts.{draft_of, is_some_change, FitRecords};
+    ghost use Rattle.version_store.specs.Drafts.{draft_of, is_some_change, IsHeld};
 
     ghost Value = { StoreState };
 
     ghost view = { λ s. record {
-      version = s.version;
+      version = s.log.version;
       edition = s.edition;
       draft = draft_of s.edition.records s.changes.entries;
       marked = is_some_change s.changes.entries;
       publisher = s.publisher;
+      log = s.log.lists;
     } };
 
-    ghost invariant = { λ s. FitRecords s.edition s.changes.entries };
+    ghost invariant = { λ s. IsHeld s.edition s.changes.entries s.log.lists };
 }
 
 impl<K: Kernel> Store<K> {
@@ -115,11 +119,14 @@ impl<K: Kernel> Store<K> {
         let Ok(edition) = Edition::open(alloc, kernel, layout, dimension, seed, records) else {
             return Err(OpenError::Memory);
         };
+        let Ok(log) = DeltaLog::new(alloc, version) else {
+            return Err(OpenError::Memory);
+        };
         Ok(Store {
             alloc,
             edition,
             changes: Changes::new(alloc),
-            version,
+            log,
             publisher,
         })
     }
@@ -137,7 +144,7 @@ impl<K: Kernel> Store<K> {
             groups: layout.groups() as u16,
             count: layout.count() as u32,
             dimension: self.edition.dimension() as u16,
-            version: self.version,
+            version: self.version(),
             seed,
             publisher,
         }
@@ -154,7 +161,7 @@ impl<K: Kernel> Store<K> {
     pub fn version(&self) -> u64
         ensures { result ≡ self.now.version }
     {
-        self.version
+        self.log.version()
     }
 
     /// The sizes of the records.
@@ -226,6 +233,24 @@ impl<K: Kernel> Store<K> {
         ensures count { length result.now ≡ self.now.edition.plan.dimension }
     {
         self.edition.hint(Scheme::Simple).row(r)
+    }
+
+    /// The rows of digits, ascending, in which some two consecutive versions from `version` to the current one
+    /// differ: a SimplePIR hint of that version is brought forward by these rows of the current hint. None
+    /// are in the list where `version` is the current one, or where every publication since left the digits
+    /// as they were.
+    ///
+    /// `None` exactly when `version` is neither the current one nor one of the 16 before it that this store
+    /// has seen. Only refused memory gives an `Err`.
+    pub fn delta_since(&self, version: u64) -> Result<Option<Vec<u32>>, AllocError>
+        ensures rows { IfOk result (λ found.
+            option_map (λ rows. rows.items) found ≡ held_rows self.now version) }
+        ensures history { (h : History) → StandsFor self.now h → IfOk result (λ found.
+            option_map (λ rows. rows.items) found ≡ delta_rows self.now.edition.plan h version) }
+        ensures inside { IfOk result (λ found. IfSome found (λ rows.
+            All (λ r. r < digit_rows (version_shape self.now.edition)) rows.items)) }
+    {
+        self.log.rows_since(self.alloc, version)
     }
 
     /// The answer to the words of a scheme's query on the current version. Only refused memory gives an
@@ -319,7 +344,7 @@ impl<K: Kernel> Store<K> {
         if self.changes.is_empty() {
             return Err(PublishError::NothingToPublish);
         }
-        if self.version == u64::MAX {
+        if self.version() == u64::MAX {
             return Err(PublishError::VersionsUsedUp);
         }
         let layout = self.edition.layout();
@@ -329,10 +354,14 @@ impl<K: Kernel> Store<K> {
         let Ok(mut marks) = marks_for(self.alloc, layout) else {
             return Err(PublishError::Memory);
         };
+        let Ok(mut rows) = Vec::with_capacity(self.alloc, layout.rows()) else {
+            return Err(PublishError::Memory);
+        };
         self.edition
             .apply(&mut self.changes, &mut scratch, &mut marks);
-        self.version += 1;
-        Ok(self.version)
+        push_marked(&marks, &mut rows);
+        self.log.add(rows);
+        Ok(self.version())
     }
 }
 
@@ -359,13 +388,6 @@ fn scratch_for(alloc: Global, layout: &Layout) -> Result<Vec<u32>, AllocError>
     ensures { IfOk result (λ v. length v.items ≡ digits_per_record layout.now) }
 {
     vec![in alloc; 0; layout.digits_per_record()]
-}
-
-// A mark for each row of digits; none is marked.
-fn marks_for(alloc: Global, layout: &Layout) -> Result<Vec<bool>, AllocError>
-    ensures { IfOk result (λ v. length v.items ≡ digit_rows layout.now) }
-{
-    vec![in alloc; false; layout.rows()]
 }
 
 fn copy_of(alloc: Global, bytes: &[u8]) -> Result<Vec<u8>, AllocError>

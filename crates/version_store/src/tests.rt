@@ -1,6 +1,7 @@
 //! The store of two records of one byte, edited, published, written and read back.
 
 mod counting;
+mod deltas;
 
 use super::*;
 use matrix_u32::Plain;

@@ -1,7 +1,7 @@
 use Rattle.std.proofs.Common.{◌∙◌, sym}
 use Rattle.version_store.specs.Histories.{History, StandsFor}
 use Rattle.server_core.specs.Serving.{Serves, setting_of}
-use Rattle.server_core.proofs.Runs.{serves_one, drops_one}
+use Rattle.server_core.proofs.Runs.{serves_one, drops_one, at_err}
 use Rattle.server_core.proofs.serve.serve_frames.Goals as goal
 use Rattle.server_core.proofs.serve.serve_frames.Goals.{then-not-is_closed+in_ok-standing, else-not-is_closed}
 
@@ -19,3 +19,14 @@ loop-frame-preserved g c h s = elim c.if-not-is_closed.branch [
       (drops_one (setting_of c.args.store.now) h c.args.standing c.args.frames.now c.loop-frame.frame-index c.loop-frame.store c.loop-frame.standing
       c.args.out.now.items c.loop-frame.out.items c.loop-frame-test.true (sym c.is_closed.ensures ∙ w.if-not-is_closed.false) (c.loop-frame.invariant h s))
 ]
+
+pub returns-in_err-standing-clause-err : goal.returns-in_err-standing-clause-err
+returns-in_err-standing-clause-err g c =
+    at_err c.from_residual.result (λ h s.
+    rw (c.in_err-standing.ensures.err.0, c.in_err-standing.ensures.err.1) (record {
+      count = c.loop-frame.frame-index;
+      after = c.loop-frame.standing;
+      within = c.loop-frame-test.true;
+      goes_on = sym c.is_closed.ensures ∙ c.if-not-is_closed.true;
+      served_all = c.loop-frame.invariant h s;
+    }))

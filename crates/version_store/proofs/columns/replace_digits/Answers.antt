@@ -2,7 +2,7 @@ use Rattle.std.proofs.Common.{arith, refl, ap, sym, ◌∙◌, ◌+◌, ◌<◌,
 use Rattle.std.proofs.Math.Dec.{eqb}
 use Rattle.std.specs.Prelude.{slice_index, slice_set}
 use Rattle.version_store.specs.Editions.{MarksChanges, is_marked}
-use Rattle.version_store.proofs.Marks.{none_marked, one_marked}
+use Rattle.version_store.proofs.Marks.{none_marked, one_marked, fresh_row}
 use Rattle.matrix_u32.specs.Matrix.{WordMatrix, product}
 use Rattle.digit_pack.specs.Columns.{WritesFirst}
 use Rattle.digit_pack.proofs.ColumnLemmas.{none_written, one_written}
@@ -41,8 +41,10 @@ loop-d-preserved g c =
           (sym c.get-old.ensures) c.loop-d.invariant.made
           ∙ ap (λ m. product m c.args.a1.now) (sym c.set.ensures);
       marks = subst marked (sym c.set.ensures)
-          (one_marked old here c.args.marks.now c.loop-d.marks (c.args.first + c.loop-d.d) c.args.col v c.get-old.result c.loop-d.invariant.written.rows long
-          below across c.get-old.ensures c.loop-d.invariant.marks);
+          (one_marked old here c.args.marks.now c.loop-d.marks (c.args.first + c.loop-d.d) c.args.col v c.get-old.result c.loop-d.invariant.written.whole
+          c.loop-d.invariant.written.rows c.loop-d.invariant.written.cols long below across c.get-old.ensures
+          (fresh_row old here c.args.first c.args.col c.loop-d.d c.args.written.now c.loop-d.invariant.written (omega (arith, c.requires.rows)))
+          c.loop-d.invariant.marks);
     }
 
 pub returns-clause-digits : goal.returns-clause-digits

@@ -2,11 +2,12 @@ use Rattle.std.proofs.Common.{ap, ◌∙◌, sym, arith, refl, ◌≡◌, ◌<�
 use Rattle.std.proofs.lemmas.List.{length-set, nil_from_length}
 use Rattle.std.proofs.lemmas.Bool.{cases_lt, eqb-true}
 use Rattle.std.specs.Prelude.{slice_set, None}
-use Rattle.digit_pack.specs.Layout.{digit_rows, digits_per_record}
+use Rattle.digit_pack.specs.Layout.{digit_rows, digits_per_record, record_at}
 use Rattle.pir_schemes.specs.Plans.{fits, digits_at}
 use Rattle.version_store.specs.Drafts.{draft_of}
 use Rattle.version_store.specs.Editions.{Records, version_shape}
-use Rattle.version_store.proofs.DraftLemmas.{draft-popped, draft-none, fit-updated}
+use Rattle.version_store.proofs.DraftLemmas.{draft-popped, draft-none, fit-updated, still-waiting}
+use Rattle.version_store.proofs.ChangedRows.{settled}
 use Rattle.version_store.proofs.Marks.{none_marked, more_marked}
 use Rattle.version_store.proofs.drafts.apply_changes.Goals as goal
 
@@ -17,6 +18,7 @@ loop-i-init g c = record {
   count = refl;
   room = c.requires.room;
   draft = refl;
+  waiting = λ k v e. refl;
   marks = none_marked (digits_at c.args.layer.now.plan c.args.layer.now.records) c.args.marks.now;
 }
 
@@ -63,9 +65,12 @@ loop-i-preserved g c =
       draft = ap (λ (rs : List (List ℕ)). draft_of rs c.pop_first.new.self.entries) records
           ∙ draft-popped old c.loop-i.changes c.pop_first.new.self i c.in-Some.bytes c.in-Some.ensures.value c.in-Some.ensures.updates inside
           ∙ c.loop-i.invariant.draft;
+      waiting = λ k v e. ap (λ (rs : List (List ℕ)). record_at rs k) records ∙ still-waiting first.records old c.loop-i.changes c.pop_first.new.self i
+          c.in-Some.bytes.items c.in-Some.ensures.updates c.loop-i.invariant.waiting k v e;
       marks = more_marked (digits_at first.plan first.records) (digits_at c.loop-i.layer.plan c.loop-i.layer.records)
-          (digits_at c.replace.new.self.plan c.replace.new.self.records) c.args.marks.now c.loop-i.marks c.replace.new.marks high c.loop-i.invariant.marks
-          c.replace.ensures.marks;
+          (digits_at c.replace.new.self.plan c.replace.new.self.records) c.args.marks.now c.loop-i.marks c.replace.new.marks high
+          (settled first c.loop-i.layer c.replace.new.self i c.deref.result.now c.loop-i.invariant.layer c.replace.ensures.records c.loop-i.invariant.count
+          (c.loop-i.invariant.waiting i c.in-Some.bytes c.in-Some.ensures.value)) c.loop-i.invariant.marks c.replace.ensures.marks;
     }
 
 pub returns-clause-records : goal.returns-clause-records

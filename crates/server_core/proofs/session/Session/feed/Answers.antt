@@ -1,21 +1,15 @@
 use Rattle.std.proofs.Common.{◌≡◌, List, refl, sym, ◌∙◌}
 use Rattle.frame_codec.specs.declared.frame.Frame.{Frame}
-use Rattle.version_store.specs.Histories.{History}
 use Rattle.server_core.specs.Serving.{setting_of}
 use Rattle.server_core.specs.Sessions.{ServedFrames}
-use Rattle.server_core.proofs.Pieces.{fed_well, stays_live, history_of, stands_for_one}
+use Rattle.server_core.proofs.Pieces.{fed_well, stays_live}
 use Rattle.server_core.proofs.session.Session.feed.Goals as goal
 
 pub invariant_of-self : goal.invariant_of-self
 invariant_of-self g c =
     let frames : List Frame = c.feed-read.ensures.0 in
-    let seen : c.deref.result.now ≡ frames = c.deref.ensures.value ∙ c.feed-read.ensures.1 ∙ rw c.new-frames.ensures.items refl in
-    let h : History = history_of c.args.store.now in
-    let s : ServedFrames (setting_of c.args.store.now) h c.self.inside.standing frames c.feed-read.result c.serve_piece.new.store c.in-Ok.standing
-    c.args.out.now.items c.serve_piece.new.out.items = rw (← seen) (c.in-Ok.ensures.ok h (stands_for_one c.args.store.now)) in
-    stays_live c.self.inside.reader c.args.piece.now c.feed-read.result frames c.feed-read.new.self
-    (setting_of c.args.store.now) h c.self.inside.standing c.serve_piece.new.store c.in-Ok.standing c.args.out.now.items c.serve_piece.new.out.items
-    c.feed-read.ensures.2 s
+    stays_live c.self.inside.reader c.args.piece.now c.feed-read.result frames c.feed-read.new.self c.in-Ok.standing c.feed-read.ensures.2
+    c.in-Ok.ensures.live
 
 pub returns-in-Ok-clause-fed : goal.returns-in-Ok-clause-fed
 returns-in-Ok-clause-fed g c h s =

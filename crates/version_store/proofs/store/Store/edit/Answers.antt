@@ -21,7 +21,7 @@ returns-in-Ok-insert-clause-accepted g c =
     draft-inserted e.records c.self.inside.changes c.insert.new.self c.args.i _ c.in-Ok-insert.ensures.updates inside
     ∙ ap (λ (b : List ℕ). slice_set (draft_of e.records c.self.inside.changes.entries) c.args.i b) c.in-Ok.ensures in
     let made : List (List ℕ) → Bool →
-    StoreState = λ d m. record { version = c.self.inside.version; edition = e; draft = d; marked = m; publisher = c.self.inside.publisher } in
+    StoreState = λ d m. record { version = c.self.inside.log.version; edition = e; draft = d; marked = m; publisher = c.self.inside.publisher; log = c.self.inside.log.lists } in
     let after : StoreState → StoreState = λ s. record s { draft = slice_set s.draft c.args.i c.args.bytes.now; marked = true } in
     ap (λ d. made d (is_some_change c.insert.new.self.entries)) draft
     ∙ ap (made (slice_set (draft_of e.records c.self.inside.changes.entries) c.args.i c.args.bytes.now))
@@ -41,4 +41,8 @@ invariant_of-self g c =
     let inside : c.args.i < length e.records = omega (arith, many, c.has_record.ensures.0 c.if-not-has_record.false) in
     let fit : fits e.plan c.in-Ok.copy.items ≡ true =
     ap (fits e.plan) c.in-Ok.ensures ∙ ap (λ s. fits s.edition.plan c.args.bytes.now) c.self.view_is ∙ sym c.fits.ensures ∙ c.if-not-fits.false in
-    fit-updated e c.self.inside.changes c.insert.new.self c.args.i (Some c.in-Ok.copy) c.in-Ok-insert.ensures.updates (inside, fit) c.self.invariant
+    record {
+      fit = fit-updated e c.self.inside.changes c.insert.new.self c.args.i (Some c.in-Ok.copy) c.in-Ok-insert.ensures.updates (inside, fit)
+          c.self.invariant.fit;
+      rows = c.self.invariant.rows;
+    }

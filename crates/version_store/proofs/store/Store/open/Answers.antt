@@ -1,36 +1,54 @@
-use Rattle.std.proofs.Common.{ap, ◌∙◌, ℕ, List, false}
-use Rattle.digit_pack.specs.Layout.{Shape, records_in}
+use Rattle.std.proofs.Common.{ap, ◌∙◌, ◌<◌, sym, subst, ℕ, List, [], false}
+use Rattle.std.proofs.lemmas.List.Elements.{All-nil}
+use Rattle.std.specs.Prelude.{All}
+use Rattle.digit_pack.specs.Layout.{Shape, digit_rows, records_in}
 use Rattle.snapshot_file.specs.declared.snapshot.Header.{Header}
 use Rattle.snapshot_file.specs.Snapshots.{header_of, shape_of}
 use Rattle.pir_schemes.specs.Plans.{plan_of}
 use Rattle.version_store.specs.Drafts.{Changes, draft_of, is_some_change}
-use Rattle.version_store.specs.Editions.{Records}
+use Rattle.hint_update.specs.Logs.{Log}
+use Rattle.version_store.specs.Editions.{Records, version_shape}
 use Rattle.version_store.specs.Histories.{StoreState}
 use Rattle.version_store.proofs.DraftLemmas.{draft-none}
 use Rattle.version_store.proofs.HistoryLemmas.{open_stands}
 use Rattle.version_store.proofs.store.Store.open.Goals as goal
 
 pub invariant_of-result : goal.invariant_of-result
-invariant_of-result g c = λ i. rw c.new.ensures.empty tt
+invariant_of-result g c =
+    let n : ℕ = digit_rows (version_shape c.in-Ok-open.edition) in
+    let below : Log → Type 0 = λ log. All (λ (rows : List ℕ). All (λ r. r < n) rows) log.lists in
+    record {
+      fit = λ i. rw c.new-2.ensures.empty tt;
+      rows = subst below (sym c.in-Ok-new.ensures) (All-nil (λ (rows : List ℕ). All (λ r. r < n) rows));
+    }
 
 pub returns-clause-held : goal.returns-clause-held
 returns-clause-held g c =
     let h : Header = header_of c.args.snapshot in
     let bytes : List ℕ = c.args.snapshot.records.items in
     let rs : List (List ℕ) = records_in (shape_of h) bytes in
-    let made : Records → Changes → StoreState = λ e cs. record {
-      version = h.version;
+    let made : Records → Changes → Log → StoreState = λ e cs log. record {
+      version = log.version;
       edition = e;
       draft = draft_of e.records cs;
       marked = is_some_change cs;
       publisher = h.publisher;
+      log = log.lists;
     } in
+    let none : Log = record { version = h.version; lists = [] } in
     let of : Shape → ℕ → Records = λ l n. record { plan = plan_of l n h.seed; records = records_in l bytes } in
-    let with : List (List ℕ) →
-    StoreState = λ d. record { version = h.version; edition = of (shape_of h) h.dimension; draft = d; marked = false; publisher = h.publisher } in
-    ap (λ e. made e c.new.result.entries) (c.in-Ok-open.ensures ∙ ap (λ l. of l c.from-dimension.result) c.in-Ok.ensures.sizes.0
+    let with : List (List ℕ) → StoreState = λ d. record {
+      version = h.version;
+      edition = of (shape_of h) h.dimension;
+      draft = d;
+      marked = false;
+      publisher = h.publisher;
+      log = [];
+    } in
+    ap (made c.in-Ok-open.edition c.new-2.result.entries) c.in-Ok-new.ensures
+    ∙ ap (λ e. made e c.new-2.result.entries none) (c.in-Ok-open.ensures ∙ ap (λ l. of l c.from-dimension.result) c.in-Ok.ensures.sizes.0
     ∙ ap (of (shape_of h)) c.from-dimension.ensures)
-    ∙ ap (made (of (shape_of h) h.dimension)) c.new.ensures.empty
+    ∙ ap (λ cs. made (of (shape_of h) h.dimension) cs none) c.new-2.ensures.empty
     ∙ ap with (draft-none rs)
 
 pub returns-clause-history : goal.returns-clause-history

@@ -1,37 +1,58 @@
-use Rattle.std.proofs.Common.{ap, ◌∙◌, ℕ, ◌+◌, List, false}
+use Rattle.std.proofs.Common.{ap, ◌∙◌, sym, ◌≡◌, ◌+◌, ℕ, List, ◌∷◌, take, false}
+use Rattle.pir_schemes.specs.Plans.{digits_at}
+use Rattle.hint_update.specs.Logs.{Log, with_publication}
+use Rattle.version_store.specs.Deltas.{changed_rows}
 use Rattle.version_store.specs.Drafts.{Changes, draft_of, is_some_change}
 use Rattle.version_store.specs.Editions.{Records}
 use Rattle.version_store.specs.Histories.{StoreState, held_published}
 use Rattle.version_store.proofs.DraftLemmas.{draft-none}
 use Rattle.version_store.proofs.HistoryLemmas.{publish_stands}
+use Rattle.version_store.proofs.Publications.{pushed_rows, held_after_publication}
 use Rattle.version_store.proofs.store.Store.publish.Goals as goal
 
 pub invariant_of-self : goal.invariant_of-self
-invariant_of-self g c = λ i. rw c.apply.ensures.none tt
+invariant_of-self g c =
+    let e : Records = c.self.inside.edition in
+    let draft : List (List ℕ) = draft_of e.records c.self.inside.changes.entries in
+    let rows : c.push_marked.new.rows.items ≡ changed_rows (digits_at e.plan e.records) (digits_at e.plan draft) =
+    pushed_rows e c.apply.new.self draft c.layout-layout.result.now c.in-Ok-marks_for.marks c.deref_mut-2.result.now c.apply.new.marks c.deref.result.now
+    c.in-Ok-with_capacity.rows.items c.push_marked.new.rows.items c.apply.ensures.records c.layout-layout.ensures.value c.in-Ok-marks_for.ensures.count
+    c.in-Ok-marks_for.ensures.none c.deref_mut-2.ensures.value c.apply.ensures.marks c.deref.ensures.value c.in-Ok-with_capacity.ensures.items
+    c.push_marked.ensures in
+    held_after_publication e c.apply.new.self draft c.self.inside.log c.add.new.self c.push_marked.new.rows.items c.apply.new.changes.entries
+    c.apply.ensures.records rows c.add.ensures (λ i. rw c.apply.ensures.none tt) c.self.invariant.rows
 
 pub returns-clause-done : goal.returns-clause-done
 returns-clause-done g c =
     let e : Records = c.self.inside.edition in
     let draft : List (List ℕ) = draft_of e.records c.self.inside.changes.entries in
-    let made : Records → Changes → StoreState = λ e cs. record {
-      version = c.self.inside.version + 1;
+    let rows : List ℕ = changed_rows (digits_at e.plan e.records) (digits_at e.plan draft) in
+    let are : c.push_marked.new.rows.items ≡ rows =
+    pushed_rows e c.apply.new.self draft c.layout-layout.result.now c.in-Ok-marks_for.marks c.deref_mut-2.result.now c.apply.new.marks c.deref.result.now
+    c.in-Ok-with_capacity.rows.items c.push_marked.new.rows.items c.apply.ensures.records c.layout-layout.ensures.value c.in-Ok-marks_for.ensures.count
+    c.in-Ok-marks_for.ensures.none c.deref_mut-2.ensures.value c.apply.ensures.marks c.deref.ensures.value c.in-Ok-with_capacity.ensures.items
+    c.push_marked.ensures in
+    let made : Records → Changes → Log → StoreState = λ e cs log. record {
+      version = log.version;
       edition = e;
       draft = draft_of e.records cs;
       marked = is_some_change cs;
       publisher = c.self.inside.publisher;
+      log = log.lists;
     } in
     let with : List (List ℕ) → Records = λ rs. record e { records = rs } in
-    let ends : List (List ℕ) →
-    StoreState = λ d. record {
-      version = c.self.inside.version + 1;
+    let logged : Log = with_publication rows c.self.inside.log in
+    let ends : List (List ℕ) → StoreState = λ d. record {
+      version = c.self.inside.log.version + 1;
       edition = with draft;
       draft = d;
       marked = false;
-      publisher =
-          c.self.inside.publisher;
+      publisher = c.self.inside.publisher;
+      log = take 16 (rows ∷ c.self.inside.log.lists);
     } in
-    ap (λ e. made e c.apply.new.changes.entries) c.apply.ensures.records
-    ∙ ap (made (with draft)) c.apply.ensures.none
+    ap (made c.apply.new.self c.apply.new.changes.entries) (c.add.ensures ∙ ap (λ (xs : List ℕ). with_publication xs c.self.inside.log) are)
+    ∙ ap (λ e. made e c.apply.new.changes.entries logged) c.apply.ensures.records
+    ∙ ap (λ cs. made (with draft) cs logged) c.apply.ensures.none
     ∙ ap ends (draft-none draft)
     ∙ ap held_published c.self.view_is
 

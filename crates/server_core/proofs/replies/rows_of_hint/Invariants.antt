@@ -1,0 +1,7 @@
+use Rattle.std.proofs.Common.{◌≡◌, take}
+use Rattle.server_core.specs.Serving.{setting_of}
+use Rattle.server_core.proofs.Deltas.{words_sent}
+use Rattle.server_core.proofs.replies.rows_of_hint.Given as goal
+
+abbrev pub invariant-loop-row : goal.invariant-loop-row
+invariant-loop-row g l = l.words.items ≡ words_sent (setting_of l.store) l.store.edition.records (take l.row-index l.rows)
