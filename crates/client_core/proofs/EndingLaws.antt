@@ -5,8 +5,10 @@ use Rattle.std.proofs.lemmas.Bool.{and_parts, eqb-true, eqb-false}
 use Rattle.std.proofs.lemmas.List.{append-nil, append_assoc}
 use Rattle.frame_codec.specs.declared.frame.Frame.{Frame}
 use Rattle.frame_codec.specs.declared.frame.Frame.TheVariants as frame
+use Rattle.frame_codec.specs.Rows.{RowList}
 use Rattle.digit_pack.specs.Layout.{Shape, shape}
 use Rattle.pir_schemes.specs.declared.scheme.Scheme.{Scheme}
+use Rattle.pir_schemes.specs.declared.scheme.Scheme.TheVariants.{Simple}
 use Rattle.pir_schemes.specs.Schemes.{scheme_byte}
 use Rattle.pir_schemes.specs.Plans.{record_of}
 use Rattle.pir_schemes.specs.Retrievals.{hint_len, answer_count, reading}
@@ -14,14 +16,13 @@ use Rattle.client_core.specs.declared.state.ClientState.{ClientState}
 use Rattle.client_core.specs.declared.state.ServerInfo.{ServerInfo}
 use Rattle.client_core.specs.declared.state.Hint.{Hint}
 use Rattle.client_core.specs.declared.state.Call.{Call}
-use Rattle.client_core.specs.declared.state.Call.TheVariants.{Idle, Hello, Sync, Ask, Edit, Publish}
+use Rattle.client_core.specs.declared.state.Call.TheVariants.{Idle, Hello, Sync, Delta, Ask, Edit, Publish}
 use Rattle.client_core.specs.declared.state.Event.{Event}
 use Rattle.client_core.specs.declared.state.Event.TheVariants.{Welcomed, Synced, Retrieved, Unreadable, Stale, Done, Refused}
 use Rattle.client_core.specs.declared.state.ClientFault.{ClientFault}
 use Rattle.client_core.specs.declared.state.Reaction.{Reaction}
 use Rattle.client_core.specs.declared.state.Reaction.TheVariants.{Asks, Reports, Fails}
-use Rattle.client_core.specs.States.{is_layout}
-use Rattle.client_core.specs.Replies.{Taken, reaction_to_reply, is_welcome, takes_welcome, is_part, more_parts, takes_asked_part, takes_part, event_of, is_answer, answered, takes_answer, with_count, staled, takes_stale, takes_done, takes_refused}
+use Rattle.client_core.specs.Replies.{Taken, reaction_to_reply, is_welcome, takes_welcome, is_part, more_parts, takes_asked_part, takes_part, event_of, is_answer, answered, takes_answer, is_current, staled, takes_stale, row_numbers, is_delta, moved, takes_delta, goes_by_parts, takes_no_delta, takes_done, takes_refused}
 use Rattle.client_core.specs.Feeding.{Client, Course, start, goes_on, course_more, runs, takes_all, sends_of, events_of, fault_of, failing, ends_with, codec_fault, Follows, BreaksOff, FeedsOpen, FeedsFailed}
 use Rattle.client_core.specs.Endings.{Ends, FirstEventEndsTheCall, FeedingSpendsNoNumber}
 use Rattle.client_core.proofs.NumberLaws.{takes_number}
@@ -45,6 +46,7 @@ welcome_reacts : (call : Call) (c : ClientState) (profile : ℕ) (l : Shape) (n 
 welcome_reacts Idle c profile l n version seed = tt
 welcome_reacts (Hello key) c profile l n version seed = if_reacts (Hello key) (is_welcome profile l n version) _ _ (λ _. tt) tt
 welcome_reacts (Sync s v p) c profile l n version seed = tt
+welcome_reacts (Delta since) c profile l n version seed = tt
 welcome_reacts (Ask i x v m) c profile l n version seed = tt
 welcome_reacts (Edit i b) c profile l n version seed = tt
 welcome_reacts Publish c profile l n version seed = tt
@@ -71,6 +73,7 @@ part_reacts : (call : Call) (c : ClientState) (scheme version part : ℕ) (words
 part_reacts Idle c scheme version part words = tt
 part_reacts (Hello key) c scheme version part words = tt
 part_reacts (Sync s v p) c scheme version part words = asked_part_reacts c.known s c v p scheme version part words
+part_reacts (Delta since) c scheme version part words = tt
 part_reacts (Ask i x v m) c scheme version part words = tt
 part_reacts (Edit i b) c scheme version part words = tt
 part_reacts Publish c scheme version part words = tt
@@ -100,6 +103,7 @@ answer_reacts : (call : Call) (c : ClientState) (scheme version : ℕ) (words : 
 answer_reacts Idle c scheme version words = tt
 answer_reacts (Hello key) c scheme version words = tt
 answer_reacts (Sync s v p) c scheme version words = tt
+answer_reacts (Delta since) c scheme version words = tt
 answer_reacts (Ask i x v m) c scheme version words = answered_reacts x c.known c.hint c i v m scheme version words
 answer_reacts (Edit i b) c scheme version words = tt
 answer_reacts Publish c scheme version words = tt
@@ -115,28 +119,69 @@ stale_sync_reacts : (known : Option ServerInfo) (after c : ClientState) (s : Sch
     ReactsTo (Sync s v p) (staled known after c v version count)
 stale_sync_reacts None after c s v p version count = tt
 stale_sync_reacts (Some k) after c s v p version count =
-    let b = nat_lt 0 version && is_layout (with_count k.layout count) in
+    let b = is_current k version count in
     if_reacts (Sync s v p) (not (version == v) && b) _ _ (another_version version v b) tt
 
 stale_ask_reacts : (x : Scheme) (known : Option ServerInfo) (after c : ClientState) (i v m version count : ℕ) →
     ReactsTo (Ask i x v m) (staled known after c v version count)
 stale_ask_reacts x None after c i v m version count = tt
 stale_ask_reacts x (Some k) after c i v m version count =
-    let b = nat_lt 0 version && is_layout (with_count k.layout count) in
+    let b = is_current k version count in
     if_reacts (Ask i x v m) (not (version == v) && b) _ _ (another_version version v b) tt
 
 stale_reacts : (call : Call) (c : ClientState) (version count : ℕ) → ReactsTo call (takes_stale call c version count)
 stale_reacts Idle c version count = tt
 stale_reacts (Hello key) c version count = tt
 stale_reacts (Sync s v p) c version count = stale_sync_reacts c.known (record c { parts = [] }) c s v p version count
+stale_reacts (Delta since) c version count = tt
 stale_reacts (Ask i x v m) c version count = stale_ask_reacts x c.known c c i v m version count
 stale_reacts (Edit i b) c version count = tt
 stale_reacts Publish c version count = tt
+
+moved_reacts : (known : Option ServerInfo) (hint : Option Hint) (c : ClientState) (asked since now count : ℕ) (rows : RowList) →
+    ReactsTo (Delta asked) (moved known hint c asked since now count rows)
+moved_reacts None hint c asked since now count rows = tt
+moved_reacts (Some k) None c asked since now count rows = tt
+moved_reacts (Some k) (Some h) c asked since now count rows =
+    if_reacts (Delta asked) (is_delta k asked since now count rows.dimension (row_numbers rows)) _ _ (λ _. refl) tt
+
+delta_reacts : (call : Call) (c : ClientState) (since now count : ℕ) (rows : RowList) → ReactsTo call (takes_delta call c since now count rows)
+delta_reacts Idle c since now count rows = tt
+delta_reacts (Hello key) c since now count rows = tt
+delta_reacts (Sync s v p) c since now count rows = tt
+delta_reacts (Delta asked) c since now count rows = moved_reacts c.known c.hint c asked since now count rows
+delta_reacts (Ask i x v m) c since now count rows = tt
+delta_reacts (Edit i b) c since now count rows = tt
+delta_reacts Publish c since now count rows = tt
+
+-- a sync that goes on by parts ends as one by delta may
+parts_end : (asked v : ℕ) (e : Event) → Ends (Sync Simple v 0) e → Ends (Delta asked) e
+parts_end asked v (Welcomed version) h = h
+parts_end asked v (Synced of version) h = h.0
+parts_end asked v (Retrieved index version bytes) h = h
+parts_end asked v (Unreadable index version) h = h
+parts_end asked v (Stale version) h = tt
+parts_end asked v (Done version) h = h
+parts_end asked v (Refused code) h = h
+
+by_parts_reacts : (known : Option ServerInfo) (c : ClientState) (asked version count : ℕ) → ReactsTo (Delta asked) (goes_by_parts known c version count)
+by_parts_reacts None c asked version count = tt
+by_parts_reacts (Some k) c asked version count = if_reacts (Delta asked) (is_current k version count) _ _ (λ _. parts_end asked version) tt
+
+no_delta_reacts : (call : Call) (c : ClientState) (version count : ℕ) → ReactsTo call (takes_no_delta call c version count)
+no_delta_reacts Idle c version count = tt
+no_delta_reacts (Hello key) c version count = tt
+no_delta_reacts (Sync s v p) c version count = tt
+no_delta_reacts (Delta asked) c version count = by_parts_reacts c.known c asked version count
+no_delta_reacts (Ask i x v m) c version count = tt
+no_delta_reacts (Edit i b) c version count = tt
+no_delta_reacts Publish c version count = tt
 
 done_reacts : (call : Call) (c : ClientState) (version : ℕ) → ReactsTo call (takes_done call c version)
 done_reacts Idle c version = tt
 done_reacts (Hello key) c version = tt
 done_reacts (Sync s v p) c version = tt
+done_reacts (Delta since) c version = tt
 done_reacts (Ask i x v m) c version = tt
 done_reacts (Edit i b) c version = tt
 done_reacts Publish c version = tt
@@ -145,6 +190,7 @@ refused_reacts : (call : Call) (c : ClientState) (code : ℕ) → ReactsTo call 
 refused_reacts Idle c code = tt
 refused_reacts (Hello key) c code = tt
 refused_reacts (Sync s v p) c code = tt
+refused_reacts (Delta since) c code = tt
 refused_reacts (Ask i x v m) c code = tt
 refused_reacts (Edit i b) c code = tt
 refused_reacts Publish c code = tt
@@ -155,6 +201,8 @@ reacts c (frame.Welcome profile width record_len groups count version dimension 
 reacts c (frame.HintPart scheme version part words) = part_reacts c.call c scheme version part words
 reacts c (frame.Answer scheme version words) = answer_reacts c.call c scheme version words
 reacts c (frame.Stale version count) = stale_reacts c.call c version count
+reacts c (frame.Delta since now count rows) = delta_reacts c.call c since now count rows
+reacts c (frame.NoDelta version count) = no_delta_reacts c.call c version count
 reacts c (frame.Done version) = done_reacts c.call c version
 reacts c (frame.Refused code) = refused_reacts c.call c code
 reacts c _ = tt

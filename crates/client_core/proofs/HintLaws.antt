@@ -3,10 +3,13 @@ use Rattle.std.proofs.Common.{◌≡◌, ℕ, ◌+◌, ◌*◌, Bool, true, fals
 use Rattle.std.specs.Prelude.{◌==◌, ◌&&◌, nat_lt, not}
 use Rattle.std.proofs.lemmas.Bool.{and_parts, eqb-true}
 use Rattle.std.proofs.lemmas.List.{append-nil, take-append-drop, length-append, drop-drop}
+use Rattle.matrix_u32.specs.Matrix.{WordMatrix}
+use Rattle.frame_codec.specs.Rows.{Row, RowList, row_list, rows_in}
 use Rattle.frame_codec.specs.declared.frame.Frame.{Frame}
 use Rattle.frame_codec.specs.declared.frame.Frame.TheVariants as frame
 use Rattle.digit_pack.specs.Layout.{shape}
 use Rattle.pir_schemes.specs.declared.scheme.Scheme.{Scheme}
+use Rattle.pir_schemes.specs.declared.scheme.Scheme.TheVariants.{Simple}
 use Rattle.pir_schemes.specs.Schemes.{scheme_byte}
 use Rattle.pir_schemes.specs.Parts.{part_of, part_len}
 use Rattle.pir_schemes.specs.Retrievals.{hint_len}
@@ -19,11 +22,11 @@ use Rattle.client_core.specs.declared.state.Call.TheVariants.{Idle, Sync}
 use Rattle.client_core.specs.declared.state.Event.{Event}
 use Rattle.client_core.specs.declared.state.Event.TheVariants.{Synced, Stale, Refused}
 use Rattle.client_core.specs.declared.state.Reaction.TheVariants.{Asks, Reports, Fails}
-use Rattle.client_core.specs.States.{is_layout}
-use Rattle.client_core.specs.Replies.{Taken, reaction_to_reply, faulty, ended, is_part, more_parts, hint_made, takes_asked_part, takes_part, takes_welcome, takes_answer, takes_stale, takes_done, takes_refused, staled, with_count}
+use Rattle.client_core.specs.Replies.{Taken, reaction_to_reply, faulty, ended, is_part, more_parts, hint_made, takes_asked_part, takes_part, takes_welcome, takes_answer, takes_stale, takes_delta, takes_no_delta, takes_done, takes_refused, staled, is_current, with_current, is_delta, row_numbers, with_rows, moved_hint, moved}
 use Rattle.client_core.specs.Feeding.{Course, goes_on, runs}
-use Rattle.client_core.specs.Laws.{ArePartsFrom, ArePartsOf, IsMadeOfParts, SyncedHintIsMadeOfParts, PartsOfAHintMakeIt}
+use Rattle.client_core.specs.Laws.{ArePartsFrom, ArePartsOf, IsMadeOfParts, SyncedHintIsMadeOfParts, PartsOfAHintMakeIt, DeltaMakesTheHint, rows_of}
 use Rattle.client_core.proofs.Courses.{fault_stays}
+use Rattle.client_core.proofs.MovedRows.{rows_sent, numbers_sent, named_rows_make_it}
 
 -- a course that has told some events and has no fault
 abbrev at : ClientState → List Frame → List Event → Course
@@ -77,16 +80,16 @@ part_leads s k c v p scheme version part words e true h w whole =
         (record { state = record c { call = Sync s v (p + 1); parts = c.parts ++ words }; reaction = Asks s v (p + 1) })) whole)
 
 reported_state : ServerInfo → ClientState → ℕ → ℕ → ClientState
-reported_state k c version count = record c { parts = []; known = Some (record k { version = version; layout = with_count k.layout count }); call = Idle }
+reported_state k c version count = record c { parts = []; known = Some (with_current k version count); call = Idle }
 
 stale_leads : (s : Scheme) (k : ServerInfo) (c : ClientState) (v p version count : ℕ) →
     reaction_to_reply c (frame.Stale version count) ≡ staled (Some k) (record c { parts = [] }) c v version count
-    → (b : Bool) → (not (version == v) && (nat_lt 0 version && is_layout (with_count k.layout count))) ≡ b → Leads s k c v p (frame.Stale version count)
+    → (b : Bool) → (not (version == v) && is_current k version count) ≡ b → Leads s k c v p (frame.Stale version count)
 unfolding reported_state
 stale_leads s k c v p version count e true h = Reported (reported_state k c version count) version refl (e ∙ ap (λ (x : Bool). cond x
-    (ended (record c { parts = []; known = Some (record k { version = version; layout = with_count k.layout count }) }) (Stale version)) (faulty c BadReply)) h)
+    (ended (record c { parts = []; known = Some (with_current k version count) }) (Stale version)) (faulty c BadReply)) h)
 stale_leads s k c v p version count e false h = bad_part s k c v p (frame.Stale version count) (e ∙ ap (λ (x : Bool). cond x
-    (ended (record c { parts = []; known = Some (record k { version = version; layout = with_count k.layout count }) }) (Stale version)) (faulty c BadReply)) h)
+    (ended (record c { parts = []; known = Some (with_current k version count) }) (Stale version)) (faulty c BadReply)) h)
 
 leads : (s : Scheme) (k : ServerInfo) (c : ClientState) (v p : ℕ) (f : Frame) → c.known ≡ Some k → c.call ≡ Sync s v p → Leads s k c v p f
 leads s k c v p (frame.Welcome profile width record_len groups count version dimension seed) e a =
@@ -101,7 +104,11 @@ leads s k c v p (frame.Answer scheme version words) e a =
 leads s k c v p (frame.Stale version count) e a =
     stale_leads s k c v p version count
     (ap (λ (x : Call). takes_stale x c version count) a ∙ ap (λ (x : Option ServerInfo). staled x (record c { parts = [] }) c v version count) e)
-    (not (version == v) && (nat_lt 0 version && is_layout (with_count k.layout count))) refl
+    (not (version == v) && is_current k version count) refl
+leads s k c v p (frame.Delta since now count rows) e a =
+    bad_part s k c v p (frame.Delta since now count rows) (ap (λ (x : Call). takes_delta x c since now count rows) a)
+leads s k c v p (frame.NoDelta version count) e a =
+    bad_part s k c v p (frame.NoDelta version count) (ap (λ (x : Call). takes_no_delta x c version count) a)
 leads s k c v p (frame.Done version) e a = bad_part s k c v p (frame.Done version) (ap (λ (x : Call). takes_done x c version) a)
 leads s k c v p (frame.Refused code) e a = Turned (record c { parts = []; call = Idle }) code refl (ap (λ (x : Call). takes_refused x c code) a)
 leads s k c v p f e a = bad_part s k c v p f refl
@@ -113,6 +120,8 @@ idle_bad c (frame.Welcome profile width record_len groups count version dimensio
 idle_bad c (frame.HintPart scheme version part words) a = ap (λ (x : Call). takes_part x c scheme version part words) a
 idle_bad c (frame.Answer scheme version words) a = ap (λ (x : Call). takes_answer x c scheme version words) a
 idle_bad c (frame.Stale version count) a = ap (λ (x : Call). takes_stale x c version count) a
+idle_bad c (frame.Delta since now count rows) a = ap (λ (x : Call). takes_delta x c since now count rows) a
+idle_bad c (frame.NoDelta version count) a = ap (λ (x : Call). takes_no_delta x c version count) a
 idle_bad c (frame.Done version) a = ap (λ (x : Call). takes_done x c version) a
 idle_bad c (frame.Refused code) a = ap (λ (x : Call). takes_refused x c code) a
 idle_bad c f a = refl
@@ -274,3 +283,20 @@ parts_make_it c s k v version replies hint by rows cols is_whole of =
         ap (λ (x : ℕ). some_hint s v x k.dimension words) (sym rows)
         ∙ ap (λ (x : ℕ). some_hint s v hint.rows x words) (sym cols)
         ∙ ap (λ (x : List ℕ). some_hint s v hint.rows hint.cols x) e
+
+-- ---- a Delta of one hint
+
+pub delta_makes_it : DeltaMakesTheHint
+delta_makes_it c k h since now count hint numbers known held asked is whole other rows cols same =
+    let sent : RowList = row_list hint.cols (rows_of hint numbers) in
+    let good : is_delta k since since now count hint.cols (row_numbers sent) ≡ true =
+    ap (λ (x : List ℕ). is_delta k since since now count hint.cols x) (numbers_sent hint numbers) ∙ is in
+    let made : with_rows h.matrix (rows_in sent) ≡ hint =
+    ap (λ (x : List Row). with_rows h.matrix x) (rows_sent hint numbers) ∙ named_rows_make_it h.matrix hint numbers whole other rows cols same in
+    ap (λ (x : Call). takes_delta x c since now count sent) asked
+    ∙ ap (λ (x : Option ServerInfo). moved x c.hint c since since now count sent) known
+    ∙ ap (λ (x : Option Hint). moved (Some k) x c since since now count sent) held
+    ∙ ap (λ (x : Bool). cond x (ended (record c { known = Some (with_current k now count); hint = Some (moved_hint h now sent) }) (Synced Simple now))
+    (faulty c BadReply)) good
+    ∙ ap (λ (x : WordMatrix). ended (record c { known = Some (with_current k now count); hint = Some (record h { version = now; matrix = x }) })
+    (Synced Simple now)) made

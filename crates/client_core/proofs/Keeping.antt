@@ -5,7 +5,8 @@ use Rattle.std.proofs.lemmas.Bool.{and_parts, eqb-true, eqb-false, leb-true}
 use Rattle.std.proofs.lemmas.List.{length-append}
 use Rattle.frame_codec.specs.declared.frame.Frame.{Frame}
 use Rattle.frame_codec.specs.declared.frame.Frame.TheVariants as frame
-use Rattle.digit_pack.specs.Layout.{Shape, shape}
+use Rattle.frame_codec.specs.Rows.{RowList, rows_in}
+use Rattle.digit_pack.specs.Layout.{Shape, shape, digit_rows}
 use Rattle.pir_schemes.specs.declared.scheme.Scheme.{Scheme}
 use Rattle.pir_schemes.specs.declared.scheme.Scheme.TheVariants.{Simple, Double}
 use Rattle.pir_schemes.specs.Schemes.{scheme_byte}
@@ -16,21 +17,22 @@ use Rattle.client_core.specs.declared.state.ClientState.{ClientState}
 use Rattle.client_core.specs.declared.state.ServerInfo.{ServerInfo}
 use Rattle.client_core.specs.declared.state.Hint.{Hint}
 use Rattle.client_core.specs.declared.state.Call.{Call}
-use Rattle.client_core.specs.declared.state.Call.TheVariants.{Idle, Hello, Sync, Ask, Edit, Publish}
+use Rattle.client_core.specs.declared.state.Call.TheVariants.{Idle, Hello, Sync, Delta, Ask, Edit, Publish}
 use Rattle.client_core.specs.declared.state.Event.TheVariants.{Welcomed}
 use Rattle.client_core.specs.declared.state.ClientFault.TheVariants.{BadWelcome, BadReply}
 use Rattle.client_core.specs.States.{IsState, IsKnown, Keeps, KnownFits, HintFits, CallFits, is_layout}
-use Rattle.client_core.specs.Replies.{Taken, reaction_to_reply, faulty, ended, is_welcome, takes_welcome, is_part, more_parts, takes_asked_part, takes_part, is_answer, answered, takes_answer, with_count, staled, takes_stale, takes_done, takes_refused}
+use Rattle.client_core.specs.Replies.{Taken, reaction_to_reply, faulty, ended, is_welcome, takes_welcome, is_part, more_parts, takes_asked_part, takes_part, is_answer, answered, takes_answer, with_count, is_current, with_current, staled, takes_stale, are_ascending, row_numbers, is_delta, moved, takes_delta, goes_by_parts, takes_no_delta, takes_done, takes_refused}
+use Rattle.client_core.proofs.MovedRows.{with_rows-rows, with_rows-cols}
 use Rattle.client_core.proofs.Layouts.{layout_means}
 
 pub faulty_keeps : (c : ClientState) → IsState c → Keeps c (record c { failed = true })
-faulty_keeps c s = record { good = record { number = s.number; known = s.known; hint = s.hint; call = s.call }; number = refl }
+faulty_keeps c s = record { good = record { number = s.number; known = s.known; hint = s.hint; call = s.call; delta = s.delta }; number = refl }
 
 pub ended_keeps : (c : ClientState) → IsState c → Keeps c (record c { call = Idle })
-ended_keeps c s = record { good = record { number = s.number; known = s.known; hint = s.hint; call = tt }; number = refl }
+ended_keeps c s = record { good = record { number = s.number; known = s.known; hint = s.hint; call = tt; delta = tt }; number = refl }
 
 emptied_keeps : (c : ClientState) → IsState c → Keeps c (record c { parts = []; call = Idle })
-emptied_keeps c s = record { good = record { number = s.number; known = s.known; hint = s.hint; call = tt }; number = refl }
+emptied_keeps c s = record { good = record { number = s.number; known = s.known; hint = s.hint; call = tt; delta = tt }; number = refl }
 
 if_keeps : (c : ClientState) (b : Bool) (x y : Taken) → (b ≡ true → Keeps c x.state) → (b ≡ false → Keeps c y.state) → Keeps c (cond b x y).state
 if_keeps c true x y p q = p refl
@@ -64,6 +66,7 @@ welcomed_keeps c key profile l n version seed s fits is = record {
     known = welcome_known profile l n version seed is;
     hint = no_hint c.known c.hint key c.parts (reported version l n seed) fits s.hint;
     call = tt;
+    delta = tt;
   };
   number = refl;
 }
@@ -79,6 +82,7 @@ welcome_keeps (Hello key) c profile l n version seed s fits =
     (welcomed_keeps c key profile l n version seed s fits)
     (λ _. faulty_keeps c s)
 welcome_keeps (Sync x v p) c profile l n version seed s fits = faulty_keeps c s
+welcome_keeps (Delta since) c profile l n version seed s fits = faulty_keeps c s
 welcome_keeps (Ask i x v m) c profile l n version seed s fits = faulty_keeps c s
 welcome_keeps (Edit i b) c profile l n version seed s fits = faulty_keeps c s
 welcome_keeps Publish c profile l n version seed s fits = faulty_keeps c s
@@ -107,7 +111,7 @@ more_keeps : (x : Scheme) (k : ServerInfo) (c : ClientState) (v p : ℕ) (words 
     → Keeps c (more_parts x k c v p (c.parts ++ words)).state
 more_keeps x k c v p words e s len le is =
     if_keeps c (length (c.parts ++ words) == hint_len x k.layout k.dimension) _ _
-    (λ whole. record { good = record { number = s.number; known = s.known; hint = rw e (refl, refl); call = tt }; number = refl })
+    (λ whole. record { good = record { number = s.number; known = s.known; hint = rw e (refl, refl); call = tt; delta = tt }; number = refl })
     (λ other. record {
       good = record {
         number = s.number;
@@ -115,6 +119,7 @@ more_keeps x k c v p words e s len le is =
         hint = s.hint;
         call =
             rw e (part_fits (hint_len x k.layout k.dimension) p c.parts words len le is other);
+        delta = tt;
       };
       number = refl;
     })
@@ -133,6 +138,7 @@ part_keeps : (call : Call) (c : ClientState) (scheme version part : ℕ) (words 
 part_keeps Idle c scheme version part words s fits = faulty_keeps c s
 part_keeps (Hello key) c scheme version part words s fits = faulty_keeps c s
 part_keeps (Sync x v p) c scheme version part words s fits = asked_part_keeps c.known x c v p scheme version part words refl s fits
+part_keeps (Delta since) c scheme version part words s fits = faulty_keeps c s
 part_keeps (Ask i x v m) c scheme version part words s fits = faulty_keeps c s
 part_keeps (Edit i b) c scheme version part words s fits = faulty_keeps c s
 part_keeps Publish c scheme version part words s fits = faulty_keeps c s
@@ -150,6 +156,7 @@ answer_keeps : (call : Call) (c : ClientState) (scheme version : ℕ) (words : L
 answer_keeps Idle c scheme version words s = faulty_keeps c s
 answer_keeps (Hello key) c scheme version words s = faulty_keeps c s
 answer_keeps (Sync x v p) c scheme version words s = faulty_keeps c s
+answer_keeps (Delta since) c scheme version words s = faulty_keeps c s
 answer_keeps (Ask i x v m) c scheme version words s = answered_keeps c.known c.hint c i v m scheme version words s
 answer_keeps (Edit i b) c scheme version words s = faulty_keeps c s
 answer_keeps Publish c scheme version words s = faulty_keeps c s
@@ -157,7 +164,7 @@ answer_keeps Publish c scheme version words s = faulty_keeps c s
 -- ---- Stale
 
 same_rows : (k : ServerInfo) (version count : ℕ) (hint : Option Hint) → HintFits (Some k) hint →
-    HintFits (Some (record k { version = version; layout = with_count k.layout count })) hint
+    HintFits (Some (with_current k version count)) hint
 same_rows k version count None fits = tt
 same_rows k version count (Some h) fits = (fits.0 ∙ rows_stay h.scheme k count, fits.1)
   where
@@ -165,13 +172,14 @@ same_rows k version count (Some h) fits = (fits.0 ∙ rows_stay h.scheme k count
     rows_stay Simple k count = refl
     rows_stay Double k count = refl
 
-stale_known : (k : ServerInfo) (asked version count : ℕ) → IsKnown k →
-    (not (version == asked) && (nat_lt 0 version && is_layout (with_count k.layout count))) ≡ true
-    → IsKnown (record k { version = version; layout = with_count k.layout count })
-stale_known k asked version count old h =
-    let a = and_parts (not (version == asked)) (nat_lt 0 version && is_layout (with_count k.layout count)) h in
-    let b = and_parts (nat_lt 0 version) (is_layout (with_count k.layout count)) a.1 in
+current_known : (k : ServerInfo) (version count : ℕ) → IsKnown k → is_current k version count ≡ true → IsKnown (with_current k version count)
+current_known k version count old h =
+    let b = and_parts (nat_lt 0 version) (is_layout (with_count k.layout count)) h in
     record { layout = layout_means (with_count k.layout count) b.1; low = old.low; high = old.high }
+
+stale_known : (k : ServerInfo) (asked version count : ℕ) → IsKnown k → (not (version == asked) && is_current k version count) ≡ true →
+    IsKnown (with_current k version count)
+stale_known k asked version count old h = current_known k version count old (and_parts (not (version == asked)) (is_current k version count) h).1
 
 staled_keeps : (known : Option ServerInfo) (c after : ClientState) (asked version count : ℕ) → c.known ≡ known → IsState c → after.number ≡ c.number →
     after.hint ≡ c.hint → Keeps c (staled known after c asked version count).state
@@ -179,7 +187,7 @@ staled_keeps None c after asked version count e s en eh = faulty_keeps c s
 staled_keeps (Some k) c after asked version count e s en eh =
     let known : IsKnown k = let P : Option ServerInfo → Type 0 = KnownFits in subst P e s.known in
     let hint : HintFits (Some k) c.hint = let P : Option ServerInfo → Type 0 = λ o. HintFits o c.hint in subst P e s.hint in
-    if_keeps c (not (version == asked) && (nat_lt 0 version && is_layout (with_count k.layout count))) _ (faulty c BadReply)
+    if_keeps c (not (version == asked) && is_current k version count) _ (faulty c BadReply)
     (λ is. record {
       good = record {
         number = rw en s.number;
@@ -187,6 +195,7 @@ staled_keeps (Some k) c after asked version count e s en eh =
         hint = rw eh (same_rows k version count c.hint hint);
         call =
             tt;
+        delta = tt;
       };
       number = en;
     })
@@ -196,9 +205,72 @@ stale_keeps : (call : Call) (c : ClientState) (version count : ℕ) → IsState 
 stale_keeps Idle c version count s = faulty_keeps c s
 stale_keeps (Hello key) c version count s = faulty_keeps c s
 stale_keeps (Sync x v p) c version count s = staled_keeps c.known c (record c { parts = [] }) v version count refl s refl refl
+stale_keeps (Delta since) c version count s = faulty_keeps c s
 stale_keeps (Ask i x v m) c version count s = staled_keeps c.known c c v version count refl s refl refl
 stale_keeps (Edit i b) c version count s = faulty_keeps c s
 stale_keeps Publish c version count s = faulty_keeps c s
+
+-- ---- Delta and NoDelta
+
+moved_keeps : (known : Option ServerInfo) (hint : Option Hint) (c : ClientState) (asked since now count : ℕ) (rows : RowList) → c.known ≡ known →
+    c.hint ≡ hint → IsState c → Keeps c (moved known hint c asked since now count rows).state
+moved_keeps None hint c asked since now count rows e eh s = faulty_keeps c s
+moved_keeps (Some k) None c asked since now count rows e eh s = faulty_keeps c s
+moved_keeps (Some k) (Some h) c asked since now count rows e eh s =
+    let known : IsKnown k = let P : Option ServerInfo → Type 0 = KnownFits in subst P e s.known in
+    let held : HintFits (Some k) c.hint = let P : Option ServerInfo → Type 0 = λ o. HintFits o c.hint in subst P e s.hint in
+    let hint : HintFits (Some k) (Some h) = let P : Option Hint → Type 0 = λ o. HintFits (Some k) o in subst P eh held in
+    let fits : HintFits (Some (with_current k now count)) (Some h) = same_rows k now count (Some h) hint in
+    if_keeps c (is_delta k asked since now count rows.dimension (row_numbers rows)) _ (faulty c BadReply)
+    (λ is. record {
+      good = record {
+        number = s.number;
+        known = current_known k now count known (delta_current k asked since now count rows.dimension (row_numbers rows) is);
+        hint = (with_rows-rows h.matrix (rows_in rows) ∙ fits.0, with_rows-cols h.matrix (rows_in rows) ∙ fits.1);
+        call = tt;
+        delta = tt;
+      };
+      number = refl;
+    })
+    (λ _. faulty_keeps c s)
+  where
+    delta_current : (k : ServerInfo) (asked since now count dimension : ℕ) (numbers : List ℕ) → is_delta k asked since now count dimension numbers ≡ true →
+        is_current k now count ≡ true
+    delta_current k asked since now count dimension numbers h =
+        let a = and_parts (since == asked) (is_current k now count && ((dimension == k.dimension) && (nat_le (length numbers) 1024
+        && are_ascending 0 (digit_rows k.layout) numbers))) h in
+        (and_parts (is_current k now count) ((dimension == k.dimension) && (nat_le (length numbers) 1024
+        && are_ascending 0 (digit_rows k.layout) numbers)) a.1).0
+
+delta_keeps : (call : Call) (c : ClientState) (since now count : ℕ) (rows : RowList) → IsState c → Keeps c (takes_delta call c since now count rows).state
+delta_keeps Idle c since now count rows s = faulty_keeps c s
+delta_keeps (Hello key) c since now count rows s = faulty_keeps c s
+delta_keeps (Sync x v p) c since now count rows s = faulty_keeps c s
+delta_keeps (Delta asked) c since now count rows s = moved_keeps c.known c.hint c asked since now count rows refl refl s
+delta_keeps (Ask i x v m) c since now count rows s = faulty_keeps c s
+delta_keeps (Edit i b) c since now count rows s = faulty_keeps c s
+delta_keeps Publish c since now count rows s = faulty_keeps c s
+
+by_parts_keeps : (known : Option ServerInfo) (c : ClientState) (version count : ℕ) → c.known ≡ known → IsState c →
+    Keeps c (goes_by_parts known c version count).state
+by_parts_keeps None c version count e s = faulty_keeps c s
+by_parts_keeps (Some k) c version count e s =
+    let known : IsKnown k = let P : Option ServerInfo → Type 0 = KnownFits in subst P e s.known in
+    if_keeps c (is_current k version count) _ (faulty c BadReply)
+    (λ is. record {
+      good = record { number = s.number; known = current_known k version count known is; hint = tt; call = (refl, omega arith); delta = tt };
+      number = refl;
+    })
+    (λ _. faulty_keeps c s)
+
+no_delta_keeps : (call : Call) (c : ClientState) (version count : ℕ) → IsState c → Keeps c (takes_no_delta call c version count).state
+no_delta_keeps Idle c version count s = faulty_keeps c s
+no_delta_keeps (Hello key) c version count s = faulty_keeps c s
+no_delta_keeps (Sync x v p) c version count s = faulty_keeps c s
+no_delta_keeps (Delta asked) c version count s = by_parts_keeps c.known c version count refl s
+no_delta_keeps (Ask i x v m) c version count s = faulty_keeps c s
+no_delta_keeps (Edit i b) c version count s = faulty_keeps c s
+no_delta_keeps Publish c version count s = faulty_keeps c s
 
 -- ---- Done and Refused
 
@@ -206,6 +278,7 @@ done_keeps : (call : Call) (c : ClientState) (version : ℕ) → IsState c → K
 done_keeps Idle c version s = faulty_keeps c s
 done_keeps (Hello key) c version s = faulty_keeps c s
 done_keeps (Sync x v p) c version s = faulty_keeps c s
+done_keeps (Delta since) c version s = faulty_keeps c s
 done_keeps (Ask i x v m) c version s = faulty_keeps c s
 done_keeps (Edit i b) c version s = ended_keeps c s
 done_keeps Publish c version s = ended_keeps c s
@@ -214,6 +287,7 @@ refused_keeps : (call : Call) (c : ClientState) (code : ℕ) → IsState c → K
 refused_keeps Idle c code s = faulty_keeps c s
 refused_keeps (Hello key) c code s = ended_keeps c s
 refused_keeps (Sync x v p) c code s = emptied_keeps c s
+refused_keeps (Delta since) c code s = ended_keeps c s
 refused_keeps (Ask i x v m) c code s = ended_keeps c s
 refused_keeps (Edit i b) c code s = ended_keeps c s
 refused_keeps Publish c code s = ended_keeps c s
@@ -226,6 +300,8 @@ takes_keeps c (frame.Welcome profile width record_len groups count version dimen
 takes_keeps c (frame.HintPart scheme version part words) s = part_keeps c.call c scheme version part words s s.call
 takes_keeps c (frame.Answer scheme version words) s = answer_keeps c.call c scheme version words s
 takes_keeps c (frame.Stale version count) s = stale_keeps c.call c version count s
+takes_keeps c (frame.Delta since now count rows) s = delta_keeps c.call c since now count rows s
+takes_keeps c (frame.NoDelta version count) s = no_delta_keeps c.call c version count s
 takes_keeps c (frame.Done version) s = done_keeps c.call c version s
 takes_keeps c (frame.Refused code) s = refused_keeps c.call c code s
 takes_keeps c _ s = faulty_keeps c s

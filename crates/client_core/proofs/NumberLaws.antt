@@ -3,6 +3,7 @@ use Rattle.std.proofs.Common.{◌≡◌, ℕ, zero, suc, ◌+◌, ◌<◌, ◌�
 use Rattle.std.specs.Prelude.{slice_index}
 use Rattle.frame_codec.specs.declared.frame.Frame.{Frame}
 use Rattle.frame_codec.specs.declared.frame.Frame.TheVariants as frame
+use Rattle.frame_codec.specs.Rows.{RowList}
 use Rattle.digit_pack.specs.Layout.{Shape, shape}
 use Rattle.pir_schemes.specs.declared.scheme.Scheme.{Scheme}
 use Rattle.client_core.specs.declared.state.ClientState.{ClientState}
@@ -10,8 +11,9 @@ use Rattle.client_core.specs.declared.state.ServerInfo.{ServerInfo}
 use Rattle.client_core.specs.declared.state.Hint.{Hint}
 use Rattle.client_core.specs.declared.state.Call.{Call}
 use Rattle.client_core.specs.declared.state.Call.TheVariants as call
-use Rattle.client_core.specs.Calls.{Want, Hello, Sync, Ask, Edit, Publish}
-use Rattle.client_core.specs.Replies.{Taken, reaction_to_reply, takes_welcome, more_parts, takes_asked_part, takes_part, answered, takes_answer, staled, takes_stale, takes_done, takes_refused}
+use Rattle.client_core.specs.States.{delta_base}
+use Rattle.client_core.specs.Calls.{Want, Hello, Sync, Ask, Edit, Publish, sync_begun}
+use Rattle.client_core.specs.Replies.{Taken, reaction_to_reply, takes_welcome, more_parts, takes_asked_part, takes_part, answered, takes_answer, staled, takes_stale, moved, takes_delta, goes_by_parts, takes_no_delta, takes_done, takes_refused}
 use Rattle.client_core.specs.Laws.{Happening, Accepted, TurnedDown, Lacking, Taken as Reply, Failing, after, numbers, NoNumberTwice}
 
 -- ---- no reply changes the number
@@ -25,6 +27,7 @@ welcome_number : (k : Call) (c : ClientState) (profile : ℕ) (l : Shape) (n ver
 welcome_number call.Idle c profile l n version seed = refl
 welcome_number (call.Hello key) c profile l n version seed = either c.number _ _ _ refl refl
 welcome_number (call.Sync s v p) c profile l n version seed = refl
+welcome_number (call.Delta since) c profile l n version seed = refl
 welcome_number (call.Ask i x v m) c profile l n version seed = refl
 welcome_number (call.Edit i b) c profile l n version seed = refl
 welcome_number call.Publish c profile l n version seed = refl
@@ -39,6 +42,7 @@ part_number : (k : Call) (c : ClientState) (scheme version part : ℕ) (words : 
 part_number call.Idle c scheme version part words = refl
 part_number (call.Hello key) c scheme version part words = refl
 part_number (call.Sync s v p) c scheme version part words = asked_part_number c.known s c v p scheme version part words
+part_number (call.Delta since) c scheme version part words = refl
 part_number (call.Ask i x v m) c scheme version part words = refl
 part_number (call.Edit i b) c scheme version part words = refl
 part_number call.Publish c scheme version part words = refl
@@ -53,6 +57,7 @@ answer_number : (k : Call) (c : ClientState) (scheme version : ℕ) (words : Lis
 answer_number call.Idle c scheme version words = refl
 answer_number (call.Hello key) c scheme version words = refl
 answer_number (call.Sync s v p) c scheme version words = refl
+answer_number (call.Delta since) c scheme version words = refl
 answer_number (call.Ask i x v m) c scheme version words = answered_number c.known c.hint c i v m scheme version words
 answer_number (call.Edit i b) c scheme version words = refl
 answer_number call.Publish c scheme version words = refl
@@ -66,14 +71,44 @@ stale_number : (k : Call) (c : ClientState) (version count : ℕ) → (takes_sta
 stale_number call.Idle c version count = refl
 stale_number (call.Hello key) c version count = refl
 stale_number (call.Sync s v p) c version count = staled_number c.known (record c { parts = [] }) c v version count refl
+stale_number (call.Delta since) c version count = refl
 stale_number (call.Ask i x v m) c version count = staled_number c.known c c v version count refl
 stale_number (call.Edit i b) c version count = refl
 stale_number call.Publish c version count = refl
+
+moved_number : (known : Option ServerInfo) (hint : Option Hint) (c : ClientState) (asked since now count : ℕ) (rows : RowList) →
+    (moved known hint c asked since now count rows).state.number ≡ c.number
+moved_number None hint c asked since now count rows = refl
+moved_number (Some k) None c asked since now count rows = refl
+moved_number (Some k) (Some h) c asked since now count rows = either c.number _ _ _ refl refl
+
+delta_number : (k : Call) (c : ClientState) (since now count : ℕ) (rows : RowList) → (takes_delta k c since now count rows).state.number ≡ c.number
+delta_number call.Idle c since now count rows = refl
+delta_number (call.Hello key) c since now count rows = refl
+delta_number (call.Sync s v p) c since now count rows = refl
+delta_number (call.Delta asked) c since now count rows = moved_number c.known c.hint c asked since now count rows
+delta_number (call.Ask i x v m) c since now count rows = refl
+delta_number (call.Edit i b) c since now count rows = refl
+delta_number call.Publish c since now count rows = refl
+
+by_parts_number : (known : Option ServerInfo) (c : ClientState) (version count : ℕ) → (goes_by_parts known c version count).state.number ≡ c.number
+by_parts_number None c version count = refl
+by_parts_number (Some k) c version count = either c.number _ _ _ refl refl
+
+no_delta_number : (k : Call) (c : ClientState) (version count : ℕ) → (takes_no_delta k c version count).state.number ≡ c.number
+no_delta_number call.Idle c version count = refl
+no_delta_number (call.Hello key) c version count = refl
+no_delta_number (call.Sync s v p) c version count = refl
+no_delta_number (call.Delta asked) c version count = by_parts_number c.known c version count
+no_delta_number (call.Ask i x v m) c version count = refl
+no_delta_number (call.Edit i b) c version count = refl
+no_delta_number call.Publish c version count = refl
 
 done_number : (k : Call) (c : ClientState) (version : ℕ) → (takes_done k c version).state.number ≡ c.number
 done_number call.Idle c version = refl
 done_number (call.Hello key) c version = refl
 done_number (call.Sync s v p) c version = refl
+done_number (call.Delta since) c version = refl
 done_number (call.Ask i x v m) c version = refl
 done_number (call.Edit i b) c version = refl
 done_number call.Publish c version = refl
@@ -82,6 +117,7 @@ refused_number : (k : Call) (c : ClientState) (code : ℕ) → (takes_refused k 
 refused_number call.Idle c code = refl
 refused_number (call.Hello key) c code = refl
 refused_number (call.Sync s v p) c code = refl
+refused_number (call.Delta since) c code = refl
 refused_number (call.Ask i x v m) c code = refl
 refused_number (call.Edit i b) c code = refl
 refused_number call.Publish c code = refl
@@ -92,11 +128,17 @@ takes_number c (frame.Welcome profile width record_len groups count version dime
 takes_number c (frame.HintPart scheme version part words) = part_number c.call c scheme version part words
 takes_number c (frame.Answer scheme version words) = answer_number c.call c scheme version words
 takes_number c (frame.Stale version count) = stale_number c.call c version count
+takes_number c (frame.Delta since now count rows) = delta_number c.call c since now count rows
+takes_number c (frame.NoDelta version count) = no_delta_number c.call c version count
 takes_number c (frame.Done version) = done_number c.call c version
 takes_number c (frame.Refused code) = refused_number c.call c code
 takes_number c _ = refl
 
 -- ---- what happens to a client spends numbers at most
+
+sync_number : (base : Option ℕ) (s : Scheme) (c : ClientState) → (sync_begun base s c).number ≡ c.number
+sync_number None s c = refl
+sync_number (Some since) s c = refl
 
 calmly : (c : ClientState) (want : Want) → c.number ≤ (after c (Lacking want)).number
 calmly c (Hello key) = omega arith
@@ -128,7 +170,9 @@ grow_more n ns a (suc i) (suc j) lt lt2 = a.grow i j (omega arith) (omega arith)
 all_above : (c : ClientState) (hs : List Happening) → Above c.number (numbers c hs)
 all_above c [] = none_above c.number
 all_above c (Accepted (Hello key) ∷ hs) = all_above (after c (Accepted (Hello key))) hs
-all_above c (Accepted (Sync scheme) ∷ hs) = all_above (after c (Accepted (Sync scheme))) hs
+all_above c (Accepted (Sync scheme) ∷ hs) =
+    lower c.number (after c (Accepted (Sync scheme))).number (numbers (after c (Accepted (Sync scheme))) hs)
+    (omega (arith, sync_number (delta_base scheme c.hint) scheme c)) (all_above (after c (Accepted (Sync scheme))) hs)
 all_above c (Accepted (Ask i) ∷ hs) =
     let a : Above (c.number + 1) (numbers (after c (Accepted (Ask i))) hs) = all_above (after c (Accepted (Ask i))) hs in
     record { from = from_more c.number (numbers (after c (Accepted (Ask i))) hs) a; grow = grow_more c.number (numbers (after c (Accepted (Ask i))) hs) a }

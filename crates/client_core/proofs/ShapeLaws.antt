@@ -8,8 +8,10 @@ use Rattle.frame_codec.specs.declared.frame.Frame.{Frame}
 use Rattle.frame_codec.specs.declared.frame.Frame.TheVariants as frame
 use Rattle.frame_codec.specs.Frames.{kind_of, payload_size}
 use Rattle.frame_codec.proofs.Payloads.{payload_sized}
+use Rattle.frame_codec.specs.Rows.{RowList}
 use Rattle.digit_pack.specs.Layout.{Shape, shape}
 use Rattle.pir_schemes.specs.declared.scheme.Scheme.{Scheme}
+use Rattle.pir_schemes.specs.declared.scheme.Scheme.TheVariants.{Simple, Double}
 use Rattle.pir_schemes.specs.Schemes.{scheme_byte}
 use Rattle.pir_schemes.specs.Retrievals.{hint_len}
 use Rattle.pir_schemes.proofs.Lengths.{length_query}
@@ -20,12 +22,12 @@ use Rattle.client_core.specs.declared.state.Call.{Call}
 use Rattle.client_core.specs.declared.state.Call.TheVariants as call
 use Rattle.client_core.specs.declared.state.CallFault.{CallFault}
 use Rattle.client_core.specs.declared.state.CallFault.TheVariants.{NotReady, Busy, SeedUsedUp, Failed, AlreadyWelcome}
-use Rattle.client_core.specs.States.{is_layout, is_idle, is_ready, known_count, scheme_held}
-use Rattle.client_core.specs.Calls.{Want, Hello, Sync, Ask, Edit, Publish, state_after_call, call_frame, call_words, refusal, spent}
-use Rattle.client_core.specs.Replies.{Taken, reaction_to_reply, is_welcome, takes_welcome, is_part, more_parts, takes_asked_part, takes_part, is_answer, answered, takes_answer, with_count, staled, takes_stale, takes_done, takes_refused}
+use Rattle.client_core.specs.States.{is_idle, is_ready, known_version, known_count, scheme_held, delta_base}
+use Rattle.client_core.specs.Calls.{Want, Hello, Sync, Ask, Edit, Publish, sync_begun, state_after_call, call_frame, call_words, refusal, spent}
+use Rattle.client_core.specs.Replies.{Taken, reaction_to_reply, is_welcome, takes_welcome, is_part, more_parts, takes_asked_part, takes_part, is_answer, answered, takes_answer, is_current, with_current, staled, takes_stale, row_numbers, is_delta, moved, takes_delta, goes_by_parts, takes_no_delta, takes_done, takes_refused}
 use Rattle.client_core.specs.Feeding.{sends_of}
 use Rattle.client_core.specs.Laws.{Happening, Accepted, TurnedDown, Lacking, Taken as Reply, Failing, after}
-use Rattle.client_core.specs.Shapes.{frames_at, frames, FrameShape, shape_of, frame_shape, BlankCall, BlankHello, BlankAsk, blank_call, blank_reply, BlankHappening, blank, Awaited, NoReply, APart, awaited, HintName, hint_name, Outline, outline, asked_count, call_shape, outline_after_call, outline_spent, Reacted, after_welcome, after_good_part, after_asked_part, after_part, after_asked_answer, after_answer, after_asked_stale, after_stale, after_done, after_refused, after_reply, outline_after, shapes_at, shapes, HasWholeKey, KeyIsWhole, IndexIsBelow, EqualShapes}
+use Rattle.client_core.specs.Shapes.{frames_at, frames, FrameShape, shape_of, frame_shape, BlankCall, BlankHello, BlankAsk, blank_call, blank_reply, BlankHappening, blank, Awaited, NoReply, APart, awaited, HintName, hint_name, Outline, outline, asked_count, named_base, sync_shape, call_shape, outline_of_sync, outline_after_call, outline_spent, Reacted, after_welcome, after_good_part, after_asked_part, after_part, after_asked_delta, after_delta, after_asked_no_delta, after_no_delta, after_asked_answer, after_answer, after_asked_stale, after_stale, after_done, after_refused, after_reply, outline_after, shapes_at, shapes, HasWholeKey, KeyIsWhole, IndexIsBelow, EqualShapes}
 
 -- a frame's shape by the size of its fields
 sized : (f : Frame) → shape_of f ≡ frame_shape (kind_of f) (payload_size f)
@@ -39,10 +41,25 @@ asked_length None hint seed number i = refl
 asked_length (Some k) None seed number i = length_query _ k.layout k.dimension k.seed seed number i
 asked_length (Some k) (Some h) seed number i = length_query h.scheme k.layout k.dimension k.seed seed number i
 
+-- a sync goes by delta from the version in the hint's name
+base_named : (s : Scheme) (hint : Option Hint) → delta_base s hint ≡ named_base s (hint_name hint)
+base_named Simple None = refl
+base_named Simple (Some h) = refl
+base_named Double None = refl
+base_named Double (Some h) = refl
+
+sync_shaped : (base : Option ℕ) (s : Scheme) (c : ClientState) → shape_of (call_frame (sync_begun base s c) (sync_begun base s c).call) ≡ sync_shape base
+sync_shaped None s c = sized (frame.HintAsk (scheme_byte s) (known_version c.known) 0)
+sync_shaped (Some since) s c = sized (frame.DeltaAsk since)
+
+sync_outlined : (base : Option ℕ) (s : Scheme) (c : ClientState) → outline (sync_begun base s c) ≡ outline_of_sync base s (outline c)
+sync_outlined None s c = refl
+sync_outlined (Some since) s c = refl
+
 call_shaped : (c : ClientState) (want : Want) → HasWholeKey want → shape_of (call_frame (state_after_call want c) (state_after_call want c).call)
     ≡ call_shape (outline c) (blank_call want)
 call_shaped c (Hello key) whole = sized (call_frame (state_after_call (Hello key) c) (call.Hello key)) ∙ ap (λ (x : ℕ). frame_shape 2 (2 + x)) whole
-call_shaped c (Sync scheme) whole = sized (call_frame (state_after_call (Sync scheme) c) (state_after_call (Sync scheme) c).call)
+call_shaped c (Sync scheme) whole = sync_shaped (delta_base scheme c.hint) scheme c ∙ ap sync_shape (base_named scheme c.hint)
 call_shaped c (Ask i) whole =
     sized (call_frame (state_after_call (Ask i) c) (state_after_call (Ask i) c).call)
     ∙ ap (λ (x : ℕ). frame_shape 5 (9 + 4 * x)) (asked_length c.known c.hint c.seed c.number i)
@@ -51,7 +68,8 @@ call_shaped c Publish whole = sized frame.Publish
 
 call_outlined : (c : ClientState) (want : Want) → outline (state_after_call want c) ≡ outline_after_call (blank_call want) (outline c)
 call_outlined c (Hello key) = refl
-call_outlined c (Sync scheme) = refl
+call_outlined c (Sync scheme) =
+    sync_outlined (delta_base scheme c.hint) scheme c ∙ ap (λ (x : Option ℕ). outline_of_sync x scheme (outline c)) (base_named scheme c.hint)
 call_outlined c (Ask i) = refl
 call_outlined c (Edit i bytes) = refl
 call_outlined c Publish = refl
@@ -77,6 +95,7 @@ welcome_reacts : (k : Call) (c : ClientState) (profile : ℕ) (l : Shape) (n ver
 welcome_reacts call.Idle c profile l n version seed = refl
 welcome_reacts (call.Hello key) c profile l n version seed = either (is_welcome profile l n version) _ _ _ _ refl refl
 welcome_reacts (call.Sync s v p) c profile l n version seed = refl
+welcome_reacts (call.Delta since) c profile l n version seed = refl
 welcome_reacts (call.Ask i s v m) c profile l n version seed = refl
 welcome_reacts (call.Edit i b) c profile l n version seed = refl
 welcome_reacts call.Publish c profile l n version seed = refl
@@ -103,6 +122,7 @@ part_reacts : (k : Call) (c : ClientState) (scheme version part : ℕ) (words : 
 part_reacts call.Idle c scheme version part words = refl
 part_reacts (call.Hello key) c scheme version part words = refl
 part_reacts (call.Sync s v p) c scheme version part words = asked_part_reacts c.known s c v p scheme version part words
+part_reacts (call.Delta since) c scheme version part words = refl
 part_reacts (call.Ask i s v m) c scheme version part words = refl
 part_reacts (call.Edit i b) c scheme version part words = refl
 part_reacts call.Publish c scheme version part words = refl
@@ -118,6 +138,7 @@ answer_reacts : (k : Call) (c : ClientState) (scheme version : ℕ) (words : Lis
 answer_reacts call.Idle c scheme version words = refl
 answer_reacts (call.Hello key) c scheme version words = refl
 answer_reacts (call.Sync s v p) c scheme version words = refl
+answer_reacts (call.Delta since) c scheme version words = refl
 answer_reacts (call.Ask i s v m) c scheme version words = answered_reacts c.known c.hint c i v m scheme version words
 answer_reacts (call.Edit i b) c scheme version words = refl
 answer_reacts call.Publish c scheme version words = refl
@@ -126,20 +147,62 @@ staled_reacts : (known : Option ServerInfo) (dropped c : ClientState) (asked ver
     reacted (staled known dropped c asked version count) ≡ after_asked_stale known (outline dropped) (outline c) asked version count
 staled_reacts None dropped c asked version count = refl
 staled_reacts (Some k) dropped c asked version count =
-    either (not (version == asked) && (nat_lt 0 version && is_layout (with_count k.layout count))) _ _ _ _ refl refl
+    either (not (version == asked) && is_current k version count) _ _ _ _ refl refl
 
 stale_reacts : (k : Call) (c : ClientState) (version count : ℕ) → reacted (takes_stale k c version count) ≡ after_stale (awaited k) (outline c) version count
 stale_reacts call.Idle c version count = refl
 stale_reacts (call.Hello key) c version count = refl
 stale_reacts (call.Sync s v p) c version count = staled_reacts c.known (record c { parts = [] }) c v version count
+stale_reacts (call.Delta since) c version count = refl
 stale_reacts (call.Ask i s v m) c version count = staled_reacts c.known c c v version count
 stale_reacts (call.Edit i b) c version count = refl
 stale_reacts call.Publish c version count = refl
+
+moved_reacts : (known : Option ServerInfo) (hint : Option Hint) (c : ClientState) (asked since now count : ℕ) (rows : RowList) →
+    reacted (moved known hint c asked since now count rows)
+    ≡ after_asked_delta known (hint_name hint) (outline c) asked since now count rows.dimension (row_numbers rows)
+moved_reacts None hint c asked since now count rows = refl
+moved_reacts (Some k) None c asked since now count rows = refl
+moved_reacts (Some k) (Some h) c asked since now count rows =
+    either (is_delta k asked since now count rows.dimension (row_numbers rows)) _ _ _ _ refl refl
+
+delta_reacts : (k : Call) (c : ClientState) (since now count : ℕ) (rows : RowList) →
+    reacted (takes_delta k c since now count rows) ≡ after_delta (awaited k) (outline c) since now count rows.dimension (row_numbers rows)
+delta_reacts call.Idle c since now count rows = refl
+delta_reacts (call.Hello key) c since now count rows = refl
+delta_reacts (call.Sync s v p) c since now count rows = refl
+delta_reacts (call.Delta asked) c since now count rows = moved_reacts c.known c.hint c asked since now count rows
+delta_reacts (call.Ask i s v m) c since now count rows = refl
+delta_reacts (call.Edit i b) c since now count rows = refl
+delta_reacts call.Publish c since now count rows = refl
+
+by_parts_reacts : (known : Option ServerInfo) (c : ClientState) (version count : ℕ) →
+    reacted (goes_by_parts known c version count) ≡ after_asked_no_delta known (outline c) version count
+by_parts_reacts None c version count = refl
+by_parts_reacts (Some k) c version count =
+    either (is_current k version count) _ _ _ _ (ap (λ (x : FrameShape). more x) (sized (frame.HintAsk (scheme_byte Simple) version 0))) refl
+  where
+    more : FrameShape → Reacted
+    more x = record {
+      outline = record (outline c) { known = Some (with_current k version count); hint = None; words = 0; call = APart Simple version 0 };
+      sends = x ∷ [];
+    }
+
+no_delta_reacts : (k : Call) (c : ClientState) (version count : ℕ) →
+    reacted (takes_no_delta k c version count) ≡ after_no_delta (awaited k) (outline c) version count
+no_delta_reacts call.Idle c version count = refl
+no_delta_reacts (call.Hello key) c version count = refl
+no_delta_reacts (call.Sync s v p) c version count = refl
+no_delta_reacts (call.Delta asked) c version count = by_parts_reacts c.known c version count
+no_delta_reacts (call.Ask i s v m) c version count = refl
+no_delta_reacts (call.Edit i b) c version count = refl
+no_delta_reacts call.Publish c version count = refl
 
 done_reacts : (k : Call) (c : ClientState) (version : ℕ) → reacted (takes_done k c version) ≡ after_done (awaited k) (outline c)
 done_reacts call.Idle c version = refl
 done_reacts (call.Hello key) c version = refl
 done_reacts (call.Sync s v p) c version = refl
+done_reacts (call.Delta since) c version = refl
 done_reacts (call.Ask i s v m) c version = refl
 done_reacts (call.Edit i b) c version = refl
 done_reacts call.Publish c version = refl
@@ -148,6 +211,7 @@ refused_reacts : (k : Call) (c : ClientState) (code : ℕ) → reacted (takes_re
 refused_reacts call.Idle c code = refl
 refused_reacts (call.Hello key) c code = refl
 refused_reacts (call.Sync s v p) c code = refl
+refused_reacts (call.Delta since) c code = refl
 refused_reacts (call.Ask i s v m) c code = refl
 refused_reacts (call.Edit i b) c code = refl
 refused_reacts call.Publish c code = refl
@@ -158,6 +222,8 @@ reply_reacts c (frame.Welcome profile width record_len groups count version dime
 reply_reacts c (frame.HintPart scheme version part words) = part_reacts c.call c scheme version part words
 reply_reacts c (frame.Answer scheme version words) = answer_reacts c.call c scheme version words
 reply_reacts c (frame.Stale version count) = stale_reacts c.call c version count
+reply_reacts c (frame.Delta since now count rows) = delta_reacts c.call c since now count rows
+reply_reacts c (frame.NoDelta version count) = no_delta_reacts c.call c version count
 reply_reacts c (frame.Done version) = done_reacts c.call c version
 reply_reacts c (frame.Refused code) = refused_reacts c.call c code
 reply_reacts c _ = refl
@@ -220,6 +286,7 @@ unfolding no_reply
 idle_same call.Idle = refl
 idle_same (call.Hello key) = refl
 idle_same (call.Sync s v p) = refl
+idle_same (call.Delta since) = refl
 idle_same (call.Ask i s v m) = refl
 idle_same (call.Edit i b) = refl
 idle_same call.Publish = refl

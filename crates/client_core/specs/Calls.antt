@@ -13,7 +13,7 @@ use Rattle.client_core.specs.declared.state.Call.{Call}
 use Rattle.client_core.specs.declared.state.Call.TheVariants as call
 use Rattle.client_core.specs.declared.state.CallFault.{CallFault}
 use Rattle.client_core.specs.declared.state.CallFault.TheVariants.{NotReady, Busy, BadIndex, SeedUsedUp, Memory, Failed, AlreadyWelcome}
-use Rattle.client_core.specs.States.{is_idle, is_ready, known_version, known_count, scheme_held}
+use Rattle.client_core.specs.States.{is_idle, is_ready, known_version, known_count, scheme_held, delta_base}
 
 -- a call, with what the caller gives it
 pub data Want : Type 0 where
@@ -44,10 +44,15 @@ refusal (Ask i) c =
 refusal (Edit i bytes) c = change_refusal c
 refusal Publish c = change_refusal c
 
+-- a sync begins: by delta from a version, and the hint is kept meanwhile; or by the parts of the last version known, and it is dropped
+abbrev pub sync_begun : Option ℕ → Scheme → ClientState → ClientState
+sync_begun (Some since) scheme c = record c { call = call.Delta since }
+sync_begun None scheme c = record c { call = call.Sync scheme (known_version c.known) 0; hint = None; parts = [] }
+
 -- the state after an accepted call
 abbrev pub state_after_call : Want → ClientState → ClientState
 state_after_call (Hello key) c = record c { call = call.Hello key }
-state_after_call (Sync scheme) c = record c { call = call.Sync scheme (known_version c.known) 0; hint = None; parts = [] }
+state_after_call (Sync scheme) c = sync_begun (delta_base scheme c.hint) scheme c
 state_after_call (Ask i) c = record c { call = call.Ask i (scheme_held c.hint) (known_version c.known) c.number; number = c.number + 1 }
 state_after_call (Edit i bytes) c = record c { call = call.Edit i bytes }
 state_after_call Publish c = record c { call = call.Publish }
@@ -67,6 +72,7 @@ abbrev pub call_frame : ClientState → Call → Frame
 call_frame c call.Idle = frame.Bye
 call_frame c (call.Hello key) = frame.Hello client_profile key
 call_frame c (call.Sync scheme version part) = frame.HintAsk (scheme_byte scheme) version part
+call_frame c (call.Delta since) = frame.DeltaAsk since
 call_frame c (call.Ask i scheme version number) = frame.Query (scheme_byte scheme) version (call_words c.known scheme c.seed number i)
 call_frame c (call.Edit i bytes) = frame.Edit i bytes
 call_frame c call.Publish = frame.Publish

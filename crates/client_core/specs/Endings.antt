@@ -1,19 +1,24 @@
 -- How a call ends.
 use Rattle.std.specs.Prelude.{◌≡◌, ◌≢◌, ℕ, List, ◌∷◌, Option}
+use Rattle.pir_schemes.specs.declared.scheme.Scheme.TheVariants.{Simple}
 use Rattle.client_core.specs.declared.state.Call.{Call}
-use Rattle.client_core.specs.declared.state.Call.TheVariants.{Hello, Sync, Ask, Edit, Publish}
+use Rattle.client_core.specs.declared.state.Call.TheVariants.{Hello, Sync, Delta, Ask, Edit, Publish}
 use Rattle.client_core.specs.declared.state.Event.{Event}
 use Rattle.client_core.specs.declared.state.Event.TheVariants.{Welcomed, Synced, Retrieved, Unreadable, Stale, Done, Refused}
 use Rattle.client_core.specs.declared.state.ClientFault.{ClientFault}
 use Rattle.client_core.specs.Feeding.{Client, FeedsClient}
 
--- the events that a call can end with: those of its own kind, for what was asked; or a refusal
+-- The events that a call can end with: those of its own kind, for what was asked; or a refusal. A sync by delta may go on by parts, and then become
+-- stale.
 abbrev pub Ends : Call → Event → Type 0
 Ends (Hello key) (Welcomed version) = Unit {0}
 Ends (Hello key) (Refused code) = Unit {0}
 Ends (Sync scheme asked part) (Synced of version) = (of ≡ scheme) × (version ≡ asked)
 Ends (Sync scheme asked part) (Stale version) = version ≢ asked
 Ends (Sync scheme asked part) (Refused code) = Unit {0}
+Ends (Delta since) (Synced of version) = of ≡ Simple
+Ends (Delta since) (Stale version) = Unit {0}
+Ends (Delta since) (Refused code) = Unit {0}
 Ends (Ask i scheme asked number) (Retrieved index version bytes) = (index ≡ i) × (version ≡ asked)
 Ends (Ask i scheme asked number) (Unreadable index version) = (index ≡ i) × (version ≡ asked)
 Ends (Ask i scheme asked number) (Stale version) = version ≢ asked

@@ -1,18 +1,22 @@
 -- Laws of clients.
-use Rattle.std.specs.Prelude.{◌≡◌, ◌<◌, ◌≤◌, ◌+◌, ℕ, List, [], ◌∷◌, ◌++◌, length, slice_index, Some, None, true}
-use Rattle.matrix_u32.specs.Matrix.{WordMatrix, IsWhole}
+use Rattle.std.specs.Prelude.{◌≡◌, ◌<◌, ◌≤◌, ◌+◌, ℕ, List, [], ◌∷◌, ◌++◌, ◌⊎◌, length, map, slice_index, Some, None, true}
+use Rattle.std.specs.List.{Contains}
+use Rattle.matrix_u32.specs.Matrix.{WordMatrix, IsWhole, row}
+use Rattle.frame_codec.specs.Rows.{Row, row_list}
 use Rattle.frame_codec.specs.declared.frame.Frame.{Frame}
 use Rattle.frame_codec.specs.declared.frame.Frame.TheVariants as frame
 use Rattle.pir_schemes.specs.declared.scheme.Scheme.{Scheme}
+use Rattle.pir_schemes.specs.declared.scheme.Scheme.TheVariants.{Simple}
 use Rattle.pir_schemes.specs.Schemes.{scheme_byte}
 use Rattle.pir_schemes.specs.Parts.{part_of}
 use Rattle.pir_schemes.specs.Retrievals.{hint_rows, hint_len}
 use Rattle.client_core.specs.declared.state.ClientState.{ClientState}
 use Rattle.client_core.specs.declared.state.ServerInfo.{ServerInfo}
-use Rattle.client_core.specs.declared.state.Call.TheVariants.{Sync}
+use Rattle.client_core.specs.declared.state.Hint.{Hint}
+use Rattle.client_core.specs.declared.state.Call.TheVariants.{Sync, Delta}
 use Rattle.client_core.specs.declared.state.Event.TheVariants.{Synced}
 use Rattle.client_core.specs.Calls.{Want, Ask, state_after_call, spent}
-use Rattle.client_core.specs.Replies.{reaction_to_reply, hint_made}
+use Rattle.client_core.specs.Replies.{reaction_to_reply, ended, hint_made, with_current, is_delta}
 use Rattle.client_core.specs.Feeding.{takes_all}
 
 -- what happens to a client: a call is accepted, a call is refused by a check, a call is refused memory, a reply is taken, the client fails
@@ -90,3 +94,16 @@ PartsOfAHintMakeIt = (c : ClientState) (s : Scheme) (k : ServerInfo) (v version 
     IsSyncedBy c s k v version replies → hint.rows ≡ hint_rows s k.layout k.dimension → hint.cols ≡ k.dimension → IsWhole hint →
     ArePartsOf s hint.words v 0 replies →
     (takes_all c replies).state.hint ≡ Some (record { scheme = s; version = v; matrix = hint })
+
+-- the rows of a matrix with these numbers
+abbrev pub rows_of : WordMatrix → List ℕ → List Row
+rows_of m numbers = map (λ i. record { number = i; words = row m i }) numbers
+
+-- Where the rows of a Delta are those of a hint, and each row that it doesn't name is the same in the hint held, the hint held is that hint then.
+abbrev pub DeltaMakesTheHint : Type 0
+DeltaMakesTheHint = (c : ClientState) (k : ServerInfo) (h : Hint) (since now count : ℕ) (hint : WordMatrix) (numbers : List ℕ) →
+    c.known ≡ Some k → c.hint ≡ Some h → c.call ≡ Delta since → is_delta k since since now count hint.cols numbers ≡ true →
+    IsWhole h.matrix → IsWhole hint → h.matrix.rows ≡ hint.rows → h.matrix.cols ≡ hint.cols →
+    ((i : ℕ) → i < hint.rows → Contains numbers i ⊎ (row h.matrix i ≡ row hint i)) →
+    reaction_to_reply c (frame.Delta since now count (row_list hint.cols (rows_of hint numbers)))
+    ≡ ended (record c { known = Some (with_current k now count); hint = Some (record h { version = now; matrix = hint }) }) (Synced Simple now)

@@ -1,9 +1,12 @@
 -- What a client does with a reply.
-use Rattle.std.specs.Prelude.{◌+◌, ℕ, List, [], ◌++◌, length, Bool, true, not, ◌&&◌, Option, Some, None, ◌==◌, nat_lt, nat_le, if◌then◌else◌}
+use Rattle.std.specs.Prelude.{◌+◌, ℕ, List, [], ◌∷◌, ◌++◌, length, map, Bool, true, not, ◌&&◌, Option, Some, None, ◌==◌, nat_lt, nat_le, if◌then◌else◌}
 use Rattle.frame_codec.specs.declared.frame.Frame.{Frame}
 use Rattle.frame_codec.specs.declared.frame.Frame.TheVariants as frame
-use Rattle.digit_pack.specs.Layout.{Shape, shape}
+use Rattle.frame_codec.specs.Rows.{Row, RowList, rows_in}
+use Rattle.matrix_u32.specs.Matrix.{WordMatrix, with_row}
+use Rattle.digit_pack.specs.Layout.{Shape, shape, digit_rows}
 use Rattle.pir_schemes.specs.declared.scheme.Scheme.{Scheme}
+use Rattle.pir_schemes.specs.declared.scheme.Scheme.TheVariants.{Simple}
 use Rattle.pir_schemes.specs.Schemes.{scheme_byte}
 use Rattle.pir_schemes.specs.Parts.{part_len}
 use Rattle.pir_schemes.specs.Plans.{plan_of, profile_of, record_of}
@@ -12,7 +15,7 @@ use Rattle.client_core.specs.declared.state.ClientState.{ClientState}
 use Rattle.client_core.specs.declared.state.ServerInfo.{ServerInfo}
 use Rattle.client_core.specs.declared.state.Hint.{Hint}
 use Rattle.client_core.specs.declared.state.Call.{Call}
-use Rattle.client_core.specs.declared.state.Call.TheVariants.{Idle, Hello, Sync, Ask, Edit, Publish}
+use Rattle.client_core.specs.declared.state.Call.TheVariants.{Idle, Hello, Sync, Delta, Ask, Edit, Publish}
 use Rattle.client_core.specs.declared.state.Event.{Event}
 use Rattle.client_core.specs.declared.state.Event.TheVariants.{Welcomed, Synced, Retrieved, Unreadable, Stale, Done, Refused}
 use Rattle.client_core.specs.declared.state.ClientFault.{ClientFault}
@@ -82,7 +85,7 @@ takes_asked_part (Some k) s c asked next scheme version part words =
     if is_part s (hint_len s k.layout k.dimension) asked next scheme version part words
     then more_parts s k c asked next (c.parts ++ words) else faulty c BadReply
 
--- it answers sync alone
+-- it answers a sync by parts alone
 abbrev pub takes_part : Call → ClientState → ℕ → ℕ → ℕ → List ℕ → Taken
 takes_part (Sync s v p) c scheme version part words = takes_asked_part c.known s c v p scheme version part words
 takes_part _ c scheme version part words = faulty c BadReply
@@ -119,19 +122,83 @@ takes_answer _ c scheme version words = faulty c BadReply
 abbrev pub with_count : Shape → ℕ → Shape
 with_count l count = shape l.width l.record_len l.groups count
 
+-- a version and a count that a reply may name as the current ones
+abbrev pub is_current : ServerInfo → ℕ → ℕ → Bool
+is_current k version count = nat_lt 0 version && is_layout (with_count k.layout count)
+
+-- they are the last known
+abbrev pub with_current : ServerInfo → ℕ → ℕ → ServerInfo
+with_current k version count = record k { version = version; layout = with_count k.layout count }
+
 -- the version and the count told are the last known, where these are another version than asked and a count within the limits. The state is the one given first
 abbrev pub staled : Option ServerInfo → ClientState → ClientState → ℕ → ℕ → ℕ → Taken
 staled None after c asked version count = faulty c BadReply
 staled (Some k) after c asked version count =
-    if not (version == asked) && (nat_lt 0 version && is_layout (with_count k.layout count))
-    then ended (record after { known = Some (record k { version = version; layout = with_count k.layout count }) }) (Stale version)
+    if not (version == asked) && is_current k version count
+    then ended (record after { known = Some (with_current k version count) }) (Stale version)
     else faulty c BadReply
 
--- it answers sync, whose unfinished parts are dropped, and ask
+-- it answers a sync by parts, of which the unfinished ones are dropped, and ask
 abbrev pub takes_stale : Call → ClientState → ℕ → ℕ → Taken
 takes_stale (Sync s v p) c version count = staled c.known (record c { parts = [] }) c v version count
 takes_stale (Ask i s v n) c version count = staled c.known c c v version count
 takes_stale _ c version count = faulty c BadReply
+
+-- ---- Delta and NoDelta
+
+-- the numbers ascend from one on, each once, and stay below another
+unfoldable pub are_ascending : ℕ → ℕ → List ℕ → Bool
+are_ascending from limit [] = true
+are_ascending from limit (i ∷ is) = (nat_le from i && nat_lt i limit) && are_ascending (i + 1) limit is
+
+-- the numbers of rows
+abbrev pub row_numbers : RowList → List ℕ
+row_numbers rows = map (λ r. r.number) (rows_in rows)
+
+-- a Delta that was asked for: from the version asked to one that can be, with rows of the hint's length, at most 1024 of them, in order and each once
+abbrev pub is_delta : ServerInfo → ℕ → ℕ → ℕ → ℕ → ℕ → List ℕ → Bool
+is_delta k asked since now count dimension numbers =
+    (since == asked) && (is_current k now count && ((dimension == k.dimension) && (nat_le (length numbers) 1024
+    && are_ascending 0 (digit_rows k.layout) numbers)))
+
+-- a matrix with these rows in place of its own
+unfoldable pub with_rows : WordMatrix → List Row → WordMatrix
+with_rows m [] = m
+with_rows m (r ∷ rs) = with_rows (with_row m r.number r.words) rs
+
+-- a hint of another version, with these rows in place of its own
+abbrev pub moved_hint : Hint → ℕ → RowList → Hint
+moved_hint h version rows = record h { version = version; matrix = with_rows h.matrix (rows_in rows) }
+
+-- its rows replace those of the hint held, whose version and count are the last known then
+abbrev pub moved : Option ServerInfo → Option Hint → ClientState → ℕ → ℕ → ℕ → ℕ → RowList → Taken
+moved None hint c asked since now count rows = faulty c BadReply
+moved (Some k) None c asked since now count rows = faulty c BadReply
+moved (Some k) (Some h) c asked since now count rows =
+    if is_delta k asked since now count rows.dimension (row_numbers rows)
+    then ended (record c { known = Some (with_current k now count); hint = Some (moved_hint h now rows) }) (Synced Simple now)
+    else faulty c BadReply
+
+-- it answers a sync by delta alone
+abbrev pub takes_delta : Call → ClientState → ℕ → ℕ → ℕ → RowList → Taken
+takes_delta (Delta asked) c since now count rows = moved c.known c.hint c asked since now count rows
+takes_delta _ c since now count rows = faulty c BadReply
+
+-- the hint held is dropped, and the sync goes on by the parts of the version named, which is the last known
+abbrev pub goes_by_parts : Option ServerInfo → ClientState → ℕ → ℕ → Taken
+goes_by_parts None c version count = faulty c BadReply
+goes_by_parts (Some k) c version count =
+    if is_current k version count
+    then record {
+      state = record c { known = Some (with_current k version count); hint = None; parts = []; call = Sync Simple version 0 };
+      reaction = Asks Simple version 0;
+    }
+    else faulty c BadReply
+
+-- it answers a sync by delta alone
+abbrev pub takes_no_delta : Call → ClientState → ℕ → ℕ → Taken
+takes_no_delta (Delta asked) c version count = goes_by_parts c.known c version count
+takes_no_delta _ c version count = faulty c BadReply
 
 -- ---- Done and Refused
 
@@ -141,7 +208,7 @@ takes_done (Edit i b) c version = ended c (Done version)
 takes_done Publish c version = ended c (Done version)
 takes_done _ c version = faulty c BadReply
 
--- it answers every call, with any code; in a sync the unfinished parts are dropped
+-- it answers every call, with any code; in a sync by parts the unfinished ones are dropped
 abbrev pub takes_refused : Call → ClientState → ℕ → Taken
 takes_refused Idle c code = faulty c BadReply
 takes_refused (Sync s v p) c code = ended (record c { parts = [] }) (Refused code)
@@ -156,6 +223,8 @@ reaction_to_reply c (frame.Welcome profile width record_len groups count version
 reaction_to_reply c (frame.HintPart scheme version part words) = takes_part c.call c scheme version part words
 reaction_to_reply c (frame.Answer scheme version words) = takes_answer c.call c scheme version words
 reaction_to_reply c (frame.Stale version count) = takes_stale c.call c version count
+reaction_to_reply c (frame.Delta since now count rows) = takes_delta c.call c since now count rows
+reaction_to_reply c (frame.NoDelta version count) = takes_no_delta c.call c version count
 reaction_to_reply c (frame.Done version) = takes_done c.call c version
 reaction_to_reply c (frame.Refused code) = takes_refused c.call c code
 reaction_to_reply c _ = faulty c BadReply

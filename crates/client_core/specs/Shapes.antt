@@ -15,13 +15,13 @@ use Rattle.client_core.specs.declared.state.ServerInfo.{ServerInfo}
 use Rattle.client_core.specs.declared.state.Hint.{Hint}
 use Rattle.client_core.specs.declared.state.Call.{Call}
 use Rattle.client_core.specs.declared.state.Call.TheVariants as call
-use Rattle.client_core.specs.States.{is_layout, known_version, known_count}
+use Rattle.client_core.specs.States.{known_version, known_count, simple_version}
 use Rattle.client_core.specs.declared.state.CallFault.{CallFault}
 use Rattle.client_core.specs.declared.state.ClientFault.{ClientFault}
 use Rattle.client_core.specs.declared.state.ClientFault.TheVariants.{Memory}
 use Rattle.client_core.specs.declared.state.Event.{Event}
 use Rattle.client_core.specs.Calls.{Want, Hello, Sync, Ask, Edit, Publish, state_after_call, call_frame, refusal, Accepts, Refuses}
-use Rattle.client_core.specs.Replies.{reaction_to_reply, is_welcome, with_count}
+use Rattle.client_core.specs.Replies.{reaction_to_reply, is_welcome, is_current, with_current, row_numbers, is_delta}
 use Rattle.client_core.specs.Feeding.{Client, sends_of, takes_all, FeedsClient}
 use Rattle.client_core.specs.Laws.{Happening, Accepted, TurnedDown, Lacking, Taken, Failing, after}
 
@@ -71,13 +71,15 @@ blank_call (Ask i) = BlankAsk
 blank_call (Edit i bytes) = BlankEdit (length bytes)
 blank_call Publish = BlankPublish
 
--- a reply: its kind, its version and its counts; and a Welcome whole
+-- a reply: its kind, its versions and its counts; the numbers of a Delta's rows; and a Welcome whole
 pub data BlankReply : Type 0 where
   BlankWelcome : (profile : ℕ) (layout : Shape) (dimension version : ℕ) (seed : List ℕ) → BlankReply
   BlankPart : (scheme version part count : ℕ) → BlankReply
+  BlankDelta : (since now count dimension : ℕ) (numbers : List ℕ) → BlankReply
   BlankAnswer : (scheme version count : ℕ) → BlankReply
   BlankStale : (version count : ℕ) → BlankReply
   BlankDone : BlankReply
+  BlankNoDelta : (version count : ℕ) → BlankReply
   BlankRefused : BlankReply
   BlankOther : BlankReply
 
@@ -86,9 +88,11 @@ abbrev pub blank_reply : Frame → BlankReply
 blank_reply (frame.Welcome profile width record_len groups count version dimension seed) =
     BlankWelcome profile (shape width record_len groups count) dimension version seed
 blank_reply (frame.HintPart scheme version part words) = BlankPart scheme version part (length words)
+blank_reply (frame.Delta since now count rows) = BlankDelta since now count rows.dimension (row_numbers rows)
 blank_reply (frame.Answer scheme version words) = BlankAnswer scheme version (length words)
 blank_reply (frame.Stale version count) = BlankStale version count
 blank_reply (frame.Done version) = BlankDone
+blank_reply (frame.NoDelta version count) = BlankNoDelta version count
 blank_reply (frame.Refused code) = BlankRefused
 blank_reply _ = BlankOther
 
@@ -108,11 +112,12 @@ blank (Lacking want) = BlankLacking (blank_call want)
 blank (Taken reply) = BlankTaken (blank_reply reply)
 blank Failing = BlankFailing
 
--- what the client waits for: nothing; a Welcome; a part of a version's hint; an answer of a version; a Done
+-- what the client waits for: nothing; a Welcome; a part of a version's hint; a Delta from a version; an answer of a version; a Done
 pub data Awaited : Type 0 where
   NoReply : Awaited
   AWelcome : Awaited
   APart : (scheme : Scheme) (version part : ℕ) → Awaited
+  ADelta : (since : ℕ) → Awaited
   AnAnswer : (version : ℕ) → Awaited
   ADone : Awaited
 
@@ -121,6 +126,7 @@ abbrev pub awaited : Call → Awaited
 awaited call.Idle = NoReply
 awaited (call.Hello key) = AWelcome
 awaited (call.Sync scheme version part) = APart scheme version part
+awaited (call.Delta since) = ADelta since
 awaited (call.Ask i scheme version number) = AnAnswer version
 awaited (call.Edit i bytes) = ADone
 awaited call.Publish = ADone
@@ -156,18 +162,33 @@ asked_count None hint = 0
 asked_count (Some k) None = query_count Simple k.layout
 asked_count (Some k) (Some h) = query_count h.scheme k.layout
 
+-- the version from which a sync of a scheme goes by delta, where this hint is held
+abbrev pub named_base : Scheme → Option HintName → Option ℕ
+named_base Simple (Some h) = simple_version h.scheme h.version
+named_base _ hint = None
+
+-- the shape of the first frame of a sync: by delta, or by parts
+abbrev pub sync_shape : Option ℕ → FrameShape
+sync_shape (Some since) = frame_shape 4 8
+sync_shape None = frame_shape 3 13
+
 -- the shape of a call's frame
 abbrev pub call_shape : Outline → BlankCall → FrameShape
 call_shape x BlankHello = frame_shape 2 34
-call_shape x (BlankSync scheme) = frame_shape 3 13
+call_shape x (BlankSync scheme) = sync_shape (named_base scheme x.hint)
 call_shape x BlankAsk = frame_shape 5 (9 + 4 * asked_count x.known x.hint)
 call_shape x (BlankEdit count) = frame_shape 6 (4 + count)
 call_shape x BlankPublish = frame_shape 7 0
 
+-- the outline where a sync begins
+abbrev pub outline_of_sync : Option ℕ → Scheme → Outline → Outline
+outline_of_sync (Some since) scheme x = record x { call = ADelta since }
+outline_of_sync None scheme x = record x { call = APart scheme (known_version x.known) 0; hint = None; words = 0 }
+
 -- the outline after an accepted call
 abbrev pub outline_after_call : BlankCall → Outline → Outline
 outline_after_call BlankHello x = record x { call = AWelcome }
-outline_after_call (BlankSync scheme) x = record x { call = APart scheme (known_version x.known) 0; hint = None; words = 0 }
+outline_after_call (BlankSync scheme) x = outline_of_sync (named_base scheme x.hint) scheme x
 outline_after_call BlankAsk x = record x { call = AnAnswer (known_version x.known); number = x.number + 1 }
 outline_after_call (BlankEdit count) x = record x { call = ADone }
 outline_after_call BlankPublish x = record x { call = ADone }
@@ -213,10 +234,39 @@ after_asked_part (Some k) s x asked next scheme version part count =
     if (scheme == scheme_byte s) && ((version == asked) && ((part == next) && (count == part_len (hint_len s k.layout k.dimension) next)))
     then after_good_part s k x asked next (x.words + count) else fails x
 
--- it answers sync alone
+-- it answers a sync by parts alone
 abbrev pub after_part : Awaited → Outline → ℕ → ℕ → ℕ → ℕ → Reacted
 after_part (APart s v p) x scheme version part count = after_asked_part x.known s x v p scheme version part count
 after_part _ x scheme version part count = fails x
+
+-- a Delta gives the hint held its version, where it is one that was asked for
+abbrev pub after_asked_delta : Option ServerInfo → Option HintName → Outline → ℕ → ℕ → ℕ → ℕ → ℕ → List ℕ → Reacted
+after_asked_delta None hint x asked since now count dimension numbers = fails x
+after_asked_delta (Some k) None x asked since now count dimension numbers = fails x
+after_asked_delta (Some k) (Some h) x asked since now count dimension numbers =
+    if is_delta k asked since now count dimension numbers
+    then ends (record x { known = Some (with_current k now count); hint = Some (record h { version = now }) }) else fails x
+
+-- it answers a sync by delta alone
+abbrev pub after_delta : Awaited → Outline → ℕ → ℕ → ℕ → ℕ → List ℕ → Reacted
+after_delta (ADelta asked) x since now count dimension numbers = after_asked_delta x.known x.hint x asked since now count dimension numbers
+after_delta _ x since now count dimension numbers = fails x
+
+-- a NoDelta drops the hint held, and the sync goes on by parts
+abbrev pub after_asked_no_delta : Option ServerInfo → Outline → ℕ → ℕ → Reacted
+after_asked_no_delta None x version count = fails x
+after_asked_no_delta (Some k) x version count =
+    if is_current k version count
+    then record {
+      outline = record x { known = Some (with_current k version count); hint = None; words = 0; call = APart Simple version 0 };
+      sends = frame_shape 3 13 ∷ [];
+    }
+    else fails x
+
+-- it answers a sync by delta alone
+abbrev pub after_no_delta : Awaited → Outline → ℕ → ℕ → Reacted
+after_no_delta (ADelta asked) x version count = after_asked_no_delta x.known x version count
+after_no_delta _ x version count = fails x
 
 -- an answer has the scheme of the hint, the version asked and as many words as these want
 abbrev pub after_asked_answer : Option ServerInfo → Option HintName → Outline → ℕ → ℕ → ℕ → ℕ → Reacted
@@ -235,10 +285,10 @@ after_answer _ x scheme version count = fails x
 abbrev pub after_asked_stale : Option ServerInfo → Outline → Outline → ℕ → ℕ → ℕ → Reacted
 after_asked_stale None dropped x asked version count = fails x
 after_asked_stale (Some k) dropped x asked version count =
-    if not (version == asked) && (nat_lt 0 version && is_layout (with_count k.layout count))
-    then ends (record dropped { known = Some (record k { version = version; layout = with_count k.layout count }) }) else fails x
+    if not (version == asked) && is_current k version count
+    then ends (record dropped { known = Some (with_current k version count) }) else fails x
 
--- Stale answers sync, whose unfinished hint is dropped, and ask
+-- Stale answers a sync by parts, whose unfinished hint is dropped, and ask
 abbrev pub after_stale : Awaited → Outline → ℕ → ℕ → Reacted
 after_stale (APart s v p) x version count = after_asked_stale x.known (record x { words = 0 }) x v version count
 after_stale (AnAnswer v) x version count = after_asked_stale x.known x x v version count
@@ -261,6 +311,8 @@ after_reply x (BlankWelcome profile layout dimension version seed) = after_welco
 after_reply x (BlankPart scheme version part count) = after_part x.call x scheme version part count
 after_reply x (BlankAnswer scheme version count) = after_answer x.call x scheme version count
 after_reply x (BlankStale version count) = after_stale x.call x version count
+after_reply x (BlankDelta since now count dimension numbers) = after_delta x.call x since now count dimension numbers
+after_reply x (BlankNoDelta version count) = after_no_delta x.call x version count
 after_reply x BlankDone = after_done x.call x
 after_reply x BlankRefused = after_refused x.call x
 after_reply x BlankOther = fails x

@@ -3,13 +3,13 @@ use Rattle.std.specs.Prelude.{◌≡◌, ◌≤◌, ◌<◌, ◌*◌, ◌^◌, �
 use Rattle.digit_pack.specs.Layout.{IsLayout}
 unfoldable pub use Rattle.digit_pack.specs.Layout.{is_layout}
 use Rattle.pir_schemes.specs.declared.scheme.Scheme.{Scheme}
-use Rattle.pir_schemes.specs.declared.scheme.Scheme.TheVariants.{Simple}
+use Rattle.pir_schemes.specs.declared.scheme.Scheme.TheVariants.{Simple, Double}
 use Rattle.pir_schemes.specs.Retrievals.{hint_rows, hint_len}
 use Rattle.client_core.specs.declared.state.ClientState.{ClientState}
 use Rattle.client_core.specs.declared.state.ServerInfo.{ServerInfo}
 use Rattle.client_core.specs.declared.state.Hint.{Hint}
 use Rattle.client_core.specs.declared.state.Call.{Call}
-use Rattle.client_core.specs.declared.state.Call.TheVariants.{Idle, Hello, Sync, Ask, Edit, Publish}
+use Rattle.client_core.specs.declared.state.Call.TheVariants.{Idle, Hello, Sync, Delta, Ask, Edit, Publish}
 
 -- no call is outstanding
 abbrev pub is_idle : Call → Bool
@@ -36,6 +36,16 @@ is_ready (Some k) (Some h) = h.version == k.version
 abbrev pub scheme_held : Option Hint → Scheme
 scheme_held None = Simple
 scheme_held (Some h) = h.scheme
+
+-- the version, where the scheme is SimplePIR
+abbrev pub simple_version : Scheme → ℕ → Option ℕ
+simple_version Simple version = Some version
+simple_version Double version = None
+
+-- the version from which a sync of a scheme goes by delta: that of the hint held, where both are SimplePIR's
+abbrev pub delta_base : Scheme → Option Hint → Option ℕ
+delta_base Simple (Some h) = simple_version h.scheme h.version
+delta_base _ hint = None
 
 -- a client that holds nothing yet
 abbrev pub fresh : List ℕ → ℕ → ClientState
@@ -66,9 +76,16 @@ CallFits (Hello key) None parts = Unit {0}
 CallFits (Hello key) (Some k) parts = ⊥
 CallFits (Sync scheme version part) None parts = Unit {0}
 CallFits (Sync scheme version part) (Some k) parts = (length parts ≡ 65536 * part) × (length parts ≤ hint_len scheme k.layout k.dimension)
+CallFits (Delta since) known parts = Unit {0}
 CallFits (Ask index scheme version number) known parts = (index < known_count known) × (number < 2 ^ 62)
 CallFits (Edit index bytes) known parts = Unit {0}
 CallFits Publish known parts = Unit {0}
+
+-- in a sync by delta the hint held is SimplePIR's, of the version asked from
+abbrev pub DeltaFits : Call → Option Hint → Type 0
+DeltaFits (Delta since) None = ⊥
+DeltaFits (Delta since) (Some h) = (h.scheme ≡ Simple) × (h.version ≡ since)
+DeltaFits _ hint = Unit {0}
 
 -- what is always true of a client
 pub record IsState (c : ClientState) : Type 0 where
@@ -76,6 +93,7 @@ pub record IsState (c : ClientState) : Type 0 where
   pub known : KnownFits c.known
   pub hint : HintFits c.known c.hint
   pub call : CallFits c.call c.known c.parts
+  pub delta : DeltaFits c.call c.hint
 
 -- what no reply changes: that these things are true, and the next number
 pub record Keeps (old new : ClientState) : Type 0 where

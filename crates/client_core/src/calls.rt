@@ -4,7 +4,7 @@ ghost use Rattle.std.specs.Prelude.{◌≡◌, ◌≤◌, ◌<◌, ◌+◌, ◌^
 ghost use Rattle.frame_codec.specs.Frames.{IsFrame, payload_size, payload_limit, encoding};
 ghost use Rattle.pir_schemes.specs.Schemes.{scheme_byte};
 ghost use Rattle.pir_schemes.specs.Retrievals.{query_words};
-ghost use Rattle.client_core.specs.States.{IsKnown, is_ready, is_idle, known_count, scheme_held};
+ghost use Rattle.client_core.specs.States.{IsKnown, is_ready, is_idle, known_count, scheme_held, delta_base};
 ghost use Rattle.client_core.specs.Calls.{Want, refusal, hello_refusal, change_refusal};
 
 use crate::state::{Call, CallFault, ClientState, Hint, ServerInfo};
@@ -116,6 +116,19 @@ pub(crate) fn scheme_of(hint: &Option<Hint>) -> Scheme
     match hint {
         None => Scheme::Simple,
         Some(hint) => hint.scheme,
+    }
+}
+
+/// The version from which a sync of a scheme goes by delta: that of the hint held, where both are SimplePIR's.
+pub(crate) fn base_of(scheme: Scheme, hint: &Option<Hint>) -> Option<u64>
+    ensures { result ≡ delta_base scheme hint.now }
+{
+    match (scheme, hint) {
+        (Scheme::Simple, Some(hint)) => match hint.scheme {
+            Scheme::Simple => Some(hint.version),
+            Scheme::Double => None,
+        },
+        _ => None,
     }
 }
 

@@ -11,7 +11,8 @@ ghost use Rattle.client_core.specs.Calls.{Want, Accepts, Refuses};
 ghost use Rattle.client_core.specs.Feeding.{Client, FeedsClient};
 
 use crate::calls::{
-    edit_bytes, encoded, may_ask, may_change, may_hello, query_bytes, scheme_of, spend_number,
+    base_of, edit_bytes, encoded, may_ask, may_change, may_hello, query_bytes, scheme_of,
+    spend_number,
 };
 use crate::parts::Parts;
 use crate::state::{Call, CallFault, ClientFault, ClientState, Event};
@@ -103,8 +104,10 @@ impl<K: Kernel> ClientCore<K> {
         Ok(bytes)
     }
 
-    /// Asks for the hint of the last version known, part by part, and drops the hint held. Gives the bytes
-    /// to send; `feed` gives those that ask for the further parts.
+    /// Asks for the hint of the last version known, part by part, and drops the hint held. A client that
+    /// holds a SimplePIR hint asks for the next one by its differences from that one, and keeps it
+    /// meanwhile; where the server hasn't these, the parts are asked for. Gives the bytes to send; `feed`
+    /// gives those that ask for the further parts.
     ///
     /// Refused in this order: `Failed`, `NotReady` (no Welcome came yet), `Busy`, `Memory`. A refusal changes
     /// nothing.
@@ -116,6 +119,11 @@ impl<K: Kernel> ClientCore<K> {
         ensures reader { self.new.reader ≡ self.old.reader }
     {
         let known = may_change(&self.state)?;
+        if let Some(since) = base_of(scheme, &self.state.hint) {
+            let bytes = encoded(self.alloc, &Frame::DeltaAsk { since })?;
+            self.state.call = Call::Delta { since };
+            return Ok(bytes);
+        }
         let version = known.version;
         let frame = Frame::HintAsk {
             scheme: scheme.byte(),

@@ -6,6 +6,7 @@ ghost use Rattle.client_core.specs.Laws.{
   NoNumberTwice,
   SyncedHintIsMadeOfParts,
   PartsOfAHintMakeIt,
+  DeltaMakesTheHint,
 };
 ghost use Rattle.client_core.specs.Shapes.{EqualShapes, ClientsHappen};
 
@@ -23,6 +24,12 @@ pub fn synced_hint_is_made_of_parts()
 /// Where these are the parts of a hint of the right size, it is that hint.
 pub fn parts_of_a_hint_make_it()
     ensures { PartsOfAHintMakeIt }
+{}
+
+/// A Delta with a hint's rows, which names each row in which the hint held is another, makes the hint held that
+/// hint.
+pub fn delta_makes_the_hint()
+    ensures { DeltaMakesTheHint }
 {}
 
 /// The first event that comes of a piece is one that the outstanding call can end with: of the record, the

@@ -8,6 +8,7 @@
 
 mod calls;
 mod client;
+mod deltas;
 pub mod laws;
 mod parts;
 mod replies;

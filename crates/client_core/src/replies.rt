@@ -19,6 +19,8 @@ ghost use Rattle.client_core.specs.Replies.{
   takes_done,
   takes_refused,
   with_count,
+  is_current,
+  with_current,
 };
 
 use crate::parts::Parts;
@@ -32,8 +34,8 @@ use pir_schemes::{
 use std::alloc::{AllocError, Global};
 use std::mem;
 
-// A bad reply.
-fn fails(state: &mut ClientState, fault: ClientFault) -> Reaction
+/// A bad reply.
+pub(crate) fn fails(state: &mut ClientState, fault: ClientFault) -> Reaction
     ensures state { state.new ≡ (faulty state.old fault).state }
     ensures reaction { result ≡ (faulty state.old fault).reaction }
 {
@@ -41,8 +43,8 @@ fn fails(state: &mut ClientState, fault: ClientFault) -> Reaction
     Reaction::Fails(fault)
 }
 
-// The end of a call.
-fn ends(state: &mut ClientState, event: Event) -> Reaction
+/// The end of a call.
+pub(crate) fn ends(state: &mut ClientState, event: Event) -> Reaction
     ensures state { state.new ≡ (ended state.old event).state }
     ensures reaction { result ≡ (ended state.old event).reaction }
 {
@@ -115,7 +117,7 @@ pub(crate) fn take_welcome(state: &mut ClientState, sizes: Sizes, seed: &Bytes32
     ends(state, Event::Welcomed(sizes.version))
 }
 
-/// A part of a hint answers sync alone: the part that was asked for, with all its words.
+/// A part of a hint answers a sync by parts alone: the part that was asked for, with all its words.
 pub(crate) fn take_part(
     alloc: Global,
     state: &mut ClientState,
@@ -288,7 +290,7 @@ pub(crate) fn take_answer<K: Kernel>(
     Ok(ends(state, event))
 }
 
-/// Stale answers sync, whose unfinished parts are dropped, and ask.
+/// Stale answers a sync by parts, of which the unfinished ones are dropped, and ask.
 pub(crate) fn take_stale(
     alloc: Global,
     state: &mut ClientState,
@@ -329,9 +331,21 @@ fn reported_of(
     let Some(known) = known else {
         return None;
     };
+    if version == asked {
+        return None;
+    }
+    current_of(known, version, count)
+}
+
+/// What is known after a reply that names this version as the current one, with so many records, where it may.
+pub(crate) fn current_of(known: &ServerInfo, version: u64, count: u32) -> Option<ServerInfo>
+    ensures { MatchOption result (is_current known.now version count ≡ false)
+        (λ k. (is_current known.now version count ≡ true) ×
+        (k ≡ with_current known.now version count)) }
+{
     let old = known.layout;
     let layout = layout_of(old.width(), old.record_len(), old.groups(), count as usize)?;
-    if version == asked || version == 0 {
+    if version == 0 {
         return None;
     }
     Some(ServerInfo {
@@ -353,7 +367,7 @@ pub(crate) fn take_done(state: &mut ClientState, version: u64) -> Reaction
     }
 }
 
-/// Refused answers every call, with any code; in a sync the unfinished parts are dropped.
+/// Refused answers every call, with any code; in a sync by parts the unfinished ones are dropped.
 pub(crate) fn take_refused(alloc: Global, state: &mut ClientState, code: u8) -> Reaction
     ensures state { state.new ≡ (takes_refused state.old.call state.old code).state }
     ensures reaction { result ≡ (takes_refused state.old.call state.old code).reaction }

@@ -40,6 +40,10 @@ pub enum Call {
         version: u64,
         part: u32,
     },
+    /// The rows of the SimplePIR hint held that have changed since its version were asked for.
+    Delta {
+        since: u64,
+    },
     /// The query of the scheme for record `index` was sent; `number` tells which retrieval of the seed it is.
     Ask {
         index: u32,

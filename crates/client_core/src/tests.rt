@@ -2,7 +2,7 @@
 
 use super::*;
 use digit_pack::Layout;
-use frame_codec::{Bytes32, Frame, Reader, Words, write_frame};
+use frame_codec::{Bytes32, Frame, Reader, Rows, Words, write_frame};
 use matrix_u32::Plain;
 use std::alloc::Global;
 use std::process::Abort;
@@ -10,6 +10,7 @@ use std::test::Fail;
 
 mod answers;
 mod calls;
+mod deltas;
 mod hints;
 mod replies;
 mod shapes;
@@ -114,6 +115,10 @@ fn answer(
 
 fn stale(rt: &(impl Abort + AllocGlobal), version: u64, count: u32) -> Result<Vec<u8>, Fail> {
     encode(rt, Frame::Stale { version, count })
+}
+
+fn no_delta(rt: &(impl Abort + AllocGlobal), version: u64, count: u32) -> Result<Vec<u8>, Fail> {
+    encode(rt, Frame::NoDelta { version, count })
 }
 
 fn done(rt: &(impl Abort + AllocGlobal), version: u64) -> Result<Vec<u8>, Fail> {

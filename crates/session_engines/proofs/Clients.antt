@@ -8,20 +8,21 @@ use Rattle.frame_codec.specs.declared.frame.Frame.{Frame}
 use Rattle.frame_codec.specs.declared.frame.Frame.TheVariants as frame
 use Rattle.frame_codec.specs.declared.reader.ReadFault.{ReadFault}
 use Rattle.frame_codec.specs.declared.reader.ReadFault.TheVariants as read_fault
+use Rattle.frame_codec.specs.Rows.{RowList}
 use Rattle.frame_codec.specs.Frames.{IsFrame, encoding}
 use Rattle.frame_codec.specs.Streams.{Feeds}
 use Rattle.client_core.specs.declared.state.ClientState.{ClientState}
 use Rattle.client_core.specs.declared.state.ServerInfo.{ServerInfo}
 use Rattle.client_core.specs.declared.state.Hint.{Hint}
 use Rattle.client_core.specs.declared.state.Call.{Call}
-use Rattle.client_core.specs.declared.state.Call.TheVariants.{Idle, Hello, Sync, Ask, Edit, Publish}
+use Rattle.client_core.specs.declared.state.Call.TheVariants.{Idle, Hello, Sync, Delta, Ask, Edit, Publish}
 use Rattle.client_core.specs.declared.state.ClientFault.{ClientFault}
 use Rattle.client_core.specs.declared.state.ClientFault.TheVariants as client
 use Rattle.client_core.specs.declared.state.Event.{Event}
 use Rattle.pir_schemes.specs.declared.scheme.Scheme.{Scheme}
 use Rattle.pir_schemes.specs.Retrievals.{hint_len}
 use Rattle.digit_pack.specs.Layout.{Shape}
-use Rattle.client_core.specs.Replies.{Taken, faulty, reaction_to_reply, takes_welcome, takes_part, takes_answer, takes_stale, takes_done, takes_refused, is_welcome, is_part, more_parts, takes_asked_part, answered, staled}
+use Rattle.client_core.specs.Replies.{Taken, faulty, reaction_to_reply, takes_welcome, takes_part, takes_answer, takes_stale, takes_done, takes_refused, is_welcome, is_part, more_parts, takes_asked_part, answered, staled, moved, takes_delta, goes_by_parts, takes_no_delta}
 use Rattle.client_core.specs.Feeding.{Client, Course, start, goes_on, course_more, runs, takes_all, sends_of, fault_of, codec_fault, failing, ends_with, Gives, Follows, BreaksOff, FeedsOpen, FeedsFailed, FeedsClient}
 use Rattle.client_core.proofs.Courses.{runs_append, fault_stays}
 use Rattle.session_engines.proofs.Streams.{each_both, take_both, feeds_both}
@@ -42,6 +43,7 @@ sound_welcome Idle c profile l n v seed = bad c client.BadReply
 sound_welcome (Hello key) c profile l n v seed =
     either c (is_welcome profile l n v) _ (faulty c client.BadWelcome) (λ _. (refl, refl)) (bad c client.BadWelcome)
 sound_welcome (Sync s w p) c profile l n v seed = bad c client.BadReply
+sound_welcome (Delta since) c profile l n v seed = bad c client.BadReply
 sound_welcome (Ask i s w k) c profile l n v seed = bad c client.BadReply
 sound_welcome (Edit i b) c profile l n v seed = bad c client.BadReply
 sound_welcome Publish c profile l n v seed = bad c client.BadReply
@@ -58,6 +60,7 @@ sound_part : (call : Call) (c : ClientState) (scheme version part : ℕ) (words 
 sound_part Idle c scheme version part words = bad c client.BadReply
 sound_part (Hello key) c scheme version part words = bad c client.BadReply
 sound_part (Sync s v p) c scheme version part words = sound_asked c.known s c v p scheme version part words
+sound_part (Delta since) c scheme version part words = bad c client.BadReply
 sound_part (Ask i s v k) c scheme version part words = bad c client.BadReply
 sound_part (Edit i b) c scheme version part words = bad c client.BadReply
 sound_part Publish c scheme version part words = bad c client.BadReply
@@ -72,6 +75,7 @@ sound_answer : (call : Call) (c : ClientState) (scheme version : ℕ) (words : L
 sound_answer Idle c scheme version words = bad c client.BadReply
 sound_answer (Hello key) c scheme version words = bad c client.BadReply
 sound_answer (Sync s v p) c scheme version words = bad c client.BadReply
+sound_answer (Delta since) c scheme version words = bad c client.BadReply
 sound_answer (Ask i s v k) c scheme version words = sound_answered c.known c.hint c i v k scheme version words
 sound_answer (Edit i b) c scheme version words = bad c client.BadReply
 sound_answer Publish c scheme version words = bad c client.BadReply
@@ -85,14 +89,44 @@ sound_stale : (call : Call) (c : ClientState) (version count : ℕ) → IsSound 
 sound_stale Idle c version count = bad c client.BadReply
 sound_stale (Hello key) c version count = bad c client.BadReply
 sound_stale (Sync s v p) c version count = sound_staled c.known (record c { parts = [] }) c v version count (refl, refl)
+sound_stale (Delta since) c version count = bad c client.BadReply
 sound_stale (Ask i s v k) c version count = sound_staled c.known c c v version count (refl, refl)
 sound_stale (Edit i b) c version count = bad c client.BadReply
 sound_stale Publish c version count = bad c client.BadReply
+
+sound_moved : (known : Option ServerInfo) (hint : Option Hint) (c : ClientState) (asked since now count : ℕ) (rows : RowList) →
+    IsSound c (moved known hint c asked since now count rows)
+sound_moved None hint c asked since now count rows = bad c client.BadReply
+sound_moved (Some k) None c asked since now count rows = bad c client.BadReply
+sound_moved (Some k) (Some h) c asked since now count rows = either c _ _ (faulty c client.BadReply) (λ _. (refl, refl)) (bad c client.BadReply)
+
+sound_delta : (call : Call) (c : ClientState) (since now count : ℕ) (rows : RowList) → IsSound c (takes_delta call c since now count rows)
+sound_delta Idle c since now count rows = bad c client.BadReply
+sound_delta (Hello key) c since now count rows = bad c client.BadReply
+sound_delta (Sync s v p) c since now count rows = bad c client.BadReply
+sound_delta (Delta asked) c since now count rows = sound_moved c.known c.hint c asked since now count rows
+sound_delta (Ask i s v k) c since now count rows = bad c client.BadReply
+sound_delta (Edit i b) c since now count rows = bad c client.BadReply
+sound_delta Publish c since now count rows = bad c client.BadReply
+
+sound_by_parts : (known : Option ServerInfo) (c : ClientState) (version count : ℕ) → IsSound c (goes_by_parts known c version count)
+sound_by_parts None c version count = bad c client.BadReply
+sound_by_parts (Some k) c version count = either c _ _ (faulty c client.BadReply) (λ _. (refl, refl)) (bad c client.BadReply)
+
+sound_no_delta : (call : Call) (c : ClientState) (version count : ℕ) → IsSound c (takes_no_delta call c version count)
+sound_no_delta Idle c version count = bad c client.BadReply
+sound_no_delta (Hello key) c version count = bad c client.BadReply
+sound_no_delta (Sync s v p) c version count = bad c client.BadReply
+sound_no_delta (Delta asked) c version count = sound_by_parts c.known c version count
+sound_no_delta (Ask i s v k) c version count = bad c client.BadReply
+sound_no_delta (Edit i b) c version count = bad c client.BadReply
+sound_no_delta Publish c version count = bad c client.BadReply
 
 sound_done : (call : Call) (c : ClientState) (version : ℕ) → IsSound c (takes_done call c version)
 sound_done Idle c version = bad c client.BadReply
 sound_done (Hello key) c version = bad c client.BadReply
 sound_done (Sync s v p) c version = bad c client.BadReply
+sound_done (Delta since) c version = bad c client.BadReply
 sound_done (Ask i s v k) c version = bad c client.BadReply
 sound_done (Edit i b) c version = λ _. (refl, refl)
 sound_done Publish c version = λ _. (refl, refl)
@@ -101,6 +135,7 @@ sound_refused : (call : Call) (c : ClientState) (code : ℕ) → IsSound c (take
 sound_refused Idle c code = bad c client.BadReply
 sound_refused (Hello key) c code = λ _. (refl, refl)
 sound_refused (Sync s v p) c code = λ _. (refl, refl)
+sound_refused (Delta since) c code = λ _. (refl, refl)
 sound_refused (Ask i s v k) c code = λ _. (refl, refl)
 sound_refused (Edit i b) c code = λ _. (refl, refl)
 sound_refused Publish c code = λ _. (refl, refl)
@@ -109,15 +144,18 @@ sound : (c : ClientState) (f : Frame) → IsSound c (reaction_to_reply c f)
 sound c (frame.Load record_len groups width records) = bad c client.BadReply
 sound c (frame.Hello profile key) = bad c client.BadReply
 sound c (frame.HintAsk scheme version part) = bad c client.BadReply
+sound c (frame.DeltaAsk since) = bad c client.BadReply
 sound c (frame.Query scheme version words) = bad c client.BadReply
 sound c (frame.Edit index bytes) = bad c client.BadReply
 sound c frame.Publish = bad c client.BadReply
 sound c frame.Bye = bad c client.BadReply
 sound c (frame.Welcome profile width record_len groups count version dimension seed) = sound_welcome c.call c profile _ dimension version seed
 sound c (frame.HintPart scheme version part words) = sound_part c.call c scheme version part words
+sound c (frame.Delta since now count rows) = sound_delta c.call c since now count rows
 sound c (frame.Answer scheme version words) = sound_answer c.call c scheme version words
 sound c (frame.Stale version count) = sound_stale c.call c version count
 sound c (frame.Done version) = sound_done c.call c version
+sound c (frame.NoDelta version count) = sound_no_delta c.call c version count
 sound c (frame.Refused code) = sound_refused c.call c code
 
 none_is_not : {P : Type 0} (o : Option ClientFault) (x : ClientFault) → o ≡ Some x → o ≡ None → P

@@ -93,6 +93,23 @@ fn the_last_number_of_a_seed(rt: HostRuntime) -> Result<(), Fail> {
     Ok(())
 }
 
+/// Asks for what has changed in the hint of version 1, which is nothing.
+fn moves_to_two(
+    rt: &(impl Abort + AllocGlobal),
+    client: &mut ClientCore<Plain>,
+) -> Result<(), Fail> {
+    makes(client, Wanted::Sync(Scheme::Simple))?;
+    let rows = Rows::new(1, Words::new(Vec::new(rt.alloc())));
+    let moved = Frame::Delta {
+        since: 1,
+        now: 2,
+        count: 2,
+        rows,
+    };
+    let frame = encode(rt, moved)?;
+    feeds(rt, client, frame.as_slice(), "synced simple 2 ")
+}
+
 fn asks_again_after_stale(
     rt: &(impl Abort + AllocGlobal),
     client: &mut ClientCore<Plain>,
@@ -102,7 +119,7 @@ fn asks_again_after_stale(
     feeds(rt, client, frame.as_slice(), "stale 2 ")?;
     counts(rt, client, 8);
     refuses(rt, client, Wanted::Ask(0), CallFault::NotReady);
-    fetches(rt, client, 2, &[TWO_RECORDS_HINT])?;
+    moves_to_two(rt, client)?;
     let second = call(client, Wanted::Ask(0))?;
     counts(rt, client, 9);
     assert!(rt; first.len() == 22 && second.len() == 22);

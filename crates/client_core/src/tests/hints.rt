@@ -64,9 +64,9 @@ fn a_publication_between_two_parts(rt: HostRuntime) -> Result<(), Fail> {
 }
 
 #[test]
-fn a_sync_drops_the_hint(rt: HostRuntime) -> Result<(), Fail> {
+fn a_sync_of_another_scheme_drops_the_hint(rt: HostRuntime) -> Result<(), Fail> {
     let mut client = synced(&rt, ONE_RECORD, 0, &[0, 0, 0])?;
-    makes(&mut client, Wanted::Sync(Scheme::Simple))?;
+    makes(&mut client, Wanted::Sync(Scheme::Double))?;
     // not ready comes before busy
     refuses(&rt, &mut client, Wanted::Ask(0), CallFault::NotReady);
     let frame = refused(&rt, 12)?;

@@ -33,6 +33,21 @@ fn takes_hint(
     feeds(rt, client, frame.as_slice(), &wanted)
 }
 
+/// Asks for what has changed in the hint since version 1, and for the parts of version 2, since it isn't known.
+fn moves_hint(
+    rt: &(impl Abort + AllocGlobal),
+    shapes: &mut String,
+    client: &mut ClientCore<Plain>,
+) -> Result<(), Fail> {
+    adds(rt, shapes, client, Wanted::Sync(Scheme::Simple))?;
+    let frame = no_delta(rt, 2, 2)?;
+    let fed = client.feed(frame.as_slice());
+    assert_eq!(rt; fed.out.len(), 18);
+    shapes.push_str("(3,13) ")?;
+    let frame = part(rt, 0, 2, 0, &[TWO_RECORDS_HINT])?;
+    feeds(rt, client, frame.as_slice(), "synced simple 2 ")
+}
+
 /// Greets, and takes the Welcome of [`TWO_RECORDS`].
 fn greets(
     rt: &(impl Abort + AllocGlobal),
@@ -53,7 +68,7 @@ fn shapes_across_versions(rt: &(impl Abort + AllocGlobal), index: u32) -> Result
     adds(rt, &mut shapes, &mut client, Wanted::Ask(index))?;
     let frame = stale(rt, 2, 2)?;
     feeds(rt, &mut client, frame.as_slice(), "stale 2 ")?;
-    takes_hint(rt, &mut shapes, &mut client, 2, &[TWO_RECORDS_HINT])?;
+    moves_hint(rt, &mut shapes, &mut client)?;
     adds(rt, &mut shapes, &mut client, Wanted::Ask(index))?;
     Ok(shapes)
 }
@@ -72,7 +87,7 @@ fn shapes_of_double(rt: &(impl Abort + AllocGlobal), index: u32) -> Result<Strin
 
 #[test]
 fn frames_of_two_readers_whatever_they_ask_for(rt: HostRuntime) -> Result<(), Fail> {
-    let first = "(2,34) (3,13) (5,17) (3,13) (5,17) ";
+    let first = "(2,34) (3,13) (5,17) (4,8) (3,13) (5,17) ";
     assert_eq!(rt; shapes_across_versions(&rt, 1)?.as_str(), first);
     assert_eq!(rt; shapes_across_versions(&rt, 0)?.as_str(), first);
     let second = "(2,34) (3,13) (5,21) ";
