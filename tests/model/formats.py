@@ -40,14 +40,18 @@ def chacha20_block(key, counter, nonce):
     return [(word + first) % WORD for word, first in zip(state, start)]
 
 
-@functools.lru_cache(maxsize=1024)
-def stream(key, number, blocks):
-    return [word for block in range(blocks) for word in chacha20_block(key, block, number)]
+@functools.lru_cache(maxsize=256)
+def stream(key, number):
+    """A stream's words as far as they are made."""
+    return []
 
 
 def words_of(key, number, place, count):
     """`count` words of a stream, from a place on."""
-    return stream(key, number, -(-(place + count) // 16))[place : place + count]
+    words = stream(key, number)
+    while len(words) < place + count:
+        words += chacha20_block(key, len(words) // 16, number)
+    return words[place : place + count]
 
 
 def noise_of(word):

@@ -94,6 +94,8 @@ fn snapshot_of(rt: &HostRuntime, name: &str) -> Result<Snapshot, Failure>
 /// `File` where the file beside it can't be made or can't be given the name, `Write`, `Memory`. The old file is then left
 /// as it was, and none stands beside it.
 pub fn write_file(rt: &HostRuntime, name: &str, content: &Content<'_>) -> Result<(), Failure> {
+    let real = real_name(rt, name);
+    let name = real.as_ref().map_or(name, |real| real.as_str());
     if is_written_in_place(rt, name) {
         return write_new(rt, name, content);
     }
@@ -106,6 +108,12 @@ pub fn write_file(rt: &HostRuntime, name: &str, content: &Content<'_>) -> Result
     // It has done what it could; the first failure is the one to report.
     let _ = fs::remove_file(rt, beside.as_str());
     Err(failure)
+}
+
+// The name of the file that a link leads to, where there is a file and its name is text.
+fn real_name(rt: &HostRuntime, name: &str) -> Option<String> {
+    let path = fs::canonicalize(rt, name).ok()?;
+    String::from_str(rt.alloc(), path.to_str()?).ok()
 }
 
 // Whether there is something of this name that is no file.

@@ -6,7 +6,7 @@ use matrix_u32::Plain;
 use std::alloc::Global;
 use std::process::Abort;
 use std::test::Fail;
-use version_store::{Header, Store};
+use version_store::{EditError, Header, PublishError, Store};
 
 mod deltas;
 mod texts;
@@ -68,6 +68,41 @@ const ONES: &[u8] = &[1; 32];
 
 const TWOS: &[u8] = &[2; 32];
 
+// The calls below have no clause, so that a test doesn't carry theirs.
+
+fn feed(
+    server: &mut ServerCore<Plain>,
+    id: u64,
+    piece: &[u8],
+    out: &mut Vec<u8>,
+) -> Result<(), FeedError> {
+    server.feed(id, piece, out)
+}
+
+fn open_session(server: &mut ServerCore<Plain>, id: u64) -> Result<(), OpenError> {
+    server.open_session(id)
+}
+
+fn close_session(server: &mut ServerCore<Plain>, id: u64) -> bool {
+    server.close_session(id)
+}
+
+fn has_session(server: &ServerCore<Plain>, id: u64) -> bool {
+    server.has_session(id)
+}
+
+fn is_open(server: &ServerCore<Plain>, id: u64) -> bool {
+    server.is_open(id)
+}
+
+fn edit(server: &mut ServerCore<Plain>, index: usize, bytes: &[u8]) -> Result<(), EditError> {
+    server.edit(index, bytes)
+}
+
+fn publish(server: &mut ServerCore<Plain>) -> Result<u64, PublishError> {
+    server.publish()
+}
+
 // A server of records of one byte, each a column of its own, with a session 0.
 fn server(
     rt: &impl Abort,
@@ -90,7 +125,7 @@ fn server(
         panic!(rt; "the store was not opened");
     };
     let mut server = ServerCore::new(alloc, store);
-    server.open_session(0)?;
+    open_session(&mut server, 0)?;
     Ok(server)
 }
 
@@ -118,7 +153,7 @@ fn check(
     let piece = joined(alloc, asked)?;
     let wanted = joined(alloc, reported)?;
     let mut out = Vec::new(alloc);
-    server.feed(id, &piece, &mut out)?;
+    feed(server, id, &piece, &mut out)?;
     assert_eq!(rt; out.as_slice(), wanted.as_slice());
     Ok(())
 }
@@ -138,7 +173,7 @@ fn a_reader_gets_the_hint_and_answers(rt: HostRuntime) -> Result<(), Fail> {
     for (asked, reported) in RETRIEVAL {
         check(&rt, rt.alloc(), &mut server, 0, asked, reported)?;
     }
-    assert_eq!(rt; server.has_session(0), true);
+    assert_eq!(rt; has_session(&server, 0), true);
     Ok(())
 }
 
@@ -151,8 +186,8 @@ fn a_stream_can_be_cut_anywhere(rt: HostRuntime) -> Result<(), Fail> {
         let (piece, later) = stream.split_at(cut);
         let mut server = server(&rt, alloc, RECORDS, 1)?;
         let mut out = Vec::new(alloc);
-        server.feed(0, piece, &mut out)?;
-        server.feed(0, later, &mut out)?;
+        feed(&mut server, 0, piece, &mut out)?;
+        feed(&mut server, 0, later, &mut out)?;
         assert_eq!(rt; out.as_slice(), wanted.as_slice(), "cut at {cut}");
     }
     Ok(())
@@ -166,7 +201,7 @@ fn a_stream_can_come_byte_by_byte(rt: HostRuntime) -> Result<(), Fail> {
     let mut server = server(&rt, alloc, RECORDS, 1)?;
     let mut out = Vec::new(alloc);
     for byte in stream.chunks(1) {
-        server.feed(0, byte, &mut out)?;
+        feed(&mut server, 0, byte, &mut out)?;
     }
     assert_eq!(rt; out.as_slice(), wanted.as_slice());
     Ok(())
@@ -237,7 +272,7 @@ fn hints_and_answers_of_double_pir(rt: HostRuntime) -> Result<(), Fail> {
     let mut server = server(&rt, alloc, RECORDS, 1)?;
     let stream = joined(alloc, &[GREETING, ZEROS, DOUBLE_HINT_ASK, DOUBLE_QUERY])?;
     let mut out = Vec::new(alloc);
-    server.feed(0, &stream, &mut out)?;
+    feed(&mut server, 0, &stream, &mut out)?;
     // after the 58 bytes of the Welcome a part of four words, and then an answer of twelve
     assert_eq!(rt; out.len(), 58 + 34 + 62);
     assert_eq!(rt; &out[58..65], [29, 0, 0, 0, 0x83, 1, 1].as_slice());
@@ -283,7 +318,12 @@ const QUERIES: Dialogue = &[
 fn an_old_version_is_reported_before_the_word_count(rt: HostRuntime) -> Result<(), Fail> {
     let mut server = server(&rt, rt.alloc(), &[1, 2, 3, 4, 5], 3)?;
     let mut out = Vec::new(rt.alloc());
-    server.feed(0, &joined(rt.alloc(), &[GREETING, ZEROS])?, &mut out)?;
+    feed(
+        &mut server,
+        0,
+        &joined(rt.alloc(), &[GREETING, ZEROS])?,
+        &mut out,
+    )?;
     for (asked, reported) in QUERIES {
         check(&rt, rt.alloc(), &mut server, 0, asked, reported)?;
     }
@@ -343,10 +383,10 @@ fn a_session_is_served_beside_closed_ones(rt: HostRuntime) -> Result<(), Fail> {
     )?;
     for (id, fault) in FAULTS {
         let id = *id;
-        server.open_session(id)?;
+        open_session(&mut server, id)?;
         check(&rt, rt.alloc(), &mut server, id, &[fault], &[REFUSED, &[1]])?;
         check(&rt, rt.alloc(), &mut server, id, &[GREETING, ZEROS], &[])?;
-        assert_eq!(rt; server.has_session(id), true);
+        assert_eq!(rt; has_session(&server, id), true);
         check(&rt, rt.alloc(), &mut server, 0, &[QUERY], &[ANSWER])?;
     }
     Ok(())
@@ -364,7 +404,7 @@ fn a_query_is_served_when_its_last_byte_comes(rt: HostRuntime) -> Result<(), Fai
         &[GREETING, ZEROS, prefix],
         &[WELCOME, ZEROS],
     )?;
-    server.open_session(1)?;
+    open_session(&mut server, 1)?;
     check(
         &rt,
         rt.alloc(),
@@ -380,16 +420,19 @@ fn a_query_is_served_when_its_last_byte_comes(rt: HostRuntime) -> Result<(), Fai
 fn sessions_are_opened_and_closed(rt: HostRuntime) -> Result<(), Fail> {
     let mut server = server(&rt, rt.alloc(), RECORDS, 1)?;
     let mut out = Vec::new(rt.alloc());
-    assert_eq!(rt; server.feed(9, QUERY, &mut out), Err(FeedError::NoSession));
+    assert_eq!(rt;
+        feed(&mut server, 9, QUERY, &mut out),
+        Err(FeedError::NoSession)
+    );
     assert_eq!(rt; out.is_empty(), true);
-    assert_eq!(rt; server.open_session(3), Ok(()));
-    assert_eq!(rt; server.open_session(3), Err(OpenError::IdInUse));
-    assert_eq!(rt; server.has_session(3), true);
-    assert_eq!(rt; server.close_session(3), true);
-    assert_eq!(rt; server.has_session(3), false);
-    assert_eq!(rt; server.close_session(3), false);
-    assert_eq!(rt; server.open_session(3), Ok(()));
-    assert_eq!(rt; server.has_session(0), true);
+    assert_eq!(rt; open_session(&mut server, 3), Ok(()));
+    assert_eq!(rt; open_session(&mut server, 3), Err(OpenError::IdInUse));
+    assert_eq!(rt; has_session(&server, 3), true);
+    assert_eq!(rt; close_session(&mut server, 3), true);
+    assert_eq!(rt; has_session(&server, 3), false);
+    assert_eq!(rt; close_session(&mut server, 3), false);
+    assert_eq!(rt; open_session(&mut server, 3), Ok(()));
+    assert_eq!(rt; has_session(&server, 0), true);
     Ok(())
 }
 
@@ -397,19 +440,19 @@ fn sessions_are_opened_and_closed(rt: HostRuntime) -> Result<(), Fail> {
 fn a_session_is_open_until_it_is_closed(rt: HostRuntime) -> Result<(), Fail> {
     let mut server = server(&rt, rt.alloc(), RECORDS, 1)?;
     let mut out = Vec::new(rt.alloc());
-    assert_eq!(rt; server.is_open(0), true);
-    assert_eq!(rt; server.is_open(1), false);
-    server.feed(0, BYE, &mut out)?;
-    assert_eq!(rt; server.is_open(0), false);
-    assert_eq!(rt; server.has_session(0), true);
+    assert_eq!(rt; is_open(&server, 0), true);
+    assert_eq!(rt; is_open(&server, 1), false);
+    feed(&mut server, 0, BYE, &mut out)?;
+    assert_eq!(rt; is_open(&server, 0), false);
+    assert_eq!(rt; has_session(&server, 0), true);
     Ok(())
 }
 
 #[test]
 fn the_server_edits_its_store(rt: HostRuntime) -> Result<(), Fail> {
     let mut server = server(&rt, rt.alloc(), RECORDS, 1)?;
-    assert_eq!(rt; server.edit(1, &[100]), Ok(()));
-    assert_eq!(rt; server.publish(), Ok(2));
+    assert_eq!(rt; edit(&mut server, 1, &[100]), Ok(()));
+    assert_eq!(rt; publish(&mut server), Ok(2));
     assert_eq!(rt; server.store().version(), 2);
     check(
         &rt,
@@ -425,6 +468,27 @@ fn the_server_edits_its_store(rt: HostRuntime) -> Result<(), Fail> {
             STALE,
         ],
     )
+}
+
+// An empty piece says nothing, wherever it comes, and is no fault: between frames, within one, and after a Bye.
+const EMPTY_PIECES: Dialogue = &[
+    (&[], &[]),
+    (&[GREETING], &[]),
+    (&[], &[]),
+    (&[ZEROS], &[WELCOME, ZEROS]),
+    (&[], &[]),
+    (&[HINT_ASK], &[HINT_PART]),
+    (&[BYE], &[]),
+    (&[], &[]),
+];
+
+#[test]
+fn an_empty_piece_says_nothing(rt: HostRuntime) -> Result<(), Fail> {
+    let mut server = server(&rt, rt.alloc(), &[10, 200], 1)?;
+    for (asked, reported) in EMPTY_PIECES {
+        check(&rt, rt.alloc(), &mut server, 0, asked, reported)?;
+    }
+    Ok(())
 }
 
 #[test]

@@ -20,6 +20,20 @@ fn bad_welcomes(rt: &(impl Abort + AllocGlobal), stores: &[Store]) -> Result<(),
 }
 
 #[test]
+fn an_empty_piece_says_nothing(rt: HostRuntime) -> Result<(), Fail> {
+    let frame = welcome(&rt, TWO_RECORDS)?;
+    let mut client = newcomer(&rt, 0);
+    feeds(&rt, &mut client, &[], "")?;
+    makes(&mut client, Wanted::Hello(0))?;
+    feeds(&rt, &mut client, &[], "")?;
+    let (prefix, rest) = frame.split_at(frame.len().min(9));
+    feeds(&rt, &mut client, prefix, "")?;
+    feeds(&rt, &mut client, &[], "")?;
+    feeds(&rt, &mut client, rest, "welcomed 1 ")?;
+    feeds(&rt, &mut client, &[], "")
+}
+
+#[test]
 fn welcomes_of_bad_sizes(rt: HostRuntime) -> Result<(), Fail> {
     let good = TWO_RECORDS;
     let none = Store { count: 0, ..good };
