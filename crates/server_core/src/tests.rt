@@ -470,6 +470,46 @@ fn the_server_edits_its_store(rt: HostRuntime) -> Result<(), Fail> {
     )
 }
 
+// The prefix of a frame of 16,777,216 payload bytes, the most that there may be.
+const LONG_EDIT: &[u8] = &[0, 0, 0, 1, 0x06];
+
+#[test]
+fn a_long_frame_that_never_comes_holds_up_nobody(rt: HostRuntime) -> Result<(), Fail> {
+    let mut server = server(&rt, rt.alloc(), RECORDS, 1)?;
+    check(
+        &rt,
+        rt.alloc(),
+        &mut server,
+        0,
+        &[GREETING, ZEROS],
+        &[WELCOME, ZEROS],
+    )?;
+    check(&rt, rt.alloc(), &mut server, 0, &[LONG_EDIT], &[])?;
+    open_session(&mut server, 1)?;
+    for (asked, reported) in RETRIEVAL {
+        check(&rt, rt.alloc(), &mut server, 1, asked, reported)?;
+    }
+    assert_eq!(rt; is_open(&server, 0), true);
+    check(&rt, rt.alloc(), &mut server, 0, &[&[0; 64]], &[])
+}
+
+#[test]
+fn a_thousand_sessions_are_opened_and_left(rt: HostRuntime) -> Result<(), Fail> {
+    let mut server = server(&rt, rt.alloc(), RECORDS, 1)?;
+    for id in 1..1000 {
+        open_session(&mut server, id)?;
+        check(&rt, rt.alloc(), &mut server, id, &[LONG_EDIT], &[])?;
+    }
+    for (asked, reported) in RETRIEVAL {
+        check(&rt, rt.alloc(), &mut server, 0, asked, reported)?;
+    }
+    for id in 1..1000 {
+        assert_eq!(rt; is_open(&server, id), true, "{id}");
+        assert_eq!(rt; close_session(&mut server, id), true, "{id}");
+    }
+    Ok(())
+}
+
 // An empty piece says nothing, wherever it comes, and is no fault: between frames, within one, and after a Bye.
 const EMPTY_PIECES: Dialogue = &[
     (&[], &[]),
