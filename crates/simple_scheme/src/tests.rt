@@ -130,13 +130,12 @@ fn records_of_several_digits(rt: HostRuntime) -> Result<(), Fail> {
     retrieves_long_records::<Lanes, Packed3>(&rt, Lanes)
 }
 
-// Digits of a shape, and the hint that they have under a public matrix of two columns.
-fn hint_of_shape<K: Kernel, S: DigitStore + Drop>(
+// Digits of a shape, those of a linear congruential generator.
+fn digits_of_shape<S: DigitStore + Drop>(
     rt: &(impl Abort + AllocGlobal),
-    kernel: K,
     rows: usize,
     cols: usize,
-) -> Result<Matrix, Fail> {
+) -> Result<S, Fail> {
     let Ok(mut digits) = S::zeros(rt.alloc(), rows, cols) else {
         panic!(rt; "no memory");
     };
@@ -148,6 +147,18 @@ fn hint_of_shape<K: Kernel, S: DigitStore + Drop>(
             digits.set(i, j, state >> 22);
         }
     }
+    Ok(digits)
+}
+
+// The hint that they have under a public matrix of two columns.
+fn hint_of_shape<K: Kernel, S: DigitStore + Drop>(
+    rt: &(impl Abort + AllocGlobal),
+    kernel: K,
+    rows: usize,
+    cols: usize,
+) -> Result<Matrix, Fail> {
+    let digits: S = digits_of_shape(rt, rows, cols)?;
+    assert!(rt; cols <= 4096);
     let a1 = expand(rt.alloc(), &ZERO_SEED, 0, 0, cols, 2)?;
     assert!(rt; a1.rows() == digits.cols() && digits.rows() <= 100 && a1.cols() == 2);
     let hint = setup(rt.alloc(), kernel, &digits, &a1)?;
