@@ -1,7 +1,20 @@
 -- Laws of versions.
-use Rattle.std.specs.Prelude.{List}
-use Rattle.version_store.specs.Histories.{StoreState, History, StandsFor, Change, history_after, held_after}
+use Rattle.std.specs.Prelude.{◌≡◌, ◌<◌, ℕ, List, length, false, Some, nat_eq}
+use Rattle.std.specs.List.{list_any}
+use Rattle.matrix_u32.specs.Matrix.{row}
+use Rattle.digit_pack.specs.Layout.{digit_rows}
+use Rattle.pir_schemes.specs.declared.scheme.Scheme.TheVariants.{Simple}
+use Rattle.pir_schemes.specs.Plans.{Plan, shape_at}
+use Rattle.pir_schemes.specs.Retrievals.{hint_matrix}
+use Rattle.version_store.specs.Histories.{StoreState, History, StandsFor, Change, history_after, held_after, records_of, delta_rows}
 
 -- after any accepted edits and publications a store stands for its history after them
 abbrev pub EachRunStands : Type 0
 EachRunStands = (changes : List Change) (s : StoreState) (h : History) → StandsFor s h → StandsFor (held_after changes s) (history_after changes h)
+
+-- a row that is not among those since a version is the same in that version's SimplePIR hint and in the current one, both made from scratch
+abbrev pub UnchangedRowsStay : Type 0
+UnchangedRowsStay = (p : Plan) (h : History) (since : ℕ) (rows : List ℕ) (records : List (List ℕ))
+    → delta_rows p h since ≡ Some rows → records_of h since ≡ Some records
+    → (r : ℕ) → r < digit_rows (shape_at p (length h.current)) → list_any (nat_eq r) rows ≡ false
+    → row (hint_matrix Simple p records) r ≡ row (hint_matrix Simple p h.current) r

@@ -1,10 +1,16 @@
 //! Laws of versions, over the definitions alone. A caller that calls one of these functions has its law at
 //! hand in its proof; the call costs nothing.
 
-ghost use Rattle.version_store.specs.Laws.{EachRunStands};
+ghost use Rattle.version_store.specs.Laws.{EachRunStands, UnchangedRowsStay};
 
 /// A store that stands for a history stands, after any accepted edits and publications, for that history
 /// after them.
 pub fn each_run_stands()
     ensures { EachRunStands }
+{}
+
+/// A row that is not among the rows since a version is the same in that version's SimplePIR hint and in the
+/// current one: so the rows since a version bring its hint forward.
+pub fn unchanged_rows_stay()
+    ensures { UnchangedRowsStay }
 {}

@@ -346,4 +346,5 @@ fn edits_across_columns_keep_the_hints(rt: HostRuntime) -> Result<(), Fail> {
 #[test]
 fn the_laws_can_be_called() {
     laws::each_run_stands();
+    laws::unchanged_rows_stay();
 }

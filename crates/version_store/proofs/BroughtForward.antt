@@ -1,0 +1,101 @@
+-- Rows of a SimplePIR hint that publications left as they were.
+use Rattle.std.proofs.Common.{◌≡◌, ℕ, ◌+◌, ◌-◌, ◌<◌, ◌≤◌, zero, suc, arith, ap, ◌∙◌, sym, refl, subst, List, [], ◌∷◌, ◌++◌, length, take, filter, Bool, true, false, not, Some, None, Option}
+use Rattle.std.proofs.lemmas.Bool.{and_parts, and_cases, leb-true, lt-ltb, le-ltb, or_parts, true_from_ne_false}
+use Rattle.std.proofs.lemmas.List.{take-take, length-take}
+use Rattle.std.proofs.lemmas.List.Folds.{list_any-append}
+use Rattle.std.specs.Prelude.{◌||◌, ◌&&◌, nat_eq, nat_le, nat_lt, slice_get, cond}
+use Rattle.std.specs.Cmp.Lexicographic.{pointwise, bytes_decides}
+use Rattle.std.specs.List.{range_with_len, flat_map, list_any}
+use Rattle.matrix_u32.specs.Matrix.{WordMatrix, row, product, vector_times}
+use Rattle.matrix_u32.proofs.Products.{row-product, length-list_of}
+use Rattle.seed_expand.specs.Words.{public_rows}
+use Rattle.digit_pack.specs.Layout.{digit_rows, digit_cols}
+use Rattle.pir_schemes.specs.declared.scheme.Scheme.TheVariants.{Simple}
+use Rattle.pir_schemes.specs.Plans.{Plan, shape_at, digits_at, first_public}
+use Rattle.pir_schemes.specs.Retrievals.{hint_matrix}
+use Rattle.hint_update.specs.Logs.{Log, lists_since}
+use Rattle.version_store.specs.Deltas.{differs_at, changed_rows, changes_of, union_below, reaches_back, rows_logged}
+use Rattle.version_store.specs.Editions.{Records}
+use Rattle.version_store.specs.Histories.{History, current_version, records_of, delta_rows}
+use Rattle.version_store.specs.Laws.{UnchangedRowsStay}
+use Rattle.version_store.proofs.DoubleLemmas.{simple_hint}
+use Rattle.version_store.proofs.RowUnions.{is_in, in_range, in_filter}
+
+-- a row of digits that is the same has the same row of the hint
+same_hint_row : (p : Plan) (a b : List (List ℕ)) (r : ℕ) → r < (digits_at p a).rows → row (digits_at p a) r ≡ row (digits_at p b) r →
+    row (hint_matrix Simple p a) r ≡ row (hint_matrix Simple p b) r
+same_hint_row p a b r below e =
+    let d : List (List ℕ) → WordMatrix = digits_at p in
+    let m : List (List ℕ) → WordMatrix = λ rs. first_public (shape_at p (length rs)) p.dimension p.seed in
+    let made : (rs : List (List ℕ)) → hint_matrix Simple p rs ≡ product (d rs) (m rs) = λ rs.
+    let of : Records = record { plan = p; records = rs } in simple_hint of in
+    let wide : digit_cols (shape_at p (length a)) ≡ digit_cols (shape_at p (length b)) =
+    sym (length-list_of (d a).cols _) ∙ ap length e ∙ length-list_of (d b).cols _ in
+    let public : m a ≡ m b = ap (λ n. public_rows p.seed 0 0 n p.dimension) wide in
+    ap (λ (h : WordMatrix). row h r) (made a) ∙ row-product (d a) (m a) r below
+    ∙ ap (λ (x : List ℕ). vector_times x (m a)) e ∙ ap (vector_times (row (d b) r)) public
+    ∙ sym (ap (λ (h : WordMatrix). row h r) (made b) ∙ row-product (d b) (m b) r below)
+
+-- a row that did not change
+kept_row : (old new : WordMatrix) (r : ℕ) → r < new.rows → is_in (changed_rows old new) r ≡ false → row old r ≡ row new r
+unfolding changed_rows
+kept_row old new r below gone =
+    let both : (differs_at old new r && is_in (range_with_len 0 new.rows) r) ≡ false = sym (in_filter (differs_at old new) (range_with_len 0 new.rows) r) ∙ gone in
+    let inside : is_in (range_with_len 0 new.rows) r ≡ true = in_range 0 new.rows r (omega arith) (omega arith) in
+    (bytes_decides (row old r) (row new r)).0 (by (pointwise nat_eq (row old r) (row new r)) (is_in (range_with_len 0 new.rows) r) both inside)
+  where
+    by : (b c : Bool) → (not b && c) ≡ false → c ≡ true → b ≡ true
+    by true c e f = refl
+    by false c e f = let bad : true ≡ false = sym f ∙ e in absurd cc
+
+-- no publication since changed the row
+unchanged_since : (p : Plan) (current : List (List ℕ)) (past : List (List (List ℕ))) (d : ℕ) (records : List (List ℕ)) (r : ℕ) →
+    r < digit_rows (shape_at p (length current)) → slice_get (current ∷ past) d ≡ Some records →
+    is_in (flat_map (λ (list : List ℕ). list) (take d (changes_of p current past))) r ≡ false →
+    row (hint_matrix Simple p records) r ≡ row (hint_matrix Simple p current) r
+unfolding changes_of
+unchanged_since p current past zero records r below is gone =
+    let same : current ≡ records = cc in ap (λ rs. row (hint_matrix Simple p rs) r) (sym same)
+unchanged_since p current [] (suc d) records r below is gone = let bad : None ≡ Some records = is in absurd cc
+unchanged_since p current (before ∷ past) (suc d) records r below is gone =
+    let first : List ℕ = changed_rows (digits_at p before) (digits_at p current) in
+    let others : List ℕ = flat_map (λ (list : List ℕ). list) (take d (changes_of p before past)) in
+    let both : (is_in first r ≡ false) × (is_in others r ≡ false) =
+    or_parts (is_in first r) (is_in others r) (sym (list_any-append (nat_eq r) first others) ∙ gone) in
+    unchanged_since p before past d records r below is both.1
+    ∙ same_hint_row p before current r below (kept_row (digits_at p before) (digits_at p current) r below both.0)
+
+some_rows : (n : ℕ) (log : Log) (v : ℕ) (rows : List ℕ) → rows_logged n log v ≡ Some rows →
+    (reaches_back log v ≡ true) × (rows ≡ union_below n (lists_since log v))
+unfolding rows_logged
+some_rows n log v rows e = by (reaches_back log v) e
+  where
+    by : (b : Bool) → cond b (Some (union_below n (lists_since log v))) None ≡ Some rows → (b ≡ true) × (rows ≡ union_below n (lists_since log v))
+    by true e = (refl, cc)
+    by false e = let bad : None ≡ Some rows = e in absurd cc
+
+pub unchanged_rows_stay : UnchangedRowsStay
+unfolding delta_rows
+unchanged_rows_stay p h since rows records given version r below gone =
+    let n : ℕ = digit_rows (shape_at p (length h.current)) in
+    let changes : List (List ℕ) = changes_of p h.current h.past in
+    let log : Log = record { version = current_version h; lists = take 16 changes } in
+    let d : ℕ = current_version h - since in
+    let some = some_rows n log since rows given in
+    let back = and_parts (nat_le since (current_version h)) (nat_le d (length (take 16 changes))) some.0 in
+    let low : since ≤ current_version h = leb-true since (current_version h) back.0 in
+    let few : d ≤ 16 = omega (arith, leb-true d (length (take 16 changes)) back.1, length-take 16 changes) in
+    let lists : take d (take 16 changes) ≡ take d changes = take-take d 16 changes few in
+    let joined : List ℕ = flat_map (λ (list : List ℕ). list) (take d (take 16 changes)) in
+    let filtered : (is_in joined r && is_in (range_with_len 0 n) r) ≡ false =
+    sym (in_filter (is_in joined) (range_with_len 0 n) r) ∙ ap (λ (xs : List ℕ). is_in xs r) (sym some.1) ∙ gone in
+    let inside : is_in (range_with_len 0 n) r ≡ true = in_range 0 n r (omega arith) (omega arith) in
+    let none : is_in joined r ≡ false = by (is_in joined r) (is_in (range_with_len 0 n) r) filtered inside in
+    let here : slice_get (h.current ∷ h.past) d ≡ Some records =
+    sym (ap (λ b. cond b None (slice_get (h.current ∷ h.past) d)) (le-ltb (current_version h) since low)) ∙ version in
+    unchanged_since p h.current h.past d records r below here
+    (ap (λ (ls : List (List ℕ)). is_in (flat_map (λ (list : List ℕ). list) ls) r) (sym lists) ∙ none)
+  where
+    by : (b c : Bool) → (b && c) ≡ false → c ≡ true → b ≡ false
+    by true c e f = sym f ∙ e
+    by false c e f = refl
