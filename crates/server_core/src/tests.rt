@@ -170,10 +170,18 @@ const RETRIEVAL: Dialogue = &[
 #[test]
 fn a_reader_gets_the_hint_and_answers(rt: HostRuntime) -> Result<(), Fail> {
     let mut server = server(&rt, rt.alloc(), RECORDS, 1)?;
+    check_a_reader_gets_the_hint_and_answers(&rt, rt.alloc(), &mut server)
+}
+
+fn check_a_reader_gets_the_hint_and_answers(
+    rt: &impl Abort,
+    alloc: Global,
+    server: &mut ServerCore<Plain>,
+) -> Result<(), Fail> {
     for (asked, reported) in RETRIEVAL {
-        check(&rt, rt.alloc(), &mut server, 0, asked, reported)?;
+        check(rt, alloc, server, 0, asked, reported)?;
     }
-    assert_eq!(rt; has_session(&server, 0), true);
+    assert_eq!(rt; has_session(server, 0), true);
     Ok(())
 }
 
@@ -253,8 +261,16 @@ const REFUSALS: Dialogue = &[
 #[test]
 fn refusals_come_in_this_order(rt: HostRuntime) -> Result<(), Fail> {
     let mut server = server(&rt, rt.alloc(), RECORDS, 1)?;
+    check_refusals_come_in_this_order(&rt, rt.alloc(), &mut server)
+}
+
+fn check_refusals_come_in_this_order(
+    rt: &impl Abort,
+    alloc: Global,
+    server: &mut ServerCore<Plain>,
+) -> Result<(), Fail> {
     for (asked, reported) in REFUSALS {
-        check(&rt, rt.alloc(), &mut server, 0, asked, reported)?;
+        check(rt, alloc, server, 0, asked, reported)?;
     }
     Ok(())
 }
@@ -317,15 +333,18 @@ const QUERIES: Dialogue = &[
 #[test]
 fn an_old_version_is_reported_before_the_word_count(rt: HostRuntime) -> Result<(), Fail> {
     let mut server = server(&rt, rt.alloc(), &[1, 2, 3, 4, 5], 3)?;
-    let mut out = Vec::new(rt.alloc());
-    feed(
-        &mut server,
-        0,
-        &joined(rt.alloc(), &[GREETING, ZEROS])?,
-        &mut out,
-    )?;
+    check_an_old_version_is_reported_before_the_word_count(&rt, rt.alloc(), &mut server)
+}
+
+fn check_an_old_version_is_reported_before_the_word_count(
+    rt: &impl Abort,
+    alloc: Global,
+    server: &mut ServerCore<Plain>,
+) -> Result<(), Fail> {
+    let mut out = Vec::new(alloc);
+    feed(server, 0, &joined(alloc, &[GREETING, ZEROS])?, &mut out)?;
     for (asked, reported) in QUERIES {
-        check(&rt, rt.alloc(), &mut server, 0, asked, reported)?;
+        check(rt, alloc, server, 0, asked, reported)?;
     }
     Ok(())
 }
@@ -357,8 +376,16 @@ const LAST_VERSION: Dialogue = &[
 #[test]
 fn the_last_version_is_served_and_not_followed(rt: HostRuntime) -> Result<(), Fail> {
     let mut server = server(&rt, rt.alloc(), RECORDS, u64::MAX)?;
+    check_the_last_version_is_served_and_not_followed(&rt, rt.alloc(), &mut server)
+}
+
+fn check_the_last_version_is_served_and_not_followed(
+    rt: &impl Abort,
+    alloc: Global,
+    server: &mut ServerCore<Plain>,
+) -> Result<(), Fail> {
     for (asked, reported) in LAST_VERSION {
-        check(&rt, rt.alloc(), &mut server, 0, asked, reported)?;
+        check(rt, alloc, server, 0, asked, reported)?;
     }
     Ok(())
 }
@@ -373,21 +400,22 @@ const FAULTS: &[(u64, &[u8])] = &[
 #[test]
 fn a_session_is_served_beside_closed_ones(rt: HostRuntime) -> Result<(), Fail> {
     let mut server = server(&rt, rt.alloc(), RECORDS, 1)?;
-    check(
-        &rt,
-        rt.alloc(),
-        &mut server,
-        0,
-        &[GREETING, ZEROS],
-        &[WELCOME, ZEROS],
-    )?;
+    check_a_session_is_served_beside_closed_ones(&rt, rt.alloc(), &mut server)
+}
+
+fn check_a_session_is_served_beside_closed_ones(
+    rt: &impl Abort,
+    alloc: Global,
+    server: &mut ServerCore<Plain>,
+) -> Result<(), Fail> {
+    check(rt, alloc, server, 0, &[GREETING, ZEROS], &[WELCOME, ZEROS])?;
     for (id, fault) in FAULTS {
         let id = *id;
-        open_session(&mut server, id)?;
-        check(&rt, rt.alloc(), &mut server, id, &[fault], &[REFUSED, &[1]])?;
-        check(&rt, rt.alloc(), &mut server, id, &[GREETING, ZEROS], &[])?;
-        assert_eq!(rt; has_session(&server, id), true);
-        check(&rt, rt.alloc(), &mut server, 0, &[QUERY], &[ANSWER])?;
+        open_session(server, id)?;
+        check(rt, alloc, server, id, &[fault], &[REFUSED, &[1]])?;
+        check(rt, alloc, server, id, &[GREETING, ZEROS], &[])?;
+        assert_eq!(rt; has_session(server, id), true);
+        check(rt, alloc, server, 0, &[QUERY], &[ANSWER])?;
     }
     Ok(())
 }
@@ -395,69 +423,98 @@ fn a_session_is_served_beside_closed_ones(rt: HostRuntime) -> Result<(), Fail> {
 #[test]
 fn a_query_is_served_when_its_last_byte_comes(rt: HostRuntime) -> Result<(), Fail> {
     let mut server = server(&rt, rt.alloc(), RECORDS, 1)?;
+    check_a_query_is_served_when_its_last_byte_comes(&rt, rt.alloc(), &mut server)
+}
+
+fn check_a_query_is_served_when_its_last_byte_comes(
+    rt: &impl Abort,
+    alloc: Global,
+    server: &mut ServerCore<Plain>,
+) -> Result<(), Fail> {
     let (prefix, rest) = QUERY.split_at(11);
     check(
-        &rt,
-        rt.alloc(),
-        &mut server,
+        rt,
+        alloc,
+        server,
         0,
         &[GREETING, ZEROS, prefix],
         &[WELCOME, ZEROS],
     )?;
-    open_session(&mut server, 1)?;
+    open_session(server, 1)?;
     check(
-        &rt,
-        rt.alloc(),
-        &mut server,
+        rt,
+        alloc,
+        server,
         1,
         &[GREETING, ONES, EDIT, PUBLISH],
         &[WELCOME, ZEROS, DONE_1, DONE_2],
     )?;
-    check(&rt, rt.alloc(), &mut server, 0, &[rest], &[STALE])
+    check(rt, alloc, server, 0, &[rest], &[STALE])
 }
 
 #[test]
 fn sessions_are_opened_and_closed(rt: HostRuntime) -> Result<(), Fail> {
     let mut server = server(&rt, rt.alloc(), RECORDS, 1)?;
-    let mut out = Vec::new(rt.alloc());
-    assert_eq!(rt;
-        feed(&mut server, 9, QUERY, &mut out),
-        Err(FeedError::NoSession)
-    );
+    check_sessions_are_opened_and_closed(&rt, rt.alloc(), &mut server)
+}
+
+fn check_sessions_are_opened_and_closed(
+    rt: &impl Abort,
+    alloc: Global,
+    server: &mut ServerCore<Plain>,
+) -> Result<(), Fail> {
+    let mut out = Vec::new(alloc);
+    assert_eq!(rt; feed(server, 9, QUERY, &mut out), Err(FeedError::NoSession));
     assert_eq!(rt; out.is_empty(), true);
-    assert_eq!(rt; open_session(&mut server, 3), Ok(()));
-    assert_eq!(rt; open_session(&mut server, 3), Err(OpenError::IdInUse));
-    assert_eq!(rt; has_session(&server, 3), true);
-    assert_eq!(rt; close_session(&mut server, 3), true);
-    assert_eq!(rt; has_session(&server, 3), false);
-    assert_eq!(rt; close_session(&mut server, 3), false);
-    assert_eq!(rt; open_session(&mut server, 3), Ok(()));
-    assert_eq!(rt; has_session(&server, 0), true);
+    assert_eq!(rt; open_session(server, 3), Ok(()));
+    assert_eq!(rt; open_session(server, 3), Err(OpenError::IdInUse));
+    assert_eq!(rt; has_session(server, 3), true);
+    assert_eq!(rt; close_session(server, 3), true);
+    assert_eq!(rt; has_session(server, 3), false);
+    assert_eq!(rt; close_session(server, 3), false);
+    assert_eq!(rt; open_session(server, 3), Ok(()));
+    assert_eq!(rt; has_session(server, 0), true);
     Ok(())
 }
 
 #[test]
 fn a_session_is_open_until_it_is_closed(rt: HostRuntime) -> Result<(), Fail> {
     let mut server = server(&rt, rt.alloc(), RECORDS, 1)?;
-    let mut out = Vec::new(rt.alloc());
-    assert_eq!(rt; is_open(&server, 0), true);
-    assert_eq!(rt; is_open(&server, 1), false);
-    feed(&mut server, 0, BYE, &mut out)?;
-    assert_eq!(rt; is_open(&server, 0), false);
-    assert_eq!(rt; has_session(&server, 0), true);
+    check_a_session_is_open_until_it_is_closed(&rt, rt.alloc(), &mut server)
+}
+
+fn check_a_session_is_open_until_it_is_closed(
+    rt: &impl Abort,
+    alloc: Global,
+    server: &mut ServerCore<Plain>,
+) -> Result<(), Fail> {
+    let mut out = Vec::new(alloc);
+    assert_eq!(rt; is_open(server, 0), true);
+    assert_eq!(rt; is_open(server, 1), false);
+    feed(server, 0, BYE, &mut out)?;
+    assert_eq!(rt; is_open(server, 0), false);
+    assert_eq!(rt; has_session(server, 0), true);
     Ok(())
 }
 
 #[test]
 fn the_server_edits_its_store(rt: HostRuntime) -> Result<(), Fail> {
     let mut server = server(&rt, rt.alloc(), RECORDS, 1)?;
-    assert_eq!(rt; edit(&mut server, 1, &[100]), Ok(()));
-    assert_eq!(rt; publish(&mut server), Ok(2));
+    check_the_server_edits_its_store(&rt, rt.alloc(), &mut server)
+}
+
+fn check_the_server_edits_its_store(
+    rt: &impl Abort,
+    alloc: Global,
+    server: &mut ServerCore<Plain>,
+) -> Result<(), Fail> {
+    assert_eq!(rt; edit(server, 1, &[100]), Ok(()));
+    assert_eq!(rt; publish(server), Ok(2));
     assert_eq!(rt; server.store().version(), 2);
     check(
-        &rt,
-        rt.alloc(),
-        &mut server,
+        rt,
+        alloc,
+        server,
         0,
         &[GREETING, ZEROS, QUERY],
         &[
@@ -476,36 +533,45 @@ const LONG_EDIT: &[u8] = &[0, 0, 0, 1, 0x06];
 #[test]
 fn a_long_frame_that_never_comes_holds_up_nobody(rt: HostRuntime) -> Result<(), Fail> {
     let mut server = server(&rt, rt.alloc(), RECORDS, 1)?;
-    check(
-        &rt,
-        rt.alloc(),
-        &mut server,
-        0,
-        &[GREETING, ZEROS],
-        &[WELCOME, ZEROS],
-    )?;
-    check(&rt, rt.alloc(), &mut server, 0, &[LONG_EDIT], &[])?;
-    open_session(&mut server, 1)?;
+    check_a_long_frame_that_never_comes_holds_up_nobody(&rt, rt.alloc(), &mut server)
+}
+
+fn check_a_long_frame_that_never_comes_holds_up_nobody(
+    rt: &impl Abort,
+    alloc: Global,
+    server: &mut ServerCore<Plain>,
+) -> Result<(), Fail> {
+    check(rt, alloc, server, 0, &[GREETING, ZEROS], &[WELCOME, ZEROS])?;
+    check(rt, alloc, server, 0, &[LONG_EDIT], &[])?;
+    open_session(server, 1)?;
     for (asked, reported) in RETRIEVAL {
-        check(&rt, rt.alloc(), &mut server, 1, asked, reported)?;
+        check(rt, alloc, server, 1, asked, reported)?;
     }
-    assert_eq!(rt; is_open(&server, 0), true);
-    check(&rt, rt.alloc(), &mut server, 0, &[&[0; 64]], &[])
+    assert_eq!(rt; is_open(server, 0), true);
+    check(rt, alloc, server, 0, &[&[0; 64]], &[])
 }
 
 #[test]
 fn a_thousand_sessions_are_opened_and_left(rt: HostRuntime) -> Result<(), Fail> {
     let mut server = server(&rt, rt.alloc(), RECORDS, 1)?;
+    check_a_thousand_sessions_are_opened_and_left(&rt, rt.alloc(), &mut server)
+}
+
+fn check_a_thousand_sessions_are_opened_and_left(
+    rt: &impl Abort,
+    alloc: Global,
+    server: &mut ServerCore<Plain>,
+) -> Result<(), Fail> {
     for id in 1..1000 {
-        open_session(&mut server, id)?;
-        check(&rt, rt.alloc(), &mut server, id, &[LONG_EDIT], &[])?;
+        open_session(server, id)?;
+        check(rt, alloc, server, id, &[LONG_EDIT], &[])?;
     }
     for (asked, reported) in RETRIEVAL {
-        check(&rt, rt.alloc(), &mut server, 0, asked, reported)?;
+        check(rt, alloc, server, 0, asked, reported)?;
     }
     for id in 1..1000 {
-        assert_eq!(rt; is_open(&server, id), true, "{id}");
-        assert_eq!(rt; close_session(&mut server, id), true, "{id}");
+        assert_eq!(rt; is_open(server, id), true, "{id}");
+        assert_eq!(rt; close_session(server, id), true, "{id}");
     }
     Ok(())
 }
@@ -525,8 +591,16 @@ const EMPTY_PIECES: Dialogue = &[
 #[test]
 fn an_empty_piece_says_nothing(rt: HostRuntime) -> Result<(), Fail> {
     let mut server = server(&rt, rt.alloc(), &[10, 200], 1)?;
+    check_an_empty_piece_says_nothing(&rt, rt.alloc(), &mut server)
+}
+
+fn check_an_empty_piece_says_nothing(
+    rt: &impl Abort,
+    alloc: Global,
+    server: &mut ServerCore<Plain>,
+) -> Result<(), Fail> {
     for (asked, reported) in EMPTY_PIECES {
-        check(&rt, rt.alloc(), &mut server, 0, asked, reported)?;
+        check(rt, alloc, server, 0, asked, reported)?;
     }
     Ok(())
 }
