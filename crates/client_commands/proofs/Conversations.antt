@@ -1,18 +1,20 @@
 -- What a conversation leaves, whatever the server says.
-use Rattle.std.proofs.Common.{◌≡◌, ℕ, List, [], Option, Result, Ok, Err, refl, ap, ◌∙◌, inl, inr, subst}
+use Rattle.std.proofs.Common.{◌≡◌, ◌⊎◌, ◌+◌, ℕ, false, List, [], ◌∷◌, Option, Result, Ok, Err, refl, ap, ◌∙◌, inl, inr, subst}
 use Rattle.std.specs.Prelude.{IfOk, IfErr, IsOk}
 use Rattle.client_core.specs.declared.state.ClientState.{ClientState}
 use Rattle.client_core.specs.declared.state.Call.{Call}
 use Rattle.client_core.specs.declared.state.Call.TheVariants as call
 use Rattle.client_core.specs.declared.state.Event.{Event}
 use Rattle.client_core.specs.declared.state.Event.TheVariants.{Retrieved}
-use Rattle.client_core.specs.States.{known_version, scheme_held}
+use Rattle.client_core.specs.States.{known_version, scheme_held, delta_base}
 use Rattle.client_commands.specs.Done.{EndedWith, Asked}
 use Rattle.client_core.specs.declared.state.CallFault.{CallFault}
 use Rattle.client_core.specs.Calls.{Want, Hello, Sync, Ask, Edit, Publish, Accepts, Refuses}
 use Rattle.client_core.specs.Feeding.{Client}
-use Rattle.client_core.specs.Endings.{Ends}
+use Rattle.client_core.specs.Endings.{Ends, IsNoSync}
 use Rattle.client_core.proofs.EndingLaws.{first_event_ends_the_call, feeding_spends_no_number}
+use Rattle.client_core.proofs.HintKeeping.{only_syncs_change_the_hint}
+use Rattle.client_core.proofs.NumberLaws.{sync_number}
 use Rattle.session_engines.specs.declared.conversing.ConverseFault.{ConverseFault}
 use Rattle.session_engines.specs.declared.conversing.ConverseFault.TheVariants.{Ended, Read, Write, BadWelcome, BadReply, Memory, TurnsUsedUp, Failed}
 use Rattle.session_engines.specs.Conversing.{WaitsForReply, Receives, NeverReceives, Converses}
@@ -55,6 +57,13 @@ pub conversing_spends_no_number : (old : Client) (first : List ℕ) (turns : ℕ
 conversing_spends_no_number old first turns result read out left new (inl h) = never_number old first result read out new h
 conversing_spends_no_number old first turns result read out left new (inr h) = receives_number old turns result read h.0 left new h.2
 
+-- a conversation that came to an event leaves the hint as it is where no sync is outstanding, unless the client fails
+pub event_leaves_the_hint : (old : Client) (first : List ℕ) (turns : ℕ) (event : Event) (read out : List ℕ) (left : Option (List ℕ)) (new : Client)
+    → Converses old first turns (Ok event) read out left new → IsNoSync old.state.call → new.state.failed ≡ false → new.state.hint ≡ old.state.hint
+event_leaves_the_hint old first turns event read out left new (inl h) calm alive = absurd h
+event_leaves_the_hint old first turns event read out left new (inr h) calm alive =
+    let receives = h.2 in only_syncs_change_the_hint old new read h.0 (event ∷ receives.0) receives.1 receives.2 calm alive
+
 -- the event of a conversation is one that its call can end with
 pub event_ends_the_call : (old : Client) (first : List ℕ) (turns : ℕ) (event : Event) (read out : List ℕ) (left : Option (List ℕ)) (new : Client)
     → Converses old first turns (Ok event) read out left new → Ends old.state.call event
@@ -77,7 +86,7 @@ number_after old new other e n = ap (λ (c : ClientState). c.number) e ∙ n
 
 accepted_number : (want : Want) (old new : ClientState) (bytes : List ℕ) → IsNoAsk want → Accepts old want new bytes → new.number ≡ old.number
 accepted_number (Hello key) old new bytes calm a = number_after old new _ a.state refl
-accepted_number (Sync scheme) old new bytes calm a = number_after old new _ a.state refl
+accepted_number (Sync scheme) old new bytes calm a = number_after old new _ a.state (sync_number (delta_base scheme old.hint) scheme old)
 accepted_number (Ask i) old new bytes calm a = absurd calm
 accepted_number (Edit i b) old new bytes calm a = number_after old new _ a.state refl
 accepted_number Publish old new bytes calm a = number_after old new _ a.state refl
@@ -95,6 +104,22 @@ pub calling_spends_no_number : {V : Type 0} → (items : V → List ℕ) (want :
     → IfOk result (λ v. Accepts old want new (items v)) → IfErr result (λ e. Refuses old want e new) → new.number ≡ old.number
 calling_spends_no_number items want old new (Ok v) calm a r = accepted_number want old new (items v) calm a
 calling_spends_no_number items want old new (Err e) calm a r = refused_number want old new e calm r
+
+-- an ask spends one number, or none where it is refused
+pub asking_spends_one : {V : Type 0} → (items : V → List ℕ) (i : ℕ) (old new : ClientState) (result : Result V CallFault) → IsOk result
+    → IfOk result (λ v. Accepts old (Ask i) new (items v)) → new.number ≡ old.number + 1
+asking_spends_one items i old new (Ok v) ok a = number_is old new _ a.state refl
+  where
+    number_is : (old new other : ClientState) → new ≡ other → other.number ≡ old.number + 1 → new.number ≡ old.number + 1
+    number_is old new other e n = ap (λ (c : ClientState). c.number) e ∙ n
+asking_spends_one items i old new (Err e) ok a = absurd cc
+
+pub asking_spends_no_more : {V : Type 0} → (items : V → List ℕ) (i : ℕ) (old new : ClientState) (result : Result V CallFault)
+    → IfOk result (λ v. Accepts old (Ask i) new (items v)) → IfErr result (λ e. Refuses old (Ask i) e new)
+    → (new.number ≡ old.number) ⊎ (new.number ≡ old.number + 1)
+asking_spends_no_more items i old new (Ok v) a r = inr (ap (λ (c : ClientState). c.number) a.state)
+asking_spends_no_more items i old new (Err e) a (inl r) = inl (ap (λ (c : ClientState). c.number) r.1)
+asking_spends_no_more items i old new (Err e) a (inr r) = inr (ap (λ (c : ClientState). c.number) r.2)
 
 -- the record that an ask ends with is the one asked for
 pub asked_and_retrieved : {V : Type 0} →

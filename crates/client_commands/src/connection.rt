@@ -1,8 +1,8 @@
 //! One call over a connection, and how it failed.
 
-ghost use Rattle.std.specs.Prelude.{◌≡◌, ◌++◌, List, ℕ, IfOk, IfErr, IsOk, OnOk};
+ghost use Rattle.std.specs.Prelude.{◌≡◌, ◌++◌, List, ℕ, false, IfOk, IfErr, IsOk, OnOk};
 ghost use Rattle.std.specs.Io.KnownBytes.{Appends};
-ghost use Rattle.client_core.specs.Endings.{Ends};
+ghost use Rattle.client_core.specs.Endings.{Ends, IsNoSync};
 ghost use Rattle.client_commands.specs.Done.{IsDone, IsSaid, IsTrueOf, failure_of, EndedWith};
 
 use client_core::{CallFault, ClientCore, Event};
@@ -28,6 +28,8 @@ pub(crate) fn exchange<K: Kernel, R: Read, W: Write>(
     ensures ends { IfOk result (λ event. Ends client.old.state.call event × IsDone event) }
     ensures came { IfOk result (λ event. EndedWith client.old.state.call event client.new) }
     ensures number { client.new.state.number ≡ client.old.state.number }
+    ensures hint { IfOk result (λ _. IsNoSync client.old.state.call →
+        client.new.state.failed ≡ false → client.new.state.hint ≡ client.old.state.hint) }
     ensures said { IfErr result (λ failure. IsTrueOf failure client.new) }
     ensures sends { OnOk result (IfOk sent (λ first. (said : List ℕ) ×
         Appends (W.contents writer.old) (W.contents writer.new) (first.items ++ said))) }

@@ -8,3 +8,4 @@ pub mod HintLaws
 pub mod EndingLaws
 pub mod ShapeLaws
 pub mod HappeningLaws
+pub mod HintKeeping

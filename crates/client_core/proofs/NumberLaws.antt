@@ -136,7 +136,7 @@ takes_number c _ = refl
 
 -- ---- what happens to a client spends numbers at most
 
-sync_number : (base : Option ℕ) (s : Scheme) (c : ClientState) → (sync_begun base s c).number ≡ c.number
+pub sync_number : (base : Option ℕ) (s : Scheme) (c : ClientState) → (sync_begun base s c).number ≡ c.number
 sync_number None s c = refl
 sync_number (Some since) s c = refl
 

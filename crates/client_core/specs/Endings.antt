@@ -1,5 +1,5 @@
 -- How a call ends.
-use Rattle.std.specs.Prelude.{◌≡◌, ◌≢◌, ℕ, List, ◌∷◌, Option}
+use Rattle.std.specs.Prelude.{◌≡◌, ◌≢◌, ℕ, List, ◌∷◌, Option, false}
 use Rattle.pir_schemes.specs.declared.scheme.Scheme.TheVariants.{Simple}
 use Rattle.client_core.specs.declared.state.Call.{Call}
 use Rattle.client_core.specs.declared.state.Call.TheVariants.{Hello, Sync, Delta, Ask, Edit, Publish}
@@ -38,3 +38,14 @@ FirstEventEndsTheCall = (old new : Client) (piece out : List ℕ) (event : Event
 abbrev pub FeedingSpendsNoNumber : Type 0
 FeedingSpendsNoNumber = (old new : Client) (piece out : List ℕ) (events : List Event) (fault : Option ClientFault) →
     FeedsClient old piece out events fault new → new.state.number ≡ old.state.number
+
+-- a call whose replies leave the hint as it is
+abbrev pub IsNoSync : Call → Type 0
+IsNoSync (Sync scheme version part) = ⊥
+IsNoSync (Delta since) = ⊥
+IsNoSync _ = Unit {0}
+
+-- what a client is fed leaves the hint as it is where no sync is outstanding, unless it fails
+abbrev pub OnlySyncsChangeTheHint : Type 0
+OnlySyncsChangeTheHint = (old new : Client) (piece out : List ℕ) (events : List Event) (fault : Option ClientFault) →
+    FeedsClient old piece out events fault new → IsNoSync old.state.call → new.state.failed ≡ false → new.state.hint ≡ old.state.hint

@@ -84,7 +84,7 @@ impl<K: Kernel> ClientCore<K> {
     }
 
     /// Asks to be let in: with a key of 32 zero bytes as a reader, with the publisher's key as the
-    /// publisher. Gives the bytes to send.
+    /// publisher. Gives the bytes to send. A client that isn't let in yet holds no hint.
     ///
     /// Refused in this order: `Failed`, `AlreadyWelcome`, `Busy`, `Memory`. A refusal changes nothing.
     pub fn hello(&mut self, key: [u8; 32]) -> Result<Vec<u8>, CallFault>
@@ -92,6 +92,7 @@ impl<K: Kernel> ClientCore<K> {
             (Want.Hello key) self.new.state bytes.items) }
         ensures refused { IfErr result
             (λ e. Refuses self.old.state (Want.Hello key) e self.new.state) }
+        ensures hint { IfOk result (λ _. self.new.state.hint ≡ None) }
         ensures reader { self.new.reader ≡ self.old.reader }
     {
         may_hello(&self.state)?;

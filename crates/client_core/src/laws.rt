@@ -1,7 +1,11 @@
 //! Laws of clients, over the definitions alone. A caller that calls one of these functions has its law at
 //! hand in its proof; the call costs nothing.
 
-ghost use Rattle.client_core.specs.Endings.{FirstEventEndsTheCall, FeedingSpendsNoNumber};
+ghost use Rattle.client_core.specs.Endings.{
+  FirstEventEndsTheCall,
+  FeedingSpendsNoNumber,
+  OnlySyncsChangeTheHint,
+};
 ghost use Rattle.client_core.specs.Laws.{
   NoNumberTwice,
   SyncedHintIsMadeOfParts,
@@ -41,6 +45,11 @@ pub fn first_event_ends_the_call()
 /// What a client is fed spends none of its numbers.
 pub fn feeding_spends_no_number()
     ensures { FeedingSpendsNoNumber }
+{}
+
+/// What a client is fed leaves the hint as it is where no sync is outstanding, unless the client fails.
+pub fn only_syncs_change_the_hint()
+    ensures { OnlySyncsChangeTheHint }
 {}
 
 /// The frames that a client sends have the kinds and lengths that its calls without their indices, and the

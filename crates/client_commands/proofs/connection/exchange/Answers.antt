@@ -1,5 +1,5 @@
 use Rattle.std.proofs.Common.{None, refl, sym, ◌∙◌}
-use Rattle.client_commands.proofs.Conversations.{conversing_spends_no_number, event_ends_the_call}
+use Rattle.client_commands.proofs.Conversations.{conversing_spends_no_number, event_ends_the_call, event_leaves_the_hint}
 use Rattle.client_commands.proofs.Sendings.{said_after}
 use Rattle.client_commands.proofs.connection.exchange.Goals as goal
 
@@ -12,6 +12,10 @@ returns-in-None-clause-ends g c =
 
 pub returns-in-None-clause-number : goal.returns-in-None-clause-number
 returns-in-None-clause-number g c = conversing_spends_no_number _ _ _ _ _ _ _ _ c.converse.ensures.5
+
+pub returns-in-None-clause-hint : goal.returns-in-None-clause-hint
+returns-in-None-clause-hint g c = λ calm alive.
+    event_leaves_the_hint c.args.client.now _ 0 c.in-Ok-converse.event _ _ None _ c.in-Ok-converse.ensures.5 calm alive
 
 pub returns-clause-number : goal.returns-clause-number
 returns-clause-number g c = conversing_spends_no_number _ _ _ _ _ _ _ _ c.converse.ensures.5
