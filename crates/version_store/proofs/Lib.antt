@@ -8,3 +8,4 @@ pub mod RowUnions
 pub mod Publications
 pub mod RowLemmas
 pub mod DoubleLemmas
+pub mod NamedRows

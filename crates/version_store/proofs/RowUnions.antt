@@ -16,7 +16,7 @@ use Rattle.hint_update.specs.Logs.{Log, ReachesBack, lists_since, AreRowsOf}
 use Rattle.version_store.specs.Deltas.{union_below, reaches_back, rows_logged}
 
 -- whether a number is in a list
-abbrev is_in : List ℕ → ℕ → Bool
+abbrev pub is_in : List ℕ → ℕ → Bool
 is_in xs r = list_any (nat_eq r) xs
 
 -- each number is below all later ones
@@ -71,7 +71,7 @@ same_rising (x ∷ xs) (y ∷ ys) f g same = elim (cases_eq x y) [
 ]
 
 -- ---- unions
-in_range : (a n r : ℕ) → a ≤ r → r < a + n → is_in (range_with_len a n) r ≡ true
+pub in_range : (a n r : ℕ) → a ≤ r → r < a + n → is_in (range_with_len a n) r ≡ true
 in_range a zero r low high = absurd (omega arith)
 in_range a (suc n) r low high = elim (cases_eq r a) [
   | inl here ↦ ap (λ b. b || is_in (range_with_len (a + 1) n) r) (eq-eqb r a here)
@@ -88,7 +88,7 @@ range_rises a n k h =
     omega (arith, here, next)
 
 -- the numbers of a filter
-in_filter : (p : ℕ → Bool) (xs : List ℕ) (r : ℕ) → is_in (filter p xs) r ≡ (p r && is_in xs r)
+pub in_filter : (p : ℕ → Bool) (xs : List ℕ) (r : ℕ) → is_in (filter p xs) r ≡ (p r && is_in xs r)
 in_filter p [] r = none (p r)
   where
     none : (b : Bool) → false ≡ (b && false)
@@ -144,7 +144,7 @@ rows_are_union n lists rows below h =
     (rises (filter (is_in joined) all) (IsStrictlyIncreasing-filter (is_in joined) all (range_rises 0 n))) same
 
 -- ---- what a log answers
-reaches : (log : Log) (v : ℕ) → reaches_back log v ≡ true → ReachesBack log v
+pub reaches : (log : Log) (v : ℕ) → reaches_back log v ≡ true → ReachesBack log v
 reaches log v e =
     let parts = and_parts (nat_le v log.version) (nat_le (log.version - v) (length log.lists)) e in
     (leb-true v log.version parts.0, leb-true (log.version - v) (length log.lists) parts.1)
