@@ -42,7 +42,7 @@ asked_length (Some k) None seed number i = length_query _ k.layout k.dimension k
 asked_length (Some k) (Some h) seed number i = length_query h.scheme k.layout k.dimension k.seed seed number i
 
 -- a sync goes by delta from the version in the hint's name
-base_named : (s : Scheme) (hint : Option Hint) → delta_base s hint ≡ named_base s (hint_name hint)
+pub base_named : (s : Scheme) (hint : Option Hint) → delta_base s hint ≡ named_base s (hint_name hint)
 base_named Simple None = refl
 base_named Simple (Some h) = refl
 base_named Double None = refl

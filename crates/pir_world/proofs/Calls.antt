@@ -5,6 +5,7 @@ use Rattle.std.specs.List.{AllByRecursion}
 use Rattle.std.proofs.lemmas.List.{append-nil}
 use Rattle.std.proofs.lemmas.Bool.{ltb-true, eqb-true}
 use Rattle.pir_schemes.specs.declared.scheme.Scheme.{Scheme}
+use Rattle.pir_schemes.specs.declared.scheme.Scheme.TheVariants.{Simple, Double}
 use Rattle.pir_schemes.specs.Laws.{RetrievalGivesTheRecord}
 use Rattle.frame_codec.specs.declared.frame.Frame.{Frame}
 use Rattle.version_store.specs.Histories.{History}
@@ -15,13 +16,13 @@ use Rattle.client_core.specs.declared.state.ClientState.{ClientState}
 use Rattle.client_core.specs.declared.state.ServerInfo.{ServerInfo}
 use Rattle.client_core.specs.declared.state.Hint.{Hint}
 use Rattle.client_core.specs.declared.state.Call.{Call}
-use Rattle.client_core.specs.declared.state.Call.TheVariants.{Idle, Hello, Sync, Ask, Edit, Publish}
-use Rattle.client_core.specs.States.{is_idle, is_ready, known_version, known_count, scheme_held}
-use Rattle.client_core.specs.Calls.{refusal, state_after_call, call_frame}
+use Rattle.client_core.specs.declared.state.Call.TheVariants.{Idle, Hello, Sync, Delta, Ask, Edit, Publish}
+use Rattle.client_core.specs.States.{is_idle, is_ready, known_version, known_count, scheme_held, simple_version, delta_base}
+use Rattle.client_core.specs.Calls.{refusal, sync_begun, state_after_call, call_frame}
 use Rattle.client_core.specs.Calls.{Hello as want_hello, Sync as want_sync, Ask as want_ask}
 use Rattle.client_core.specs.Replies.{reaction_to_reply}
 use Rattle.client_core.specs.Feeding.{takes_all, fault_of}
-use Rattle.pir_world.specs.Runs.{Wire, Link, Entry, arrived, beyond, link_called, link_reported, link_served, turn_of, reported_by, reacts, reader_key}
+use Rattle.pir_world.specs.Runs.{Wire, Link, Entry, sent, arrived, beyond, link_called, link_reported, link_served, turn_of, reported_by, reacts, reader_key}
 use Rattle.pir_world.specs.Versions.{seed_of}
 use Rattle.pir_world.specs.Headlines.{IsRight}
 use Rattle.pir_world.specs.Invariants.{GoodHistory, KnownIs, SyncIs, IsReply, InFlight, Phase, LinkInv}
@@ -35,6 +36,7 @@ idle_is : (call : Call) → is_idle call ≡ true → call ≡ Idle
 idle_is Idle e = refl
 idle_is (Hello key) e = absurd cc
 idle_is (Sync scheme v p) e = absurd cc
+idle_is (Delta since) e = absurd cc
 idle_is (Ask i s v n) e = absurd cc
 idle_is (Edit i bytes) e = absurd cc
 idle_is Publish e = absurd cc
@@ -82,6 +84,37 @@ first_parts x h st s (Some y) g k e = record {
   further = hint_long x s k.1.records (g.versions y.version k.1.records k.1.version_is).plan;
 }
 
+-- what a sync by delta goes from
+pub record BaseIs (s : Scheme) (o : Option Hint) (since : ℕ) : Type 0 where
+  pub scheme : s ≡ Simple
+  pub hint : Hint
+  pub held : o ≡ Some hint
+  pub simple : hint.scheme ≡ Simple
+  pub version : hint.version ≡ since
+
+simple_base : (y : Hint) (z : Scheme) (since : ℕ) → y.scheme ≡ z → simple_version z y.version ≡ Some since → BaseIs Simple (Some y) since
+simple_base y Simple since at e = record { scheme = refl; hint = y; held = refl; simple = at; version = some_number e }
+  where
+    some_number : {a b : ℕ} → Some a ≡ Some b → a ≡ b
+    some_number e = cc
+simple_base y Double since at e = absurd cc
+
+pub base_is : (s : Scheme) (o : Option Hint) (since : ℕ) → delta_base s o ≡ Some since → BaseIs s o since
+base_is Simple None since e = absurd cc
+base_is Simple (Some y) since e = simple_base y y.scheme since refl e
+base_is Double None since e = absurd cc
+base_is Double (Some y) since e = absurd cc
+
+some_known : (k : Option ServerInfo) → is_some k ≡ true → (y : ServerInfo) × (k ≡ Some y)
+some_known None e = absurd cc
+some_known (Some y) e = (y, refl)
+
+-- the link where a sync has begun
+abbrev pub link_begun : Option ℕ → Scheme → Link → Link
+link_begun base s l =
+    let c = sync_begun base s l.client in
+    record { client = c; standing = l.standing; up = sent l.up (call_frame c c.call ∷ []); down = l.down }
+
 module _ (x : Setting) (h : History) (seed : List ℕ) (l : Link) (g : GoodHistory x h) (i : LinkInv x h seed l) where
   nothing_waits : l.client.call ≡ Idle → (l.up.frames ≡ []) × (l.down.frames ≡ [])
   nothing_waits e = idle_phase x h l.standing seed l.client l.client.call l.up.frames l.down.frames e i.phase
@@ -102,21 +135,38 @@ module _ (x : Setting) (h : History) (seed : List ℕ) (l : Link) (g : GoodHisto
             (nothing_waits (idle_is l.client.call d.0));
       }
 
-  pub called_sync : (scheme : Scheme) → refusal (want_sync scheme) l.client ≡ None → LinkInv x h seed (link_called (want_sync scheme) l)
-  called_sync scheme e =
-      let a = else_none l.client.failed _ _ e in
-      let b = then_none (is_some l.client.known) _ _ a.1 in
-      let d = then_none (is_idle l.client.call) _ _ b.1 in
+  -- a sync begins, by parts or by delta
+  sync_begins : (base : Option ℕ) (scheme : Scheme) → delta_base scheme l.client.hint ≡ base → is_some l.client.known ≡ true → l.client.call ≡ Idle →
+      LinkInv x h seed (link_begun base scheme l)
+  sync_begins None scheme is known idle = record {
+    seed_is = i.seed_is;
+    alive = i.alive;
+    unclosed = i.unclosed;
+    known = i.known;
+    hint = tt;
+    call = first_parts x h l.standing scheme l.client.known g i.known known;
+    phase = flight x h l.standing seed (sync_begun None scheme l.client) (Sync scheme (known_version l.client.known) 0) l.up.frames l.down.frames
+        (nothing_waits idle);
+  }
+  sync_begins (Some since) scheme is known idle =
+      let y = some_known l.client.known known in
+      let b = base_is scheme l.client.hint since is in
       record {
         seed_is = i.seed_is;
         alive = i.alive;
         unclosed = i.unclosed;
         known = i.known;
-        hint = tt;
-        call = first_parts x h l.standing scheme l.client.known g i.known b.0;
-        phase = flight x h l.standing seed (state_after_call (want_sync scheme) l.client)
-            (Sync scheme (known_version l.client.known) 0) l.up.frames l.down.frames (nothing_waits (idle_is l.client.call d.0));
+        hint = i.hint;
+        call = record { k = y.0; known_is = y.1; hint = b.hint; hint_is = b.held; scheme_is = b.simple; version_is = b.version };
+        phase = flight x h l.standing seed (sync_begun (Some since) scheme l.client) (Delta since) l.up.frames l.down.frames (nothing_waits idle);
       }
+
+  pub called_sync : (scheme : Scheme) → refusal (want_sync scheme) l.client ≡ None → LinkInv x h seed (link_called (want_sync scheme) l)
+  called_sync scheme e =
+      let a = else_none l.client.failed _ _ e in
+      let b = then_none (is_some l.client.known) _ _ a.1 in
+      let d = then_none (is_idle l.client.call) _ _ b.1 in
+      sync_begins (delta_base scheme l.client.hint) scheme refl b.0 (idle_is l.client.call d.0)
 
   pub called_ask : (j : ℕ) → refusal (want_ask j) l.client ≡ None → LinkInv x h seed (link_called (want_ask j) l)
   called_ask j e =
@@ -225,6 +275,7 @@ module _ (law : RetrievalGivesTheRecord) (x : Setting) (seeds : List (List ℕ))
   reported_phase most Idle e p = let a = none_arrives l.down most p.1 in no_reply (arrived l.down most) (beyond l.down most) a.0 (a.1 ∙ sym p.1)
   reported_phase most (Hello key) e p = reported_flight most (Hello key) e p
   reported_phase most (Sync scheme v q) e p = reported_flight most (Sync scheme v q) e p
+  reported_phase most (Delta since) e p = reported_flight most (Delta since) e p
   reported_phase most (Ask j z v m) e p = reported_flight most (Ask j z v m) e p
   reported_phase most (Edit j bytes) e p = absurd p
   reported_phase most Publish e p = absurd p
@@ -247,6 +298,7 @@ module _ (law : RetrievalGivesTheRecord) (x : Setting) (seeds : List (List ℕ))
   prefix_phase Idle fs more e (inr a) p = rw (a.0 ∙ p.1) refl
   prefix_phase (Hello key) fs more e a p = prefix_flight (Hello key) fs more e a p
   prefix_phase (Sync scheme v q) fs more e a p = prefix_flight (Sync scheme v q) fs more e a p
+  prefix_phase (Delta since) fs more e a p = prefix_flight (Delta since) fs more e a p
   prefix_phase (Ask j z v m) fs more e a p = prefix_flight (Ask j z v m) fs more e a p
   prefix_phase (Edit j bytes) fs more e a p = absurd p
   prefix_phase Publish fs more e a p = absurd p
@@ -275,15 +327,16 @@ pub few_frames : (x : Setting) (h : History) (st : Standing) (seed : List ℕ) (
 few_frames x h st seed c Idle up down p = (inl p.0, inl p.1)
 few_frames x h st seed c (Hello key) up down p = few_flight x h st seed c (Hello key) up down p
 few_frames x h st seed c (Sync scheme v q) up down p = few_flight x h st seed c (Sync scheme v q) up down p
+few_frames x h st seed c (Delta since) up down p = few_flight x h st seed c (Delta since) up down p
 few_frames x h st seed c (Ask j z v m) up down p = few_flight x h st seed c (Ask j z v m) up down p
 few_frames x h st seed c (Edit j bytes) up down p = absurd p
 few_frames x h st seed c Publish up down p = absurd p
 
-pub served_inv : (short : Bool) (most : ℕ) (x : Setting) (seeds : List (List ℕ)) (k : ℕ) (h : History) (seed : List ℕ) (l : Link) → LinkInv x h seed l
+pub served_inv : (short : Bool) (most : ℕ) (x : Setting) (seeds : List (List ℕ)) (k : ℕ) (h : History) (seed : List ℕ) (l : Link) → GoodHistory x h → LinkInv x h seed l
     → ServedInv x seeds h seed (link_served x short k most h l) (turn_of x short k most h l).history (turn_of x short k most h l).log
-served_inv short most x seeds k h seed l i =
+served_inv short most x seeds k h seed l g i =
     let few = few_frames x h l.standing seed l.client l.client.call l.up.frames l.down.frames i.phase in
-    let s = served_link x seeds k h seed l.standing l.client short l.client.call l.up.frames (arrived l.up most) (beyond l.up most).frames l.down.frames
+    let s = served_link x seeds k h seed l.standing l.client g short l.client.call l.up.frames (arrived l.up most) (beyond l.up most).frames l.down.frames
     (split_few l.up most few.0) i.unclosed i.seed_is i.known i.hint i.call i.phase in
     record {
       link = record {

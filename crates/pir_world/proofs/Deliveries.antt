@@ -150,7 +150,7 @@ pub record EndServed (x : Setting) (k : ℕ) (h : History) (l : Link) (most : �
   pub store_is : StandsFor store (turn_of x short k most h l).history
   pub end_is : EndIs e2 after (link_served x short k most h l)
 
-module _ (x : Setting) (seeds : List (List ℕ)) (k : ℕ) (h : History) (l : Link) (inv : LinkInv x h (seed_of seeds k) l) (e e2 : Side)
+module _ (x : Setting) (seeds : List (List ℕ)) (k : ℕ) (h : History) (l : Link) (good : GoodHistory x h) (inv : LinkInv x h (seed_of seeds k) l) (e e2 : Side)
     (session after : Session) (store : StoreState) (most : ℕ) (replies : List ℕ) (i : EndIs e session l) where
   unclosed : is_closed session.standing ≡ false
   unclosed = ap is_closed i.standing_is ∙ inv.unclosed
@@ -161,7 +161,7 @@ module _ (x : Setting) (seeds : List (List ℕ)) (k : ℕ) (h : History) (l : Li
   -- the server's turn leaves the session unclosed
   still_unclosed : (short : Bool) (fs more : List Frame) → Split l.up.frames fs more → is_closed (serves x short k h session.standing fs).standing ≡ false
   still_unclosed short fs more s =
-      rw i.standing_is (served_link x seeds k h (seed_of seeds k) l.standing l.client short l.client.call l.up.frames fs more l.down.frames s inv.unclosed
+      rw i.standing_is (served_link x seeds k h (seed_of seeds k) l.standing l.client good short l.client.call l.up.frames fs more l.down.frames s inv.unclosed
       inv.seed_is inv.known inv.hint inv.call inv.phase).unclosed
 
   at_ok : (f : Fed x h session (prefix most e.up) (Ok tt) store after [] replies) (frames reported more : List Frame) (middle : Standing) →

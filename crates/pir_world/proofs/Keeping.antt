@@ -84,7 +84,7 @@ module _ (x : Setting) (seeds : List (List ℕ)) (s : State) (inv : Inv x seeds 
   served_at_inv : (short : Bool) (k most : ℕ) (o : Option Link) → slice_get s.links k ≡ o → Inv x seeds (served_at x short s k most o)
   served_at_inv short k most None at = inv
   served_at_inv short k most (Some l) at =
-      let d = served_inv short most x seeds k s.history (seed_of seeds k) l (inv.links k l at) in
+      let d = served_inv short most x seeds k s.history (seed_of seeds k) l inv.history (inv.links k l at) in
       at_one k l (link_served x short k most s.history l) (turn_of x short k most s.history l).history
       (turn_of x short k most s.history l).log at d.history_is d.link d.right
       (logged_served x seeds s.history k l s.log (inv.logs k l at) short most (inv.links k l at))

@@ -18,7 +18,7 @@ use Rattle.client_core.specs.declared.state.ClientState.{ClientState}
 use Rattle.client_core.specs.declared.state.ServerInfo.{ServerInfo}
 use Rattle.client_core.specs.declared.state.Hint.{Hint}
 use Rattle.client_core.specs.declared.state.Call.{Call}
-use Rattle.client_core.specs.declared.state.Call.TheVariants.{Idle, Hello, Sync, Ask, Edit, Publish}
+use Rattle.client_core.specs.declared.state.Call.TheVariants.{Idle, Hello, Sync, Delta, Ask, Edit, Publish}
 use Rattle.client_core.specs.declared.state.Event.{Event}
 use Rattle.client_core.specs.declared.state.Event.TheVariants.{Welcomed, Synced, Retrieved, Unreadable, Stale, Done, Refused}
 use Rattle.pir_world.specs.declared.steps.Outcome.{Outcome}
@@ -74,6 +74,7 @@ good_published x h g = record {
   first = g.first;
   versions = λ v records p. elim (version_cases h v records p) [ inl q ↦ g.versions v records q | inr e ↦ rw e g.draft ];
   draft = g.draft;
+  even = λ v records p. elim (version_cases h v records p) [ inl q ↦ g.even v records q | inr e ↦ ap length e ];
 }
 
 -- what a record is doesn't depend on how many there are
@@ -104,6 +105,7 @@ good_edited x h i bytes fits g = record {
   first = g.first;
   versions = λ v records p. g.versions v records p;
   draft = edited_records x.plan h.draft i bytes fits g.draft;
+  even = λ v records p. g.even v records p ∙ sym (length-set h.draft i bytes);
 }
 
 -- ---- what is said of versions
@@ -142,6 +144,7 @@ module _ (x : Setting) (h h2 : History) (later : IsLater h h2) where
     parts_are = q.parts_are;
     further = q.further;
   }
+  call_later c (Delta since) q = q
   call_later c (Ask i s v n) q = q
   call_later c (Edit i bytes) q = q
   call_later c Publish q = q
@@ -155,6 +158,21 @@ module _ (x : Setting) (h h2 : History) (later : IsLater h h2) where
   reply_later st seed Idle r p = p
   reply_later st seed (Hello key) r p = (p.0, (p.1.0, p.1.1, later _ _ p.1.2, p.1.3))
   reply_later st seed (Sync s v p) r q = reply_of_later v r _ q
+  reply_later st seed (Delta since) r (inl e) = inl e
+  reply_later st seed (Delta since) r (inr (inl p)) = inr (inl (p.0, p.1, later _ _ p.2, p.3))
+  reply_later st seed (Delta since) r (inr (inr d)) =
+      inr (inr (record {
+        now = d.now;
+        records = d.records;
+        version_is = later _ _ d.version_is;
+        before = d.before;
+        since_is = later _ _ d.since_is;
+        numbers = d.numbers;
+        few = d.few;
+        ascending = d.ascending;
+        named = d.named;
+        reply_is = d.reply_is;
+      }))
   reply_later st seed (Ask i s v n) r q = reply_of_later v r _ q
   reply_later st seed (Edit i bytes) r q = q
   reply_later st seed Publish r q = q
@@ -169,6 +187,7 @@ module _ (x : Setting) (h h2 : History) (later : IsLater h h2) where
   phase_later st seed c Idle up down p = p
   phase_later st seed c (Hello key) up down p = flight_later st seed c (Hello key) up down p
   phase_later st seed c (Sync scheme v p) up down q = flight_later st seed c (Sync scheme v p) up down q
+  phase_later st seed c (Delta since) up down q = flight_later st seed c (Delta since) up down q
   phase_later st seed c (Ask i s v n) up down q = flight_later st seed c (Ask i s v n) up down q
   phase_later st seed c (Edit i bytes) up down q = q
   phase_later st seed c Publish up down q = q

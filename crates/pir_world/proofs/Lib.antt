@@ -1,4 +1,5 @@
 pub mod Later
+pub mod DeltaRows
 pub mod Wires
 pub mod Serves
 pub mod Takes

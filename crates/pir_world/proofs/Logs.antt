@@ -12,12 +12,12 @@ use Rattle.version_store.specs.Histories.{History}
 use Rattle.server_core.specs.Serving.{Setting, is_closed}
 use Rattle.client_core.specs.declared.state.ClientState.{ClientState}
 use Rattle.client_core.specs.declared.state.Call.{Call}
-use Rattle.client_core.specs.declared.state.Call.TheVariants.{Idle, Hello, Sync, Ask, Edit, Publish}
+use Rattle.client_core.specs.declared.state.Call.TheVariants.{Idle, Hello, Sync, Delta, Ask, Edit, Publish}
 use Rattle.client_core.specs.declared.state.Event.{Event}
 use Rattle.client_core.specs.declared.state.Event.TheVariants.{Synced}
 use Rattle.client_core.specs.declared.state.Reaction.{Reaction}
 use Rattle.client_core.specs.declared.state.Reaction.TheVariants.{Asks, Reports, Fails}
-use Rattle.client_core.specs.Calls.{Sync as want_sync, Ask as want_ask}
+use Rattle.client_core.specs.Calls.{Ask as want_ask}
 use Rattle.client_core.specs.Replies.{reaction_to_reply}
 use Rattle.client_core.specs.Feeding.{fault_of}
 use Rattle.pir_world.specs.declared.steps.Outcome.TheVariants.{Reported}
@@ -67,9 +67,8 @@ aside_ask k (Ended j r reply event) p = refl
 aside_ask k (Plain o) p = refl
 
 aside_hint : (k : ℕ) (hint : Option (Scheme × ℕ)) (e : Entry) → IsAside k e → hint_after k hint e ≡ hint
-aside_hint k hint (Called j (want_sync scheme) None) p = rw (ne_eqb j k p) refl
-aside_hint k hint (Called j (want_sync scheme) (Some fault)) p = refl
 aside_hint k hint (Called j want refusal) p = refl
+aside_hint k hint (Sent j (frame.HintAsk scheme version part)) p = rw (ne_eqb j k p) refl
 aside_hint k hint (Sent j f) p = refl
 aside_hint k hint (Served j f now reply) p = refl
 aside_hint k hint (Ended j r reply event) p = refl
@@ -144,6 +143,7 @@ module _ (j k : ℕ) (ne : k ≢ j) where
   reports_aside Idle reply e = ne
   reports_aside (Hello key) reply e = ne
   reports_aside (Sync scheme v p) reply e = ne
+  reports_aside (Delta since) reply e = ne
   reports_aside (Edit i bytes) reply e = ne
   reports_aside Publish reply e = ne
 
@@ -185,6 +185,7 @@ module _ (x : Setting) (h h2 : History) (later : IsLater h h2) where
   earlier_later seeds before (Sent k (frame.Query scheme version words)) p = (p.0, asked_later (seed_of seeds k) k p.0 _ before p.1)
   earlier_later seeds before (Sent k (frame.Hello profile key)) p = p
   earlier_later seeds before (Sent k (frame.HintAsk scheme version part)) p = p
+  earlier_later seeds before (Sent k (frame.DeltaAsk since)) p = p
   earlier_later seeds before (Sent k f) p = absurd p
   earlier_later seeds before (Served k f now reply) p = p
   earlier_later seeds before (Ended k r reply event) p =
@@ -202,6 +203,7 @@ module _ (x : Setting) (h h2 : History) (later : IsLater h h2) where
   from_later seed k Idle f first p = tt
   from_later seed k (Hello key) f first p = tt
   from_later seed k (Sync scheme v n) f first p = p
+  from_later seed k (Delta since) f first p = p
   from_later seed k (Edit i bytes) f first p = tt
   from_later seed k Publish f first p = tt
 

@@ -70,6 +70,8 @@ opening_inv h bytes seeds o =
             (only_one (records_in (shape_of h) bytes) records (current_version (opening h bytes seeds).history - v)
             (sym (records_at (opening h bytes seeds).history v p.0) ∙ p.1)) all;
         draft = all;
+        even = λ v records p. sym (ap length (only_one (records_in (shape_of h) bytes) records (current_version (opening h bytes seeds).history - v)
+            (sym (records_at (opening h bytes seeds).history v p.0) ∙ p.1)));
       };
       links = λ k l e. subst (λ (m : Link). LinkInv (setting_in h) (opening h bytes seeds).history (seed_of seeds k) m) (link_of seeds k l e)
           (record { seed_is = refl; alive = refl; unclosed = refl; known = tt; hint = tt; call = tt; phase = (refl, refl) });

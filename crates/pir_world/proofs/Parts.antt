@@ -74,6 +74,7 @@ reports_event : (k : ℕ) (c : Call) (reply : Frame) (e : Event) → outcome_of 
 reports_event k call.Idle reply e = refl
 reports_event k (call.Hello key) reply e = refl
 reports_event k (call.Sync scheme version part) reply e = refl
+reports_event k (call.Delta since) reply e = refl
 reports_event k (call.Ask i s v n) reply e = refl
 reports_event k (call.Edit i bytes) reply e = refl
 reports_event k call.Publish reply e = refl
@@ -150,7 +151,7 @@ module _ (x : Setting) (core : Core) (ends : List Side) (os : List Outcome) (s :
       let m = met x core ends os s k e p at in
       let r = f s.history m.session p.store_is m.session_is in
       let fed = subst (λ (y : Setting). Fed y s.history m.session (prefix most e.up) (Ok tt) core2.store r.0 [] r.2.replies) p.setting_is r.2.fed in
-      let t = served_end x seeds k s.history m.link (inv.links k m.link m.link_is) e e2 m.session r.0 core2.store most r.2.replies m.end_is fed r.2.client
+      let t = served_end x seeds k s.history m.link inv.history (inv.links k m.link m.link_is) e e2 m.session r.0 core2.store most r.2.replies m.end_is fed r.2.client
       r.2.up r.2.down in
       let silent_ : outcomes_of (turn_of x t.short k most s.history m.link).log ≡ [] = serves_silent x t.short k _ (arrived m.link.up most) refl in (
         t.short,

@@ -1,9 +1,9 @@
 -- What the server makes of a client's frame.
-use Rattle.std.proofs.Common.{◌≡◌, ℕ, ◌*◌, ◌<◌, Bool, true, false, List, [], ◌∷◌, ◌++◌, length, Option, Some, refl, sym, ap, subst, ◌∙◌, arith, inl, inr}
-use Rattle.std.specs.Prelude.{◌==◌, option_to_list, replicate}
+use Rattle.std.proofs.Common.{◌≡◌, ℕ, ◌*◌, ◌<◌, Bool, true, false, List, [], ◌∷◌, ◌++◌, length, Option, Some, None, ◌⊎◌, refl, sym, ap, subst, ◌∙◌, arith, inl, inr}
+use Rattle.std.specs.Prelude.{◌==◌, nat_le, option_to_list, replicate}
 use Rattle.std.specs.List.{AllByRecursion}
 use Rattle.std.proofs.lemmas.List.{append-nil}
-use Rattle.std.proofs.lemmas.Bool.{cases_Bool, eqb-true, eqb-false, eq-eqb, lt-ltb}
+use Rattle.std.proofs.lemmas.Bool.{cases_Bool, eqb-true, eqb-false, eq-eqb, lt-ltb, leb-true}
 use Rattle.pir_schemes.specs.declared.scheme.Scheme.{Scheme}
 use Rattle.pir_schemes.specs.declared.scheme.Scheme.TheVariants.{Simple, Double}
 use Rattle.pir_schemes.specs.Schemes.{scheme_byte, scheme_of_byte}
@@ -11,21 +11,22 @@ use Rattle.pir_schemes.specs.Plans.{shape_at, client_profile}
 use Rattle.pir_schemes.proofs.Lengths.{length_query}
 use Rattle.frame_codec.specs.declared.frame.Frame.{Frame}
 use Rattle.frame_codec.specs.declared.frame.Frame.TheVariants as frame
-use Rattle.version_store.specs.Histories.{History, current_version}
+use Rattle.version_store.specs.Histories.{History, current_version, delta_rows}
 use Rattle.server_core.specs.declared.standing.Standing.{Standing}
 use Rattle.server_core.specs.declared.standing.Standing.TheVariants.{Reader}
-use Rattle.server_core.specs.Serving.{Setting, Outcome, is_closed, is_reader_key, has_part, hint_words, words_asked}
+use Rattle.server_core.specs.Serving.{Setting, Outcome, is_closed, is_reader_key, has_part, hint_words, words_asked, no_delta, delta_asked}
 use Rattle.client_core.specs.declared.state.ClientState.{ClientState}
 use Rattle.client_core.specs.declared.state.ServerInfo.{ServerInfo}
 use Rattle.client_core.specs.declared.state.Call.{Call}
 use Rattle.client_core.specs.declared.state.Hint.{Hint}
-use Rattle.client_core.specs.declared.state.Call.TheVariants.{Idle, Hello, Sync, Ask, Edit, Publish}
+use Rattle.client_core.specs.declared.state.Call.TheVariants.{Idle, Hello, Sync, Delta, Ask, Edit, Publish}
 use Rattle.client_core.specs.Calls.{call_frame, call_words}
 use Rattle.pir_world.specs.Runs.{Turn, Retrieval, served_or, serves, reader_key}
 use Rattle.pir_world.specs.Versions.{HasVersion, IsVersion, HintIs, asked_words}
 use Rattle.pir_world.specs.Headlines.{IsRightReply, IsRightQuery, IsServed, IsRight}
-use Rattle.pir_world.specs.Invariants.{IsKnownOf, KnownIs, SyncIs, AskIs, CallIs, IsReply, InFlight, Phase}
+use Rattle.pir_world.specs.Invariants.{GoodHistory, IsKnownOf, KnownIs, SyncIs, AskIs, CallIs, IsReply, InFlight, Phase}
 use Rattle.pir_world.proofs.Later.{newest, one_version}
+use Rattle.pir_world.proofs.DeltaRows.{CoversChanges, rows_cover}
 use Rattle.pir_world.proofs.Wires.{Split}
 
 -- what serving the outstanding call's frame leads to
@@ -123,6 +124,56 @@ module _ (x : Setting) (h : History) (seed : List ℕ) (s : Scheme) (v p : ℕ) 
     | inr t ↦ old short t (before_now h v i.records i.version_is (eqb-false v (current_version h) t))
   ]
 
+-- ---- the rows that changed
+
+module _ (x : Setting) (h : History) (g : GoodHistory x h) (seed : List ℕ) (since : ℕ) (before : List (List ℕ)) (there : HasVersion h since before) where
+  no_rows : Replied x h seed Reader (Delta since) (frame.DeltaAsk since) (no_delta Reader h)
+  no_rows = record {
+    history_is = refl;
+    unclosed = refl;
+    reader = λ e. e;
+    reply = (_, refl, inr (inl (current_version h, h.current, newest h, refl)));
+    right = tt;
+  }
+
+  even : length before ≡ length h.current
+  even = g.even since before there ∙ sym (g.even (current_version h) h.current (newest h))
+
+  some_rows : (rows : List ℕ) → CoversChanges x.plan before h.current rows → (nat_le (length rows) 1024 ≡ true) ⊎ (nat_le (length rows) 1024 ≡ false)
+      → Replied x h seed Reader (Delta since) (frame.DeltaAsk since) (delta_asked x h Reader since (Some rows))
+  some_rows rows n (inl t) = rw t (record {
+    history_is = refl;
+    unclosed = refl;
+    reader = λ e. e;
+    reply = (
+      _,
+      refl,
+      inr (inr (record {
+        now = current_version h;
+        records = h.current;
+        version_is = newest h;
+        before = before;
+        since_is = there;
+        numbers = rows;
+        few = leb-true (length rows) 1024 t;
+        ascending = n.ascending;
+        named = n.named;
+        reply_is = refl;
+      })),
+    );
+    right = tt;
+  })
+  some_rows rows n (inr t) = rw t no_rows
+
+  asked_rows : (o : Option (List ℕ)) → delta_rows x.plan h since ≡ o →
+      Replied x h seed Reader (Delta since) (frame.DeltaAsk since) (delta_asked x h Reader since o)
+  asked_rows None e = no_rows
+  asked_rows (Some rows) e = some_rows rows (rows_cover x.plan h since before rows there even e) (cases_Bool (nat_le (length rows) 1024))
+
+  replied_delta : (short : Bool) → Replied x h seed Reader (Delta since) (frame.DeltaAsk since) (served_or short x h Reader (frame.DeltaAsk since))
+  replied_delta false = asked_rows (delta_rows x.plan h since) refl
+  replied_delta true = record { history_is = refl; unclosed = refl; reader = λ e. e; reply = (_, refl, inl refl); right = tt }
+
 -- ---- a query
 
 -- the words of a client's query, where what it knows is the version's
@@ -218,6 +269,7 @@ module _ (x : Setting) (seeds : List (List ℕ)) (k : ℕ) (h : History) (seed :
   flight_phase s Idle up down r e d p = absurd p
   flight_phase s (Hello key) up down r e d p = inr (e, (r, d, p))
   flight_phase s (Sync scheme v q) up down r e d p = inr (e, (r, d, p))
+  flight_phase s (Delta since) up down r e d p = inr (e, (r, d, p))
   flight_phase s (Ask i z v n) up down r e d p = inr (e, (r, d, p))
   flight_phase s (Edit i bytes) up down r e d p = absurd p
   flight_phase s Publish up down r e d p = absurd p
@@ -264,34 +316,41 @@ module _ (x : Setting) (seeds : List (List ℕ)) (k : ℕ) (h : History) (seed :
       (there.0, there.1, w)
 
   -- the outstanding call's frame is served
-  replied : (short : Bool) (call : Call) → (call ≡ Idle → ⊥) → c.seed ≡ seed → KnownIs x h st c.known → HintIs x h c.hint → CallIs x h c call →
+  replied : GoodHistory x h → (short : Bool) (call : Call) → (call ≡ Idle → ⊥) → c.seed ≡ seed → KnownIs x h st c.known → HintIs x h c.hint → CallIs x h c call →
       Replied x h seed st call (call_frame c call) (served_or short x h st (call_frame c call))
-  replied short Idle busy s known hint i = absurd (busy refl)
-  replied short (Hello key) busy s known hint i = rw i (welcomed short x h seed st)
-  replied short (Sync scheme v p) busy s known hint i =
+  replied g short Idle busy s known hint i = absurd (busy refl)
+  replied g short (Hello key) busy s known hint i = rw i (welcomed short x h seed st)
+  replied g short (Sync scheme v p) busy s known hint i =
       subst (λ (y : Standing). Replied x h seed y (Sync scheme v p) (frame.HintAsk (scheme_byte scheme) v p)
       (served_or short x h y (frame.HintAsk (scheme_byte scheme) v p)))
       (sym (known_is c.known i.k known i.known_is).0) (replied_sync x h seed scheme v p short c.known c.parts i)
-  replied short (Ask j scheme v n) busy s known hint i =
+  replied g short (Delta since) busy s known hint i =
+      let y = known_is c.known i.k known i.known_is in
+      let v = hint_version c.hint i.hint since hint i.hint_is i.version_is in
+      subst (λ (z : Standing). Replied x h seed z (Delta since) (frame.DeltaAsk since) (served_or short x h z (frame.DeltaAsk since)))
+      (sym y.0) (replied_delta x h g seed since v.0 v.1 short)
+  replied g short (Ask j scheme v n) busy s known hint i =
       let y = known_is c.known i.k known i.known_is in
       let w = ask_words j scheme v n s known hint i in
       subst (λ (z : Standing). Replied x h seed z (Ask j scheme v n) (frame.Query (scheme_byte scheme) v (call_words c.known scheme c.seed n j))
       (served_or short x h z (frame.Query (scheme_byte scheme) v (call_words c.known scheme c.seed n j))))
       (sym y.0) (replied_ask x h seed j scheme v n w.0 w.1 short (call_words c.known scheme c.seed n j) w.2)
-  replied short (Edit j bytes) busy s known hint i = absurd i
-  replied short Publish busy s known hint i = absurd i
+  replied g short (Edit j bytes) busy s known hint i = absurd i
+  replied g short Publish busy s known hint i = absurd i
 
   -- what the server makes of the frames that come of a link, which are none or all
-  pub served_link : (short : Bool) (call : Call) (up fs up2 down : List Frame) → Split up fs up2 → is_closed st ≡ false → c.seed ≡ seed →
+  pub served_link : GoodHistory x h → (short : Bool) (call : Call) (up fs up2 down : List Frame) → Split up fs up2 → is_closed st ≡ false → c.seed ≡ seed →
       KnownIs x h st c.known → HintIs x h c.hint → CallIs x h c call
       → Phase x h st seed c call up down → ServedLink x seeds h seed st c call (serves x short k h st fs) up2 (down ++ (serves x short k h st fs).replies)
-  served_link short Idle up fs up2 down (inl a) o s known hint i p = nothing_comes short Idle fs up2 down o a.0 (a.1 ∙ p.0, p.1)
-  served_link short Idle up fs up2 down (inr a) o s known hint i p = nothing_comes short Idle fs up2 down o (a.0 ∙ p.0) (a.1, p.1)
-  served_link short (Hello key) up fs up2 down a o s known hint i p =
-      served_flight short (Hello key) up fs up2 down a o (replied short (Hello key) (λ e. (cc)) s known hint i) p p
-  served_link short (Sync scheme v q) up fs up2 down a o s known hint i p =
-      served_flight short (Sync scheme v q) up fs up2 down a o (replied short (Sync scheme v q) (λ e. (cc)) s known hint i) p p
-  served_link short (Ask j z v n) up fs up2 down a o s known hint i p =
-      served_flight short (Ask j z v n) up fs up2 down a o (replied short (Ask j z v n) (λ e. (cc)) s known hint i) p p
-  served_link short (Edit j bytes) up fs up2 down a o s known hint i p = absurd p
-  served_link short Publish up fs up2 down a o s known hint i p = absurd p
+  served_link g short Idle up fs up2 down (inl a) o s known hint i p = nothing_comes short Idle fs up2 down o a.0 (a.1 ∙ p.0, p.1)
+  served_link g short Idle up fs up2 down (inr a) o s known hint i p = nothing_comes short Idle fs up2 down o (a.0 ∙ p.0) (a.1, p.1)
+  served_link g short (Hello key) up fs up2 down a o s known hint i p =
+      served_flight short (Hello key) up fs up2 down a o (replied g short (Hello key) (λ e. (cc)) s known hint i) p p
+  served_link g short (Sync scheme v q) up fs up2 down a o s known hint i p =
+      served_flight short (Sync scheme v q) up fs up2 down a o (replied g short (Sync scheme v q) (λ e. (cc)) s known hint i) p p
+  served_link g short (Delta since) up fs up2 down a o s known hint i p =
+      served_flight short (Delta since) up fs up2 down a o (replied g short (Delta since) (λ e. (cc)) s known hint i) p p
+  served_link g short (Ask j z v n) up fs up2 down a o s known hint i p =
+      served_flight short (Ask j z v n) up fs up2 down a o (replied g short (Ask j z v n) (λ e. (cc)) s known hint i) p p
+  served_link g short (Edit j bytes) up fs up2 down a o s known hint i p = absurd p
+  served_link g short Publish up fs up2 down a o s known hint i p = absurd p

@@ -1,9 +1,10 @@
 -- What clients of one outline do with calls that differ in the index alone, and with replies that differ in words alone.
 use Rattle.std.proofs.Common.{◌≡◌, ℕ, List, [], ◌∷◌, ◌++◌, length, Bool, true, false, cond, Option, Some, None, refl, sym, ap, ◌∙◌, ◌⊎◌, inl, inr}
-use Rattle.std.specs.Prelude.{map, ◌==◌, ◌&&◌, nat_lt, not}
+use Rattle.std.specs.Prelude.{map, ◌==◌, ◌&&◌, not}
 use Rattle.std.proofs.lemmas.List.{append-nil}
 use Rattle.frame_codec.specs.declared.frame.Frame.{Frame}
 use Rattle.frame_codec.specs.declared.frame.Frame.TheVariants as frame
+use Rattle.frame_codec.specs.Rows.{RowList}
 use Rattle.digit_pack.specs.Layout.{Shape, shape}
 use Rattle.pir_schemes.specs.declared.scheme.Scheme.{Scheme}
 use Rattle.pir_schemes.specs.declared.scheme.Scheme.TheVariants.{Simple}
@@ -15,8 +16,8 @@ use Rattle.client_core.specs.declared.state.ServerInfo.{ServerInfo}
 use Rattle.client_core.specs.declared.state.Hint.{Hint}
 use Rattle.client_core.specs.declared.state.Call.{Call}
 use Rattle.client_core.specs.declared.state.Call.TheVariants as call
-use Rattle.client_core.specs.States.{is_layout, known_version, scheme_held}
-use Rattle.client_core.specs.Calls.{Want, Hello, Sync, Ask, state_after_call, call_frame, call_words}
+use Rattle.client_core.specs.States.{known_version, scheme_held, delta_base}
+use Rattle.client_core.specs.Calls.{Want, Hello, Sync, Ask, sync_begun, state_after_call, call_frame, call_words}
 use Rattle.client_core.specs.Replies.{
   Taken,
   reaction_to_reply,
@@ -28,9 +29,15 @@ use Rattle.client_core.specs.Replies.{
   is_answer,
   answered,
   takes_answer,
-  with_count,
+  is_current,
   staled,
   takes_stale,
+  row_numbers,
+  is_delta,
+  moved,
+  takes_delta,
+  goes_by_parts,
+  takes_no_delta,
   takes_done,
   takes_refused,
 }
@@ -51,11 +58,12 @@ use Rattle.client_core.specs.Shapes.{
   Outline,
   outline,
   asked_count,
+  named_base,
   outline_after_call,
   after_reply,
 }
-use Rattle.client_core.proofs.ShapeLaws.{no_index}
-use Rattle.pir_world.proofs.ShapesFrames.{IsFrameLike, same_blank}
+use Rattle.client_core.proofs.ShapeLaws.{no_index, base_named}
+use Rattle.pir_world.proofs.ShapesFrames.{IsFrameLike, same_frame, same_blank}
 
 -- ---- calls
 
@@ -91,6 +99,16 @@ asked_length None hint seed number i = refl
 asked_length (Some k) None seed number i = length_query _ k.layout k.dimension k.seed seed number i
 asked_length (Some k) (Some h) seed number i = length_query h.scheme k.layout k.dimension k.seed seed number i
 
+-- the first frame of a sync, by delta or by parts
+first_frame : Option ℕ → Scheme → Option ServerInfo → Frame
+first_frame (Some since) s known = frame.DeltaAsk since
+first_frame None s known = frame.HintAsk (scheme_byte s) (known_version known) 0
+
+begun_frame : (base : Option ℕ) (s : Scheme) (c : ClientState) → call_frame (sync_begun base s c) (sync_begun base s c).call ≡ first_frame base s c.known
+unfolding first_frame
+begun_frame (Some since) s c = refl
+begun_frame None s c = refl
+
 -- a call that a client of a run makes
 abbrev pub IsReaders : Want → Type 0
 IsReaders (Hello key) = Unit {0}
@@ -108,6 +126,9 @@ call_frame_like c d v w r a e = made v w r e
     scheme : scheme_held c.hint ≡ scheme_held d.hint
     scheme = held_is c.hint ∙ ap (λ (o : Outline). held o.hint) a ∙ sym (held_is d.hint)
 
+    bases : (s : Scheme) → delta_base s d.hint ≡ delta_base s c.hint
+    bases s = base_named s d.hint ∙ ap (λ (o : Outline). named_base s o.hint) (sym a) ∙ sym (base_named s c.hint)
+
     counts : asked_count c.known (hint_name c.hint) ≡ asked_count d.known (hint_name d.hint)
     counts = ap (λ (o : Outline). asked_count o.known o.hint) a
 
@@ -117,7 +138,12 @@ call_frame_like c d v w r a e = made v w r e
     made : (v w : Want) → IsReaders v → IsWantLike v w
         → IsFrameLike (call_frame (state_after_call v c) (state_after_call v c).call) (call_frame (state_after_call w d) (state_after_call w d).call)
     made (Hello key) w r e = rw e refl
-    made (Sync s) w r e = rw e (ap (λ (k : Option ServerInfo). frame.HintAsk (scheme_byte s) (known_version k) 0) (sym known))
+    made (Sync s) w r e =
+        rw e (same_frame (call_frame (state_after_call (Sync s) c) (state_after_call (Sync s) c).call)
+        (call_frame (state_after_call (Sync s) d) (state_after_call (Sync s) d).call) (begun_frame (delta_base s d.hint) s d
+        ∙ ap (λ (b : Option ℕ). first_frame b s d.known) (bases s)
+        ∙ ap (λ (k : Option ServerInfo). first_frame (delta_base s c.hint) s k) (sym known)
+        ∙ sym (begun_frame (delta_base s c.hint) s c)))
     made (Ask i) w r e = rw e.1 (
       other_words e.0,
       ap (λ (s : Scheme). frame.Query (scheme_byte s) (known_version d.known) (other_words e.0)) (sym scheme)
@@ -165,12 +191,31 @@ answer_sends k c scheme version words = inl refl
 stale_asked : (known : Option ServerInfo) (dropped c : ClientState) (asked version count : ℕ) → Sends (staled known dropped c asked version count)
 stale_asked None dropped c asked version count = inl refl
 stale_asked (Some k) dropped c asked version count =
-    either (not (version == asked) && (nat_lt 0 version && is_layout (with_count k.layout count))) _ _ (inl refl) (inl refl)
+    either (not (version == asked) && is_current k version count) _ _ (inl refl) (inl refl)
 
 stale_sends : (k : Call) (c : ClientState) (version count : ℕ) → Sends (takes_stale k c version count)
 stale_sends (call.Sync s v p) c version count = stale_asked c.known _ c v version count
 stale_sends (call.Ask i s v n) c version count = stale_asked c.known c c v version count
 stale_sends k c version count = inl refl
+
+moved_sends : (known : Option ServerInfo) (hint : Option Hint) (c : ClientState) (asked since now count : ℕ) (rows : RowList) →
+    Sends (moved known hint c asked since now count rows)
+moved_sends None hint c asked since now count rows = inl refl
+moved_sends (Some k) None c asked since now count rows = inl refl
+moved_sends (Some k) (Some h) c asked since now count rows =
+    either (is_delta k asked since now count rows.dimension (row_numbers rows)) _ _ (inl refl) (inl refl)
+
+delta_sends : (k : Call) (c : ClientState) (since now count : ℕ) (rows : RowList) → Sends (takes_delta k c since now count rows)
+delta_sends (call.Delta asked) c since now count rows = moved_sends c.known c.hint c asked since now count rows
+delta_sends k c since now count rows = inl refl
+
+by_parts_sends : (known : Option ServerInfo) (c : ClientState) (version count : ℕ) → Sends (goes_by_parts known c version count)
+by_parts_sends None c version count = inl refl
+by_parts_sends (Some k) c version count = either (is_current k version count) _ _ (inr (Simple, version, 0, refl, refl)) (inl refl)
+
+no_delta_sends : (k : Call) (c : ClientState) (version count : ℕ) → Sends (takes_no_delta k c version count)
+no_delta_sends (call.Delta asked) c version count = by_parts_sends c.known c version count
+no_delta_sends k c version count = inl refl
 
 done_sends : (k : Call) (c : ClientState) (version : ℕ) → Sends (takes_done k c version)
 done_sends call.Idle c version = inl refl
@@ -189,6 +234,8 @@ reply_sends c (frame.Welcome profile width record_len groups count version dimen
 reply_sends c (frame.HintPart scheme version part words) = part_sends c.call c scheme version part words
 reply_sends c (frame.Answer scheme version words) = answer_sends c.call c scheme version words
 reply_sends c (frame.Stale version count) = stale_sends c.call c version count
+reply_sends c (frame.Delta since now count rows) = delta_sends c.call c since now count rows
+reply_sends c (frame.NoDelta version count) = no_delta_sends c.call c version count
 reply_sends c (frame.Done version) = done_sends c.call c version
 reply_sends c (frame.Refused code) = refused_sends c.call c code
 reply_sends c f = inl refl

@@ -1,13 +1,14 @@
 -- What a client makes of a reply.
 use Rattle.std.proofs.Common.{◌≡◌, ℕ, ◌+◌, ◌*◌, ◌<◌, ◌⊎◌, Bool, true, false, not, cond, List, [], ◌∷◌, ◌++◌, length, take, drop, min, Option, Some, None, refl, sym, ap, subst, ◌∙◌, arith, inl, inr}
 use Rattle.std.specs.Prelude.{nat_lt, nat_le, ◌==◌, ◌&&◌, fold}
-use Rattle.std.specs.List.{AllByRecursion}
+use Rattle.std.specs.List.{AllByRecursion, Contains}
+use Rattle.frame_codec.specs.Rows.{RowList, row_list}
 use Rattle.std.proofs.lemmas.List.{length-take, length-drop, take_all}
 use Rattle.std.proofs.Math.Seq.{take-add}
 use Rattle.std.proofs.Math.Nat.{mul-pos}
 use Rattle.std.proofs.lemmas.Bool.{cases_Bool, eqb-true, eqb-false, eq-eqb, ne_eqb, lt-ltb, le-leb, and_from}
-use Rattle.matrix_u32.specs.Matrix.{WordMatrix}
-use Rattle.digit_pack.specs.Layout.{Shape, shape, IsShape}
+use Rattle.matrix_u32.specs.Matrix.{WordMatrix, IsWhole, row}
+use Rattle.digit_pack.specs.Layout.{Shape, shape, IsShape, digit_rows}
 use Rattle.digit_pack.proofs.Changes.{some_digits}
 use Rattle.digit_pack.proofs.DigitSums.{split_some}
 use Rattle.digit_pack.proofs.RecordLemmas.{shape_of_layout}
@@ -16,7 +17,7 @@ use Rattle.pir_schemes.specs.declared.scheme.Scheme.TheVariants.{Simple, Double}
 use Rattle.pir_schemes.specs.Schemes.{scheme_byte}
 use Rattle.pir_schemes.specs.Parts.{part_len}
 use Rattle.pir_schemes.specs.Plans.{Plan, IsPlan, shape_at, profile_of, record_of}
-use Rattle.pir_schemes.specs.Retrievals.{hint_rows, hint_len, hint_matrix, reading}
+use Rattle.pir_schemes.specs.Retrievals.{hint_rows as rows_of_hint, hint_len, hint_matrix, reading}
 use Rattle.pir_schemes.specs.Laws.{RetrievalGivesTheRecord}
 use Rattle.pir_schemes.proofs.Lengths.{hint_sizes, length-answer}
 use Rattle.frame_codec.specs.declared.frame.Frame.{Frame}
@@ -26,23 +27,26 @@ use Rattle.frame_codec.specs.Refusals.{refused, code_of}
 use Rattle.version_store.specs.Histories.{History}
 use Rattle.server_core.specs.declared.standing.Standing.{Standing}
 use Rattle.server_core.specs.declared.standing.Standing.TheVariants.{Reader}
-use Rattle.server_core.specs.Serving.{Setting, hint_words, part_words}
+use Rattle.server_core.specs.Serving.{Setting, hint_words, hint_rows, part_words}
 use Rattle.client_core.specs.declared.state.ClientState.{ClientState}
 use Rattle.client_core.specs.declared.state.ServerInfo.{ServerInfo}
 use Rattle.client_core.specs.declared.state.Hint.{Hint}
 use Rattle.client_core.specs.declared.state.Call.{Call}
-use Rattle.client_core.specs.declared.state.Call.TheVariants.{Idle, Hello, Sync, Ask, Edit, Publish}
+use Rattle.client_core.specs.declared.state.Call.TheVariants.{Idle, Hello, Sync, Delta, Ask, Edit, Publish}
 use Rattle.client_core.specs.declared.state.ClientFault.TheVariants.{BadReply}
 use Rattle.client_core.specs.declared.state.Reaction.TheVariants.{Asks}
 use Rattle.client_core.specs.States.{is_layout}
-use Rattle.client_core.specs.Replies.{Taken, reaction_to_reply, takes_welcome, takes_part, takes_answer, takes_stale, takes_refused, takes_asked_part, more_parts, is_welcome, is_part, is_answer, with_count, event_of, answered, ended, faulty}
+use Rattle.client_core.specs.Replies.{Taken, reaction_to_reply, takes_welcome, takes_part, takes_answer, takes_stale, takes_no_delta, takes_refused, takes_asked_part, more_parts, is_welcome, is_part, is_answer, is_current, with_current, with_count, are_ascending, is_delta, event_of, answered, ended, faulty}
+use Rattle.client_core.specs.declared.state.Event.TheVariants.{Synced}
+use Rattle.client_core.specs.Laws.{rows_of}
 use Rattle.client_core.specs.Feeding.{sends_of, fault_of}
+use Rattle.client_core.proofs.HintLaws.{delta_makes_it}
 use Rattle.client_core.proofs.Layouts.{layout_accepted}
 use Rattle.pir_world.specs.Runs.{Retrieval, Entry, reacts}
 use Rattle.pir_world.specs.Earlier.{hint_after}
 use Rattle.pir_world.specs.Versions.{HasVersion, HintIs, asked_words, given_words, name_of, record_read, seed_of}
 use Rattle.pir_world.specs.Headlines.{IsRight, IsAnswered}
-use Rattle.pir_world.specs.Invariants.{GoodHistory, IsKnownOf, KnownIs, SyncIs, CallIs, IsReply, IsFrom, Phase, welcome_frame}
+use Rattle.pir_world.specs.Invariants.{GoodHistory, IsKnownOf, KnownIs, SyncIs, DeltaIs, IsDeltaTo, CallIs, IsReply, IsFrom, Phase, welcome_frame}
 use Rattle.pir_world.proofs.Later.{version_positive, one_version}
 
 pub one_alike : {X : Type 0} (x y : X) → ◌≡◌ {A = List X} (x ∷ []) (y ∷ []) → x ≡ y
@@ -56,10 +60,12 @@ pub record ClientInv (x : Setting) (h : History) (seed : List ℕ) (st : Standin
   pub hint : HintIs x h c.hint
   pub call : CallIs x h c c.call
 
--- the next part is asked for where the one before came
+-- the next part is asked for where the one before came, and the first where no Delta can be given
 abbrev pub IsPartBefore : Call → Frame → Scheme → ℕ → ℕ → Type 0
 IsPartBefore (Sync s v p) reply scheme version part =
     (scheme ≡ s) × (version ≡ v) × (part ≡ p + 1) × ((words : List ℕ) × (reply ≡ frame.HintPart (scheme_byte scheme) version p words))
+IsPartBefore (Delta since) reply scheme version part =
+    (scheme ≡ Simple) × (part ≡ 0) × ((count : ℕ) × (reply ≡ frame.NoDelta version count))
 IsPartBefore _ reply scheme version part = ⊥
 
 -- what a good reply leads to
@@ -97,9 +103,9 @@ length-hint : (x : Setting) (s : Scheme) (records : List (List ℕ)) →
 length-hint x s records =
     let z = hint_sizes s x.plan records in
     ap length (hint_list_is x s records) ∙ z.whole ∙ ap (λ (n : ℕ). n * (hint_matrix s x.plan records).cols) z.rows
-    ∙ ap (λ (n : ℕ). hint_rows s (shape_at x.plan (length records)) x.plan.dimension * n) z.cols
+    ∙ ap (λ (n : ℕ). rows_of_hint s (shape_at x.plan (length records)) x.plan.dimension * n) z.cols
 
-some_rows : (s : Scheme) (l : Shape) (n : ℕ) → IsShape l → 0 < n → 0 < hint_rows s l n
+some_rows : (s : Scheme) (l : Shape) (n : ℕ) → IsShape l → 0 < n → 0 < rows_of_hint s l n
 some_rows Simple l n ok lt = mul-pos ok.groups (some_digits l ok)
 some_rows Double l n ok lt = mul-pos lt (split_some l.width ok.width)
 
@@ -108,7 +114,7 @@ pub hint_long : (x : Setting) (s : Scheme) (records : List (List ℕ)) → IsPla
 hint_long x s records ok =
     let l : Shape = shape_at x.plan (length records) in
     let low : 0 < x.plan.dimension = omega (arith, ok.low) in
-    let all : 0 < hint_rows s l x.plan.dimension * x.plan.dimension = mul-pos (some_rows s l x.plan.dimension (shape_of_layout l ok.layout) low) low in
+    let all : 0 < rows_of_hint s l x.plan.dimension * x.plan.dimension = mul-pos (some_rows s l x.plan.dimension (shape_of_layout l ok.layout) low) low in
     omega (arith, length-hint x s records, all)
 
 part_length : (x : Setting) (s : Scheme) (records : List (List ℕ)) (p : ℕ) → length (part_words x s records p) ≡ part_len (length (hint_words x s records)) p
@@ -120,6 +126,11 @@ parts_more : (x : Setting) (s : Scheme) (records : List (List ℕ)) (p : ℕ) �
     take (65536 * p) (hint_words x s records) ++ part_words x s records p ≡ take (65536 * (p + 1)) (hint_words x s records)
 unfolding part_words
 parts_more x s records p = let e : 65536 * (p + 1) ≡ 65536 * p + 65536 = omega arith in rw e (sym (take-add (65536 * p) 65536 (hint_words x s records)))
+
+rows_are : (x : Setting) (records : List (List ℕ)) (numbers : List ℕ) →
+    hint_rows x records numbers ≡ row_list (hint_matrix Simple x.plan records).cols (rows_of (hint_matrix Simple x.plan records) numbers)
+unfolding hint_rows
+rows_are x records numbers = ap (λ (n : ℕ). row_list n (rows_of (hint_matrix Simple x.plan records) numbers)) (sym (hint_sizes Simple x.plan records).cols)
 
 pub known_some : (x : Setting) (h : History) (st : Standing) (o : Option ServerInfo) (y : ServerInfo) → KnownIs x h st o → o ≡ Some y → (st ≡ Reader)
     × IsKnownOf x h y
@@ -164,6 +175,18 @@ module _ (law : RetrievalGivesTheRecord) (x : Setting) (seeds : List (List ℕ))
     next = λ f first e2. tt;
   }
 
+  refused_delta : (since code : ℕ) → IsTaken x seeds k h st c (Delta since) (frame.Refused code) (takes_refused (Delta since) c code)
+  refused_delta since code = record {
+    client = record { seed_is = i.seed_is; alive = i.alive; known = i.known; hint = i.hint; call = tt };
+    no_fault = refl;
+    phase = (refl, refl);
+    right = (tt, tt);
+    number = refl;
+    told = refl;
+    asks = λ s2 v2 q2 e2. absurd cc;
+    next = λ f first e2. tt;
+  }
+
   refused_ask : (j : ℕ) (s : Scheme) (v n : ℕ) →
       IsTaken x seeds k h st c (Ask j s v n) (refused refusal.Memory) (takes_refused (Ask j s v n) c (code_of refusal.Memory))
   refused_ask j s v n = record {
@@ -181,15 +204,18 @@ module _ (law : RetrievalGivesTheRecord) (x : Setting) (seeds : List (List ℕ))
     count_same : (n : ℕ) → with_count y.layout n ≡ shape_at x.plan n
     count_same n = ap (λ (l : Shape). with_count l n) known.1.layout_is
 
+    current_good : (now : ℕ) (records : List (List ℕ)) → HasVersion h now records → is_current y now (length records) ≡ true
+    current_good now records p = and_from _ _ (lt-ltb 0 now (version_positive x h now records g p))
+        (plan_accepted x.plan (length records) _ (plan_ok now records p) (count_same (length records)))
+
     stale_good : (v now : ℕ) (records : List (List ℕ)) → HasVersion h now records → v < now →
-        (not (now == v) && (nat_lt 0 now && is_layout (with_count y.layout (length records)))) ≡ true
+        (not (now == v) && is_current y now (length records)) ≡ true
     stale_good v now records p lt =
         let ne : (now == v) ≡ false = ne_eqb now v (λ e. omega (arith, lt, e)) in
-        rw ne (and_from _ _ (lt-ltb 0 now (version_positive x h now records g p))
-        (plan_accepted x.plan (length records) _ (plan_ok now records p) (count_same (length records))))
+        rw ne (current_good now records p)
 
     reported_of : (now : ℕ) (records : List (List ℕ)) → HasVersion h now records →
-        IsKnownOf x h (record y { version = now; layout = with_count y.layout (length records) })
+        IsKnownOf x h (with_current y now (length records))
     reported_of now records p = record {
       records = records;
       version_is = p;
@@ -224,6 +250,103 @@ module _ (law : RetrievalGivesTheRecord) (x : Setting) (seeds : List (List ℕ))
       next = λ f first e2. tt;
     })
 
+    -- no rows can be given: the first part of the current version's hint is asked for
+    parts_instead : (since now : ℕ) (records : List (List ℕ)) → HasVersion h now records
+        → IsTaken x seeds k h st c (Delta since) (frame.NoDelta now (length records)) (takes_no_delta (Delta since) c now (length records))
+    parts_instead since now records p = rw (at, current_good now records p) (record {
+      client = record {
+        seed_is = i.seed_is;
+        alive = i.alive;
+        known = (known.0, reported_of now records p);
+        hint = tt;
+        call = record {
+          k = with_current y now (length records);
+          known_is = refl;
+          asked = refl;
+          records = records;
+          version_is = p;
+          parts_are = refl;
+          further = hint_long x Simple records (plan_ok now records p);
+        };
+      };
+      no_fault = refl;
+      phase = inl (refl, refl);
+      right = (tt, tt);
+      number = refl;
+      told = sym (rw (eq-eqb k k refl) refl);
+      asks = λ s2 v2 q2 e2.
+          let a : s2 ≡ Simple = cc in
+          let b : v2 ≡ now = cc in
+          let d : q2 ≡ 0 = cc in
+          (a, d, (length records, rw b refl));
+      next = λ f first e2. sym (one_alike _ f e2);
+    })
+
+    -- a Delta makes the hint held that of its version
+    module _ (since : ℕ) (r : Frame) (d : IsDeltaTo x h since r) (calls : c.call ≡ Delta since) (a : DeltaIs c since) where
+      abbrev new : WordMatrix
+      new = hint_matrix Simple x.plan d.records
+
+      held : HintIs x h (Some a.hint)
+      held = subst (λ (o : Option Hint). HintIs x h o) a.hint_is i.hint
+
+      old_is : a.hint.matrix ≡ hint_matrix Simple x.plan d.before
+      old_is =
+          let there : HasVersion h since held.0 = subst (λ (n : ℕ). HasVersion h n held.0) a.version_is held.1 in
+          held.2 ∙ ap (λ (s : Scheme). hint_matrix s x.plan held.0) a.scheme_is
+          ∙ ap (λ (records : List (List ℕ)). hint_matrix Simple x.plan records) (one_version h since held.0 d.before there d.since_is)
+
+      frame_is : r ≡ frame.Delta since d.now (length d.records) (row_list new.cols (rows_of new d.numbers))
+      frame_is = d.reply_is ∙ ap (λ (rows : RowList). frame.Delta since d.now (length d.records) rows) (rows_are x d.records d.numbers)
+
+      good : is_delta y since since d.now (length d.records) new.cols d.numbers ≡ true
+      good =
+          and_from (since == since) _ (eq-eqb since since refl)
+          (and_from (is_current y d.now (length d.records)) _ (current_good d.now d.records d.version_is)
+          (and_from (new.cols == y.dimension) _ (eq-eqb new.cols y.dimension ((hint_sizes Simple x.plan d.records).cols ∙ sym known.1.dimension_is))
+          (and_from (nat_le (length d.numbers) 1024) _ (le-leb (length d.numbers) 1024 d.few)
+          (ap (λ (l : Shape). are_ascending 0 (digit_rows l) d.numbers) known.1.layout_is ∙ d.ascending))))
+
+      moved_is : reaction_to_reply c (frame.Delta since d.now (length d.records) (row_list new.cols (rows_of new d.numbers)))
+          ≡ ended (record c {
+            known = Some (with_current y d.now (length d.records));
+            hint = Some (record a.hint { version = d.now; matrix = new });
+          }) (Synced Simple d.now)
+      moved_is =
+          let was = hint_sizes Simple x.plan d.before in
+          let is = hint_sizes Simple x.plan d.records in
+          delta_makes_it c y a.hint since d.now (length d.records) new d.numbers at a.hint_is calls good
+          (subst (λ (m : WordMatrix). IsWhole m) (sym old_is) was.whole) is.whole
+          (ap (λ (m : WordMatrix). m.rows) old_is ∙ was.rows ∙ sym is.rows)
+          (ap (λ (m : WordMatrix). m.cols) old_is ∙ was.cols ∙ sym is.cols)
+          (λ j lt. named j (d.named j (subst (λ (n : ℕ). j < n) is.rows lt)))
+        where
+          named : (j : ℕ) → Contains d.numbers j ⊎ (row (hint_matrix Simple x.plan d.before) j ≡ row new j) →
+              Contains d.numbers j ⊎ (row a.hint.matrix j ≡ row new j)
+          named j (inl has) = inl has
+          named j (inr same) = inr (ap (λ (m : WordMatrix). row m j) old_is ∙ same)
+
+      delta_came : IsTaken x seeds k h st c (Delta since) r (reaction_to_reply c r)
+      delta_came =
+          let P : Frame → Type 0 = λ f. IsTaken x seeds k h st c (Delta since) f (reaction_to_reply c f) in
+          subst P (sym frame_is) (subst (λ (t : Taken). IsTaken x seeds k h st c (Delta since)
+          (frame.Delta since d.now (length d.records) (row_list new.cols (rows_of new d.numbers))) t) (sym moved_is) (record {
+            client = record {
+              seed_is = i.seed_is;
+              alive = i.alive;
+              known = (known.0, reported_of d.now d.records d.version_is);
+              hint = (d.records, d.version_is, ap (λ (s : Scheme). hint_matrix s x.plan d.records) (sym a.scheme_is));
+              call = tt;
+            };
+            no_fault = refl;
+            phase = (refl, refl);
+            right = ((d.records, d.version_is), tt);
+            number = refl;
+            told = ap (λ (s : Scheme). Some (s, d.now)) a.scheme_is ∙ sym (rw (eq-eqb k k refl) refl);
+            asks = λ s2 v2 q2 e2. absurd cc;
+            next = λ f first e2. tt;
+          }))
+
     -- the layout is that of the version asked
     layout_of : (v : ℕ) (records : List (List ℕ)) → y.version ≡ v → HasVersion h v records → y.layout ≡ shape_at x.plan (length records)
     layout_of v records e p =
@@ -242,12 +365,12 @@ module _ (law : RetrievalGivesTheRecord) (x : Setting) (seeds : List (List ℕ))
       total_is = ap (λ (l : Shape). hint_len s l y.dimension) layout_is ∙ ap (hint_len s (shape_at x.plan (length r.records))) known.1.dimension_is
           ∙ sym (length-hint x s r.records)
 
-      made : (words : List ℕ) → words ≡ hint_words x s r.records → record { rows = hint_rows s y.layout y.dimension; cols = y.dimension; words = words }
+      made : (words : List ℕ) → words ≡ hint_words x s r.records → record { rows = rows_of_hint s y.layout y.dimension; cols = y.dimension; words = words }
           ≡ hint_matrix s x.plan r.records
       made words all =
           let z = hint_sizes s x.plan r.records in
-          matrix_same (hint_matrix s x.plan r.records) (hint_rows s y.layout y.dimension) y.dimension words
-          (ap (λ (l : Shape). hint_rows s l y.dimension) layout_is ∙ ap (hint_rows s (shape_at x.plan (length r.records))) known.1.dimension_is ∙ sym z.rows)
+          matrix_same (hint_matrix s x.plan r.records) (rows_of_hint s y.layout y.dimension) y.dimension words
+          (ap (λ (l : Shape). rows_of_hint s l y.dimension) layout_is ∙ ap (rows_of_hint s (shape_at x.plan (length r.records))) known.1.dimension_is ∙ sym z.rows)
           (known.1.dimension_is ∙ sym z.cols)
           (all ∙ hint_list_is x s r.records)
 
@@ -291,7 +414,7 @@ module _ (law : RetrievalGivesTheRecord) (x : Setting) (seeds : List (List ℕ))
             phase = inl (refl, refl);
             right = (tt, tt);
             number = refl;
-            told = refl;
+            told = sym (rw (eq-eqb k k refl, ne_eqb (p + 1) 0 (λ e. omega arith)) refl);
             asks = λ s2 v2 q2 e2.
                 let a : s2 ≡ s = cc in
                 let b : v2 ≡ v = cc in
@@ -400,6 +523,16 @@ module _ (law : RetrievalGivesTheRecord) (x : Setting) (seeds : List (List ℕ))
       let same : p.0 ≡ a.records = one_version h v p.0 a.records p.1 a.version_is in
       rw (p.2, same) (by_call (λ (q : Call). takes_part q c (scheme_byte s) v m (part_words x s a.records m)) (Sync s v m)
       (frame.HintPart (scheme_byte s) v m (part_words x s a.records m)) e (part_came a.k a.known_is known s v m a a.asked))
+  reply_taken (Delta since) r e a (inl p) =
+      rw p (by_call (λ (q : Call). takes_refused q c (code_of refusal.Memory)) (Delta since) (refused refusal.Memory) e
+      (refused_delta since (code_of refusal.Memory)))
+  reply_taken (Delta since) r e a (inr (inl p)) =
+      let known = known_some x h st c.known a.k i.known a.known_is in
+      rw p.3 (by_call (λ (q : Call). takes_no_delta q c p.0 (length p.1)) (Delta since) (frame.NoDelta p.0 (length p.1)) e
+      (parts_instead a.k a.known_is known since p.0 p.1 p.2))
+  reply_taken (Delta since) r e a (inr (inr d)) =
+      let known = known_some x h st c.known a.k i.known a.known_is in
+      delta_came a.k a.known_is known since r d e a
   reply_taken (Ask j s v n) r e a (inl p) =
       rw p (by_call (λ (q : Call). takes_refused q c (code_of refusal.Memory)) (Ask j s v n) (refused refusal.Memory) e (refused_ask j s v n))
   reply_taken (Ask j s v n) r e a (inr (inl p)) =

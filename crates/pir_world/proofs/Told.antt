@@ -6,6 +6,7 @@ use Rattle.std.proofs.lemmas.List.{append-nil}
 use Rattle.std.proofs.lemmas.List.Sums.{fold-append}
 use Rattle.std.proofs.lemmas.Bool.{eq-eqb}
 use Rattle.pir_schemes.specs.declared.scheme.Scheme.{Scheme}
+use Rattle.pir_schemes.specs.declared.scheme.Scheme.TheVariants.{Simple}
 use Rattle.pir_schemes.specs.Schemes.{scheme_byte}
 use Rattle.pir_schemes.specs.Laws.{RetrievalGivesTheRecord}
 use Rattle.frame_codec.specs.declared.frame.Frame.{Frame}
@@ -15,12 +16,12 @@ use Rattle.server_core.specs.declared.standing.Standing.{Standing}
 use Rattle.server_core.specs.Serving.{Setting, is_closed}
 use Rattle.client_core.specs.declared.state.ClientState.{ClientState}
 use Rattle.client_core.specs.declared.state.Call.{Call}
-use Rattle.client_core.specs.declared.state.Call.TheVariants.{Idle, Hello, Sync, Ask, Edit, Publish}
+use Rattle.client_core.specs.declared.state.Call.TheVariants.{Idle, Hello, Sync, Delta, Ask, Edit, Publish}
 use Rattle.client_core.specs.declared.state.Event.{Event}
 use Rattle.client_core.specs.declared.state.Reaction.{Reaction}
 use Rattle.client_core.specs.declared.state.Reaction.TheVariants.{Asks, Reports, Fails}
-use Rattle.client_core.specs.States.{known_version, scheme_held}
-use Rattle.client_core.specs.Calls.{Want, state_after_call, call_frame}
+use Rattle.client_core.specs.States.{known_version, scheme_held, delta_base}
+use Rattle.client_core.specs.Calls.{Want, sync_begun, state_after_call, call_frame}
 use Rattle.client_core.specs.Calls.{Hello as want_hello, Sync as want_sync, Ask as want_ask}
 use Rattle.client_core.specs.Replies.{reaction_to_reply}
 use Rattle.client_core.specs.Feeding.{takes_all, sends_of, fault_of}
@@ -31,7 +32,7 @@ use Rattle.pir_world.specs.Invariants.{GoodHistory, IsReply, InFlight, Phase, Li
 use Rattle.pir_world.proofs.Wires.{none_arrives, one_arrives}
 use Rattle.pir_world.proofs.Serves.{ask_words}
 use Rattle.pir_world.proofs.Takes.{ClientInv, IsTaken, IsPartBefore, one_alike, taken}
-use Rattle.pir_world.proofs.Calls.{few_frames}
+use Rattle.pir_world.proofs.Calls.{few_frames, link_begun, base_is}
 use Rattle.pir_world.proofs.Logs.{same_number, hint_more, log_same}
 
 one_more : {X : Type 0} (xs : List X) (x : X) → xs ++ x ∷ [] ≡ [] → ⊥
@@ -58,6 +59,7 @@ up_alone : (x : Setting) (h : History) (st : Standing) (seed : List ℕ) (c : Cl
 up_alone x h st seed c Idle up down f e p = p.1
 up_alone x h st seed c (Hello key) up down f e p = flight_up x h st seed c (Hello key) up down f e p
 up_alone x h st seed c (Sync scheme v q) up down f e p = flight_up x h st seed c (Sync scheme v q) up down f e p
+up_alone x h st seed c (Delta since) up down f e p = flight_up x h st seed c (Delta since) up down f e p
 up_alone x h st seed c (Ask j z v m) up down f e p = flight_up x h st seed c (Ask j z v m) up down f e p
 up_alone x h st seed c (Edit j bytes) up down f e p = absurd p
 up_alone x h st seed c Publish up down f e p = absurd p
@@ -76,6 +78,7 @@ down_alone : (x : Setting) (h : History) (st : Standing) (seed : List ℕ) (c : 
 down_alone x h st seed c Idle up down r e p = absurd (none_one down r p.1 e)
 down_alone x h st seed c (Hello key) up down r e p = flight_down x h st seed c (Hello key) up down r e p
 down_alone x h st seed c (Sync scheme v q) up down r e p = flight_down x h st seed c (Sync scheme v q) up down r e p
+down_alone x h st seed c (Delta since) up down r e p = flight_down x h st seed c (Delta since) up down r e p
 down_alone x h st seed c (Ask j z v m) up down r e p = flight_down x h st seed c (Ask j z v m) up down r e p
 down_alone x h st seed c (Edit j bytes) up down r e p = absurd p
 down_alone x h st seed c Publish up down r e p = absurd p
@@ -90,6 +93,7 @@ reports_no_ask : (k : ℕ) (call : Call) (reply : Frame) (e : Event) → is_ask 
 reports_no_ask k Idle reply e = refl
 reports_no_ask k (Hello key) reply e = refl
 reports_no_ask k (Sync scheme v q) reply e = refl
+reports_no_ask k (Delta since) reply e = refl
 reports_no_ask k (Ask j z v m) reply e = refl
 reports_no_ask k (Edit j bytes) reply e = refl
 reports_no_ask k Publish reply e = refl
@@ -111,7 +115,17 @@ module _ (x : Setting) (seeds : List (List ℕ)) (h : History) (k : ℕ) (log fi
       let f_is : f ≡ frame.HintAsk (scheme_byte scheme) version p = from ∙ rw (a.0, a.1) refl in
       let asked : IsServedLast k (frame.HintAsk (scheme_byte scheme) version p) reply first log =
       subst (λ (y : Frame). IsServedLast k y reply first log) f_is s in
-      inr (first, p, a.3.0, a.2, subst (λ (y : Frame). IsServedLast k (frame.HintAsk (scheme_byte scheme) version p) y first log) a.3.1 asked)
+      inr (inl (first, p, a.3.0, a.2, subst (λ (y : Frame). IsServedLast k (frame.HintAsk (scheme_byte scheme) version p) y first log) a.3.1 asked))
+  part_earlier scheme version part (Delta since) from a =
+      let asked : IsServedLast k (frame.DeltaAsk since) reply first log = subst (λ (y : Frame). IsServedLast k y reply first log) from s in
+      inr (inr (
+        first,
+        since,
+        a.2.0,
+        ap scheme_byte a.0,
+        a.1,
+        subst (λ (y : Frame). IsServedLast k (frame.DeltaAsk since) y first log) a.2.1 asked,
+      ))
   part_earlier scheme version part Idle from a = absurd a
   part_earlier scheme version part (Hello key) from a = absurd a
   part_earlier scheme version part (Ask j z v m) from a = absurd a
@@ -127,6 +141,7 @@ module _ (x : Setting) (seeds : List (List ℕ)) (h : History) (k : ℕ) (log fi
   reacts_earlier (Reports event) Idle from asks = ((f, reply, first, s), tt)
   reacts_earlier (Reports event) (Hello key) from asks = ((f, reply, first, s), tt)
   reacts_earlier (Reports event) (Sync scheme v q) from asks = ((f, reply, first, s), tt)
+  reacts_earlier (Reports event) (Delta since) from asks = ((f, reply, first, s), tt)
   reacts_earlier (Reports event) (Edit j bytes) from asks = ((f, reply, first, s), tt)
   reacts_earlier (Reports event) Publish from asks = ((f, reply, first, s), tt)
 
@@ -139,38 +154,47 @@ module _ (x : Setting) (seeds : List (List ℕ)) (h : History) (k : ℕ) (l : Li
   abbrev called_frame : Want → Frame
   called_frame w = call_frame (called_state w) (called_state w).call
 
-  abbrev called_entries : Want → List Entry
-  called_entries w = Called k w None ∷ Sent k (called_frame w) ∷ []
+  -- what is written down of a call that leads to a state
+  abbrev entries_of : Want → ClientState → List Entry
+  entries_of w d = Called k w None ∷ Sent k (call_frame d d.call) ∷ []
 
-  sent_called : (w : Want) → IsSentLast k (called_frame w) (log ++ Called k w None ∷ []) (log ++ called_entries w)
-  sent_called w = record { since = []; log_is = sym (append_assoc log (Called k w None ∷ []) (Sent k (called_frame w) ∷ [])); aside = tt }
+  abbrev called_entries : Want → List Entry
+  called_entries w = entries_of w (called_state w)
+
+  sent_called : (w : Want) (d : ClientState) → IsSentLast k (call_frame d d.call) (log ++ Called k w None ∷ []) (log ++ entries_of w d)
+  sent_called w d = record { since = []; log_is = sym (append_assoc log (Called k w None ∷ []) (Sent k (call_frame d d.call) ∷ [])); aside = tt }
 
   -- its frame alone is on its way
-  called_up : (w : Want) (f : Frame)
-      → InFlight x h l.standing (seed_of seeds k) (called_state w) (called_state w).call (l.up.frames ++ called_frame w ∷ []) l.down.frames
-      → l.up.frames ++ called_frame w ∷ [] ≡ f ∷ [] → called_frame w ≡ f
-  called_up w f (inl p) e = one_alike (called_frame w) f (sym p.0 ∙ e)
-  called_up w f (inr p) e = absurd (none_one _ f p.0 e)
+  called_up : (d : ClientState) (f : Frame)
+      → InFlight x h l.standing (seed_of seeds k) d d.call (l.up.frames ++ call_frame d d.call ∷ []) l.down.frames
+      → l.up.frames ++ call_frame d d.call ∷ [] ≡ f ∷ [] → call_frame d d.call ≡ f
+  called_up d f (inl p) e = one_alike (call_frame d d.call) f (sym p.0 ∙ e)
+  called_up d f (inr p) e = absurd (none_one _ f p.0 e)
 
-  called_down : (w : Want) (r : Frame)
-      → InFlight x h l.standing (seed_of seeds k) (called_state w) (called_state w).call (l.up.frames ++ called_frame w ∷ []) l.down.frames
+  called_down : (d : ClientState) (r : Frame)
+      → InFlight x h l.standing (seed_of seeds k) d d.call (l.up.frames ++ call_frame d d.call ∷ []) l.down.frames
       → l.down.frames ≡ r ∷ [] → ⊥
-  called_down w r (inl p) e = none_one l.down.frames r p.1 e
-  called_down w r (inr p) e = one_more l.up.frames (called_frame w) p.0
+  called_down d r (inl p) e = none_one l.down.frames r p.1 e
+  called_down d r (inr p) e = one_more l.up.frames (call_frame d d.call) p.0
 
-  called_log : (w : Want) → InFlight x h l.standing (seed_of seeds k) (called_state w) (called_state w).call (l.up.frames ++ called_frame w ∷ []) l.down.frames
-      → (called_state w).number ≡ asks_of k (log ++ called_entries w) → name_of (called_state w).hint ≡ hint_told k (log ++ called_entries w)
-      → IsFrom x h (seed_of seeds k) k (called_state w).call (called_frame w) (log ++ Called k w None ∷ [])
-      → LogInv x h (seed_of seeds k) k (link_called w l) (log ++ called_entries w)
-  called_log w flight number hint from = record {
+  -- the link after a call that leads to a state
+  abbrev link_with : ClientState → Link
+  link_with d = record { client = d; standing = l.standing; up = sent l.up (call_frame d d.call ∷ []); down = l.down }
+
+  called_log : (w : Want) (d : ClientState)
+      → InFlight x h l.standing (seed_of seeds k) d d.call (l.up.frames ++ call_frame d d.call ∷ []) l.down.frames
+      → d.number ≡ asks_of k (log ++ entries_of w d) → name_of d.hint ≡ hint_told k (log ++ entries_of w d)
+      → IsFrom x h (seed_of seeds k) k d.call (call_frame d d.call) (log ++ Called k w None ∷ [])
+      → LogInv x h (seed_of seeds k) k (link_with d) (log ++ entries_of w d)
+  called_log w d flight number hint from = record {
     number = number;
     hint = hint;
     sent = λ f e. (
       log ++ Called k w None ∷ [],
-      subst (λ (y : Frame). IsSentLast k y (log ++ Called k w None ∷ []) (log ++ called_entries w)) (called_up w f flight e) (sent_called w),
-      subst (λ (y : Frame). IsFrom x h (seed_of seeds k) k (called_state w).call y (log ++ Called k w None ∷ [])) (called_up w f flight e) from,
+      subst (λ (y : Frame). IsSentLast k y (log ++ Called k w None ∷ []) (log ++ entries_of w d)) (called_up d f flight e) (sent_called w d),
+      subst (λ (y : Frame). IsFrom x h (seed_of seeds k) k d.call y (log ++ Called k w None ∷ [])) (called_up d f flight e) from,
     );
-    served = λ r e. absurd (called_down w r flight e);
+    served = λ r e. absurd (called_down d r flight e);
   }
 
   pub logged_hello : LinkInv x h (seed_of seeds k) (link_called (want_hello reader_key) l)
@@ -179,19 +203,35 @@ module _ (x : Setting) (seeds : List (List ℕ)) (h : History) (k : ℕ) (l : Li
       let es = called_entries (want_hello reader_key) in
       let number = same_number k l.client.number log es g.number (refl, (refl, tt)) in
       record {
-        kept = called_log (want_hello reader_key) n.phase number (g.hint ∙ sym (hint_more k log es)) tt;
+        kept = called_log (want_hello reader_key) (called_state (want_hello reader_key)) n.phase number (g.hint ∙ sym (hint_more k log es)) tt;
         earlier = (tt, ((log, refl), tt));
+      }
+
+  -- a sync that begins by parts or by delta
+  begun : (base : Option ℕ) (s : Scheme) → delta_base s l.client.hint ≡ base → LinkInv x h (seed_of seeds k) (link_begun base s l)
+      → Logged x seeds h k (link_begun base s l) log (entries_of (want_sync s) (sync_begun base s l.client))
+  begun None s is n =
+      let d = sync_begun None s l.client in
+      let es = entries_of (want_sync s) d in
+      let dropped : fold (hint_after k) (hint_told k log) es ≡ None = rw (eq-eqb k k refl) refl in
+      record {
+        kept = called_log (want_sync s) d n.phase (same_number k l.client.number log es g.number (refl, (refl, tt))) (sym (hint_more k log es ∙ dropped)) refl;
+        earlier = (tt, (inl (log, s, refl, refl, refl), tt));
+      }
+  begun (Some since) s is n =
+      let d = sync_begun (Some since) s l.client in
+      let es = entries_of (want_sync s) d in
+      let b = base_is s l.client.hint since is in
+      let named : hint_told k log ≡ Some (Simple, since) =
+      sym g.hint ∙ ap name_of b.held ∙ rw (b.simple, b.version) refl in
+      record {
+        kept = called_log (want_sync s) d n.phase (same_number k l.client.number log es g.number (refl, (refl, tt))) (g.hint ∙ sym (hint_more k log es)) refl;
+        earlier = (tt, ((log, ap (λ (z : Scheme). log ++ Called k (want_sync z) None ∷ []) b.scheme, named), tt));
       }
 
   pub logged_sync : (s : Scheme) → LinkInv x h (seed_of seeds k) (link_called (want_sync s) l)
       → Logged x seeds h k (link_called (want_sync s) l) log (called_entries (want_sync s))
-  logged_sync s n =
-      let es = called_entries (want_sync s) in
-      let dropped : fold (hint_after k) (hint_told k log) es ≡ None = rw (eq-eqb k k refl) refl in
-      record {
-        kept = called_log (want_sync s) n.phase (same_number k l.client.number log es g.number (refl, (refl, tt))) (sym (hint_more k log es ∙ dropped)) refl;
-        earlier = (tt, (inl (log, s, refl, refl, refl), tt));
-      }
+  logged_sync s n = begun (delta_base s l.client.hint) s refl n
 
   abbrev retrieval : ℕ → Retrieval
   retrieval j = record { index = j; scheme = scheme_held l.client.hint; version = known_version l.client.known; number = l.client.number }
@@ -220,7 +260,7 @@ module _ (x : Setting) (seeds : List (List ℕ)) (h : History) (k : ℕ) (l : Li
       let spent : asks_of k (log ++ es) ≡ asks_of k log + 1 + 0 = fold-append (λ a e. a + cond (is_ask k e) 1 0) 0 log es ∙ rw (eq-eqb k k refl) refl in
       let a = asked j n in
       record {
-        kept = called_log (want_ask j) n.phase (omega (arith, spent, g.number)) (g.hint ∙ sym (hint_more k log es)) a;
+        kept = called_log (want_ask j) (called_state (want_ask j)) n.phase (omega (arith, spent, g.number)) (g.hint ∙ sym (hint_more k log es)) a;
         earlier = (tt, ((_, a), tt));
       }
 

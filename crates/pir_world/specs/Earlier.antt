@@ -1,7 +1,8 @@
 -- What a log says of the entries before an entry.
-use Rattle.std.specs.Prelude.{◌≡◌, ◌≢◌, ◌+◌, ◌⊎◌, ℕ, List, [], ◌∷◌, ◌++◌, Bool, false, Option, Some, None, ◌==◌, cond, fold, count_by}
+use Rattle.std.specs.Prelude.{◌≡◌, ◌≢◌, ◌+◌, ◌⊎◌, ℕ, List, [], ◌∷◌, ◌++◌, Bool, false, Option, Some, None, ◌==◌, ◌&&◌, cond, fold, count_by}
 use Rattle.std.specs.List.{AllByRecursion}
 use Rattle.pir_schemes.specs.declared.scheme.Scheme.{Scheme}
+use Rattle.pir_schemes.specs.declared.scheme.Scheme.TheVariants.{Simple}
 use Rattle.frame_codec.specs.declared.frame.Frame.{Frame}
 use Rattle.client_core.specs.declared.state.Event.TheVariants.{Synced}
 use Rattle.client_core.specs.Calls.{Ask, Hello, Sync}
@@ -26,9 +27,9 @@ is_ask k _ = false
 abbrev pub asks_of : ℕ → List Entry → ℕ
 asks_of k log = count_by (is_ask k) log
 
--- what an entry says of the hint of client k, by its scheme and its version: an accepted sync drops it, and the sync's end names another
+-- what an entry says of the hint of client k, by its scheme and its version: none is held once a first part is asked for, and a sync's end names one
 abbrev pub hint_after : ℕ → Option (Scheme × ℕ) → Entry → Option (Scheme × ℕ)
-hint_after k hint (Called j (Sync scheme) None) = cond (j == k) None hint
+hint_after k hint (Sent j (frame.HintAsk scheme version part)) = cond ((j == k) && (part == 0)) None hint
 hint_after k hint (Plain (Reported j (Synced scheme version))) = cond (j == k) (Some (scheme, version)) hint
 hint_after k hint _ = hint
 
@@ -80,12 +81,20 @@ pub record IsEndOfAsk (x : Setting) (h : History) (seed : List ℕ) (k : ℕ) (r
   pub asked : IsAsked x h seed k r query first
   pub served : IsServedLast k query reply first log
 
--- A part of a hint was asked for: the first after an accepted sync, and each other after the one before it was served.
+-- A part of a hint was asked for: the first after an accepted sync, or after the rows that changed were asked for in vain, and each other after
+-- the one before it was served.
 abbrev pub IsAskForPart : ℕ → ℕ → ℕ → ℕ → List Entry → Type 0
 IsAskForPart k scheme version part log =
     ((first : List Entry) × (s : Scheme) × (log ≡ first ++ Called k (Sync s) None ∷ []) × (scheme ≡ scheme_byte s) × (part ≡ 0))
     ⊎ ((first : List Entry) × (p : ℕ) × (words : List ℕ) × (part ≡ p + 1) ×
     IsServedLast k (frame.HintAsk scheme version p) (frame.HintPart scheme version p words) first log)
+    ⊎ ((first : List Entry) × (since : ℕ) × (count : ℕ) × (scheme ≡ scheme_byte Simple) × (part ≡ 0) ×
+    IsServedLast k (frame.DeltaAsk since) (frame.NoDelta version count) first log)
+
+-- The rows that changed since a version were asked for: after an accepted sync of SimplePIR, while that version's hint was held.
+abbrev pub IsAskForDelta : ℕ → ℕ → List Entry → Type 0
+IsAskForDelta k since log =
+    (first : List Entry) × (log ≡ first ++ Called k (Sync Simple) None ∷ []) × (hint_told k first ≡ Some (Simple, since))
 
 -- What came before an entry: each frame sent is that of a call that was accepted last, or asks for the next part of a
 -- hint; each frame served was sent; each retrieval that ended was asked for and served, and each other event came of
@@ -96,6 +105,7 @@ HasEarlier x seeds h before (Sent k (frame.Query scheme version words)) =
 HasEarlier x seeds h before (Sent k (frame.Hello profile key)) =
     (first : List Entry) × (before ≡ first ++ Called k (Hello key) None ∷ [])
 HasEarlier x seeds h before (Sent k (frame.HintAsk scheme version part)) = IsAskForPart k scheme version part before
+HasEarlier x seeds h before (Sent k (frame.DeltaAsk since)) = IsAskForDelta k since before
 HasEarlier x seeds h before (Sent k f) = ⊥
 HasEarlier x seeds h before (Served k f now reply) = (first : List Entry) × IsSentLast k f first before
 HasEarlier x seeds h before (Ended k r reply event) = IsEndOfAsk x h (seed_of seeds k) k r reply before

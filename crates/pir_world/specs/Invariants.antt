@@ -1,9 +1,12 @@
 -- What each step of a run keeps.
-use Rattle.std.specs.Prelude.{◌≡◌, ◌≤◌, ◌<◌, ◌*◌, ◌⊎◌, ℕ, List, [], ◌∷◌, length, take, ◌++◌, false, Option, Some, None, slice_get}
-use Rattle.std.specs.List.{AllByRecursion}
-use Rattle.digit_pack.specs.Layout.{IsRecord, record_at}
+use Rattle.std.specs.Prelude.{◌≡◌, ◌≤◌, ◌<◌, ◌*◌, ◌⊎◌, ℕ, List, [], ◌∷◌, length, take, ◌++◌, true, false, Option, Some, None, slice_get}
+use Rattle.std.specs.List.{AllByRecursion, Contains}
+use Rattle.matrix_u32.specs.Matrix.{row}
+use Rattle.digit_pack.specs.Layout.{IsRecord, record_at, digit_rows}
 use Rattle.pir_schemes.specs.declared.scheme.Scheme.{Scheme}
+use Rattle.pir_schemes.specs.declared.scheme.Scheme.TheVariants.{Simple}
 use Rattle.pir_schemes.specs.Schemes.{scheme_byte}
+use Rattle.pir_schemes.specs.Retrievals.{hint_matrix}
 use Rattle.pir_schemes.specs.Plans.{Plan, IsPlan, shape_at, profile_of}
 use Rattle.frame_codec.specs.declared.frame.Frame.{Frame}
 use Rattle.frame_codec.specs.declared.frame.Frame.TheVariants as frame
@@ -12,13 +15,14 @@ use Rattle.frame_codec.specs.Refusals.{refused}
 use Rattle.version_store.specs.Histories.{History}
 use Rattle.server_core.specs.declared.standing.Standing.{Standing}
 use Rattle.server_core.specs.declared.standing.Standing.TheVariants.{Reader}
-use Rattle.server_core.specs.Serving.{Setting, hint_words, part_words, is_closed}
+use Rattle.server_core.specs.Serving.{Setting, hint_words, hint_rows, part_words, is_closed}
 use Rattle.client_core.specs.declared.state.ClientState.{ClientState}
 use Rattle.client_core.specs.declared.state.ServerInfo.{ServerInfo}
 use Rattle.client_core.specs.declared.state.Hint.{Hint}
 use Rattle.client_core.specs.declared.state.Call.{Call}
-use Rattle.client_core.specs.declared.state.Call.TheVariants.{Idle, Hello, Sync, Ask, Edit, Publish}
+use Rattle.client_core.specs.declared.state.Call.TheVariants.{Idle, Hello, Sync, Delta, Ask, Edit, Publish}
 use Rattle.client_core.specs.Calls.{call_frame}
+use Rattle.client_core.specs.Replies.{are_ascending}
 use Rattle.pir_world.specs.Runs.{State, Link, Entry, reader_key}
 use Rattle.pir_world.specs.Earlier.{IsSentLast, IsServedLast, asks_of, hint_told, IsAsked, HasEarlier}
 use Rattle.pir_world.specs.Versions.{HasVersion, HintIs, given_words, name_of, seed_of}
@@ -29,11 +33,12 @@ pub record AreRecords (p : Plan) (records : List (List ℕ)) : Type 0 where
   pub plan : IsPlan p (length records)
   pub each : (i : ℕ) → i < length records → IsRecord (shape_at p (length records)) (record_at records i)
 
--- versions of such records, numbered from 1 or later
+-- versions of such records, as many in each, numbered from 1 or later
 pub record GoodHistory (x : Setting) (h : History) : Type 0 where
   pub first : 1 ≤ h.first
   pub versions : (v : ℕ) (records : List (List ℕ)) → HasVersion h v records → AreRecords x.plan records
   pub draft : AreRecords x.plan h.draft
+  pub even : (v : ℕ) (records : List (List ℕ)) → HasVersion h v records → length records ≡ length h.draft
 
 -- what is known of a version is true
 pub record IsKnownOf (x : Setting) (h : History) (k : ServerInfo) : Type 0 where
@@ -69,11 +74,21 @@ pub record AskIs (c : ClientState) (i : ℕ) (s : Scheme) (v : ℕ) : Type 0 whe
   pub scheme_is : hint.scheme ≡ s
   pub version_is : hint.version ≡ v
 
+-- the hint held is SimplePIR's, of the version asked from
+pub record DeltaIs (c : ClientState) (since : ℕ) : Type 0 where
+  pub k : ServerInfo
+  pub known_is : c.known ≡ Some k
+  pub hint : Hint
+  pub hint_is : c.hint ≡ Some hint
+  pub scheme_is : hint.scheme ≡ Simple
+  pub version_is : hint.version ≡ since
+
 -- what holds of an outstanding call
 abbrev pub CallIs : Setting → History → ClientState → Call → Type 0
 CallIs x h c Idle = Unit {0}
 CallIs x h c (Hello key) = key ≡ reader_key
 CallIs x h c (Sync scheme v p) = SyncIs x h scheme v p c.known c.parts
+CallIs x h c (Delta since) = DeltaIs c since
 CallIs x h c (Ask i scheme v number) = AskIs c i scheme v
 CallIs x h c (Edit i bytes) = ⊥
 CallIs x h c Publish = ⊥
@@ -90,12 +105,30 @@ abbrev pub welcome_frame : Setting → ℕ → List (List ℕ) → Frame
 welcome_frame x v records =
     frame.Welcome (profile_of x.plan) x.plan.width x.plan.record_len x.plan.groups (length records) v x.plan.dimension x.plan.seed
 
+-- a Delta to a version's hint: its rows are that hint's, and they are all in which the hint of the version asked from is another
+pub record IsDeltaTo (x : Setting) (h : History) (since : ℕ) (r : Frame) : Type 0 where
+  pub now : ℕ
+  pub records : List (List ℕ)
+  pub version_is : HasVersion h now records
+  pub before : List (List ℕ)
+  pub since_is : HasVersion h since before
+  pub numbers : List ℕ
+  pub few : length numbers ≤ 1024
+  pub ascending : are_ascending 0 (digit_rows (shape_at x.plan (length records))) numbers ≡ true
+  pub named : (i : ℕ) → i < digit_rows (shape_at x.plan (length records)) →
+      Contains numbers i ⊎ (row (hint_matrix Simple x.plan before) i ≡ row (hint_matrix Simple x.plan records) i)
+  pub reply_is : r ≡ frame.Delta since now (length records) (hint_rows x records numbers)
+
 -- a reply to the outstanding call
 abbrev pub IsReply : Setting → History → Standing → List ℕ → Call → Frame → Type 0
 IsReply x h st seed (Hello key) r =
     (st ≡ Reader) × ((v : ℕ) × (records : List (List ℕ)) × HasVersion h v records × (r ≡ welcome_frame x v records))
 IsReply x h st seed (Sync s v p) r =
     IsReplyOf x h v r (λ records. frame.HintPart (scheme_byte s) v p (part_words x s records p))
+IsReply x h st seed (Delta since) r =
+    (r ≡ refused refusal.Memory)
+    ⊎ ((now : ℕ) × (records : List (List ℕ)) × HasVersion h now records × (r ≡ frame.NoDelta now (length records)))
+    ⊎ IsDeltaTo x h since r
 IsReply x h st seed (Ask i s v n) r =
     IsReplyOf x h v r (λ records. frame.Answer (scheme_byte s) v
     (given_words x.plan records seed (record { index = i; scheme = s; version = v; number = n })))
@@ -112,6 +145,7 @@ abbrev pub Phase : Setting → History → Standing → List ℕ → ClientState
 Phase x h st seed c Idle up down = (up ≡ []) × (down ≡ [])
 Phase x h st seed c (Hello key) up down = InFlight x h st seed c (Hello key) up down
 Phase x h st seed c (Sync scheme v p) up down = InFlight x h st seed c (Sync scheme v p) up down
+Phase x h st seed c (Delta since) up down = InFlight x h st seed c (Delta since) up down
 Phase x h st seed c (Ask i s v n) up down = InFlight x h st seed c (Ask i s v n) up down
 Phase x h st seed c (Edit i bytes) up down = ⊥
 Phase x h st seed c Publish up down = ⊥
@@ -126,11 +160,12 @@ pub record LinkInv (x : Setting) (h : History) (seed : List ℕ) (l : Link) : Ty
   pub call : CallIs x h l.client l.client.call
   pub phase : Phase x h l.standing seed l.client l.client.call l.up.frames l.down.frames
 
--- a sync's frame asks for its next part; an ask's is the query of its retrieval, which was asked for last
+-- a sync's frame asks for its next part, or for the rows that changed; an ask's is the query of its retrieval, which was asked for last
 abbrev pub IsFrom : Setting → History → List ℕ → ℕ → Call → Frame → List Entry → Type 0
 IsFrom x h seed k (Ask i s v n) f first =
     IsAsked x h seed k (record { index = i; scheme = s; version = v; number = n }) f first
 IsFrom x h seed k (Sync s v p) f first = f ≡ frame.HintAsk (scheme_byte s) v p
+IsFrom x h seed k (Delta since) f first = f ≡ frame.DeltaAsk since
 IsFrom x h seed k _ f first = Unit {0}
 
 -- what the log says of a client: its next number, the hint that it holds, the frame on its way, or the reply

@@ -9,3 +9,4 @@ pub mod Publications
 pub mod RowLemmas
 pub mod DoubleLemmas
 pub mod BroughtForward
+pub mod NamedRows
