@@ -153,10 +153,11 @@ fn get_task<'a>(found: &ArgMatches<'a>) -> Result<Task, BadLine<'a>>
     let port = number_at(found, "port", u64::from(u16::MAX), PORT_TAKES)? as u16;
     let seed = bytes32_at(found, "seed", SEED_TAKES)?;
     let number = number_at(found, "number", NUMBERS - 1, NUMBER_TAKES)?;
-    let scheme = match text_at(found, "scheme", SCHEME_TAKES)? {
+    let name = text_at(found, "scheme", SCHEME_TAKES)?;
+    let scheme = match name {
         "simple" => Scheme::Simple,
         "double" => Scheme::Double,
-        other => return Err(BadLine::Given(SCHEME_TAKES, other)),
+        _ => return Err(BadLine::Given(SCHEME_TAKES, name)),
     };
     let index = number_at(found, "INDEX", u64::from(u32::MAX), INDEX_TAKES)? as u32;
     Ok(Task::Get {
