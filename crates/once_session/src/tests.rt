@@ -20,6 +20,10 @@ const ANSWER: &[u8] = &[
     13, 0, 0, 0, 0x85, 0, 1, 0, 0, 0, 0, 0, 0, 0, 0xa4, 0x1a, 0, 0xc8,
 ];
 
+const DELTA_ASK: &[u8] = &[8, 0, 0, 0, 4, 1, 0, 0, 0, 0, 0, 0, 0];
+
+const NO_DELTA: &[u8] = &[12, 0, 0, 0, 0x88, 2, 0, 0, 0, 0, 0, 0, 0, 0xd0, 0x07, 0, 0];
+
 const BYE: &[u8] = &[0, 0, 0, 0, 8];
 
 const REFUSED: &[u8] = &[1, 0, 0, 0, 0x8f, 1];
@@ -252,7 +256,7 @@ fn the_end_between_frames_is_an_end(rt: HostRuntime) -> Result<(), Fail> {
 
 #[test]
 fn a_first_frame_other_than_a_load_is_refused(rt: HostRuntime) -> Result<(), Fail> {
-    for first in [QUERY, BYE, ANSWER, REFUSED] {
+    for first in [QUERY, DELTA_ASK, BYE, ANSWER, NO_DELTA, REFUSED] {
         check(
             &rt,
             rt.alloc(),
@@ -288,7 +292,7 @@ fn a_load_that_does_not_fit_is_refused(rt: HostRuntime) -> Result<(), Fail> {
 #[test]
 fn a_frame_out_of_place_ends_the_work(rt: HostRuntime) -> Result<(), Fail> {
     let said = joined(rt.alloc(), &[ANSWER, REFUSED])?;
-    for other in [LOAD, ANSWER, REFUSED] {
+    for other in [LOAD, DELTA_ASK, ANSWER, NO_DELTA, REFUSED] {
         check(
             &rt,
             rt.alloc(),
