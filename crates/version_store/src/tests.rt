@@ -69,6 +69,10 @@ fn reports_its_sizes<K: Kernel>(rt: &impl Abort, store: &Store<K>) {
     assert_eq!(rt; store.bytes(), &[10u8, 200][..]);
     assert_eq!(rt; store.query_words(Scheme::Simple), 2);
     assert_eq!(rt; store.query_words(Scheme::Double), 3);
+}
+
+fn reports_its_hints<K: Kernel>(rt: &impl Abort, store: &Store<K>) {
+    assert_eq!(rt; store.layout().rows(), 1);
     assert_eq!(rt;
         store.hint_words(Scheme::Simple, 0),
         Some(&[FIRST_HINT][..])
@@ -77,13 +81,23 @@ fn reports_its_sizes<K: Kernel>(rt: &impl Abort, store: &Store<K>) {
     assert_eq!(rt; store.hint_words(Scheme::Simple, 1), None);
     assert_eq!(rt; store.hint_words(Scheme::Double, 0), Some(&DOUBLE_HINT[..]));
     assert_eq!(rt; store.hint_words(Scheme::Double, 1), None);
+}
+
+fn reports_its_header<K: Kernel>(rt: &impl Abort, store: &Store<K>) {
     assert_eq!(rt; store.header(), STORE);
 }
 
+// All that a store reports.
+fn reports_all<K: Kernel>(rt: &impl Abort, store: &Store<K>) {
+    reports_its_sizes(rt, store);
+    reports_its_hints(rt, store);
+    reports_its_header(rt, store);
+}
+
 #[test]
-fn a_store_reports_its_sizes(rt: HostRuntime) -> Result<(), Fail> {
-    reports_its_sizes(&rt, &two_records(rt.alloc(), Plain, 1)?);
-    reports_its_sizes(&rt, &two_records(rt.alloc(), Lanes, 1)?);
+fn a_store_reports_what_it_has(rt: HostRuntime) -> Result<(), Fail> {
+    reports_all(&rt, &two_records(rt.alloc(), Plain, 1)?);
+    reports_all(&rt, &two_records(rt.alloc(), Lanes, 1)?);
     Ok(())
 }
 

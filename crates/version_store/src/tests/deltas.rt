@@ -33,7 +33,7 @@ fn gives(
 
 #[test]
 fn a_fresh_store_knows_its_own_version(rt: HostRuntime) -> Result<(), Fail> {
-    let store = two_records(rt.alloc(), 1)?;
+    let store = two_records(rt.alloc(), Plain, 1)?;
     gives(&rt, &store, 1, Some(&[]))?;
     gives(&rt, &store, 0, None)?;
     gives(&rt, &store, 2, None)
@@ -41,7 +41,7 @@ fn a_fresh_store_knows_its_own_version(rt: HostRuntime) -> Result<(), Fail> {
 
 #[test]
 fn sixteen_publications_are_known(rt: HostRuntime) -> Result<(), Fail> {
-    let mut store = two_records(rt.alloc(), 1)?;
+    let mut store = two_records(rt.alloc(), Plain, 1)?;
     publish_bytes(&rt, &mut store, 16);
     gives(&rt, &store, 1, Some(&[0]))?;
     gives(&rt, &store, 17, Some(&[]))?;
@@ -52,7 +52,7 @@ fn sixteen_publications_are_known(rt: HostRuntime) -> Result<(), Fail> {
 
 #[test]
 fn equal_bytes_change_no_row(rt: HostRuntime) -> Result<(), Fail> {
-    let mut store = two_records(rt.alloc(), 1)?;
+    let mut store = two_records(rt.alloc(), Plain, 1)?;
     publish_byte(&rt, &mut store, 10);
     assert_eq!(rt; store.version(), 2);
     gives(&rt, &store, 1, Some(&[]))
