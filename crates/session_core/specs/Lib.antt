@@ -1,0 +1,11 @@
+pub use Rattle.server_core.specs.Serving
+pub use Rattle.server_core.specs.Sessions
+pub use Rattle.server_core.specs.Cores
+pub use Rattle.client_core.specs.States
+pub use Rattle.client_core.specs.Calls
+pub use Rattle.client_core.specs.Replies
+pub use Rattle.client_core.specs.Feeding
+pub use Rattle.client_core.specs.Endings
+pub use Rattle.session_engines.specs.Prefixes
+pub use Rattle.session_engines.specs.Conversing
+pub use Rattle.once_session.specs.Outputs

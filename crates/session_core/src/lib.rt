@@ -1,0 +1,48 @@
+//! Sessions, all in one place: a server of sessions over one store, a client, and the engines that run both over a
+//! reader and a writer. Who uses the library begins here.
+//!
+//! [`ServerCore`] and [`ClientCore`] know no connection: bytes go in by `feed`, in any pieces, and bytes come out.
+//! [`serve`] and [`converse`] run them over a reader and a writer, and [`once`] serves one database over one stream.
+//!
+//! A whole session by hand: a publisher's store, a session, a client that is let in, gets its hint, and retrieves
+//! a record without the server learning which. The test `tests::a_record_is_retrieved` is this very code.
+//!
+//! ```
+//! let store = Store::open(alloc, Lanes, snapshot)?;
+//! let mut server = ServerCore::new(alloc, store);
+//! server.open_session(7)?;
+//! // The seed is the client's secret, and no number is ever to be spent twice under it.
+//! let mut client = ClientCore::new(alloc, Lanes, seed, 0);
+//!
+//! let sent = client.hello(READER)?;
+//! exchange(alloc, &mut server, &mut client, &sent)?; // Event::Welcomed(1)
+//! let sent = client.sync(Scheme::Double)?;
+//! exchange(alloc, &mut server, &mut client, &sent)?; // Event::Synced(Scheme::Double, 1)
+//! let sent = client.ask(1)?;
+//! exchange(alloc, &mut server, &mut client, &sent)?; // Event::Retrieved { index: 1, version: 1, bytes }
+//! server.close_session(7);
+//! ```
+//!
+//! where `exchange` carries bytes to and fro until the client has an event, as a connection would:
+//!
+//! ```
+//! let mut sent = first.to_vec(alloc)?;
+//! loop {
+//!     let mut replies = Vec::new(alloc);
+//!     server.feed(7, &sent, &mut replies)?;
+//!     let fed = client.feed(&replies);
+//!     if let Some(event) = fed.events.into_iter().next() {
+//!         return Ok(event);
+//!     }
+//!     sent = fed.out;
+//! }
+//! ```
+#![tactic(auto)]
+
+pub use client_core::{CallFault, ClientCore, ClientFault, Event, Fed, Scheme};
+pub use once_session::{OnceFault, once};
+pub use server_core::{FeedError, OpenError, ServerCore, Standing};
+pub use session_engines::{ConverseFault, Ending, ServeFault, converse, serve};
+
+#[cfg(test)]
+mod tests;

@@ -1,0 +1,124 @@
+//! The session that the crate's page shows.
+
+use crate::{CallFault, ClientCore, Event, FeedError, Scheme, ServerCore};
+use lane_kernels::Lanes;
+use std::alloc::Global;
+use std::process::Abort;
+use std::test::Fail;
+use version_store::{Header, Store};
+
+const READER: [u8; 32] = [0; 32];
+
+// How many times bytes go to and fro for one call.
+const MOST_ROUNDS: u32 = 4;
+
+// A server of the records 0a and c8 at version 1, for no publisher.
+fn server(rt: &impl Abort, alloc: Global) -> Result<ServerCore<Lanes>, Fail> {
+    let header = Header {
+        width: 8,
+        record_len: 1,
+        groups: 1,
+        count: 2,
+        dimension: 1,
+        version: 1,
+        seed: [0; 32],
+        publisher: [0; 32],
+    };
+    let snapshot = header.with_records([10u8, 200].to_vec(alloc)?);
+    let Ok(store) = Store::open(alloc, Lanes, snapshot) else {
+        panic!(rt; "the store was not opened");
+    };
+    Ok(ServerCore::new(alloc, store))
+}
+
+// The calls below have no clause, so that the test doesn't carry theirs.
+
+fn open_session(server: &mut ServerCore<Lanes>) -> bool {
+    server.open_session(7).is_ok()
+}
+
+fn hello(client: &mut ClientCore<Lanes>) -> Result<Vec<u8>, CallFault> {
+    client.hello(READER)
+}
+
+fn sync(client: &mut ClientCore<Lanes>) -> Result<Vec<u8>, CallFault> {
+    client.sync(Scheme::Double)
+}
+
+fn ask(client: &mut ClientCore<Lanes>) -> Result<Vec<u8>, CallFault> {
+    client.ask(1)
+}
+
+fn replies_to(
+    alloc: Global,
+    server: &mut ServerCore<Lanes>,
+    sent: &[u8],
+) -> Result<Vec<u8>, FeedError> {
+    let mut replies = Vec::new(alloc);
+    match server.feed(7, sent, &mut replies) {
+        Ok(()) => Ok(replies),
+        Err(fault) => Err(fault),
+    }
+}
+
+// What the client says next, and the first event.
+fn heard(client: &mut ClientCore<Lanes>, replies: &[u8]) -> (Vec<u8>, Option<Event>) {
+    let fed = client.feed(replies);
+    (fed.out, fed.events.into_iter().next())
+}
+
+// Carries bytes to and fro until the client has an event.
+fn exchange(
+    rt: &impl Abort,
+    alloc: Global,
+    server: &mut ServerCore<Lanes>,
+    client: &mut ClientCore<Lanes>,
+    first: Vec<u8>,
+) -> Result<Event, Fail> {
+    let mut sent = first;
+    for _ in 0..MOST_ROUNDS {
+        let replies = replies_to(alloc, server, &sent)?;
+        let (said, event) = heard(client, &replies);
+        if let Some(event) = event {
+            return Ok(event);
+        }
+        sent = said;
+    }
+    panic!(rt; "no event came");
+}
+
+// The session, over a server and a client that are lent to it.
+fn check_session(
+    rt: &impl Abort,
+    alloc: Global,
+    server: &mut ServerCore<Lanes>,
+    client: &mut ClientCore<Lanes>,
+) -> Result<(), Fail> {
+    assert!(rt; open_session(server));
+    let sent = hello(client)?;
+    let event = exchange(rt, alloc, server, client, sent)?;
+    assert!(rt; matches!(event, Event::Welcomed(1)));
+    let sent = sync(client)?;
+    let event = exchange(rt, alloc, server, client, sent)?;
+    assert!(rt; matches!(event, Event::Synced(Scheme::Double, 1)));
+    let sent = ask(client)?;
+    let event = exchange(rt, alloc, server, client, sent)?;
+    let Event::Retrieved {
+        index,
+        version,
+        bytes,
+    } = event
+    else {
+        panic!(rt; "no record came");
+    };
+    assert_eq!(rt; (index, version), (1, 1));
+    assert_eq!(rt; bytes.as_slice(), [200].as_slice());
+    Ok(())
+}
+
+#[test]
+fn a_record_is_retrieved(rt: HostRuntime) -> Result<(), Fail> {
+    let mut server = server(&rt, rt.alloc())?;
+    let mut client = ClientCore::new(rt.alloc(), Lanes, [0x11; 32], 0);
+    check_session(&rt, rt.alloc(), &mut server, &mut client)
+}
