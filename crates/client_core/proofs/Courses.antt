@@ -10,7 +10,7 @@ use Rattle.client_core.specs.declared.state.ClientFault.{ClientFault}
 use Rattle.client_core.specs.declared.state.Event.{Event}
 use Rattle.client_core.specs.States.{IsState, Keeps}
 use Rattle.client_core.specs.Replies.{reaction_to_reply}
-use Rattle.client_core.specs.Feeding.{Course, start, goes_on, course_more, runs, takes_all, sends_of, events_of, fault_of, Gives, Follows}
+use Rattle.client_core.specs.Feeding.{Course, start, course_after_reply, course_more, runs, takes_all, sends_of, events_of, fault_of, Gives, Follows}
 
 pub runs_append : (k : Course) (fs gs : List Frame) → runs k (fs ++ gs) ≡ runs (runs k fs) gs
 runs_append k [] gs = refl
@@ -32,12 +32,12 @@ each_both (f ∷ fs) gs all more = (all.0, each_both fs gs all.1 more)
 
 -- the course one frame further
 course_next : (c : ClientState) (fs : List Frame) (i : ℕ) (f : Frame) → i < length fs → f ≡ get_or fs i f → (takes_all c (take i fs)).fault ≡ None
-    → takes_all c (take (i + 1) fs) ≡ goes_on (takes_all c (take i fs)) (reaction_to_reply (takes_all c (take i fs)).state f)
+    → takes_all c (take (i + 1) fs) ≡ course_after_reply (takes_all c (take i fs)) (reaction_to_reply (takes_all c (take i fs)).state f)
 course_next c fs i f lt e none =
     let t : take (i + 1) fs ≡ take i fs ++ f ∷ [] = take_more fs i f lt ∙ ap (λ (x : Frame). take i fs ++ x ∷ []) (sym e) in
     ap (λ (x : List Frame). runs (start c) x) t ∙ runs_append (start c) (take i fs) (f ∷ []) ∙ go (takes_all c (take i fs)) none
   where
-    go : (k : Course) → k.fault ≡ None → course_more k f ≡ goes_on k (reaction_to_reply k.state f)
+    go : (k : Course) → k.fault ≡ None → course_more k f ≡ course_after_reply k (reaction_to_reply k.state f)
     go k none = rw none refl
 
 -- the first i frames were taken, and all is well
@@ -59,7 +59,7 @@ pub record Adds (state : ClientState) (f : Frame) (state2 : ClientState) (out ou
 
 gives_more : (k : Course) (f : Frame) (state2 : ClientState) (out out2 : List ℕ) (events events2 : List Event) (fault : Option ClientFault) →
     Gives k out events → Adds k.state f state2 out out2 events events2 fault
-    → Gives (goes_on k (reaction_to_reply k.state f)) out2 events2
+    → Gives (course_after_reply k (reaction_to_reply k.state f)) out2 events2
 gives_more k f state2 out out2 events events2 fault g a = record {
   written = a.written ∙ ap (λ (x : List ℕ). x ++ flat_map encoding (sends_of (reaction_to_reply k.state f).reaction)) g.written
       ∙ sym (flat_map-append encoding k.sends (sends_of (reaction_to_reply k.state f).reaction));
@@ -100,5 +100,6 @@ bad c fs i f state state2 out out2 events events2 x lt e s a =
     let here : (takes_all c (take (i + 1) fs)).fault ≡ Some x = ap (λ (y : Course). y.fault) n ∙ sym b.fault_is in
     let all : takes_all c fs ≡ runs (takes_all c (take (i + 1) fs)) (drop (i + 1) fs) =
     ap (λ (y : List Frame). takes_all c y) (sym (take-append-drop (i + 1) fs)) ∙ runs_append (start c) (take (i + 1) fs) (drop (i + 1) fs) in
-    let whole : takes_all c fs ≡ goes_on k (reaction_to_reply k.state f) = all ∙ fault_stays (takes_all c (take (i + 1) fs)) (drop (i + 1) fs) x here ∙ n in
+    let whole : takes_all c fs ≡ course_after_reply k (reaction_to_reply k.state f) =
+    all ∙ fault_stays (takes_all c (take (i + 1) fs)) (drop (i + 1) fs) x here ∙ n in
     rw whole (record { gives = gives_more k f state2 out out2 events events2 (Some x) s.gives b; fault_is = b.fault_is; state = b.state_is })

@@ -22,8 +22,8 @@ use Rattle.client_core.specs.declared.state.Event.TheVariants.{Welcomed, Synced,
 use Rattle.client_core.specs.declared.state.ClientFault.{ClientFault}
 use Rattle.client_core.specs.declared.state.Reaction.{Reaction}
 use Rattle.client_core.specs.declared.state.Reaction.TheVariants.{Asks, Reports, Fails}
-use Rattle.client_core.specs.Replies.{Taken, reaction_to_reply, is_welcome, takes_welcome, is_part, more_parts, takes_asked_part, takes_part, event_of, is_answer, answered, takes_answer, is_current, staled, takes_stale, row_numbers, is_delta, moved, takes_delta, goes_by_parts, takes_no_delta, takes_done, takes_refused}
-use Rattle.client_core.specs.Feeding.{Client, Course, start, goes_on, course_more, runs, takes_all, sends_of, events_of, fault_of, failing, ends_with, codec_fault, Follows, BreaksOff, FeedsOpen, FeedsFailed}
+use Rattle.client_core.specs.Replies.{Taken, reaction_to_reply, is_accepted_welcome, takes_welcome, is_part, more_parts, takes_asked_part, takes_part, event_of, is_answer, answered, takes_answer, is_current, staled, takes_stale, row_numbers, is_delta, moved, takes_delta, goes_by_parts, takes_no_delta, takes_done, takes_refused}
+use Rattle.client_core.specs.Feeding.{Client, Course, start, course_after_reply, course_more, runs, takes_all, sends_of, events_of, fault_of, failing, ends_with, codec_fault, Follows, BreaksOff, FeedsOpen, FeedsFailed}
 use Rattle.client_core.specs.Endings.{Ends, FirstEventEndsTheCall, FeedingSpendsNoNumber}
 use Rattle.client_core.proofs.NumberLaws.{takes_number}
 
@@ -44,7 +44,7 @@ if_reacts call false x y p q = q
 welcome_reacts : (call : Call) (c : ClientState) (profile : ℕ) (l : Shape) (n version : ℕ) (seed : List ℕ) →
     ReactsTo call (takes_welcome call c profile l n version seed)
 welcome_reacts Idle c profile l n version seed = tt
-welcome_reacts (Hello key) c profile l n version seed = if_reacts (Hello key) (is_welcome profile l n version) _ _ (λ _. tt) tt
+welcome_reacts (Hello key) c profile l n version seed = if_reacts (Hello key) (is_accepted_welcome profile l n version) _ _ (λ _. tt) tt
 welcome_reacts (Sync s v p) c profile l n version seed = tt
 welcome_reacts (Delta since) c profile l n version seed = tt
 welcome_reacts (Ask i x v m) c profile l n version seed = tt
@@ -220,7 +220,7 @@ events_begin k (f ∷ fs) =
     more : (k : Course) (f : Frame) → (rest : List Event) × ((course_more k f).events ≡ k.events ++ rest)
     more k f = by (is_some k.fault)
       where
-        by : (b : Bool) → (rest : List Event) × ((cond b k (goes_on k (reaction_to_reply k.state f))).events ≡ k.events ++ rest)
+        by : (b : Bool) → (rest : List Event) × ((cond b k (course_after_reply k (reaction_to_reply k.state f))).events ≡ k.events ++ rest)
         by true = ([], sym (append-nil k.events))
         by false = (events_of (reaction_to_reply k.state f).reaction, refl)
 
@@ -274,7 +274,7 @@ runs_number : (k : Course) (fs : List Frame) → (runs k fs).state.number ≡ k.
 runs_number k [] = refl
 runs_number k (f ∷ fs) = runs_number (course_more k f) fs ∙ more (is_some k.fault)
   where
-    more : (b : Bool) → (cond b k (goes_on k (reaction_to_reply k.state f))).state.number ≡ k.state.number
+    more : (b : Bool) → (cond b k (course_after_reply k (reaction_to_reply k.state f))).state.number ≡ k.state.number
     more true = refl
     more false = takes_number k.state f
 

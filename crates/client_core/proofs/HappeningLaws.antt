@@ -12,7 +12,7 @@ use Rattle.client_core.specs.declared.state.ClientFault.TheVariants.{Memory}
 use Rattle.client_core.specs.declared.state.Event.{Event}
 use Rattle.client_core.specs.Calls.{Want, call_frame, Accepts, Refuses}
 use Rattle.client_core.specs.Replies.{reaction_to_reply}
-use Rattle.client_core.specs.Feeding.{Client, Course, start, goes_on, course_more, runs, takes_all, sends_of, fault_of, failing, ends_with, codec_fault, Follows, BreaksOff, FeedsClient, FeedsOpen, FeedsFailed}
+use Rattle.client_core.specs.Feeding.{Client, Course, start, course_after_reply, course_more, runs, takes_all, sends_of, fault_of, failing, ends_with, codec_fault, Follows, BreaksOff, FeedsClient, FeedsOpen, FeedsFailed}
 use Rattle.client_core.specs.Laws.{Happening, Accepted, TurnedDown, Lacking, Taken as Reply, Failing, after}
 use Rattle.client_core.specs.Shapes.{frames_at, frames, after_all, IsFed, Happened, ClientsHappen}
 use Rattle.client_core.proofs.Courses.{fault_stays}
@@ -47,20 +47,20 @@ no_fault : (k end : Course) (x : ClientFault) → end ≡ k → k.fault ≡ Some
 no_fault k end x same is none P = absurd (let e : Some x ≡ None = sym is ∙ ap (λ (y : Course). y.fault) (sym same) ∙ none in cc)
 
 next_reply : (k : Course) (f : Frame) (fs : List Frame) (o : Option ClientFault) → fault_of (reaction_to_reply k.state f).reaction ≡ o
-    → ((j : Course) → j.fault ≡ None → Went j (runs j fs) fs) → Went k (runs (goes_on k (reaction_to_reply k.state f)) fs) (f ∷ fs)
+    → ((j : Course) → j.fault ≡ None → Went j (runs j fs) fs) → Went k (runs (course_after_reply k (reaction_to_reply k.state f)) fs) (f ∷ fs)
 next_reply k f fs (Some x) is again =
     let t = reaction_to_reply k.state f in
-    let same : runs (goes_on k t) fs ≡ goes_on k t = fault_stays (goes_on k t) fs x is in
+    let same : runs (course_after_reply k t) fs ≡ course_after_reply k t = fault_stays (course_after_reply k t) fs x is in
     record {
       happenings = Reply f ∷ [];
       fed = (tt, tt);
       sends = ap (λ (y : Course). y.sends) same ∙ ap (λ (y : List Frame). k.sends ++ y) (sym (append-nil (sends_of t.reaction)));
       state = ap (λ (y : Course). y.state) same;
-      all = λ none. no_fault (goes_on k t) (runs (goes_on k t) fs) x same is none (Reply f ∷ [] ≡ map Reply (f ∷ fs));
+      all = λ none. no_fault (course_after_reply k t) (runs (course_after_reply k t) fs) x same is none (Reply f ∷ [] ≡ map Reply (f ∷ fs));
     }
 next_reply k f fs None is again =
     let t = reaction_to_reply k.state f in
-    let w : Went (goes_on k t) (runs (goes_on k t) fs) fs = again (goes_on k t) is in
+    let w : Went (course_after_reply k t) (runs (course_after_reply k t) fs) fs = again (course_after_reply k t) is in
     record {
       happenings = Reply f ∷ w.happenings;
       fed = (tt, w.fed);
@@ -69,7 +69,7 @@ next_reply k f fs None is again =
       all = λ none. ap (λ (y : List Happening). Reply f ∷ y) (w.all none);
     }
 
-taken_next : (k : Course) (f : Frame) → k.fault ≡ None → course_more k f ≡ goes_on k (reaction_to_reply k.state f)
+taken_next : (k : Course) (f : Frame) → k.fault ≡ None → course_more k f ≡ course_after_reply k (reaction_to_reply k.state f)
 taken_next k f none = rw none refl
 
 went : (fs : List Frame) (k : Course) → k.fault ≡ None → Went k (runs k fs) fs

@@ -13,7 +13,7 @@ use Rattle.client_core.specs.declared.state.Call.TheVariants.{Idle, Hello, Sync,
 use Rattle.client_core.specs.declared.state.Event.{Event}
 use Rattle.client_core.specs.declared.state.ClientFault.{ClientFault}
 use Rattle.client_core.specs.Replies.{Taken, reaction_to_reply, takes_welcome, takes_part, answered, takes_answer, staled, takes_stale, takes_delta, takes_no_delta, takes_done, takes_refused}
-use Rattle.client_core.specs.Feeding.{Client, Course, start, goes_on, course_more, runs, takes_all, failing, ends_with, codec_fault, Follows, BreaksOff, FeedsOpen, FeedsFailed}
+use Rattle.client_core.specs.Feeding.{Client, Course, start, course_after_reply, course_more, runs, takes_all, failing, ends_with, codec_fault, Follows, BreaksOff, FeedsOpen, FeedsFailed}
 use Rattle.client_core.specs.Endings.{IsNoSync, OnlySyncsChangeTheHint}
 
 -- the hint stays, and again no sync is outstanding
@@ -145,7 +145,7 @@ runs_stay k (f ∷ fs) calm =
     let one : Stays k.state (course_more k f).state = more (is_some k.fault) in
     both_stay k.state (course_more k f).state (runs (course_more k f) fs).state one (runs_stay (course_more k f) fs one.calm)
   where
-    more : (b : Bool) → Stays k.state (cond b k (goes_on k (reaction_to_reply k.state f))).state
+    more : (b : Bool) → Stays k.state (cond b k (course_after_reply k (reaction_to_reply k.state f))).state
     more true = as_it_was k.state calm
     more false = takes_stays k.state f calm
 

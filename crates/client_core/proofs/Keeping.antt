@@ -21,7 +21,7 @@ use Rattle.client_core.specs.declared.state.Call.TheVariants.{Idle, Hello, Sync,
 use Rattle.client_core.specs.declared.state.Event.TheVariants.{Welcomed}
 use Rattle.client_core.specs.declared.state.ClientFault.TheVariants.{BadWelcome, BadReply}
 use Rattle.client_core.specs.States.{IsState, IsKnown, Keeps, KnownFits, HintFits, CallFits, is_layout}
-use Rattle.client_core.specs.Replies.{Taken, reaction_to_reply, faulty, ended, is_welcome, takes_welcome, is_part, more_parts, takes_asked_part, takes_part, is_answer, answered, takes_answer, with_count, is_current, with_current, staled, takes_stale, are_ascending, row_numbers, is_delta, moved, takes_delta, goes_by_parts, takes_no_delta, takes_done, takes_refused}
+use Rattle.client_core.specs.Replies.{Taken, reaction_to_reply, faulty, ended, is_accepted_welcome, takes_welcome, is_part, more_parts, takes_asked_part, takes_part, is_answer, answered, takes_answer, with_count, is_current, with_current, staled, takes_stale, are_ascending, row_numbers, is_delta, moved, takes_delta, goes_by_parts, takes_no_delta, takes_done, takes_refused}
 use Rattle.client_core.proofs.MovedRows.{with_rows-rows, with_rows-cols}
 use Rattle.client_core.proofs.Layouts.{layout_means}
 
@@ -49,7 +49,7 @@ no_hint (Some j) hint key parts k a b = absurd a
 reported : ℕ → Shape → ℕ → List ℕ → ServerInfo
 reported version l n seed = record { version = version; layout = l; dimension = n; seed = seed }
 
-welcome_known : (profile : ℕ) (l : Shape) (n version : ℕ) (seed : List ℕ) → is_welcome profile l n version ≡ true → IsKnown (reported version l n seed)
+welcome_known : (profile : ℕ) (l : Shape) (n version : ℕ) (seed : List ℕ) → is_accepted_welcome profile l n version ≡ true → IsKnown (reported version l n seed)
 unfolding reported
 welcome_known profile l n version seed h =
     let a = and_parts (profile == profile_of (plan_of l n [])) (is_layout l && ((nat_le 1 n && nat_le n 1024) && nat_lt 0 version)) h in
@@ -59,7 +59,7 @@ welcome_known profile l n version seed h =
     record { layout = layout_means l b.0; low = leb-true 1 n e.0; high = leb-true n 1024 e.1 }
 
 welcomed_keeps : (c : ClientState) (key : List ℕ) (profile : ℕ) (l : Shape) (n version : ℕ) (seed : List ℕ) → IsState c → CallFits (Hello key) c.known c.parts
-    → is_welcome profile l n version ≡ true → Keeps c (record c { known = Some (reported version l n seed); call = Idle })
+    → is_accepted_welcome profile l n version ≡ true → Keeps c (record c { known = Some (reported version l n seed); call = Idle })
 welcomed_keeps c key profile l n version seed s fits is = record {
   good = record {
     number = s.number;
@@ -76,7 +76,7 @@ welcome_keeps : (call : Call) (c : ClientState) (profile : ℕ) (l : Shape) (n v
 unfolding reported
 welcome_keeps Idle c profile l n version seed s fits = faulty_keeps c s
 welcome_keeps (Hello key) c profile l n version seed s fits =
-    if_keeps c (is_welcome profile l n version)
+    if_keeps c (is_accepted_welcome profile l n version)
     (ended (record c { known = Some (reported version l n seed) }) (Welcomed version))
     (faulty c BadWelcome)
     (welcomed_keeps c key profile l n version seed s fits)

@@ -24,13 +24,13 @@ use Rattle.client_core.specs.declared.state.CallFault.{CallFault}
 use Rattle.client_core.specs.declared.state.CallFault.TheVariants.{NotReady, Busy, SeedUsedUp, Failed, AlreadyWelcome}
 use Rattle.client_core.specs.States.{is_idle, is_ready, known_version, known_count, scheme_held, delta_base}
 use Rattle.client_core.specs.Calls.{Want, Hello, Sync, Ask, Edit, Publish, sync_begun, state_after_call, call_frame, call_words, refusal, spent}
-use Rattle.client_core.specs.Replies.{Taken, reaction_to_reply, is_welcome, takes_welcome, is_part, more_parts, takes_asked_part, takes_part, is_answer, answered, takes_answer, is_current, with_current, staled, takes_stale, row_numbers, is_delta, moved, takes_delta, goes_by_parts, takes_no_delta, takes_done, takes_refused}
+use Rattle.client_core.specs.Replies.{Taken, reaction_to_reply, is_accepted_welcome, takes_welcome, is_part, more_parts, takes_asked_part, takes_part, is_answer, answered, takes_answer, is_current, with_current, staled, takes_stale, row_numbers, is_delta, moved, takes_delta, goes_by_parts, takes_no_delta, takes_done, takes_refused}
 use Rattle.client_core.specs.Feeding.{sends_of}
 use Rattle.client_core.specs.Laws.{Happening, Accepted, TurnedDown, Lacking, Taken as Reply, Failing, after}
-use Rattle.client_core.specs.Shapes.{frames_at, frames, FrameShape, shape_of, frame_shape, BlankCall, BlankHello, BlankAsk, blank_call, blank_reply, BlankHappening, blank, Awaited, NoReply, APart, awaited, HintName, hint_name, Outline, outline, asked_count, named_base, sync_shape, call_shape, outline_of_sync, outline_after_call, outline_spent, Reacted, after_welcome, after_good_part, after_asked_part, after_part, after_asked_delta, after_delta, after_asked_no_delta, after_no_delta, after_asked_answer, after_answer, after_asked_stale, after_stale, after_done, after_refused, after_reply, outline_after, shapes_at, shapes, HasWholeKey, KeyIsWhole, IndexIsBelow, EqualShapes}
+use Rattle.client_core.specs.Shapes.{frames_at, frames, FrameShape, shape_of_frame, frame_shape, BlankCall, BlankHello, BlankAsk, blank_call, blank_reply, BlankHappening, blank, Awaited, NoReply, APart, awaited, HintName, hint_name, Outline, outline, asked_count, named_base, sync_shape, call_shape, outline_of_sync, outline_after_call, outline_spent, Reacted, after_welcome, after_good_part, after_asked_part, after_part, after_asked_delta, after_delta, after_asked_no_delta, after_no_delta, after_asked_answer, after_answer, after_asked_stale, after_stale, after_done, after_refused, after_reply, outline_after, shapes_at, shapes, HasWholeKey, KeyIsWhole, IndexIsBelow, EqualShapes}
 
 -- a frame's shape by the size of its fields
-sized : (f : Frame) → shape_of f ≡ frame_shape (kind_of f) (payload_size f)
+sized : (f : Frame) → shape_of_frame f ≡ frame_shape (kind_of f) (payload_size f)
 sized f = ap (λ (x : ℕ). frame_shape (kind_of f) x) (payload_sized f)
 
 -- ---- calls
@@ -48,7 +48,7 @@ base_named Simple (Some h) = refl
 base_named Double None = refl
 base_named Double (Some h) = refl
 
-sync_shaped : (base : Option ℕ) (s : Scheme) (c : ClientState) → shape_of (call_frame (sync_begun base s c) (sync_begun base s c).call) ≡ sync_shape base
+sync_shaped : (base : Option ℕ) (s : Scheme) (c : ClientState) → shape_of_frame (call_frame (sync_begun base s c) (sync_begun base s c).call) ≡ sync_shape base
 sync_shaped None s c = sized (frame.HintAsk (scheme_byte s) (known_version c.known) 0)
 sync_shaped (Some since) s c = sized (frame.DeltaAsk since)
 
@@ -56,7 +56,7 @@ sync_outlined : (base : Option ℕ) (s : Scheme) (c : ClientState) → outline (
 sync_outlined None s c = refl
 sync_outlined (Some since) s c = refl
 
-call_shaped : (c : ClientState) (want : Want) → HasWholeKey want → shape_of (call_frame (state_after_call want c) (state_after_call want c).call)
+call_shaped : (c : ClientState) (want : Want) → HasWholeKey want → shape_of_frame (call_frame (state_after_call want c) (state_after_call want c).call)
     ≡ call_shape (outline c) (blank_call want)
 call_shaped c (Hello key) whole = sized (call_frame (state_after_call (Hello key) c) (call.Hello key)) ∙ ap (λ (x : ℕ). frame_shape 2 (2 + x)) whole
 call_shaped c (Sync scheme) whole = sync_shaped (delta_base scheme c.hint) scheme c ∙ ap sync_shape (base_named scheme c.hint)
@@ -84,7 +84,7 @@ spent_outlined c Publish = refl
 -- ---- replies
 
 abbrev reacted : Taken → Reacted
-reacted t = record { outline = outline t.state; sends = map shape_of (sends_of t.reaction) }
+reacted t = record { outline = outline t.state; sends = map shape_of_frame (sends_of t.reaction) }
 
 either : (b : Bool) (x y : Taken) (v w : Reacted) → reacted x ≡ v → reacted y ≡ w → reacted (cond b x y) ≡ cond b v w
 either true x y v w p q = p
@@ -93,7 +93,7 @@ either false x y v w p q = q
 welcome_reacts : (k : Call) (c : ClientState) (profile : ℕ) (l : Shape) (n version : ℕ) (seed : List ℕ) →
     reacted (takes_welcome k c profile l n version seed) ≡ after_welcome (awaited k) (outline c) profile l n version seed
 welcome_reacts call.Idle c profile l n version seed = refl
-welcome_reacts (call.Hello key) c profile l n version seed = either (is_welcome profile l n version) _ _ _ _ refl refl
+welcome_reacts (call.Hello key) c profile l n version seed = either (is_accepted_welcome profile l n version) _ _ _ _ refl refl
 welcome_reacts (call.Sync s v p) c profile l n version seed = refl
 welcome_reacts (call.Delta since) c profile l n version seed = refl
 welcome_reacts (call.Ask i s v m) c profile l n version seed = refl
@@ -237,24 +237,24 @@ outline_is c (Lacking want) = spent_outlined c want
 outline_is c (Reply f) = ap (λ (x : Reacted). x.outline) (reply_reacts c f)
 outline_is c Failing = refl
 
-shapes_here : (c : ClientState) (h : Happening) → KeyIsWhole h → map shape_of (frames_at c h) ≡ shapes_at (outline c) (blank h)
+shapes_here : (c : ClientState) (h : Happening) → KeyIsWhole h → map shape_of_frame (frames_at c h) ≡ shapes_at (outline c) (blank h)
 shapes_here c (Accepted want) whole = ap (λ (x : FrameShape). x ∷ []) (call_shaped c want whole)
 shapes_here c (TurnedDown want) whole = refl
 shapes_here c (Lacking want) whole = refl
 shapes_here c (Reply f) whole = ap (λ (x : Reacted). x.sends) (reply_reacts c f)
 shapes_here c Failing whole = refl
 
-shapes_are : (c : ClientState) (hs : List Happening) → AllByRecursion KeyIsWhole hs → map shape_of (frames c hs) ≡ shapes (outline c) (map blank hs)
+shapes_are : (c : ClientState) (hs : List Happening) → AllByRecursion KeyIsWhole hs → map shape_of_frame (frames c hs) ≡ shapes (outline c) (map blank hs)
 shapes_are c [] whole = refl
 shapes_are c (h ∷ hs) whole =
-    map-append shape_of (frames_at c h) (frames (after c h) hs)
-    ∙ ap (λ (x : List FrameShape). x ++ map shape_of (frames (after c h) hs)) (shapes_here c h whole.0)
+    map-append shape_of_frame (frames_at c h) (frames (after c h) hs)
+    ∙ ap (λ (x : List FrameShape). x ++ map shape_of_frame (frames (after c h) hs)) (shapes_here c h whole.0)
     ∙ ap (λ (x : List FrameShape). shapes_at (outline c) (blank h) ++ x) (shapes_are (after c h) hs whole.1)
     ∙ ap (λ (x : Outline). shapes_at (outline c) (blank h) ++ shapes x (map blank hs)) (outline_is c h)
 
 same_shapes : (c d : ClientState) (hs gs : List Happening) → AllByRecursion KeyIsWhole hs → AllByRecursion KeyIsWhole gs → outline c ≡ outline d →
     map blank hs ≡ map blank gs
-    → map shape_of (frames c hs) ≡ map shape_of (frames d gs)
+    → map shape_of_frame (frames c hs) ≡ map shape_of_frame (frames d gs)
 same_shapes c d hs gs whole whole2 alike same =
     shapes_are c hs whole
     ∙ ap (λ (x : Outline). shapes x (map blank hs)) alike

@@ -48,12 +48,13 @@ abbrev pub start : ClientState → Course
 start c = record { state = c; sends = []; events = []; fault = None }
 
 -- after one more reply
-abbrev pub goes_on : Course → Taken → Course
-goes_on k t = record { state = t.state; sends = k.sends ++ sends_of t.reaction; events = k.events ++ events_of t.reaction; fault = fault_of t.reaction }
+abbrev pub course_after_reply : Course → Taken → Course
+course_after_reply k t =
+    record { state = t.state; sends = k.sends ++ sends_of t.reaction; events = k.events ++ events_of t.reaction; fault = fault_of t.reaction }
 
 -- one more frame; after a fault none is taken
 abbrev pub course_more : Course → Frame → Course
-course_more k f = if is_some k.fault then k else goes_on k (reaction_to_reply k.state f)
+course_more k f = if is_some k.fault then k else course_after_reply k (reaction_to_reply k.state f)
 
 -- frame after frame, up to a fault
 abbrev pub runs : Course → List Frame → Course

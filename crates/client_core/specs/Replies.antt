@@ -40,14 +40,14 @@ ended c e = record { state = record c { call = Idle }; reaction = Reports e }
 -- ---- Welcome
 
 -- a Welcome that a client accepts: the plan's profile, a layout and a dimension within the limits, a version
-abbrev pub is_welcome : ℕ → Shape → ℕ → ℕ → Bool
-is_welcome profile l dimension version =
+abbrev pub is_accepted_welcome : ℕ → Shape → ℕ → ℕ → Bool
+is_accepted_welcome profile l dimension version =
     (profile == profile_of (plan_of l dimension [])) && (is_layout l && ((nat_le 1 dimension && nat_le dimension 1024) && nat_lt 0 version))
 
 -- what it tells is known from then on
 abbrev pub welcomed : ClientState → ℕ → Shape → ℕ → ℕ → List ℕ → Taken
 welcomed c profile l dimension version seed =
-    if is_welcome profile l dimension version
+    if is_accepted_welcome profile l dimension version
     then ended (record c { known = Some (record { version = version; layout = l; dimension = dimension; seed = seed }) }) (Welcomed version)
     else faulty c BadWelcome
 
@@ -167,8 +167,8 @@ with_rows m [] = m
 with_rows m (r ∷ rs) = with_rows (with_row m r.number r.words) rs
 
 -- a hint of another version, with these rows in place of its own
-abbrev pub moved_hint : Hint → ℕ → RowList → Hint
-moved_hint h version rows = record h { version = version; matrix = with_rows h.matrix (rows_in rows) }
+abbrev pub hint_with_rows : Hint → ℕ → RowList → Hint
+hint_with_rows h version rows = record h { version = version; matrix = with_rows h.matrix (rows_in rows) }
 
 -- its rows replace those of the hint held, whose version and count are the last known then
 abbrev pub moved : Option ServerInfo → Option Hint → ClientState → ℕ → ℕ → ℕ → ℕ → RowList → Taken
@@ -176,7 +176,7 @@ moved None hint c asked since now count rows = faulty c BadReply
 moved (Some k) None c asked since now count rows = faulty c BadReply
 moved (Some k) (Some h) c asked since now count rows =
     if is_delta k asked since now count rows.dimension (row_numbers rows)
-    then ended (record c { known = Some (with_current k now count); hint = Some (moved_hint h now rows) }) (Synced Simple now)
+    then ended (record c { known = Some (with_current k now count); hint = Some (hint_with_rows h now rows) }) (Synced Simple now)
     else faulty c BadReply
 
 -- it answers a sync by delta alone

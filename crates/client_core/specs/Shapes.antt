@@ -21,7 +21,7 @@ use Rattle.client_core.specs.declared.state.ClientFault.{ClientFault}
 use Rattle.client_core.specs.declared.state.ClientFault.TheVariants.{Memory}
 use Rattle.client_core.specs.declared.state.Event.{Event}
 use Rattle.client_core.specs.Calls.{Want, Hello, Sync, Ask, Edit, Publish, state_after_call, call_frame, refusal, Accepts, Refuses}
-use Rattle.client_core.specs.Replies.{reaction_to_reply, is_welcome, is_current, with_current, row_numbers, is_delta}
+use Rattle.client_core.specs.Replies.{reaction_to_reply, is_accepted_welcome, is_current, with_current, row_numbers, is_delta}
 use Rattle.client_core.specs.Feeding.{Client, sends_of, takes_all, FeedsClient}
 use Rattle.client_core.specs.Laws.{Happening, Accepted, TurnedDown, Lacking, Taken, Failing, after}
 
@@ -46,8 +46,8 @@ pub record FrameShape : Type 0 where
   pub len : ℕ
 
 -- a frame's shape
-abbrev pub shape_of : Frame → FrameShape
-shape_of f = record { kind = kind_of f; len = length (payload_of f) }
+abbrev pub shape_of_frame : Frame → FrameShape
+shape_of_frame f = record { kind = kind_of f; len = length (payload_of f) }
 
 -- the shape of this kind and length
 abbrev pub frame_shape : ℕ → ℕ → FrameShape
@@ -216,7 +216,7 @@ ends x = record { outline = record x { call = NoReply }; sends = [] }
 -- a Welcome answers hello alone
 abbrev pub after_welcome : Awaited → Outline → ℕ → Shape → ℕ → ℕ → List ℕ → Reacted
 after_welcome AWelcome x profile l dimension version seed =
-    if is_welcome profile l dimension version
+    if is_accepted_welcome profile l dimension version
     then ends (record x { known = Some (record { version = version; layout = l; dimension = dimension; seed = seed }) }) else fails x
 after_welcome _ x profile l dimension version seed = fails x
 
@@ -362,10 +362,10 @@ IndexIsBelow _ c = Unit {0}
 -- of a record below the count known is refused.
 pub record EqualShapes : Type 0 where
   pub shapes_are : (c : ClientState) (hs : List Happening) → AllByRecursion KeyIsWhole hs →
-      map shape_of (frames c hs) ≡ shapes (outline c) (map blank hs)
+      map shape_of_frame (frames c hs) ≡ shapes (outline c) (map blank hs)
   pub outline_is : (c : ClientState) (h : Happening) → outline (after c h) ≡ outline_after (outline c) (blank h)
   pub same_shapes : (c d : ClientState) (hs gs : List Happening) → AllByRecursion KeyIsWhole hs → AllByRecursion KeyIsWhole gs →
-      outline c ≡ outline d → map blank hs ≡ map blank gs → map shape_of (frames c hs) ≡ map shape_of (frames d gs)
+      outline c ≡ outline d → map blank hs ≡ map blank gs → map shape_of_frame (frames c hs) ≡ map shape_of_frame (frames d gs)
   pub same_refusal : (c d : ClientState) (want other : Want) → IndexIsBelow want c → IndexIsBelow other d →
       outline c ≡ outline d → blank_call want ≡ blank_call other → refusal want c ≡ refusal other d
 

@@ -7,7 +7,7 @@ use Rattle.matrix_u32.specs.Matrix.{WordMatrix, product, times_vector}
 use Rattle.matrix_u32.proofs.Products.{length-list_of}
 use Rattle.lane_kernels.specs.Digit.{split_count}
 use Rattle.digit_pack.specs.Layout.{Shape, digit_rows, digit_cols, digits_per_record}
-use Rattle.double_scheme.specs.Double.{first_query_of, part_query_of, query_of, query_count, first_answer_of, part_answer_of, part_of_query, answer_of, answer_count, words_of_part}
+use Rattle.double_scheme.specs.Double.{first_query_of, part_query_of, double_query, double_query_count, first_answer_of, part_answer_of, part_of_query, double_answer, double_answer_count, words_of_part}
 use Rattle.double_scheme.proofs.Blocks.{length-blocks}
 
 -- blocks of one length after a prefix
@@ -19,8 +19,8 @@ after_prefix prefix f n b count l e =
     ∙ ap (λ k. n + k) (length-blocks f b 0 count e)
 
 pub length-query_of : (l : Shape) (a1 a2 : WordMatrix) (seed : List ℕ) (number i : ℕ) → a1.rows ≡ digit_cols l → a2.rows ≡ digit_rows l →
-    length (query_of l a1 a2 seed number i) ≡ query_count l
-unfolding query_of
+    length (double_query l a1 a2 seed number i) ≡ double_query_count l
+unfolding double_query
 length-query_of l a1 a2 seed number i rows1 rows2 =
     after_prefix (first_query_of l a1 seed number i) (part_query_of l a2 seed number i) (digit_cols l) (digit_rows l) (digits_per_record l)
     (length-list_of a1.rows _ ∙ rows1) (λ k. length-list_of a2.rows _ ∙ rows2)
@@ -36,8 +36,8 @@ length-hint : (w : ℕ) (first a2 : WordMatrix) → first.rows ≡ split_count w
 length-hint w first a2 e = length-list_of (first.rows * a2.cols) _ ∙ ap (λ k. k * a2.cols) e ∙ mul_comm (split_count w) a2.cols
 
 pub length-answer_of : (l : Shape) (digits hint a2 : WordMatrix) (words : List ℕ) → hint.rows ≡ a2.cols * split_count l.width →
-    length (answer_of l digits hint a2 words) ≡ answer_count l a2.cols
-unfolding answer_of
+    length (double_answer l digits hint a2 words) ≡ double_answer_count l a2.cols
+unfolding double_answer
 length-answer_of l digits hint a2 words e =
     let first = first_answer_of l.width digits (take (digit_cols l) words) in
     let one : first.rows ≡ split_count l.width = mul_one (split_count l.width) in

@@ -9,26 +9,26 @@ use Rattle.regev_core.proofs.Rounding.{nearest-lt}
 use Rattle.digit_pack.specs.Layout.{Shape, IsLayout, digits_per_record}
 use Rattle.lane_kernels.specs.Digit.{split_count}
 use Rattle.simple_scheme.specs.Simple.{secret}
-use Rattle.double_scheme.specs.Double.{part_secret, words_of_part, answer_hint, answer_part, part_read, digit_read, reading}
+use Rattle.double_scheme.specs.Double.{part_secret, words_of_part, answer_hint, answer_part, part_read, double_digit_read, double_reading}
 
 pub small_reading : (l : Shape) (hint : WordMatrix) (seed : List ℕ) (number : ℕ) (answer : List ℕ) → IsLayout l →
-    All (λ d. d < 2 ^ l.width) (reading l hint seed number answer)
-unfolding reading
+    All (λ d. d < 2 ^ l.width) (double_reading l hint seed number answer)
+unfolding double_reading
 small_reading l hint seed number answer ok =
-    All-from_get_or (λ d. d < 2 ^ l.width) (reading l hint seed number answer) 0 (λ k _.
-    each-list_of (λ d. d < 2 ^ l.width) (digits_per_record l) (digit_read l hint seed number answer) 0 (pow_pos l.width)
+    All-from_get_or (λ d. d < 2 ^ l.width) (double_reading l hint seed number answer) 0 (λ k _.
+    each-list_of (λ d. d < 2 ^ l.width) (digits_per_record l) (double_digit_read l hint seed number answer) 0 (pow_pos l.width)
     (λ k. nearest-lt l.width _ (omega (arith, ok.width.1))) k)
 
 pub length-reading : (l : Shape) (hint : WordMatrix) (seed : List ℕ) (number : ℕ) (answer : List ℕ) →
-    length (reading l hint seed number answer) ≡ digits_per_record l
-unfolding reading
-length-reading l hint seed number answer = length-list_of (digits_per_record l) (digit_read l hint seed number answer)
+    length (double_reading l hint seed number answer) ≡ digits_per_record l
+unfolding double_reading
+length-reading l hint seed number answer = length-list_of (digits_per_record l) (double_digit_read l hint seed number answer)
 
 -- what was read from part d is the reading's digit d
 pub part_is : (l : Shape) (hint : WordMatrix) (seed : List ℕ) (number : ℕ) (answer : List ℕ) (d w prefix size v : ℕ) (h : WordMatrix) (s1 s2 part : List ℕ) →
     w ≡ l.width → prefix ≡ hint.cols * split_count l.width → size ≡ words_of_part l.width hint.cols → h ≡ answer_hint w hint.cols answer →
     s1 ≡ secret seed number hint.cols → s2 ≡ part_secret seed number hint.cols d → part ≡ take size (drop (prefix + d * size) answer) →
-    v ≡ part_read w hint.cols hint h s1 s2 part → v ≡ digit_read l hint seed number answer d
+    v ≡ part_read w hint.cols hint h s1 s2 part → v ≡ double_digit_read l hint seed number answer d
 part_is l hint seed number answer d w prefix size v h s1 s2 part ew ef es eh e1 e2 ep e =
     let n : ℕ = hint.cols in
     let k : ℕ = n * split_count l.width in

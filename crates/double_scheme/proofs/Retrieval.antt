@@ -13,7 +13,7 @@ use Rattle.digit_pack.specs.Digits.{number_of}
 use Rattle.digit_pack.specs.Laws.{SplitJoins, DigitsAreSmall, DecomposedStandsBelow, RecordStandsInside, RecordStandsInItsColumn}
 use Rattle.digit_pack.specs.Layout.{Shape, IsShape, digit_matrix, digit_rows, digit_cols, digits_per_record, first_row, column_of, record_at}
 use Rattle.simple_scheme.specs.Simple.{secret, query_noise}
-use Rattle.double_scheme.specs.Double.{server_hint_of, client_hint_of, first_answer_of, first_query_of, part_query_of, query_of, part_of_query, part_answer_of, answer_of, answer_hint, answer_part, answer_count, words_of_part, second_digit, hint_part_words, first_words, row_read, word_read, digit_read, part_secret, part_noise, IsQuietDouble}
+use Rattle.double_scheme.specs.Double.{server_hint_of, client_hint_of, first_answer_of, first_query_of, part_query_of, double_query, part_of_query, part_answer_of, double_answer, answer_hint, answer_part, double_answer_count, words_of_part, second_digit, hint_part_words, first_words, row_read, word_read, double_digit_read, part_secret, part_noise, IsQuietDouble}
 use Rattle.double_scheme.specs.Laws.{GivesRowOf}
 use Rattle.double_scheme.proofs.Blocks.{block_after}
 use Rattle.double_scheme.proofs.Lengths.{length-answer_of}
@@ -25,18 +25,18 @@ module _ (l : Shape) (records : List (List ℕ)) (a1 a2 : WordMatrix) (seed : Li
   length-first_query = length-list_of a1.rows _ ∙ rows1
 
   -- a query's words are its first query and its parts
-  prefix : take (digit_cols l) (query_of l a1 a2 seed number i) ≡ first_query_of l a1 seed number i
-  unfolding query_of
+  prefix : take (digit_cols l) (double_query l a1 a2 seed number i) ≡ first_query_of l a1 seed number i
+  unfolding double_query
   prefix = take_at (first_query_of l a1 seed number i) _ (digit_cols l) length-first_query
 
-  part : (d : ℕ) → d < digits_per_record l → part_of_query l (query_of l a1 a2 seed number i) d ≡ part_query_of l a2 seed number i d
-  unfolding query_of
+  part : (d : ℕ) → d < digits_per_record l → part_of_query l (double_query l a1 a2 seed number i) d ≡ part_query_of l a2 seed number i d
+  unfolding double_query
   part d p =
       block_after (first_query_of l a1 seed number i) (part_query_of l a2 seed number i) (digit_cols l) (digit_rows l) (digits_per_record l) d
       length-first_query (λ k. length-list_of a2.rows _ ∙ rows2) p
 
   -- the first answer to a query's words is that to its first query
-  first_answer : first_answer_of l.width (digit_matrix l records) (take (digit_cols l) (query_of l a1 a2 seed number i))
+  first_answer : first_answer_of l.width (digit_matrix l records) (take (digit_cols l) (double_query l a1 a2 seed number i))
       ≡ first_answer_of l.width (digit_matrix l records) (first_query_of l a1 seed number i)
   first_answer = ap (first_answer_of l.width (digit_matrix l records)) prefix
 
@@ -54,23 +54,23 @@ module _ (l : Shape) (records : List (List ℕ)) (a1 a2 : WordMatrix) (seed : Li
 
   -- an answer's words are the first answer's hint and its parts
   answer_prefix : take (a2.cols * split_count l.width)
-      (answer_of l (digit_matrix l records) (server_hint_of l.width (digit_matrix l records) a1) a2 (query_of l a1 a2 seed number i))
+      (double_answer l (digit_matrix l records) (server_hint_of l.width (digit_matrix l records) a1) a2 (double_query l a1 a2 seed number i))
       ≡ (product (first_answer_of l.width (digit_matrix l records) (first_query_of l a1 seed number i)) a2).words
-  unfolding answer_of
+  unfolding double_answer
   answer_prefix =
-      let first = first_answer_of l.width (digit_matrix l records) (take (digit_cols l) (query_of l a1 a2 seed number i)) in
+      let first = first_answer_of l.width (digit_matrix l records) (take (digit_cols l) (double_query l a1 a2 seed number i)) in
       take_at (product first a2).words _ (a2.cols * split_count l.width) (length-hint_part_words first (omega arith))
       ∙ ap (λ f. (product f a2).words) first_answer
 
   answer_part_is : (d : ℕ) → d < digits_per_record l →
       answer_part l.width a2.cols
-      (answer_of l (digit_matrix l records) (server_hint_of l.width (digit_matrix l records) a1) a2 (query_of l a1 a2 seed number i)) d
+      (double_answer l (digit_matrix l records) (server_hint_of l.width (digit_matrix l records) a1) a2 (double_query l a1 a2 seed number i)) d
       ≡ part_answer_of (server_hint_of l.width (digit_matrix l records) a1)
       (first_answer_of l.width (digit_matrix l records) (first_query_of l a1 seed number i)) (part_query_of l a2 seed number i d)
-  unfolding answer_of
+  unfolding double_answer
   answer_part_is d p =
       let hint = server_hint_of l.width (digit_matrix l records) a1 in
-      let words = query_of l a1 a2 seed number i in
+      let words = double_query l a1 a2 seed number i in
       let first = first_answer_of l.width (digit_matrix l records) (take (digit_cols l) words) in
       block_after (product first a2).words (λ k. part_answer_of hint first (part_of_query l words k)) (a2.cols * split_count l.width)
       (words_of_part l.width a2.cols) (digits_per_record l) d
@@ -79,16 +79,17 @@ module _ (l : Shape) (records : List (List ℕ)) (a1 a2 : WordMatrix) (seed : Li
       ∙ ap (λ f. part_answer_of hint f (part_query_of l a2 seed number i d)) first_answer
 
   -- an answer has the layout's count of words
-  pub length-answer : length (answer_of l (digit_matrix l records) (server_hint_of l.width (digit_matrix l records) a1) a2 (query_of l a1 a2 seed number i))
-      ≡ answer_count l a2.cols
+  pub length-answer :
+      length (double_answer l (digit_matrix l records) (server_hint_of l.width (digit_matrix l records) a1) a2 (double_query l a1 a2 seed number i))
+      ≡ double_answer_count l a2.cols
   length-answer =
-      length-answer_of l (digit_matrix l records) (server_hint_of l.width (digit_matrix l records) a1) a2 (query_of l a1 a2 seed number i)
+      length-answer_of l (digit_matrix l records) (server_hint_of l.width (digit_matrix l records) a1) a2 (double_query l a1 a2 seed number i)
       (ap (λ n. n * split_count l.width) (sym cols))
 
   -- the rows of the prefix of an answer are the rows of the first answer's hint
   hint_row : (k : ℕ) → row
       (answer_hint l.width a2.cols
-      (answer_of l (digit_matrix l records) (server_hint_of l.width (digit_matrix l records) a1) a2 (query_of l a1 a2 seed number i))) k
+      (double_answer l (digit_matrix l records) (server_hint_of l.width (digit_matrix l records) a1) a2 (double_query l a1 a2 seed number i))) k
       ≡ row (product (first_answer_of l.width (digit_matrix l records) (first_query_of l a1 seed number i)) a2) k
   hint_row k = ap (λ ws. list_of a2.cols (λ j. slice_index ws (k * a2.cols + j))) answer_prefix
 
@@ -105,7 +106,7 @@ module _ (l : Shape) (records : List (List ℕ)) (a1 a2 : WordMatrix) (seed : Li
       let first = first_answer_of w m c in
       let e = part_noise seed number a2.rows d in
       let s2 = part_secret seed number a2.cols d in
-      let answer = answer_of l m hint a2 (query_of l a1 a2 seed number i) in
+      let answer = double_answer l m hint a2 (double_query l a1 a2 seed number i) in
       let place : (r < digit_rows l) × (column_of l i < digit_cols l) = inside l i d s p q in
       let κ : ℕ = split_count w in
       let part = part_answer_of hint first (part_query_of l a2 seed number i d) in
@@ -137,8 +138,8 @@ module _ (l : Shape) (records : List (List ℕ)) (a1 a2 : WordMatrix) (seed : Li
   pub part_reads : QuietMatrixRowGivesItsEntry → DigitsAreSmall → RecordStandsInside → RecordStandsInItsColumn → IsShape l → i < l.count →
       IsQuietDouble l records a1 seed number i →
       (d : ℕ) → d < digits_per_record l → GivesRowOf l records a1 a2 seed number i d →
-      digit_read l (client_hint_of (server_hint_of l.width (digit_matrix l records) a1) a2) seed number
-      (answer_of l (digit_matrix l records) (server_hint_of l.width (digit_matrix l records) a1) a2 (query_of l a1 a2 seed number i)) d
+      double_digit_read l (client_hint_of (server_hint_of l.width (digit_matrix l records) a1) a2) seed number
+      (double_answer l (digit_matrix l records) (server_hint_of l.width (digit_matrix l records) a1) a2 (double_query l a1 a2 seed number i)) d
       ≡ digit l.width (number_of 8 (record_at records i)) d
   part_reads quiet_law small inside stands s p quiet d q gives =
       let w : ℕ = l.width in
@@ -147,7 +148,7 @@ module _ (l : Shape) (records : List (List ℕ)) (a1 a2 : WordMatrix) (seed : Li
       let place : (r < digit_rows l) × (column_of l i < digit_cols l) = inside l i d s p q in
       let at : entry m r (column_of l i) ≡ digit w (number_of 8 (record_at records i)) d = stands l records i d s p q in
       let small_digit : entry m r (column_of l i) < 2 ^ w = omega (arith, at, small w (number_of 8 (record_at records i)) d) in
-      let answer = answer_of l m (server_hint_of w m a1) a2 (query_of l a1 a2 seed number i) in
+      let answer = double_answer l m (server_hint_of w m a1) a2 (double_query l a1 a2 seed number i) in
       let s2 = part_secret seed number a2.cols d in
       ap (λ x. nearest w (stripped x (row_read w a2.cols (client_hint_of (server_hint_of w m a1) a2) s2 (answer_part w a2.cols answer d))
       (secret seed number a2.cols))) gives.word

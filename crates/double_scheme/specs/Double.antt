@@ -41,8 +41,8 @@ abbrev pub first_answer_of : ℕ → WordMatrix → List ℕ → WordMatrix
 first_answer_of w digits c = decomposed w (product (one_row c) (transpose digits))
 
 -- how many words a query has: one for each column, and for each digit of a record one for each row
-abbrev pub query_count : Shape → ℕ
-query_count l = digit_cols l + digits_per_record l * digit_rows l
+abbrev pub double_query_count : Shape → ℕ
+double_query_count l = digit_cols l + digits_per_record l * digit_rows l
 
 -- the prefix of the query for record i: the encryption of its column
 abbrev pub first_query_of : Shape → WordMatrix → List ℕ → ℕ → ℕ → List ℕ
@@ -54,8 +54,8 @@ part_query_of l a2 seed number i d =
     cipher l.width a2 (part_secret seed number a2.cols d) (part_noise seed number a2.rows d) (first_row l i + d)
 
 -- the query for record i
-unfoldable pub query_of : Shape → WordMatrix → WordMatrix → List ℕ → ℕ → ℕ → List ℕ
-query_of l a1 a2 seed number i =
+unfoldable pub double_query : Shape → WordMatrix → WordMatrix → List ℕ → ℕ → ℕ → List ℕ
+double_query l a1 a2 seed number i =
     first_query_of l a1 seed number i ++ flat_map (part_query_of l a2 seed number i) (range_with_len 0 (digits_per_record l))
 
 -- the words of part d of a query's words
@@ -72,8 +72,8 @@ part_answers_of l server_hint first_answer words =
     flat_map (λ d. part_answer_of server_hint first_answer (part_of_query l words d)) (range_with_len 0 (digits_per_record l))
 
 -- the answer to a query: the first answer's hint, and the answers to the parts
-unfoldable pub answer_of : Shape → WordMatrix → WordMatrix → WordMatrix → List ℕ → List ℕ
-answer_of l digits server_hint a2 words =
+unfoldable pub double_answer : Shape → WordMatrix → WordMatrix → WordMatrix → List ℕ → List ℕ
+double_answer l digits server_hint a2 words =
     let first_answer = first_answer_of l.width digits (take (digit_cols l) words) in
     (product first_answer a2).words ++ part_answers_of l server_hint first_answer words
 
@@ -83,8 +83,8 @@ abbrev pub words_of_part : ℕ → ℕ → ℕ
 words_of_part w n = n * split_count w + split_count w
 
 -- how many words an answer has, where the public matrices have n columns
-abbrev pub answer_count : Shape → ℕ → ℕ
-answer_count l n = n * split_count l.width + digits_per_record l * words_of_part l.width n
+abbrev pub double_answer_count : Shape → ℕ → ℕ
+double_answer_count l n = n * split_count l.width + digits_per_record l * words_of_part l.width n
 
 -- the hint of the first answer, row t of it for digit t
 abbrev pub answer_hint : ℕ → ℕ → List ℕ → WordMatrix
@@ -123,14 +123,14 @@ abbrev pub part_read : ℕ → ℕ → WordMatrix → WordMatrix → List ℕ �
 part_read w n client_hint h s1 s2 part = nearest w (stripped (word_read w n h s2 part) (row_read w n client_hint s2 part) s1)
 
 -- the digit that part d of an answer gives
-abbrev pub digit_read : Shape → WordMatrix → List ℕ → ℕ → List ℕ → ℕ → ℕ
-digit_read l client_hint seed number answer d =
+abbrev pub double_digit_read : Shape → WordMatrix → List ℕ → ℕ → List ℕ → ℕ → ℕ
+double_digit_read l client_hint seed number answer d =
     part_read l.width client_hint.cols client_hint (answer_hint l.width client_hint.cols answer) (secret seed number client_hint.cols)
     (part_secret seed number client_hint.cols d) (answer_part l.width client_hint.cols answer d)
 
 -- the digits that an answer gives
-unfoldable pub reading : Shape → WordMatrix → List ℕ → ℕ → List ℕ → List ℕ
-reading l client_hint seed number answer = list_of (digits_per_record l) (digit_read l client_hint seed number answer)
+unfoldable pub double_reading : Shape → WordMatrix → List ℕ → ℕ → List ℕ → List ℕ
+double_reading l client_hint seed number answer = list_of (digits_per_record l) (double_digit_read l client_hint seed number answer)
 
 -- the noise stays below half of delta in the rows of the record, and for each part in the rows of the server's hint and of the first answer
 pub record IsQuietDouble (l : Shape) (records : List (List ℕ)) (a1 : WordMatrix) (seed : List ℕ) (number i : ℕ) : Type 0 where

@@ -8,8 +8,8 @@ use Rattle.double_scheme.specs.Double.{
   client_hint_of,
   first_answer_of,
   first_query_of,
-  query_of,
-  answer_of,
+  double_query,
+  double_answer,
   part_secret,
   answer_hint,
   answer_part,
@@ -18,7 +18,7 @@ use Rattle.double_scheme.specs.Double.{
   second_digit,
   row_read,
   word_read,
-  reading,
+  double_reading,
   IsQuietDouble,
 }
 
@@ -28,13 +28,13 @@ use Rattle.double_scheme.specs.Double.{
 pub record GivesRowOf (l : Shape) (records : List (List ℕ)) (a1 a2 : WordMatrix) (seed : List ℕ) (number i d : ℕ) : Type 0 where
   pub hint_digits : let digits = digit_matrix l records in
       let server_hint = server_hint_of l.width digits a1 in
-      let answer = answer_of l digits server_hint a2 (query_of l a1 a2 seed number i) in
+      let answer = double_answer l digits server_hint a2 (double_query l a1 a2 seed number i) in
       (r : ℕ) → r < server_hint.rows →
       second_digit l.width (client_hint_of server_hint a2) (part_secret seed number a2.cols d)
       (hint_part_words l.width a2.cols (answer_part l.width a2.cols answer d)) r
       ≡ entry server_hint r (first_row l i + d)
   pub first_digits : let digits = digit_matrix l records in
-      let answer = answer_of l digits (server_hint_of l.width digits a1) a2 (query_of l a1 a2 seed number i) in
+      let answer = double_answer l digits (server_hint_of l.width digits a1) a2 (double_query l a1 a2 seed number i) in
       let first_answer = first_answer_of l.width digits (first_query_of l a1 seed number i) in
       (r : ℕ) → r < first_answer.rows →
       second_digit l.width (answer_hint l.width a2.cols answer) (part_secret seed number a2.cols d)
@@ -42,11 +42,11 @@ pub record GivesRowOf (l : Shape) (records : List (List ℕ)) (a1 a2 : WordMatri
       ≡ entry first_answer r (first_row l i + d)
   pub row : let digits = digit_matrix l records in
       let server_hint = server_hint_of l.width digits a1 in
-      let answer = answer_of l digits server_hint a2 (query_of l a1 a2 seed number i) in
+      let answer = double_answer l digits server_hint a2 (double_query l a1 a2 seed number i) in
       row_read l.width a2.cols (client_hint_of server_hint a2) (part_secret seed number a2.cols d) (answer_part l.width a2.cols answer d)
       ≡ row (product digits a1) (first_row l i + d)
   pub word : let digits = digit_matrix l records in
-      let answer = answer_of l digits (server_hint_of l.width digits a1) a2 (query_of l a1 a2 seed number i) in
+      let answer = double_answer l digits (server_hint_of l.width digits a1) a2 (double_query l a1 a2 seed number i) in
       word_read l.width a2.cols (answer_hint l.width a2.cols answer) (part_secret seed number a2.cols d) (answer_part l.width a2.cols answer d)
       ≡ slice_index (times_vector digits (first_query_of l a1 seed number i)) (first_row l i + d)
 
@@ -58,17 +58,17 @@ QuietPartGivesItsRow = (l : Shape) (records : List (List ℕ)) (a1 a2 : WordMatr
     GivesRowOf l records a1 a2 seed number i d
 
 -- a quiet retrieval reads the record's digits
-abbrev pub QuietRetrievalReadsTheRecord : Type 0
-QuietRetrievalReadsTheRecord = (l : Shape) (records : List (List ℕ)) (a1 a2 : WordMatrix) (seed : List ℕ) (number i : ℕ) →
+abbrev pub QuietDoubleRetrievalReadsTheRecord : Type 0
+QuietDoubleRetrievalReadsTheRecord = (l : Shape) (records : List (List ℕ)) (a1 a2 : WordMatrix) (seed : List ℕ) (number i : ℕ) →
     IsShape l → i < l.count → a1.rows ≡ digit_cols l → a2.rows ≡ digit_rows l → a2.cols ≡ a1.cols →
     IsQuietDouble l records a1 seed number i →
     let digits = digit_matrix l records in
     let server_hint = server_hint_of l.width digits a1 in
-    reading l (client_hint_of server_hint a2) seed number (answer_of l digits server_hint a2 (query_of l a1 a2 seed number i))
+    double_reading l (client_hint_of server_hint a2) seed number (double_answer l digits server_hint a2 (double_query l a1 a2 seed number i))
     ≡ record_digits l (record_at records i)
 
 -- on a certain shape every retrieval is quiet
-abbrev pub CertainShapeIsQuiet : Type 0
-CertainShapeIsQuiet = (l : Shape) (records : List (List ℕ)) (a1 : WordMatrix) (seed : List ℕ) (number i : ℕ) →
+abbrev pub DoubleCertainShapeIsQuiet : Type 0
+DoubleCertainShapeIsQuiet = (l : Shape) (records : List (List ℕ)) (a1 : WordMatrix) (seed : List ℕ) (number i : ℕ) →
     IsShape l → IsCertain l.width (digit_cols l) → IsCertain l.width (digit_rows l) →
     IsQuietDouble l records a1 seed number i

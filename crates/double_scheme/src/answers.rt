@@ -5,7 +5,7 @@ ghost use Rattle.matrix_u32.specs.Matrix.{product, transpose};
 ghost use Rattle.lane_kernels.specs.Digit.{split_count};
 ghost use Rattle.digit_pack.specs.Digits.{decomposed};
 ghost use Rattle.digit_pack.specs.Layout.{digit_rows, digit_cols};
-ghost use Rattle.double_scheme.specs.Double.{one_column, first_answer_of, part_answer_of, part_answers_of, query_count, answer_count, answer_of};
+ghost use Rattle.double_scheme.specs.Double.{one_column, first_answer_of, part_answer_of, part_answers_of, double_query_count, double_answer_count, double_answer};
 
 use crate::queries::append;
 use digit_pack::{DigitStore, Layout, split_count};
@@ -63,7 +63,7 @@ fn first_hint<K: Kernel>(
 }
 
 // The answer to one part of a query.
-#[tactic(auto, unfolding(simple_scheme::specs::Simple::answer_of))]
+#[tactic(auto, unfolding(simple_scheme::specs::Simple::simple_answer))]
 fn part_answer<K: Kernel, S: DigitStore>(
     alloc: Global,
     kernel: K,
@@ -93,7 +93,7 @@ fn append_parts<K: Kernel, S: DigitStore>(
     words: &[u32],
     out: &mut Vec<u32>,
 ) -> Result<(), AllocError>
-    requires words { length words.now ≡ query_count layout.now }
+    requires words { length words.now ≡ double_query_count layout.now }
     requires server_cols { (S.digits server_hint.now).cols ≡ digit_rows layout.now }
     requires first_cols { first.now.cols ≡ digit_rows layout.now }
     ensures { OnOk result (out.new.items ≡ out.old.items ++ part_answers_of layout.now
@@ -134,7 +134,7 @@ pub fn answer<K: Kernel, S: DigitStore>(
     a2: &Matrix,
     words: &[u32],
 ) -> Result<Vec<u32>, AllocError>
-    requires words { length words.now ≡ query_count layout.now }
+    requires words { length words.now ≡ double_query_count layout.now }
     requires rows { (S.digits digits.now).rows ≡ digit_rows layout.now }
     requires cols { (S.digits digits.now).cols ≡ digit_cols layout.now }
     requires server_rows { (S.digits server_hint.now).rows ≡
@@ -143,8 +143,9 @@ pub fn answer<K: Kernel, S: DigitStore>(
     requires second_rows { a2.now.rows ≡ digit_rows layout.now }
     requires second_cols { a2.now.cols ≤ 1024 }
     ensures words { IfOk result (λ v. v.items ≡
-        answer_of layout.now (S.digits digits.now) (S.digits server_hint.now) a2.now words.now) }
-    ensures count { IfOk result (λ v. length v.items ≡ answer_count layout.now a2.now.cols) }
+        double_answer layout.now (S.digits digits.now)
+        (S.digits server_hint.now) a2.now words.now) }
+    ensures count { IfOk result (λ v. length v.items ≡ double_answer_count layout.now a2.now.cols) }
 {
     let prefix = part_of(words, 0, layout.cols());
     let first = first_answer(alloc, kernel, digits, layout.width(), prefix)?;

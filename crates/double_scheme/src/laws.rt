@@ -1,7 +1,7 @@
 //! Laws of DoublePIR, over the definitions alone. A caller that calls one of these functions has its law at
 //! hand in its proof; the call costs nothing.
 
-ghost use Rattle.double_scheme.specs.Laws.{QuietPartGivesItsRow, QuietRetrievalReadsTheRecord, CertainShapeIsQuiet};
+ghost use Rattle.double_scheme.specs.Laws.{QuietPartGivesItsRow, QuietDoubleRetrievalReadsTheRecord, DoubleCertainShapeIsQuiet};
 
 /// Under the records' own hints, where the retrieval is quiet in both layers, the second layer's words of
 /// part d round, each to its digit, to a column of the server's hint and of the first answer's digits: that of
@@ -20,7 +20,7 @@ pub fn quiet_part_gives_its_row()
 /// Under the records' own hints, the answer to the query for a record reads as the record's digits, wherever
 /// the retrieval is quiet in both layers.
 pub fn quiet_retrieval_reads_the_record()
-    ensures { QuietRetrievalReadsTheRecord }
+    ensures { QuietDoubleRetrievalReadsTheRecord }
 {
     quiet_part_gives_its_row();
     regev_core::laws::quiet_matrix_row_gives_its_entry();
@@ -32,7 +32,7 @@ pub fn quiet_retrieval_reads_the_record()
 /// On a shape that is certain by its columns and by its rows every retrieval is quiet in both layers, for
 /// every list of records, seed and number.
 pub fn certain_shape_is_quiet()
-    ensures { CertainShapeIsQuiet }
+    ensures { DoubleCertainShapeIsQuiet }
 {
     noise_table::certain_is_quiet();
     noise_table::noise_is_bounded();

@@ -3,7 +3,7 @@
 ghost use Rattle.std.specs.Prelude.{◌≡◌, ◌^◌, ◌<◌, ◌≤◌, ◌++◌, IfOk, length};
 ghost use Rattle.digit_pack.specs.Layout.{digit_rows, digit_cols};
 ghost use Rattle.regev_core.specs.Encryption.{cipher};
-ghost use Rattle.double_scheme.specs.Double.{part_secret, part_noise, query_count, query_of};
+ghost use Rattle.double_scheme.specs.Double.{part_secret, part_noise, double_query_count, double_query};
 
 use digit_pack::Layout;
 use matrix_u32::{Kernel, Matrix};
@@ -70,8 +70,8 @@ pub fn query<K: Kernel>(
     requires second_cols { a2.now.cols ≤ 1024 }
     requires record { i < layout.now.count }
     ensures words { IfOk result (λ v. v.items ≡
-        query_of layout.now a1.now a2.now seed.now number i) }
-    ensures count { IfOk result (λ v. length v.items ≡ query_count layout.now) }
+        double_query layout.now a1.now a2.now seed.now number i) }
+    ensures count { IfOk result (λ v. length v.items ≡ double_query_count layout.now) }
 {
     let w = layout.width();
     let (first, _) = layout.place(i);

@@ -4,8 +4,8 @@ ghost use Rattle.std.specs.Prelude.{◌≡◌, ◌+◌, ◌*◌, ◌^◌, ◌<�
 ghost use Rattle.matrix_u32.specs.Sum.{list_of};
 ghost use Rattle.lane_kernels.specs.Digit.{split_count};
 ghost use Rattle.digit_pack.specs.Layout.{digits_per_record};
-ghost use Rattle.double_scheme.specs.Double.{words_of_part, answer_count, answer_hint, second_word, part_read, digit_read, reading};
-ghost use Rattle.double_scheme.specs.Recovery.{ReadsRecord, GivesQuietRecord};
+ghost use Rattle.double_scheme.specs.Double.{words_of_part, double_answer_count, answer_hint, second_word, part_read, double_digit_read, double_reading};
+ghost use Rattle.double_scheme.specs.Recovery.{DoubleReadsRecord, DoubleGivesQuietRecord};
 
 use crate::answers::part_of;
 use crate::laws;
@@ -139,10 +139,10 @@ fn read_parts<K: Kernel>(
     requires number { number < 2 ^ 62 }
     requires rows { client_hint.now.rows ≡ client_hint.now.cols * split_count layout.now.width }
     requires cols { client_hint.now.cols ≤ 1024 }
-    requires words { length answer.now ≡ answer_count layout.now client_hint.now.cols }
+    requires words { length answer.now ≡ double_answer_count layout.now client_hint.now.cols }
     requires room { length out.old ≡ digits_per_record layout.now }
     ensures { IfOk result (λ _. out.new ≡
-        reading layout.now client_hint.now seed.now number answer.now) }
+        double_reading layout.now client_hint.now seed.now number answer.now) }
 {
     let w = layout.width();
     let n = client_hint.cols();
@@ -171,9 +171,9 @@ fn read_all<K: Kernel>(
     requires number { number < 2 ^ 62 }
     requires rows { client_hint.now.rows ≡ client_hint.now.cols * split_count layout.now.width }
     requires cols { client_hint.now.cols ≤ 1024 }
-    requires words { length answer.now ≡ answer_count layout.now client_hint.now.cols }
+    requires words { length answer.now ≡ double_answer_count layout.now client_hint.now.cols }
     ensures { IfOk result (λ digits.
-        (digits.items ≡ reading layout.now client_hint.now seed.now number answer.now)
+        (digits.items ≡ double_reading layout.now client_hint.now seed.now number answer.now)
         × All (λ d. d < 2 ^ layout.now.width) digits.items
         × (length digits.items ≡ digits_per_record layout.now)) }
 {
@@ -196,7 +196,8 @@ fn read_all<K: Kernel>(
 fn is_whole(layout: &Layout, client_hint: &Matrix, answer: &[u32]) -> bool
     requires rows { client_hint.now.rows ≡ client_hint.now.cols * split_count layout.now.width }
     requires cols { client_hint.now.cols ≤ 1024 }
-    ensures { IsTrue result ↔ (length answer.now ≡ answer_count layout.now client_hint.now.cols) }
+    ensures { IsTrue result ↔
+        (length answer.now ≡ double_answer_count layout.now client_hint.now.cols) }
 {
     let prefix = client_hint.rows();
     let part = prefix + split_count(layout.width());
@@ -216,7 +217,7 @@ fn read_record<K: Kernel>(
     requires number { number < 2 ^ 62 }
     requires rows { client_hint.now.rows ≡ client_hint.now.cols * split_count layout.now.width }
     requires cols { client_hint.now.cols ≤ 1024 }
-    ensures { ReadsRecord layout.now client_hint.now seed.now number answer.now result }
+    ensures { DoubleReadsRecord layout.now client_hint.now seed.now number answer.now result }
 {
     if !is_whole(layout, client_hint, answer) {
         return Err(RecoverError::BadLength);
@@ -252,8 +253,10 @@ pub fn recover<K: Kernel>(
     requires rows { client_hint.now.rows ≡ client_hint.now.cols * split_count layout.now.width }
     requires cols { client_hint.now.cols ≤ 1024 }
     requires record { i < layout.now.count }
-    ensures reading { ReadsRecord layout.now client_hint.now seed.now number answer.now result }
-    ensures quiet { GivesQuietRecord layout.now client_hint.now seed.now number i answer.now result }
+    ensures reading { DoubleReadsRecord layout.now client_hint.now seed.now number answer.now
+        result }
+    ensures quiet { DoubleGivesQuietRecord layout.now client_hint.now seed.now number i
+        answer.now result }
 {
     laws::quiet_retrieval_reads_the_record();
     digit_pack::laws::pack_unpacks();

@@ -10,7 +10,7 @@ use Rattle.once_session.specs.declared.stage.Stage.{Stage}
 use Rattle.once_session.specs.declared.stage.Stage.TheVariants as stage
 use Rattle.once_session.specs.declared.engine.OnceFault.{OnceFault}
 use Rattle.once_session.specs.declared.engine.OnceFault.TheVariants as fault
-use Rattle.once_session.specs.Outputs.{goes_on, WaitsForMore, Turns, Finishes, ServesStream, IsOutput, IsServeFault}
+use Rattle.once_session.specs.Outputs.{goes_on, WaitsForMore, Turns, Finishes, ServesOneStream, IsOutput, IsServeFault}
 use Rattle.once_session.specs.OnceTurns.{WritesWorkReplies, Work, fresh_work, TakesWorkPiece, LeavesOpen, WorkGoesOn, EndsByPiece, EndsByEnd, BreaksOffWork, EndsWorkTurns, ServesWorkOver}
 use Rattle.once_session.proofs.RunLemmas.{waits_none, waits_on, waits_served, finish_served, turn_served, turned_on, turned_off, ends_on, nothing_served}
 
@@ -87,13 +87,14 @@ record Whole {R W : Type 0} (remaining : R → Option (List ℕ)) (contents : W 
   out : List ℕ
   moved : Moved remaining contents a read out b
   most : length read ≤ 65536 * turns
-  serves : ServesStream turns answer read out (remaining b.reader.now)
+  serves : ServesOneStream turns answer read out (remaining b.reader.now)
 
 -- the last turn had a piece
 by_piece : {R W : Type 0} (remaining : R → Option (List ℕ)) (contents : W → Option (List ℕ)) (turns : ℕ) (a : Pair R W) (count : ℕ) (mid : Work)
     (b : Pair R W) (answer given : Result (Unit {0}) OnceFault) (serve_chunk : CallTurn) (new : Stage) (codec : Option (List ℕ)) (c : Pair R W)
     → count < turns → (i : SoFar remaining contents a count mid b) → TakesWorkPiece (PairDoes remaining contents) mid b answer serve_chunk new codec c
-    → ServesStream turns given (i.read ++ serve_chunk.piece) (i.out ++ serve_chunk.output) (remaining c.reader.now) → Whole remaining contents turns a given c
+    → ServesOneStream turns given (i.read ++ serve_chunk.piece) (i.out ++ serve_chunk.output) (remaining c.reader.now)
+    → Whole remaining contents turns a given c
 by_piece remaining contents turns a count mid b answer given serve_chunk new codec c lt i t s = record {
   read = i.read ++ serve_chunk.piece;
   out = i.out ++ serve_chunk.output;
@@ -215,7 +216,7 @@ pub finally_answered : {R W : Type 0} (remaining : R → Option (List ℕ)) (con
     → ServesWorkOver (PairDoes remaining contents) turns a answer b → a.reader.now ≡ r → a.writer.now ≡ w
     → (a.reader.ghost_name ≡ b.reader.ghost_name → x ≡ b.reader.now) → (a.writer.ghost_name ≡ b.writer.ghost_name → y ≡ b.writer.now)
     → (read : List ℕ) × (out : List ℕ) × Consumes (remaining r) (remaining x) read × Appends (contents w) (contents y) out × (length read ≤ 65536 * turns)
-    × ServesStream turns answer read out (remaining x)
+    × ServesOneStream turns answer read out (remaining x)
 finally_answered remaining contents turns a answer b r x w y o first last reader writer =
     let k = whole_over remaining contents turns a answer b o in
     let left : b.reader.now ≡ x = sym (reader (sym k.moved.same_reader)) in (
@@ -224,5 +225,5 @@ finally_answered remaining contents turns a answer b r x w y o first last reader
       finally_taken remaining contents a b k.read k.out r x k.moved first reader,
       finally_given remaining contents a b k.read k.out w y k.moved last writer,
       k.most,
-      subst (λ z. ServesStream turns answer k.read k.out (remaining z)) left k.serves,
+      subst (λ z. ServesOneStream turns answer k.read k.out (remaining z)) left k.serves,
     )

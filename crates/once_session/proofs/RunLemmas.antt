@@ -14,7 +14,7 @@ use Rattle.once_session.specs.declared.engine.OnceFault.TheVariants as fault
 use Rattle.once_session.specs.declared.stage.Stage.{Stage}
 use Rattle.once_session.specs.declared.stage.Stage.TheVariants as stage
 use Rattle.once_session.specs.Courses.{replies_to, stage_after, encodings}
-use Rattle.once_session.specs.Outputs.{IsPrefixOf, goes_on, rest_reply, is_well, is_done, output_of, EndsWork, WaitsForMore, Breaks, Turns, IsOutput, IsOnceReply, IsStreamCut, IsServeFault, ServesStream, Finishes}
+use Rattle.once_session.specs.Outputs.{IsPrefixOf, goes_on, rest_reply, is_well, is_done, output_of, EndsWork, WaitsForMore, Breaks, Turns, IsOutput, IsOnceReply, IsStreamCut, IsServeFault, ServesOneStream, Finishes}
 use Rattle.once_session.proofs.CourseLemmas.{stage_after-append, output-append, prefix_after, prefix_taken}
 
 -- nothing was read yet
@@ -174,7 +174,7 @@ shut_cut read out more st codec left w going end f = record {
 
 pub finish_served : (turns : ℕ) (answer : Result (Unit {0}) OnceFault) (read out more : List ℕ) (st : Stage) (codec left : Option (List ℕ))
     (w : WaitsForMore stage.Fresh read st codec out) → goes_on st ≡ true → IsAtEnd left →
-    Finishes answer w.rest more → ServesStream turns answer read (out ++ more) left
+    Finishes answer w.rest more → ServesOneStream turns answer read (out ++ more) left
 finish_served turns (Ok done) read out more st codec left w going end f =
     shut_output read out more st codec left true w going end (f.1 ∙ sym (ap rest_reply f.0))
     (well_at_end (stage_after stage.Fresh w.frames) w.rest (ap goes_on (sym w.stage_is) ∙ going) f.0)
@@ -189,11 +189,11 @@ finish_served turns (Err fault.Memory) read out more st codec left w going end f
 -- a turn broke off, by a fault of one reply
 pub turn_served : (turns : ℕ) (e : OnceFault) (read out piece more : List ℕ) (st new : Stage) (codec later left : Option (List ℕ))
     (w : WaitsForMore stage.Fresh read st codec out) → IsServeFault e →
-    Turns (Err e) st (w.rest ++ piece) new later more → ServesStream turns (Err e) (read ++ piece) (out ++ more) left
+    Turns (Err e) st (w.rest ++ piece) new later more → ServesOneStream turns (Err e) (read ++ piece) (out ++ more) left
 turn_served turns e read out piece more st new codec later left w (inl is) t =
-    subst (λ x. ServesStream turns (Err x) (read ++ piece) (out ++ more) left) (sym is) (breaks_on read out piece more st codec left w t)
+    subst (λ x. ServesOneStream turns (Err x) (read ++ piece) (out ++ more) left) (sym is) (breaks_on read out piece more st codec left w t)
 turn_served turns e read out piece more st new codec later left w (inr is) t =
-    subst (λ x. ServesStream turns (Err x) (read ++ piece) (out ++ more) left) (sym is) (breaks_on read out piece more st codec left w t)
+    subst (λ x. ServesOneStream turns (Err x) (read ++ piece) (out ++ more) left) (sym is) (breaks_on read out piece more st codec left w t)
 
 -- what a turn that goes on, or ends, led to
 pub turned_on : (st new : Stage) (stream more : List ℕ) (left : Option (List ℕ)) → goes_on new ≡ true → Turns (Ok tt) st stream new left more →
@@ -205,7 +205,7 @@ pub turned_off : (st new : Stage) (stream more : List ℕ) (left : Option (List 
 turned_off st new stream more left over t = subst (λ b. MatchBool b (WaitsForMore st stream new left more) (EndsWork st stream new more)) over t
 
 -- no room for a piece: nothing was read
-pub nothing_served : (turns : ℕ) (left : Option (List ℕ)) → ServesStream turns (Err fault.Memory) [] [] left
+pub nothing_served : (turns : ℕ) (left : Option (List ℕ)) → ServesOneStream turns (Err fault.Memory) [] [] left
 nothing_served turns left = record { frames = []; rest = []; begins = begins_none []; prefix = inl ([], refl) }
 
 -- the refusal of a frame that is cut was written in part

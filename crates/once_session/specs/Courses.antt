@@ -5,7 +5,7 @@ use Rattle.frame_codec.specs.declared.frame.Frame.{Frame}
 use Rattle.frame_codec.specs.declared.frame.Frame.TheVariants.{Load, Query, Bye, Answer, Stale, Refused}
 use Rattle.frame_codec.specs.Frames.{payload_size, payload_limit, encoding}
 use Rattle.digit_pack.specs.Layout.{Shape, shape, IsLayout, is_layout, digit_rows, digit_cols, digit_matrix, records_in}
-use Rattle.simple_scheme.specs.Simple.{answer_of}
+use Rattle.simple_scheme.specs.Simple.{simple_answer}
 use Rattle.once_session.specs.declared.stage.Table.{Table}
 use Rattle.once_session.specs.declared.stage.Stage.{Stage}
 use Rattle.once_session.specs.declared.stage.Stage.TheVariants.{Fresh, Loaded, Done, Bad}
@@ -30,7 +30,7 @@ abbrev pub query_reply : Table → ℕ → ℕ → List ℕ → Frame
 query_reply t scheme version words =
     if scheme == 0 then (
     if version == 1 then (
-    if length words == digit_cols t.layout then Answer 0 1 (answer_of t.digits words)
+    if length words == digit_cols t.layout then Answer 0 1 (simple_answer t.digits words)
     else Refused 11)
     else Stale 1 t.layout.count)
     else Refused 13

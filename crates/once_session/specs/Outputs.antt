@@ -72,13 +72,13 @@ pub record IsStreamCut (read out : List ℕ) (left : Option (List ℕ)) : Type 0
   pub prefix : IsPrefixOf out (encodings (replies_to Fresh frames)) ⊎ (IsLast (stage_after Fresh frames) rest left × IsPrefixOf out (output_of frames rest))
 
 -- what was written for what was read in at most so many turns, by the answer
-abbrev pub ServesStream : ℕ → Result (Unit {0}) OnceFault → List ℕ → List ℕ → Option (List ℕ) → Type 0
-ServesStream turns (Ok done) read out left = IsOutput read out left true
-ServesStream turns (Err BadInput) read out left = IsOutput read out left false
-ServesStream turns (Err Read) read out left = IsOnceReply read out
-ServesStream turns (Err TurnsUsedUp) read out left = IsOnceReply read out × (turns ≤ length read)
-ServesStream turns (Err Write) read out left = IsStreamCut read out left
-ServesStream turns (Err Memory) read out left = IsStreamCut read out left
+abbrev pub ServesOneStream : ℕ → Result (Unit {0}) OnceFault → List ℕ → List ℕ → Option (List ℕ) → Type 0
+ServesOneStream turns (Ok done) read out left = IsOutput read out left true
+ServesOneStream turns (Err BadInput) read out left = IsOutput read out left false
+ServesOneStream turns (Err Read) read out left = IsOnceReply read out
+ServesOneStream turns (Err TurnsUsedUp) read out left = IsOnceReply read out × (turns ≤ length read)
+ServesOneStream turns (Err Write) read out left = IsStreamCut read out left
+ServesOneStream turns (Err Memory) read out left = IsStreamCut read out left
 
 -- a fault of one reply
 abbrev pub IsServeFault : OnceFault → Type 0

@@ -3,7 +3,7 @@
 ghost use Rattle.std.specs.Prelude.{◌≡◌, ◌≤◌, ◌*◌, ℕ, List, [], length, Some, OnOk, OnErr, IfErr, true, false};
 ghost use Rattle.std.specs.Io.KnownBytes.{Appends, Consumes};
 ghost use Rattle.frame_codec.specs.Streams.{IsPartial};
-ghost use Rattle.once_session.specs.Outputs.{Finishes, ServesStream, is_done};
+ghost use Rattle.once_session.specs.Outputs.{Finishes, ServesOneStream, is_done};
 ghost use Rattle.once_session.specs.OnceTurns.{WritesWorkReplies, ServesWorkOver};
 
 use crate::engine::{OnceFault, goes_on, send, serve_chunk};
@@ -99,7 +99,7 @@ pub fn once_with<K: Kernel, R: Read, W: Write>(
         × Consumes (R.remaining reader.old) (R.remaining reader.new) read
         × Appends (W.contents writer.old) (W.contents writer.new) out
         × (length read ≤ 65536 * turns)
-        × ServesStream turns result read out (R.remaining reader.new) }
+        × ServesOneStream turns result read out (R.remaining reader.new) }
 {
     let mut pair = Pair::new(reader, writer);
     match once_over(alloc, kernel, &mut pair, turns) {
@@ -132,7 +132,7 @@ pub fn once<R: Read, W: Write>(
         × Consumes (R.remaining reader.old) (R.remaining reader.new) read
         × Appends (W.contents writer.old) (W.contents writer.new) out
         × (length read ≤ 65536 * turns)
-        × ServesStream turns result read out (R.remaining reader.new) }
+        × ServesOneStream turns result read out (R.remaining reader.new) }
 {
     once_with(alloc, Lanes, reader, writer, turns)
 }

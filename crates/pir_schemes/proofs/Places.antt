@@ -11,8 +11,8 @@ use Rattle.matrix_u32.specs.Sum.{list_of, residue, dot}
 use Rattle.matrix_u32.proofs.Products.{length-list_of, at-list_of}
 use Rattle.noise_table.specs.Margin.{delta}
 use Rattle.digit_pack.specs.Layout.{Shape, digit_rows, digit_cols, digits_per_record, column_of, first_row}
-use Rattle.simple_scheme.specs.Simple.{secret, query_noise, query_of}
-use Rattle.double_scheme.specs.Double.{part_secret, part_noise, first_query_of, part_query_of, query_of as double_query_of}
+use Rattle.simple_scheme.specs.Simple.{secret, query_noise, simple_query}
+use Rattle.double_scheme.specs.Double.{part_secret, part_noise, first_query_of, part_query_of, double_query}
 use Rattle.double_scheme.proofs.Blocks.{block_after}
 use Rattle.pir_schemes.specs.declared.scheme.Scheme.{Scheme}
 use Rattle.pir_schemes.specs.declared.scheme.Scheme.TheVariants.{Simple, Double}
@@ -71,13 +71,13 @@ unmarked Double l n public seed number k =
 
 simple_word : (l : Shape) (n : ℕ) (public seed : List ℕ) (number i k : ℕ) → k < digit_cols l →
     slice_index (query_words Simple l n public seed number i) k ≡ marked l.width (is_place Simple l i k) (unmarked Simple l n public seed number k)
-unfolding query_words query_of unmarked
+unfolding query_words simple_query unmarked
 simple_word l n public seed number i k lt =
     let a1 = first_public l n public in cipher_word l.width a1 (secret seed number a1.cols) (query_noise seed number a1.rows) (column_of l i) k lt
 
 double_word : (l : Shape) (n : ℕ) (public seed : List ℕ) (number i k : ℕ) → k < query_count Double l →
     slice_index (query_words Double l n public seed number i) k ≡ marked l.width (is_place Double l i k) (unmarked Double l n public seed number k)
-unfolding query_words double_query_of unmarked
+unfolding query_words double_query unmarked
 double_word l n public seed number i k lt = by (nat_lt k (digit_cols l)) refl
   where
     by : (b : Bool) → nat_lt k (digit_cols l) ≡ b →

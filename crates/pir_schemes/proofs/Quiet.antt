@@ -5,8 +5,8 @@ use Rattle.std.proofs.lemmas.Bool.{lt-ltb}
 use Rattle.digit_pack.specs.Digits.{number_of}
 use Rattle.digit_pack.specs.Laws.{PackUnpacks}
 use Rattle.digit_pack.specs.Layout.{Shape, IsShape, IsRecord, FitsRecord, record_at, record_digits, record_bytes}
-use Rattle.simple_scheme.specs.Laws.{QuietRetrievalReadsTheRecord as SimpleReads}
-use Rattle.double_scheme.specs.Laws.{QuietRetrievalReadsTheRecord as DoubleReads}
+use Rattle.simple_scheme.specs.Laws.{QuietSimpleRetrievalReadsTheRecord as SimpleReads}
+use Rattle.double_scheme.specs.Laws.{QuietDoubleRetrievalReadsTheRecord as DoubleReads}
 use Rattle.pir_schemes.specs.declared.scheme.Scheme.{Scheme}
 use Rattle.pir_schemes.specs.declared.scheme.Scheme.TheVariants.{Simple, Double}
 use Rattle.pir_schemes.specs.Plans.{Plan, shape_at, first_public, second_public, record_of}

@@ -3,15 +3,15 @@ use Rattle.std.specs.Prelude.{ℕ, ◌*◌, List, length}
 use Rattle.matrix_u32.specs.Matrix.{WordMatrix}
 use Rattle.lane_kernels.specs.Digit.{split_count}
 use Rattle.digit_pack.specs.Layout.{Shape, digit_rows, digit_cols}
-use Rattle.simple_scheme.specs.Simple.{hint_of, query_of, answer_of, reading as simple_reading, IsQuietRetrieval}
+use Rattle.simple_scheme.specs.Simple.{hint_of, simple_query, simple_answer, simple_reading, IsQuietRetrieval}
 use Rattle.double_scheme.specs.Double.{
   server_hint_of,
   client_hint_of,
-  query_count as double_query_count,
-  query_of as double_query_of,
-  answer_count as double_answer_count,
-  answer_of as double_answer_of,
-  reading as double_reading,
+  double_query_count,
+  double_query,
+  double_answer_count,
+  double_answer,
+  double_reading,
   IsQuietDouble,
 }
 use Rattle.pir_schemes.specs.declared.scheme.Scheme.{Scheme}
@@ -55,15 +55,15 @@ hint_matrix Double p records =
 
 -- the words of retrieval `number` of a client's seed, for record i
 unfoldable pub query_words : Scheme → Shape → ℕ → List ℕ → List ℕ → ℕ → ℕ → List ℕ
-query_words Simple l n public seed number i = query_of l (first_public l n public) seed number i
+query_words Simple l n public seed number i = simple_query l (first_public l n public) seed number i
 query_words Double l n public seed number i =
-    double_query_of l (first_public l n public) (second_public l n public) seed number i
+    double_query l (first_public l n public) (second_public l n public) seed number i
 
 -- the words of the answer to a query's words on a version
 unfoldable pub answer_words : Scheme → Plan → List (List ℕ) → List ℕ → List ℕ
-answer_words Simple p records words = answer_of (digits_at p records) words
+answer_words Simple p records words = simple_answer (digits_at p records) words
 answer_words Double p records words =
-    double_answer_of (shape_at p (length records)) (digits_at p records) (server_hint p records)
+    double_answer (shape_at p (length records)) (digits_at p records) (server_hint p records)
     (second_public (shape_at p (length records)) p.dimension p.seed) words
 
 -- the digits that an answer gives for record i under a hint

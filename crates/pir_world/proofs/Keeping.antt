@@ -14,7 +14,7 @@ use Rattle.pir_world.specs.declared.steps.Step.{Step}
 use Rattle.pir_world.specs.declared.steps.Step.TheVariants.{Edit, Publish, Hello, Sync, Ask, ToServer, ToClient}
 use Rattle.pir_world.specs.declared.steps.Outcome.{Outcome}
 use Rattle.pir_world.specs.declared.steps.Outcome.TheVariants.{Edited, EditRefused, Published, PublishRefused}
-use Rattle.pir_world.specs.Runs.{State, Link, Entry, Called, Sent, Plain, after, called_at, served_at, reported_at, call_at, with_link, with_history, edit_after, publish_after, link_called, link_reported, link_served, turn_of, reported_by, arrived, reader_key, FitsStep, Steps, Run}
+use Rattle.pir_world.specs.Runs.{State, Link, Entry, Called, Sent, Plain, state_after, called_at, served_at, reported_at, call_at, with_link, with_history, edit_after, publish_after, link_called, link_reported, link_served, turn_of, reported_by, arrived, reader_key, FitsStep, Steps, Run}
 use Rattle.pir_world.specs.Earlier.{IsAside, HasEarlier}
 use Rattle.pir_world.specs.Versions.{seed_of}
 use Rattle.pir_world.specs.Headlines.{IsRight, IsRightOutcome}
@@ -119,7 +119,7 @@ module _ (x : Setting) (seeds : List (List ℕ)) (s : State) (inv : Inv x seeds 
       new_version : (h : History) → IsRightOutcome (published h) (Published (current_version h + 1))
       new_version h = let e : current_version (published h) ≡ current_version h + 1 = omega arith in (h.draft, let n = newest (published h) in rw (← e) n)
 
-  pub after_inv : RetrievalGivesTheRecord → (short : Bool) (step : Step) → FitsStep step → Inv x seeds (after x short s step)
+  pub after_inv : RetrievalGivesTheRecord → (short : Bool) (step : Step) → FitsStep step → Inv x seeds (state_after x short s step)
   after_inv law short (Edit i bytes) small = edit_inv i bytes small
   after_inv law short Publish small = publish_inv
   after_inv law short (Hello k) small =
@@ -149,6 +149,6 @@ pub run_more : (x : Setting) (s : State) (steps : List Step) (t : State) (step :
 run_more x s [] t step u e one = (u, subst (λ (a : State). Steps x a step u) e one, refl)
 run_more x s (y ∷ ys) t step u e one = (e.0, e.1, run_more x e.0 ys t step u e.2 one)
 
-pub stepped : (x : Setting) (short : Bool) (s : State) (step : Step) → FitsStep step → Steps x s step (after x short s step)
+pub stepped : (x : Setting) (short : Bool) (s : State) (step : Step) → FitsStep step → Steps x s step (state_after x short s step)
 stepped x false s step f = (f, inl refl)
 stepped x true s step f = (f, inr refl)

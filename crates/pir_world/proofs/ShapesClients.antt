@@ -21,7 +21,7 @@ use Rattle.client_core.specs.Calls.{Want, Hello, Sync, Ask, sync_begun, state_af
 use Rattle.client_core.specs.Replies.{
   Taken,
   reaction_to_reply,
-  is_welcome,
+  is_accepted_welcome,
   takes_welcome,
   is_part,
   takes_asked_part,
@@ -45,7 +45,7 @@ use Rattle.client_core.specs.Feeding.{sends_of}
 use Rattle.client_core.specs.Laws.{Taken as Reply, Accepted}
 use Rattle.client_core.specs.Shapes.{
   FrameShape,
-  shape_of,
+  shape_of_frame,
   BlankCall,
   blank_call,
   BlankReply,
@@ -176,7 +176,7 @@ part_sends (call.Sync s v p) c scheme version part words = asked c.known
 part_sends k c scheme version part words = inl refl
 
 welcome_sends : (k : Call) (c : ClientState) (profile : ℕ) (l : Shape) (n version : ℕ) (seed : List ℕ) → Sends (takes_welcome k c profile l n version seed)
-welcome_sends (call.Hello key) c profile l n version seed = either (is_welcome profile l n version) _ _ (inl refl) (inl refl)
+welcome_sends (call.Hello key) c profile l n version seed = either (is_accepted_welcome profile l n version) _ _ (inl refl) (inl refl)
 welcome_sends k c profile l n version seed = inl refl
 
 answer_sends : (k : Call) (c : ClientState) (scheme version : ℕ) (words : List ℕ) → Sends (takes_answer k c scheme version words)
@@ -249,11 +249,11 @@ replied_outline c d f g a e =
     ∙ sym (no_index.outline_is d (Reply g))
 
 replied_shapes : (c d : ClientState) (f g : Frame) → outline c ≡ outline d → IsFrameLike f g
-    → map shape_of (sends_of (reaction_to_reply c f).reaction) ≡ map shape_of (sends_of (reaction_to_reply d g).reaction)
+    → map shape_of_frame (sends_of (reaction_to_reply c f).reaction) ≡ map shape_of_frame (sends_of (reaction_to_reply d g).reaction)
 replied_shapes c d f g a e =
-    ap (map shape_of) (sym (append-nil (sends_of (reaction_to_reply c f).reaction)))
+    ap (map shape_of_frame) (sym (append-nil (sends_of (reaction_to_reply c f).reaction)))
     ∙ no_index.same_shapes c d (Reply f ∷ []) (Reply g ∷ []) (tt, tt) (tt, tt) a (ap (λ (b : BlankReply). BlankTaken b ∷ []) (same_blank f g e))
-    ∙ ap (map shape_of) (append-nil (sends_of (reaction_to_reply d g).reaction))
+    ∙ ap (map shape_of_frame) (append-nil (sends_of (reaction_to_reply d g).reaction))
 
 same_part : (s t : Scheme) (v w p q : ℕ) → APart s v p ≡ APart t w q → frame.HintAsk (scheme_byte s) v p ≡ frame.HintAsk (scheme_byte t) w q
 same_part s t v w p q e = let a : s ≡ t = cc in let b : v ≡ w = cc in let d : p ≡ q = cc in cc
@@ -266,12 +266,12 @@ replied_sends c d f g a e = both (reply_sends c f) (reply_sends d g)
     both : Sends (reaction_to_reply c f) → Sends (reaction_to_reply d g) → sends_of (reaction_to_reply c f).reaction ≡ sends_of (reaction_to_reply d g).reaction
     both (inl p) (inl q) = p ∙ sym q
     both (inl p) (inr q) =
-        let z : ◌≡◌ {A = List FrameShape} [] (shape_of (frame.HintAsk (scheme_byte q.0) q.1 q.2) ∷ []) =
-        ap (map shape_of) (sym p) ∙ replied_shapes c d f g a e ∙ ap (map shape_of) q.4 in
+        let z : ◌≡◌ {A = List FrameShape} [] (shape_of_frame (frame.HintAsk (scheme_byte q.0) q.1 q.2) ∷ []) =
+        ap (map shape_of_frame) (sym p) ∙ replied_shapes c d f g a e ∙ ap (map shape_of_frame) q.4 in
         absurd cc
     both (inr p) (inl q) =
-        let z : ◌≡◌ {A = List FrameShape} (shape_of (frame.HintAsk (scheme_byte p.0) p.1 p.2) ∷ []) [] =
-        ap (map shape_of) (sym p.4) ∙ replied_shapes c d f g a e ∙ ap (map shape_of) q in
+        let z : ◌≡◌ {A = List FrameShape} (shape_of_frame (frame.HintAsk (scheme_byte p.0) p.1 p.2) ∷ []) [] =
+        ap (map shape_of_frame) (sym p.4) ∙ replied_shapes c d f g a e ∙ ap (map shape_of_frame) q in
         absurd cc
     both (inr p) (inr q) =
         let z : APart p.0 p.1 p.2 ≡ APart q.0 q.1 q.2 = ap awaited (sym p.3) ∙ ap (λ (o : Outline). o.call) (replied_outline c d f g a e) ∙ ap awaited q.3 in

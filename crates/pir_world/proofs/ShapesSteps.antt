@@ -19,7 +19,7 @@ use Rattle.pir_world.specs.Runs.{
   Entry,
   Plain,
   Turn,
-  after,
+  state_after,
   called_at,
   served_at,
   reported_at,
@@ -87,13 +87,13 @@ module _ (x : Setting) (s t : State) (a : IsStateLike s t) where
   calls_like k v w r e below below2 = called_like s t a k v w (slice_get s.links k) (slice_get t.links k) refl refl (a.links k) r e below below2
 
   pub after_like : (seeds : List (List ℕ)) → Inv x seeds s → (step other : Step) → IsStepLike step other
-      → AskIsBelow s step → AskIsBelow t other → IsStateLike (after x false s step) (after x false t other)
+      → AskIsBelow s step → AskIsBelow t other → IsStateLike (state_after x false s step) (state_after x false t other)
   after_like seeds inv (Edit i bytes) other e b b2 = rw e (edit_like i bytes)
   after_like seeds inv Publish other e b b2 = rw e publish_like
   after_like seeds inv (Hello k) other e b b2 = rw e (calls_like k (want_hello reader_key) (want_hello reader_key) tt refl (λ l at. tt) (λ l at. tt))
   after_like seeds inv (Sync k scheme) other e b b2 = rw e (calls_like k (want_sync scheme) (want_sync scheme) tt refl (λ l at. tt) (λ l at. tt))
   after_like seeds inv (Ask k i) other e b b2 =
-      let P : Step → Type 0 = λ o. AskIsBelow t o → IsStateLike (after x false s (Ask k i)) (after x false t o) in
+      let P : Step → Type 0 = λ o. AskIsBelow t o → IsStateLike (state_after x false s (Ask k i)) (state_after x false t o) in
       subst P (sym e.1) (λ b3. calls_like k (want_ask i) (want_ask e.0) tt (e.0, refl) b b3) b2
   after_like seeds inv (ToServer k most) other e b b2 = rw e (served_like s t a k x most (slice_get s.links k) (slice_get t.links k) refl refl (a.links k))
   after_like seeds inv (ToClient k most) other e b b2 = rw e (reported_like s t a k most (slice_get s.links k) (slice_get t.links k) refl refl (a.links k) few)
@@ -124,7 +124,7 @@ module _ (x : Setting) (s : State) where
     reported_kept k most None all = all
     reported_kept k most (Some l) all = all_first P s.log _ all
 
-    step_kept : (short : Bool) (step : Step) → IsHeldBefore (after x short s step)
+    step_kept : (short : Bool) (step : Step) → IsHeldBefore (state_after x short s step)
     step_kept short (Edit i bytes) =
         cond_both (nat_lt i (length s.history.draft)) _ _ IsHeldBefore
         (λ e. cond_both (fits x.plan bytes) _ _ IsHeldBefore (λ e all. all_first P s.log _ all) (λ e all. all_first P s.log _ all))
@@ -151,11 +151,11 @@ module _ (x : Setting) (s : State) where
       let turned : Turn → State = λ t. with_link s t.history k (link t) t.log in
       ap turned (turns_same x k _ (arrived l.up most) (all_last HadMemory s.log _ all))
 
-  short_same : (step : Step) → AllByRecursion HadMemory (after x true s step).log → after x true s step ≡ after x false s step
+  short_same : (step : Step) → AllByRecursion HadMemory (state_after x true s step).log → state_after x true s step ≡ state_after x false s step
   short_same (ToServer k most) all = delivery_same k most (slice_get s.links k) all
   short_same step all = refl
 
-  pub step_is : (step : Step) (t : State) → Steps x s step t → AllByRecursion HadMemory t.log → t ≡ after x false s step
+  pub step_is : (step : Step) (t : State) → Steps x s step t → AllByRecursion HadMemory t.log → t ≡ state_after x false s step
   step_is step t (fits, inl e) all = e
   step_is step t (fits, inr e) all = e ∙ short_same step (subst (λ (u : State). AllByRecursion HadMemory u.log) e all)
 
@@ -176,7 +176,7 @@ module _ (law : RetrievalGivesTheRecord) (x : Setting) (seeds : List (List ℕ))
       let second = step_is x t other there.0 there.1 (run_kept HadMemory x there.0 others t2 there.2 q.memory) in
       let like = after_like x s t a seeds i step other e.0 r.below.0 q.below.0 in
       runs_like here.0 there.0 steps others s2 t2
-      (subst (λ (u : State). IsStateLike u there.0) (sym first) (subst (λ (u : State). IsStateLike (after x false s step) u) (sym second) like))
+      (subst (λ (u : State). IsStateLike u there.0) (sym first) (subst (λ (u : State). IsStateLike (state_after x false s step) u) (sym second) like))
       (step_inv law x seeds s step here.0 here.1 i)
       (step_inv law x seeds t other there.0 there.1 j)
       e.1

@@ -27,7 +27,7 @@ use Rattle.frame_codec.specs.Refusals.{refused, code_of}
 use Rattle.version_store.specs.Histories.{History}
 use Rattle.server_core.specs.declared.standing.Standing.{Standing}
 use Rattle.server_core.specs.declared.standing.Standing.TheVariants.{Reader}
-use Rattle.server_core.specs.Serving.{Setting, hint_words, hint_rows, part_words}
+use Rattle.server_core.specs.Serving.{Setting, hint_words, named_hint_rows, part_words}
 use Rattle.client_core.specs.declared.state.ClientState.{ClientState}
 use Rattle.client_core.specs.declared.state.ServerInfo.{ServerInfo}
 use Rattle.client_core.specs.declared.state.Hint.{Hint}
@@ -36,7 +36,7 @@ use Rattle.client_core.specs.declared.state.Call.TheVariants.{Idle, Hello, Sync,
 use Rattle.client_core.specs.declared.state.ClientFault.TheVariants.{BadReply}
 use Rattle.client_core.specs.declared.state.Reaction.TheVariants.{Asks}
 use Rattle.client_core.specs.States.{is_layout}
-use Rattle.client_core.specs.Replies.{Taken, reaction_to_reply, takes_welcome, takes_part, takes_answer, takes_stale, takes_no_delta, takes_refused, takes_asked_part, more_parts, is_welcome, is_part, is_answer, is_current, with_current, with_count, are_ascending, is_delta, event_of, answered, ended, faulty}
+use Rattle.client_core.specs.Replies.{Taken, reaction_to_reply, takes_welcome, takes_part, takes_answer, takes_stale, takes_no_delta, takes_refused, takes_asked_part, more_parts, is_accepted_welcome, is_part, is_answer, is_current, with_current, with_count, are_ascending, is_delta, event_of, answered, ended, faulty}
 use Rattle.client_core.specs.declared.state.Event.TheVariants.{Synced}
 use Rattle.client_core.specs.Laws.{rows_of}
 use Rattle.client_core.specs.Feeding.{sends_of, fault_of}
@@ -85,7 +85,7 @@ pub record IsTaken (x : Setting) (seeds : List (List ℕ)) (k : ℕ) (h : Histor
 plan_accepted : (p : Plan) (n : ℕ) (l : Shape) → IsPlan p n → l ≡ shape_at p n → is_layout l ≡ true
 plan_accepted p n l ok e = rw e (layout_accepted (shape_at p n) ok.layout)
 
-welcome_good : (p : Plan) (n v : ℕ) → IsPlan p n → 0 < v → is_welcome (profile_of p) (shape p.width p.record_len p.groups n) p.dimension v ≡ true
+welcome_good : (p : Plan) (n v : ℕ) → IsPlan p n → 0 < v → is_accepted_welcome (profile_of p) (shape p.width p.record_len p.groups n) p.dimension v ≡ true
 welcome_good p n v ok lt =
     and_from (is_layout (shape_at p n)) _ (layout_accepted (shape_at p n) ok.layout)
     (and_from (nat_le 1 p.dimension && nat_le p.dimension 1024) (nat_lt 0 v) (and_from _ _ (le-leb 1 p.dimension ok.low) (le-leb p.dimension 1024 ok.high))
@@ -128,8 +128,8 @@ unfolding part_words
 parts_more x s records p = let e : 65536 * (p + 1) ≡ 65536 * p + 65536 = omega arith in rw e (sym (take-add (65536 * p) 65536 (hint_words x s records)))
 
 rows_are : (x : Setting) (records : List (List ℕ)) (numbers : List ℕ) →
-    hint_rows x records numbers ≡ row_list (hint_matrix Simple x.plan records).cols (rows_of (hint_matrix Simple x.plan records) numbers)
-unfolding hint_rows
+    named_hint_rows x records numbers ≡ row_list (hint_matrix Simple x.plan records).cols (rows_of (hint_matrix Simple x.plan records) numbers)
+unfolding named_hint_rows
 rows_are x records numbers = ap (λ (n : ℕ). row_list n (rows_of (hint_matrix Simple x.plan records) numbers)) (sym (hint_sizes Simple x.plan records).cols)
 
 pub known_some : (x : Setting) (h : History) (st : Standing) (o : Option ServerInfo) (y : ServerInfo) → KnownIs x h st o → o ≡ Some y → (st ≡ Reader)

@@ -15,7 +15,7 @@ use Rattle.frame_codec.specs.Refusals.{refused}
 use Rattle.version_store.specs.Histories.{History}
 use Rattle.server_core.specs.declared.standing.Standing.{Standing}
 use Rattle.server_core.specs.declared.standing.Standing.TheVariants.{Reader}
-use Rattle.server_core.specs.Serving.{Setting, hint_words, hint_rows, part_words, is_closed}
+use Rattle.server_core.specs.Serving.{Setting, hint_words, named_hint_rows, part_words, is_closed}
 use Rattle.client_core.specs.declared.state.ClientState.{ClientState}
 use Rattle.client_core.specs.declared.state.ServerInfo.{ServerInfo}
 use Rattle.client_core.specs.declared.state.Hint.{Hint}
@@ -117,7 +117,7 @@ pub record IsDeltaTo (x : Setting) (h : History) (since : ℕ) (r : Frame) : Typ
   pub ascending : are_ascending 0 (digit_rows (shape_at x.plan (length records))) numbers ≡ true
   pub named : (i : ℕ) → i < digit_rows (shape_at x.plan (length records)) →
       Contains numbers i ⊎ (row (hint_matrix Simple x.plan before) i ≡ row (hint_matrix Simple x.plan records) i)
-  pub reply_is : r ≡ frame.Delta since now (length records) (hint_rows x records numbers)
+  pub reply_is : r ≡ frame.Delta since now (length records) (named_hint_rows x records numbers)
 
 -- a reply to the outstanding call
 abbrev pub IsReply : Setting → History → Standing → List ℕ → Call → Frame → Type 0

@@ -249,14 +249,14 @@ publish_after s =
     else with_history s s.history (PublishRefused publish_error.NothingToPublish)
 
 -- what a step leads to
-abbrev pub after : Setting → Bool → State → Step → State
-after x short s (Edit i bytes) = edit_after x s i bytes
-after x short s Publish = publish_after s
-after x short s (Hello k) = called_at s (want_hello reader_key) k (slice_get s.links k)
-after x short s (Sync k scheme) = called_at s (want_sync scheme) k (slice_get s.links k)
-after x short s (Ask k i) = called_at s (want_ask i) k (slice_get s.links k)
-after x short s (ToServer k most) = served_at x short s k most (slice_get s.links k)
-after x short s (ToClient k most) = reported_at s k most (slice_get s.links k)
+abbrev pub state_after : Setting → Bool → State → Step → State
+state_after x short s (Edit i bytes) = edit_after x s i bytes
+state_after x short s Publish = publish_after s
+state_after x short s (Hello k) = called_at s (want_hello reader_key) k (slice_get s.links k)
+state_after x short s (Sync k scheme) = called_at s (want_sync scheme) k (slice_get s.links k)
+state_after x short s (Ask k i) = called_at s (want_ask i) k (slice_get s.links k)
+state_after x short s (ToServer k most) = served_at x short s k most (slice_get s.links k)
+state_after x short s (ToClient k most) = reported_at s k most (slice_get s.links k)
 
 -- an edit's bytes are bytes
 abbrev pub FitsStep : Step → Type 0
@@ -265,7 +265,7 @@ FitsStep _ = Unit {0}
 
 -- one step: the server has memory for its reply, or is out of it
 abbrev pub Steps : Setting → State → Step → State → Type 0
-Steps x s step t = FitsStep step × ((t ≡ after x false s step) ⊎ (t ≡ after x true s step))
+Steps x s step t = FitsStep step × ((t ≡ state_after x false s step) ⊎ (t ≡ state_after x true s step))
 
 -- these steps, one after another, lead from a state to another
 abbrev pub Run : Setting → State → List Step → State → Type 0

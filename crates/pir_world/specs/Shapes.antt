@@ -6,10 +6,10 @@ use Rattle.frame_codec.specs.Refusals.{refused}
 use Rattle.snapshot_file.specs.declared.snapshot.Header.{Header}
 use Rattle.server_core.specs.Serving.{Setting}
 use Rattle.client_core.specs.States.{known_count}
-use Rattle.client_core.specs.Shapes.{FrameShape, shape_of}
+use Rattle.client_core.specs.Shapes.{FrameShape, shape_of_frame}
 use Rattle.pir_world.specs.declared.steps.Step.{Step}
 use Rattle.pir_world.specs.declared.steps.Step.TheVariants.{Ask}
-use Rattle.pir_world.specs.Runs.{State, Link, Entry, Sent, Served, Run, after, opening, setting_in}
+use Rattle.pir_world.specs.Runs.{State, Link, Entry, Sent, Served, Run, state_after, opening, setting_in}
 use Rattle.pir_world.specs.Headlines.{IsOpening}
 use Rattle.pir_world.specs.Worlds.{Kept}
 
@@ -17,12 +17,12 @@ use Rattle.pir_world.specs.Worlds.{Kept}
 
 -- the shape of an entry's frame, where client k sent it
 abbrev pub sent_shape : ℕ → Entry → List FrameShape
-sent_shape k (Sent j f) = cond (j == k) (shape_of f ∷ []) []
+sent_shape k (Sent j f) = cond (j == k) (shape_of_frame f ∷ []) []
 sent_shape k _ = []
 
 -- the shape of an entry's reply, where it was to client k
 abbrev pub reply_shape : ℕ → Entry → List FrameShape
-reply_shape k (Served j f now (Some reply)) = cond (j == k) (shape_of reply ∷ []) []
+reply_shape k (Served j f now (Some reply)) = cond (j == k) (shape_of_frame reply ∷ []) []
 reply_shape k _ = []
 
 -- the shapes of the frames that client k sent, in order
@@ -66,7 +66,7 @@ AskIsBelow s _ = Unit {0}
 -- each ask of some steps, one after another, is of a record below the count that its client knows then; the server has memory
 abbrev pub AsksAreBelow : Setting → State → List Step → Type 0
 AsksAreBelow x s [] = Unit {0}
-AsksAreBelow x s (step ∷ steps) = AskIsBelow s step × AsksAreBelow x (after x false s step) steps
+AsksAreBelow x s (step ∷ steps) = AskIsBelow s step × AsksAreBelow x (state_after x false s step) steps
 
 -- a run without refusals for memory, in which each ask is of a record below the count that its client knows
 pub record IsPlainRun (x : Setting) (s : State) (steps : List Step) (t : State) : Type 0 where

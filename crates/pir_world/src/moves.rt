@@ -5,7 +5,7 @@ ghost use Rattle.server_core.specs.Cores.{Core};
 ghost use Rattle.server_core.specs.Serving.{Setting};
 ghost use Rattle.pir_world.specs.declared.steps.Outcome.TheVariants.{Reported};
 ghost use Rattle.pir_world.specs.declared.steps.Step.TheVariants as step;
-ghost use Rattle.pir_world.specs.Runs.{State, Steps, after, edit_after, publish_after, called_at};
+ghost use Rattle.pir_world.specs.Runs.{State, Steps, state_after, edit_after, publish_after, called_at};
 ghost use Rattle.pir_world.specs.Invariants.{Inv};
 ghost use Rattle.pir_world.specs.Sides.{Side, IsParts, want_of, has_client};
 
@@ -136,7 +136,7 @@ fn serve<K: Kernel>(
     ensures made { OnOk result ((x : Setting) (seeds : List (List ℕ)) (s : State)
         (outcomes : List Outcome) → Inv x seeds s → IsParts x server.old ends.old.items outcomes s →
         (short : Bool) × IsParts x server.new ends.new.items outcomes
-        (after x short s (step.ToServer k most))) }
+        (state_after x short s (step.ToServer k most))) }
     ensures clients { length ends.new.items ≡ length ends.old.items }
 {
     match ends[k].send(alloc, server, k as u64, most) {
@@ -179,7 +179,8 @@ fn report<K: Kernel>(
     requires { k < length ends.old.items }
     ensures made { OnOk result ((core : Core) (x : Setting) (seeds : List (List ℕ)) (s : State) →
         Inv x seeds s → IsParts x core ends.old.items outcomes.old.items s →
-        IsParts x core ends.new.items outcomes.new.items (after x false s (step.ToClient k most))) }
+        IsParts x core ends.new.items outcomes.new.items
+        (state_after x false s (step.ToClient k most))) }
     ensures clients { length ends.new.items ≡ length ends.old.items }
     ensures none { OnErr result (outcomes.new.items ≡ outcomes.old.items) }
 {

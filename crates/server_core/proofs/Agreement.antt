@@ -10,7 +10,7 @@ use Rattle.frame_codec.specs.Streams.{Feeds}
 use Rattle.version_store.specs.Histories.{History}
 use Rattle.server_core.specs.declared.standing.Standing.{Standing}
 use Rattle.server_core.specs.declared.standing.Standing.TheVariants.{Stranger, Reader, Publisher, Closed}
-use Rattle.server_core.specs.Courses.{Course, course_of, at_end, course_of_piece, is_memory, lacks_memory}
+use Rattle.server_core.specs.Courses.{SessionCourse, course_of, at_end, course_of_piece, is_memory, lacks_memory}
 use Rattle.server_core.specs.Laws.{IsAlike, PiecesDecide, PiecesAgree, SessionsNeverMeet}
 use Rattle.server_core.specs.Serving.{Setting, ServesAll, is_closed}
 use Rattle.server_core.specs.Sessions.{Session, AfterReading, EndsPiece, ServesPiece}
@@ -107,11 +107,11 @@ silent x h old piece h2 new replies s m =
 
 -- ---- a piece
 
-by_course : (x : Setting) (h : History) (st : Standing) (frames : List Frame) (answer : Result (Unit {0}) ReadFault) (c : Course) →
+by_course : (x : Setting) (h : History) (st : Standing) (frames : List Frame) (answer : Result (Unit {0}) ReadFault) (c : SessionCourse) →
     c ≡ course_of x h st frames → cond (is_closed c.standing) c (at_end answer c) ≡ course_of_piece x h st frames answer
-by_course x h st frames answer c e = ap (λ (y : Course). cond (is_closed y.standing) y (at_end answer y)) e
+by_course x h st frames answer c e = ap (λ (y : SessionCourse). cond (is_closed y.standing) y (at_end answer y)) e
 
-closed_alone : (c : Course) (answer : Result (Unit {0}) ReadFault) → is_closed c.standing ≡ true → c ≡ cond (is_closed c.standing) c (at_end answer c)
+closed_alone : (c : SessionCourse) (answer : Result (Unit {0}) ReadFault) → is_closed c.standing ≡ true → c ≡ cond (is_closed c.standing) c (at_end answer c)
 closed_alone c answer shut = rw shut refl
 
 piece_decided : FeedsDecide → FeedsBegin →
@@ -125,13 +125,13 @@ piece_decided decide begin x h old piece h2 new replies answer frames rest s lac
       | inl m ↦
           let q = silent x h old piece h2 new replies s m in
           let b = begin old.unfinished piece answer s.answer frames s.frames rest new.unfinished reads s.reads clear in
-          let c : Course = record { history = h2; standing = new.standing; replies = replies } in
+          let c : SessionCourse = record { history = h2; standing = new.standing; replies = replies } in
           let e : c ≡ course_of x h old.standing frames =
           closing_course x h old.standing s.frames frames b.0 h2 new.standing replies q.serves q.shut lacks b.1 in
           (closed_alone c answer q.shut ∙ by_course x h old.standing frames answer c e, λ open_. not_both new.standing q.shut open_)
       | inr pure ↦
           let d = decide old.unfinished piece s.answer answer s.frames frames new.unfinished rest s.reads reads pure clear in
-          let c : Course = record { history = h2; standing = s.middle; replies = s.reported } in
+          let c : SessionCourse = record { history = h2; standing = s.middle; replies = s.reported } in
           let e : c ≡ course_of x h old.standing frames =
           rw (← d.1) (decided x h old.standing s.frames h2 s.middle s.reported s.serves (reported_clear replies s.reported s.more s.all lacks)) in
           let f : record { history = h2; standing = new.standing; replies = replies } ≡ cond (is_closed s.middle) c (at_end answer c) =
@@ -158,13 +158,14 @@ pieces_decide decide begin x h old piece done h2 new replies answer frames rest 
 
 -- ---- two sessions
 
-abbrev course : History → Standing → List Frame → Course
+abbrev course : History → Standing → List Frame → SessionCourse
 course h st replies = record { history = h; standing = st; replies = replies }
 
 -- the same course, and the same rest of the stream of an open session
 same_course : (h2 h3 : History) (new new2 : Session) (replies replies2 : List Frame) → course h2 new.standing replies ≡ course h3 new2.standing replies2
     → (is_closed new.standing ≡ false → new.unfinished ≡ new2.unfinished) → (h2 ≡ h3) × IsAlike new new2 × (replies ≡ replies2)
-same_course h2 h3 new new2 replies replies2 e u = (ap (λ (c : Course). c.history) e, (ap (λ (c : Course). c.standing) e, u), ap (λ (c : Course). c.replies) e)
+same_course h2 h3 new new2 replies replies2 e u =
+    (ap (λ (c : SessionCourse). c.history) e, (ap (λ (c : SessionCourse). c.standing) e, u), ap (λ (c : SessionCourse). c.replies) e)
 
 both_served : FeedsDecide → FeedsBegin → FeedsAgree →
     (x : Setting) (h : History) (old : Session) (piece : List ℕ) (h2 h3 : History) (new new2 : Session) (replies replies2 : List Frame) →
@@ -181,7 +182,7 @@ both_served decide begin agree x h old piece h2 h3 new new2 replies replies2 s t
             let a = piece_decided decide begin x h old piece h2 new replies s.answer s.frames new.unfinished s lacks s.reads pure in
             let b = piece_decided decide begin x h old piece h3 new2 replies2 s.answer s.frames new.unfinished t lacks2 s.reads pure in
             let same = a.0 ∙ sym b.0 in
-            same_course h2 h3 new new2 replies replies2 same (λ open_. sym (b.1 (ap (λ (c : Course). is_closed c.standing) (sym same) ∙ open_)))
+            same_course h2 h3 new new2 replies replies2 same (λ open_. sym (b.1 (ap (λ (c : SessionCourse). is_closed c.standing) (sym same) ∙ open_)))
         | inl m ↦
             let q = silent x h old piece h2 new replies s m in
             let r = silent x h old piece h3 new2 replies2 t n in

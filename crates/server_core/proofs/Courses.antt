@@ -6,7 +6,7 @@ use Rattle.version_store.specs.Histories.{History}
 use Rattle.server_core.specs.declared.standing.Standing.{Standing}
 use Rattle.server_core.specs.declared.standing.Standing.TheVariants.{Stranger, Reader, Publisher, Closed}
 use Rattle.server_core.specs.Serving.{Setting, Outcome, IsOutcome, ServesAll, outcome_of_frame}
-use Rattle.server_core.specs.Courses.{Course, course_of, with_reply, is_memory, lacks_memory}
+use Rattle.server_core.specs.Courses.{SessionCourse, course_of, with_reply, is_memory, lacks_memory}
 
 -- the prefix and the rest of replies that don't lack memory
 prefix_of : (rs others : List Frame) → lacks_memory (rs ++ others) ≡ false → lacks_memory others ≡ false
@@ -25,7 +25,7 @@ as_served x h st f o others (inr e) lacks =
     let bad : true ≡ false = subst (λ (y : Outcome). lacks_memory (option_to_list y.reply ++ others) ≡ false) e.1 lacks in
     absurd cc
 
-more : (o p : Outcome) (others : List Frame) (h2 : History) (st2 : Standing) (c : Course) → o ≡ p →
+more : (o p : Outcome) (others : List Frame) (h2 : History) (st2 : Standing) (c : SessionCourse) → o ≡ p →
     record { history = h2; standing = st2; replies = others } ≡ c
     → record { history = h2; standing = st2; replies = option_to_list o.reply ++ others } ≡ with_reply p c
 more o p others h2 st2 c e d = rw (e, ← d) refl

@@ -10,7 +10,7 @@ use Rattle.pir_schemes.specs.declared.scheme.Scheme.TheVariants.{Simple}
 use Rattle.pir_schemes.specs.Retrievals.{hint_matrix}
 use Rattle.pir_schemes.proofs.Lengths.{hint_sizes}
 use Rattle.frame_codec.specs.Rows.{Row, HasWholeRows}
-use Rattle.server_core.specs.Serving.{Setting, hint_row, hint_rows}
+use Rattle.server_core.specs.Serving.{Setting, hint_row, named_hint_rows}
 
 -- a row's number, and its words
 abbrev pub row_words : Row → List ℕ
@@ -20,8 +20,8 @@ row_words r = r.number ∷ r.words
 abbrev pub words_sent : Setting → List (List ℕ) → List ℕ → List ℕ
 words_sent x records rows = flat_map row_words (map (hint_row x records) rows)
 
-pub words_of : (x : Setting) (records : List (List ℕ)) (rows : List ℕ) → (hint_rows x records rows).words ≡ words_sent x records rows
-unfolding hint_rows
+pub words_of : (x : Setting) (records : List (List ℕ)) (rows : List ℕ) → (named_hint_rows x records rows).words ≡ words_sent x records rows
+unfolding named_hint_rows
 words_of x records rows = refl
 
 map_push : (x : Setting) (records : List (List ℕ)) (rows : List ℕ) (r : ℕ) →
@@ -57,8 +57,8 @@ words_count x records (r ∷ rows) =
 
 -- they are the rows, which are whole
 pub rows_are : (x : Setting) (records : List (List ℕ)) (rows : List ℕ) (n : ℕ) (words : List ℕ) → n ≡ x.plan.dimension → words ≡ words_sent x records rows →
-    record { dimension = n; words = words } ≡ hint_rows x records rows
-unfolding hint_rows
+    record { dimension = n; words = words } ≡ named_hint_rows x records rows
+unfolding named_hint_rows
 rows_are x records rows n words wide is = rw (wide, is) refl
 
 pub whole_rows : (x : Setting) (records : List (List ℕ)) (rows : List ℕ) (n : ℕ) (words : List ℕ) → n ≡ x.plan.dimension → words ≡ words_sent x records rows →

@@ -57,8 +57,8 @@ abbrev pub hint_row : Setting → List (List ℕ) → ℕ → Row
 hint_row x records r = record { number = r; words = row (hint_matrix Simple x.plan records) r }
 
 -- some of its rows, one after another
-unfoldable pub hint_rows : Setting → List (List ℕ) → List ℕ → RowList
-hint_rows x records rows = row_list x.plan.dimension (map (hint_row x records) rows)
+unfoldable pub named_hint_rows : Setting → List (List ℕ) → List ℕ → RowList
+named_hint_rows x records rows = row_list x.plan.dimension (map (hint_row x records) rows)
 
 -- how many words a query on some records has
 abbrev pub words_asked : Setting → Scheme → List (List ℕ) → ℕ
@@ -123,7 +123,7 @@ abbrev pub delta_asked : Setting → History → Standing → ℕ → Option (Li
 delta_asked x h st since None = no_delta st h
 delta_asked x h st since (Some rows) =
     if nat_le (length rows) 1024
-    then replies_with (Delta since (current_version h) (length h.current) (hint_rows x h.current rows)) st h
+    then replies_with (Delta since (current_version h) (length h.current) (named_hint_rows x h.current rows)) st h
     else no_delta st h
 
 -- a query is asked

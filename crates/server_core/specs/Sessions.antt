@@ -57,7 +57,7 @@ pub record ServesPiece (x : Setting) (h : History) (old : Session) (piece : List
   pub all : replies ≡ reported ++ more
 
 -- memory was refused after some of them: those are served, no other is, and the session is closed
-pub record BreaksOff (x : Setting) (h : History) (old : Session) (piece : List ℕ) (h2 : History) (new : Session) (replies : List Frame) : Type 0 where
+pub record ClosesForMemory (x : Setting) (h : History) (old : Session) (piece : List ℕ) (h2 : History) (new : Session) (replies : List Frame) : Type 0 where
   pub answer : Result (Unit {0}) ReadFault
   pub frames : List Frame
   pub count : ℕ
@@ -72,7 +72,7 @@ pub record BreaksOff (x : Setting) (h : History) (old : Session) (piece : List �
 abbrev pub FeedsSession : Setting → History → Session → List ℕ → Result (Unit {0}) AllocError → History → Session → List Frame → Type 0
 FeedsSession x h old piece (Ok done) h2 new replies =
     MatchBool (is_closed old.standing) ((h2 ≡ h) × (new ≡ old) × (replies ≡ [])) (ServesPiece x h old piece h2 new replies)
-FeedsSession x h old piece (Err e) h2 new replies = (is_closed old.standing ≡ false) × BreaksOff x h old piece h2 new replies
+FeedsSession x h old piece (Err e) h2 new replies = (is_closed old.standing ≡ false) × ClosesForMemory x h old piece h2 new replies
 
 -- A store was fed a session's piece: it stands for the history after it in the same setting, and the replies are written.
 pub record Fed (x : Setting) (h : History) (old : Session) (piece : List ℕ) (result : Result (Unit {0}) AllocError) (store : StoreState) (new : Session)

@@ -9,7 +9,7 @@ ghost use Rattle.pir_schemes.specs.Plans.{profile_of};
 ghost use Rattle.pir_schemes.specs.Retrievals.{answer_words};
 ghost use Rattle.digit_pack.specs.Layout.{digit_rows};
 ghost use Rattle.version_store.specs.Editions.{version_shape};
-ghost use Rattle.server_core.specs.Serving.{setting_of, has_part, part_words, hint_rows, words_asked};
+ghost use Rattle.server_core.specs.Serving.{setting_of, has_part, part_words, named_hint_rows, words_asked};
 
 use frame_codec::{Bytes32, Frame, Refusal, Rows, Words, write_frame};
 use matrix_u32::Kernel;
@@ -160,10 +160,10 @@ pub fn put_delta<K: Kernel>(
     requires inside { All (λ r. r < digit_rows (version_shape store.now.edition)) rows.now }
     ensures ok { OnOk result (out.new.items ≡ out.old.items ++ encoding
         (Delta since store.now.version (length store.now.edition.records)
-        (hint_rows (setting_of store.now) store.now.edition.records rows.now))) }
+        (named_hint_rows (setting_of store.now) store.now.edition.records rows.now))) }
     ensures fits { OnOk result (IsFrame
         (Delta since store.now.version (length store.now.edition.records)
-        (hint_rows (setting_of store.now) store.now.edition.records rows.now))) }
+        (named_hint_rows (setting_of store.now) store.now.edition.records rows.now))) }
     ensures err { OnErr result (out.new.items ≡ out.old.items) }
     ensures room { vec_capacity out.old ≤ vec_capacity out.new }
 {
@@ -186,7 +186,7 @@ fn rows_of_hint<K: Kernel>(
     requires few { length rows.now ≤ 1024 }
     requires inside { All (λ r. r < digit_rows (version_shape store.now.edition)) rows.now }
     ensures rows { IfOk result (λ sent.
-        sent ≡ hint_rows (setting_of store.now) store.now.edition.records rows.now) }
+        sent ≡ named_hint_rows (setting_of store.now) store.now.edition.records rows.now) }
     ensures few { IfOk result (λ sent. length sent.words ≤ 1049600) }
 {
     let dimension = store.dimension();

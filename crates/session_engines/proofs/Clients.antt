@@ -22,8 +22,8 @@ use Rattle.client_core.specs.declared.state.Event.{Event}
 use Rattle.pir_schemes.specs.declared.scheme.Scheme.{Scheme}
 use Rattle.pir_schemes.specs.Retrievals.{hint_len}
 use Rattle.digit_pack.specs.Layout.{Shape}
-use Rattle.client_core.specs.Replies.{Taken, faulty, reaction_to_reply, takes_welcome, takes_part, takes_answer, takes_stale, takes_done, takes_refused, is_welcome, is_part, more_parts, takes_asked_part, answered, staled, moved, takes_delta, goes_by_parts, takes_no_delta}
-use Rattle.client_core.specs.Feeding.{Client, Course, start, goes_on, course_more, runs, takes_all, sends_of, fault_of, codec_fault, failing, ends_with, Gives, Follows, BreaksOff, FeedsOpen, FeedsFailed, FeedsClient}
+use Rattle.client_core.specs.Replies.{Taken, faulty, reaction_to_reply, takes_welcome, takes_part, takes_answer, takes_stale, takes_done, takes_refused, is_accepted_welcome, is_part, more_parts, takes_asked_part, answered, staled, moved, takes_delta, goes_by_parts, takes_no_delta}
+use Rattle.client_core.specs.Feeding.{Client, Course, start, course_after_reply, course_more, runs, takes_all, sends_of, fault_of, codec_fault, failing, ends_with, Gives, Follows, BreaksOff, FeedsOpen, FeedsFailed, FeedsClient}
 use Rattle.client_core.proofs.Courses.{runs_append, fault_stays}
 use Rattle.session_engines.proofs.Streams.{each_both, take_both, feeds_both}
 
@@ -41,7 +41,7 @@ either c false t u a b = b
 sound_welcome : (call : Call) (c : ClientState) (profile : ℕ) (l : Shape) (n v : ℕ) (seed : List ℕ) → IsSound c (takes_welcome call c profile l n v seed)
 sound_welcome Idle c profile l n v seed = bad c client.BadReply
 sound_welcome (Hello key) c profile l n v seed =
-    either c (is_welcome profile l n v) _ (faulty c client.BadWelcome) (λ _. (refl, refl)) (bad c client.BadWelcome)
+    either c (is_accepted_welcome profile l n v) _ (faulty c client.BadWelcome) (λ _. (refl, refl)) (bad c client.BadWelcome)
 sound_welcome (Sync s w p) c profile l n v seed = bad c client.BadReply
 sound_welcome (Delta since) c profile l n v seed = bad c client.BadReply
 sound_welcome (Ask i s w k) c profile l n v seed = bad c client.BadReply
@@ -166,12 +166,13 @@ Lives c d = (d.failed ≡ c.failed) × (d.number ≡ c.number)
 
 more_lives : (k : Course) (f : Frame) (o : Option ClientFault) → k.fault ≡ o → (course_more k f).fault ≡ None → Lives k.state (course_more k f).state
 more_lives k f (Some x) e n =
-    let P : Option ClientFault → Type 0 = λ o. (if is_some o then k else goes_on k (reaction_to_reply k.state f)).fault ≡ k.fault in
+    let P : Option ClientFault → Type 0 = λ o. (if is_some o then k else course_after_reply k (reaction_to_reply k.state f)).fault ≡ k.fault in
     let same : (course_more k f).fault ≡ k.fault = subst P (sym e) refl in
     none_is_not k.fault x e (sym same ∙ n)
 more_lives k f None e n =
-    let Q : Option ClientFault → Type 0 = λ o. (if is_some o then k else goes_on k (reaction_to_reply k.state f)) ≡ goes_on k (reaction_to_reply k.state f) in
-    let same : course_more k f ≡ goes_on k (reaction_to_reply k.state f) = subst Q (sym e) refl in
+    let Q : Option ClientFault → Type 0 =
+    λ o. (if is_some o then k else course_after_reply k (reaction_to_reply k.state f)) ≡ course_after_reply k (reaction_to_reply k.state f) in
+    let same : course_more k f ≡ course_after_reply k (reaction_to_reply k.state f) = subst Q (sym e) refl in
     let s = sound k.state f (ap (λ (y : Course). y.fault) (sym same) ∙ n) in
     (ap (λ (y : Course). y.state.failed) same ∙ s.0, ap (λ (y : Course). y.state.number) same ∙ s.1)
 

@@ -19,7 +19,7 @@ use Rattle.server_core.specs.declared.server.FeedError.TheVariants as feed_error
 use Rattle.server_core.specs.declared.standing.Standing.{Standing}
 use Rattle.server_core.specs.declared.standing.Standing.TheVariants as standing
 use Rattle.server_core.specs.Serving.{Setting, setting_of, ServesAll, is_closed}
-use Rattle.server_core.specs.Sessions.{Session, new_session, AfterReading, EndsPiece, IsStop, ServesPiece, BreaksOff, FeedsSession, Fed}
+use Rattle.server_core.specs.Sessions.{Session, new_session, AfterReading, EndsPiece, IsStop, ServesPiece, ClosesForMemory, FeedsSession, Fed}
 use Rattle.session_engines.specs.declared.serving.Ending.{Ending}
 use Rattle.session_engines.specs.declared.serving.ServeFault.{ServeFault}
 use Rattle.session_engines.specs.declared.serving.ServeFault.TheVariants as fault
@@ -124,8 +124,8 @@ stop_after answer fs gs n (inl lt) = inl (omega (arith, length-append fs gs, lt)
 stop_after answer fs gs n (inr e) = inr (omega (arith, length-append fs gs, e.0), e.1)
 
 then_broken : (x : Setting) (h : History) (read piece : List ℕ) (h1 h2 : History) (s1 s2 : Session) (rs more : List Frame) → First x h read h1 s1 rs →
-    is_closed s1.standing ≡ false → BreaksOff x h1 s1 piece h2 s2 more
-    → BreaksOff x h new_session (read ++ piece) h2 s2 (rs ++ more)
+    is_closed s1.standing ≡ false → ClosesForMemory x h1 s1 piece h2 s2 more
+    → ClosesForMemory x h new_session (read ++ piece) h2 s2 (rs ++ more)
 then_broken x h read piece h1 h2 s1 s2 rs more a open_ b = record {
   answer = b.answer;
   frames = a.frames ++ b.frames;

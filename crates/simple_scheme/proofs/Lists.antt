@@ -10,7 +10,7 @@ use Rattle.matrix_u32.specs.Matrix.{WordMatrix, row}
 use Rattle.regev_core.specs.Encryption.{nearest, stripped}
 use Rattle.regev_core.proofs.Rounding.{nearest-lt}
 use Rattle.digit_pack.specs.Layout.{Shape, IsLayout, digits_per_record, first_row}
-use Rattle.simple_scheme.specs.Simple.{secret, reading, digit_read}
+use Rattle.simple_scheme.specs.Simple.{secret, simple_reading, simple_digit_read}
 use Rattle.matrix_u32.specs.Sum.{list_of}
 use Rattle.matrix_u32.proofs.Products.{length-list_of, each-list_of}
 
@@ -21,8 +21,8 @@ kept v ws n e h = with_items_is v ws (e ∙ sym h)
 -- the digits that were read are the reading
 pub read_is : (l : Shape) (hint : WordMatrix) (seed : List ℕ) (number i : ℕ) (answer : List ℕ) (w first n : ℕ) (s out : List ℕ) →
     w ≡ l.width → first ≡ first_row l i → n ≡ digits_per_record l → s ≡ secret seed number hint.cols →
-    out ≡ list_of n (λ d. nearest w (stripped (slice_index answer (first + d)) (row hint (first + d)) s)) → out ≡ reading l hint seed number i answer
-unfolding reading
+    out ≡ list_of n (λ d. nearest w (stripped (slice_index answer (first + d)) (row hint (first + d)) s)) → out ≡ simple_reading l hint seed number i answer
+unfolding simple_reading
 read_is l hint seed number i answer w first n s out ew ef en es e =
     e
     ∙ ap (λ n. list_of n (λ d. nearest w (stripped (slice_index answer (first + d)) (row hint (first + d)) s))) en
@@ -32,14 +32,14 @@ read_is l hint seed number i answer w first n s out ew ef en es e =
     (λ d. nearest l.width (stripped (slice_index answer (first_row l i + d)) (row hint (first_row l i + d)) s))) es
 
 pub small_reading : (l : Shape) (hint : WordMatrix) (seed : List ℕ) (number i : ℕ) (answer : List ℕ) → IsLayout l →
-    All (λ d. d < 2 ^ l.width) (reading l hint seed number i answer)
-unfolding reading
+    All (λ d. d < 2 ^ l.width) (simple_reading l hint seed number i answer)
+unfolding simple_reading
 small_reading l hint seed number i answer ok =
-    All-from_get_or (λ d. d < 2 ^ l.width) (reading l hint seed number i answer) 0 (λ k _.
-    each-list_of (λ d. d < 2 ^ l.width) (digits_per_record l) (digit_read l hint (secret seed number hint.cols) i answer) 0 (pow_pos l.width)
+    All-from_get_or (λ d. d < 2 ^ l.width) (simple_reading l hint seed number i answer) 0 (λ k _.
+    each-list_of (λ d. d < 2 ^ l.width) (digits_per_record l) (simple_digit_read l hint (secret seed number hint.cols) i answer) 0 (pow_pos l.width)
     (λ k. nearest-lt l.width _ (omega arith)) k)
 
 pub length-reading : (l : Shape) (hint : WordMatrix) (seed : List ℕ) (number i : ℕ) (answer : List ℕ) →
-    length (reading l hint seed number i answer) ≡ digits_per_record l
-unfolding reading
-length-reading l hint seed number i answer = length-list_of (digits_per_record l) (digit_read l hint (secret seed number hint.cols) i answer)
+    length (simple_reading l hint seed number i answer) ≡ digits_per_record l
+unfolding simple_reading
+length-reading l hint seed number i answer = length-list_of (digits_per_record l) (simple_digit_read l hint (secret seed number hint.cols) i answer)

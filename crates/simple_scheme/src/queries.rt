@@ -3,7 +3,7 @@
 ghost use Rattle.std.specs.Prelude.{◌≡◌, ◌^◌, ◌<◌, IfOk, length};
 ghost use Rattle.noise_table.specs.Noise.{noise_from};
 ghost use Rattle.digit_pack.specs.Layout.{digit_cols};
-ghost use Rattle.simple_scheme.specs.Simple.{query_of, answer_of};
+ghost use Rattle.simple_scheme.specs.Simple.{simple_query, simple_answer};
 
 use digit_pack::{DigitStore, Layout};
 use matrix_u32::{Kernel, Matrix};
@@ -13,7 +13,7 @@ use std::alloc::{AllocError, Global};
 
 /// The query for record i: the encryption of its column under the public matrix `a1`, which has a row for
 /// each column of the layout. `number` tells which retrieval of the client's seed it is.
-#[tactic(auto, unfolding(crate::specs::Simple::query_of))]
+#[tactic(auto, unfolding(crate::specs::Simple::simple_query))]
 pub fn query<K: Kernel>(
     alloc: Global,
     kernel: K,
@@ -26,7 +26,7 @@ pub fn query<K: Kernel>(
     requires number { number < 2 ^ 62 }
     requires rows { a1.now.rows ≡ digit_cols layout.now }
     requires record { i < layout.now.count }
-    ensures { IfOk result (λ v. v.items ≡ query_of layout.now a1.now seed.now number i) }
+    ensures { IfOk result (λ v. v.items ≡ simple_query layout.now a1.now seed.now number i) }
 {
     let s = stream_words(alloc, seed, 4 * number, 0, a1.cols())?;
     let e = noise_words(alloc, seed, 4 * number + 1, 0, a1.rows())?;
@@ -37,7 +37,7 @@ pub fn query<K: Kernel>(
 }
 
 /// The answer to the words of a query: the digits times the query, one word for each digit row.
-#[tactic(auto, unfolding(crate::specs::Simple::answer_of))]
+#[tactic(auto, unfolding(crate::specs::Simple::simple_answer))]
 pub fn answer<K: Kernel, S: DigitStore>(
     alloc: Global,
     kernel: K,
@@ -45,7 +45,7 @@ pub fn answer<K: Kernel, S: DigitStore>(
     words: &[u32],
 ) -> Result<Vec<u32>, AllocError>
     requires { length words.now ≡ (S.digits digits.now).cols }
-    ensures { IfOk result (λ v. v.items ≡ answer_of (S.digits digits.now) words.now) }
+    ensures { IfOk result (λ v. v.items ≡ simple_answer (S.digits digits.now) words.now) }
 {
     let mut out = vec![in alloc; 0; digits.rows()]?;
     digits.mul_vec(kernel, words, &mut out);

@@ -5,8 +5,8 @@ ghost use Rattle.matrix_u32.specs.Sum.{list_of};
 ghost use Rattle.matrix_u32.specs.Matrix.{row};
 ghost use Rattle.regev_core.specs.Encryption.{nearest, stripped};
 ghost use Rattle.digit_pack.specs.Layout.{digit_rows, digits_per_record};
-ghost use Rattle.simple_scheme.specs.Simple.{reading};
-ghost use Rattle.simple_scheme.specs.Recovery.{GivesBytes, ReadsRecord, GivesQuietRecord};
+ghost use Rattle.simple_scheme.specs.Simple.{simple_reading};
+ghost use Rattle.simple_scheme.specs.Recovery.{GivesBytes, SimpleReadsRecord, SimpleGivesQuietRecord};
 
 use crate::laws;
 use digit_pack::{Layout, unpack};
@@ -45,7 +45,7 @@ fn read_all<K: Kernel>(
     requires record { i < layout.now.count }
     requires words { length answer.now ≡ digit_rows layout.now }
     ensures { IfOk result (λ digits.
-        (digits.items ≡ reading layout.now hint.now seed.now number i answer.now)
+        (digits.items ≡ simple_reading layout.now hint.now seed.now number i answer.now)
         × All (λ d. d < 2 ^ layout.now.width) digits.items
         × (length digits.items ≡ digits_per_record layout.now)) }
 {
@@ -88,7 +88,7 @@ fn read_record<K: Kernel>(
     requires number { number < 2 ^ 62 }
     requires rows { hint.now.rows ≡ digit_rows layout.now }
     requires record { i < layout.now.count }
-    ensures { ReadsRecord layout.now hint.now seed.now number i answer.now result }
+    ensures { SimpleReadsRecord layout.now hint.now seed.now number i answer.now result }
 {
     if answer.len() != layout.rows() {
         return Err(RecoverError::BadLength);
@@ -122,8 +122,8 @@ pub fn recover<K: Kernel>(
     requires number { number < 2 ^ 62 }
     requires rows { hint.now.rows ≡ digit_rows layout.now }
     requires record { i < layout.now.count }
-    ensures reading { ReadsRecord layout.now hint.now seed.now number i answer.now result }
-    ensures quiet { GivesQuietRecord layout.now hint.now seed.now number i answer.now result }
+    ensures reading { SimpleReadsRecord layout.now hint.now seed.now number i answer.now result }
+    ensures quiet { SimpleGivesQuietRecord layout.now hint.now seed.now number i answer.now result }
 {
     laws::quiet_retrieval_reads_the_record();
     digit_pack::laws::pack_unpacks();

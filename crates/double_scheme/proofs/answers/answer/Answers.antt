@@ -1,12 +1,12 @@
 use Rattle.std.proofs.Common.{ap, sym, ◌∙◌, ◌≡◌, ℕ, List, length, ◌++◌, take}
 use Rattle.matrix_u32.specs.Matrix.{WordMatrix, product}
 use Rattle.digit_pack.specs.Layout.{digit_cols}
-use Rattle.double_scheme.specs.Double.{answer_of, first_answer_of, part_answers_of}
+use Rattle.double_scheme.specs.Double.{double_answer, first_answer_of, part_answers_of}
 use Rattle.double_scheme.proofs.Lengths.{length-answer_of}
 use Rattle.double_scheme.proofs.answers.answer.Goals as goal
 
 pub returns-clause-words : goal.returns-clause-words
-unfolding answer_of
+unfolding double_answer
 returns-clause-words g c =
     let l = c.args.layout.now in
     let words : List ℕ = c.args.words.now in

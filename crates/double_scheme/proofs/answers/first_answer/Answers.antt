@@ -3,13 +3,13 @@ use Rattle.matrix_u32.specs.Sum.{dot}
 use Rattle.matrix_u32.specs.Matrix.{WordMatrix, row, transpose, times_vector}
 use Rattle.matrix_u32.proofs.Products.{length-list_of}
 use Rattle.digit_pack.specs.Digits.{decomposed}
-use Rattle.simple_scheme.specs.Simple.{answer_of}
+use Rattle.simple_scheme.specs.Simple.{simple_answer}
 use Rattle.double_scheme.specs.Double.{one_column}
 use Rattle.double_scheme.proofs.Answering.{column_is_row}
 use Rattle.double_scheme.proofs.answers.first_answer.Goals as goal
 
 pub returns : goal.returns
-unfolding answer_of
+unfolding simple_answer
 returns g c =
     let d : WordMatrix = g.S.DigitStore.digits c.args.digits.now in
     let words : List ℕ = times_vector d c.args.words.now in

@@ -4,14 +4,14 @@ use Rattle.std.specs.List.{range_with_len}
 use Rattle.regev_core.specs.Encryption.{cipher}
 use Rattle.digit_pack.specs.Layout.{digits_per_record, digit_rows, first_row}
 use Rattle.digit_pack.proofs.Records.{row_inside}
-use Rattle.simple_scheme.specs.Simple.{query_of}
-use Rattle.double_scheme.specs.Double.{query_of as double_query_of, first_query_of, part_query_of, part_secret, part_noise}
+use Rattle.simple_scheme.specs.Simple.{simple_query}
+use Rattle.double_scheme.specs.Double.{double_query, first_query_of, part_query_of, part_secret, part_noise}
 use Rattle.double_scheme.proofs.Answering.{one_part}
 use Rattle.double_scheme.proofs.Lengths.{length-query_of}
 use Rattle.double_scheme.proofs.queries.query.Goals as goal
 
 pub loop-d-init : goal.loop-d-init
-unfolding query_of
+unfolding simple_query
 loop-d-init g c = c.in_ok-out.ensures ∙ sym (append-nil (first_query_of c.args.layout.now c.args.a1.now c.args.seed.now c.args.number c.args.i))
 
 pub part_query-requires-clause-place : goal.part_query-requires-clause-place
@@ -47,7 +47,7 @@ loop-d-preserved g c =
     ∙ one_part f (first_query_of l c.args.a1.now seed c.args.number c.args.i) c.loop-d.d
 
 pub returns-clause-words : goal.returns-clause-words
-unfolding double_query_of
+unfolding double_query
 returns-clause-words g c =
     let l = c.args.layout.now in
     let end : c.loop-d.d ≡ digits_per_record l = omega (arith, c.loop-d-test.false, c.digits_per_record-d-end.ensures.value) in

@@ -3,7 +3,7 @@ use Rattle.matrix_u32.proofs.Products.{filled_more, words_are}
 use Rattle.lane_kernels.specs.Digit.{split_count}
 use Rattle.digit_pack.specs.Layout.{digits_per_record}
 use Rattle.simple_scheme.specs.Simple.{secret}
-use Rattle.double_scheme.specs.Double.{words_of_part, answer_hint, part_secret, digit_read, reading}
+use Rattle.double_scheme.specs.Double.{words_of_part, answer_hint, part_secret, double_digit_read, double_reading}
 use Rattle.double_scheme.proofs.Reading.{part_is}
 use Rattle.double_scheme.proofs.records.read_parts.Goals as goal
 
@@ -32,7 +32,7 @@ loop-d-preserved g c =
     c.deref-in-loop-d.ensures.value ∙ c.in_ok-part_s.ensures.words ∙ ap (λ n. part_secret c.args.seed.now c.args.number n c.loop-d.d) c.cols-n.ensures in
     let h : c.in_ok-hint.hint ≡ answer_hint c.width-w.result n c.args.answer.now =
     c.in_ok-hint.ensures ∙ ap (λ n. answer_hint c.width-w.result n c.args.answer.now) c.cols-n.ensures in
-    filled_more c.loop-d.out c.loop-d.d c.in_ok-out.field-0 (digit_read l hint c.args.seed.now c.args.number c.args.answer.now)
+    filled_more c.loop-d.out c.loop-d.d c.in_ok-out.field-0 (double_digit_read l hint c.args.seed.now c.args.number c.args.answer.now)
     (omega (arith, c.loop-d-test.true, c.loop-d.auto.out))
     (part_is l hint c.args.seed.now c.args.number c.args.answer.now c.loop-d.d c.width-w.result c.rows-prefix.result
     (c.rows-prefix.result + c.split_count.result) c.in_ok-out.field-0
@@ -41,8 +41,8 @@ loop-d-preserved g c =
     c.loop-d.invariant
 
 pub returns : goal.returns
-unfolding reading
+unfolding double_reading
 returns g c =
     let l = c.args.layout.now in
-    words_are c.loop-d.out (digits_per_record l) (digit_read l c.args.client_hint.now c.args.seed.now c.args.number c.args.answer.now)
+    words_are c.loop-d.out (digits_per_record l) (double_digit_read l c.args.client_hint.now c.args.seed.now c.args.number c.args.answer.now)
     (c.loop-d.auto.out ∙ c.requires.room) (λ k p. c.loop-d.invariant k (omega (arith, c.loop-d-test.false, c.loop-d.auto.out, c.requires.room)))

@@ -2,11 +2,11 @@ use Rattle.std.proofs.Common.{arith, ap, ◌∙◌, ◌≡◌, length}
 use Rattle.matrix_u32.specs.Sum.{dot}
 use Rattle.matrix_u32.specs.Matrix.{row}
 use Rattle.matrix_u32.proofs.Products.{length-list_of}
-use Rattle.simple_scheme.specs.Simple.{answer_of}
+use Rattle.simple_scheme.specs.Simple.{simple_answer}
 use Rattle.once_session.proofs.stage.query.Goals as goal
 
 pub returns-clause-fits : goal.returns-clause-fits
-unfolding answer_of
+unfolding simple_answer
 returns-clause-fits g c =
     let long : length c.new.result ≡ c.args.table.now.digits.rows =
     ap length c.new.ensures.items ∙ ap length c.in_ok-answered.ensures

@@ -1,7 +1,7 @@
 use Rattle.std.proofs.Common.{ℕ, List, length}
 use Rattle.digit_pack.specs.Layout.{Shape, IsShape, digit_cols}
-use Rattle.simple_scheme.specs.Laws.{CertainShapeIsQuiet as SimpleLaw}
-use Rattle.double_scheme.specs.Laws.{CertainShapeIsQuiet as DoubleLaw}
+use Rattle.simple_scheme.specs.Laws.{SimpleCertainShapeIsQuiet as SimpleLaw}
+use Rattle.double_scheme.specs.Laws.{DoubleCertainShapeIsQuiet as DoubleLaw}
 use Rattle.pir_schemes.specs.declared.scheme.Scheme.{Scheme}
 use Rattle.pir_schemes.specs.declared.scheme.Scheme.TheVariants.{Simple, Double}
 use Rattle.pir_schemes.specs.Plans.{Plan, shape_at, first_public}

@@ -4,11 +4,11 @@ use Rattle.matrix_u32.proofs.Products.{same-list_of}
 use Rattle.lane_kernels.specs.Digit.{digit}
 use Rattle.digit_pack.specs.Digits.{number_of}
 use Rattle.digit_pack.specs.Layout.{digit_matrix, digit_rows, digits_per_record, first_row, column_of, record_at}
-use Rattle.simple_scheme.specs.Simple.{secret, query_noise, hint_of, query_of, answer_of, reading}
+use Rattle.simple_scheme.specs.Simple.{secret, query_noise, hint_of, simple_query, simple_answer, simple_reading}
 use Rattle.simple_scheme.proofs.laws.quiet_retrieval_reads_the_record.Goals as goal
 
 pub returns : goal.returns
-unfolding reading hint_of answer_of query_of
+unfolding simple_reading hint_of simple_answer simple_query
 returns c = λ l records a1 seed number i s p e quiet.
     same-list_of (digits_per_record l) _ (λ d. digit l.width (number_of 8 (record_at records i)) d) (λ d q.
     let place : (first_row l i + d < digit_rows l) × (column_of l i < _) = c.record_stands_inside.ensures l i d s p q in

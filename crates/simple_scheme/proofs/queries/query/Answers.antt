@@ -3,7 +3,7 @@ use Rattle.matrix_u32.proofs.Products.{length-list_of}
 use Rattle.seed_expand.specs.Words.{word}
 use Rattle.noise_table.specs.Noise.{noise}
 use Rattle.regev_core.specs.Encryption.{cipher}
-use Rattle.simple_scheme.specs.Simple.{secret, query_noise, query_of}
+use Rattle.simple_scheme.specs.Simple.{secret, query_noise, simple_query}
 use Rattle.simple_scheme.proofs.Lists.{kept}
 use Rattle.simple_scheme.proofs.queries.query.Goals as goal
 
@@ -18,13 +18,13 @@ encrypt-requires-clause-noise g c =
     ∙ length-list_of c.rows.result (λ k. noise (word c.args.seed.now (4 * c.args.number + 1) (0 + k))) ∙ c.rows.ensures.value
 
 pub returns : goal.returns
-unfolding query_of
+unfolding simple_query
 returns g c =
     let s : c.deref.result.now ≡ secret c.args.seed.now c.args.number c.args.a1.now.cols = c.deref.ensures.value ∙ c.in_ok-s.ensures.words
     ∙ ap (λ n. secret c.args.seed.now c.args.number n) c.cols.ensures in
     let e : c.deref-2.result.now ≡ query_noise c.args.seed.now c.args.number c.args.a1.now.rows = c.deref-2.ensures.value ∙ c.in_ok-e.ensures
     ∙ ap (λ n. query_noise c.args.seed.now c.args.number n) c.rows.ensures.value in
-    let out : c.encrypt.new.out ≡ query_of c.args.layout.now c.args.a1.now c.args.seed.now c.args.number c.args.i =
+    let out : c.encrypt.new.out ≡ simple_query c.args.layout.now c.args.a1.now c.args.seed.now c.args.number c.args.i =
     c.encrypt.ensures
     ∙ ap (λ (s : List ℕ). cipher c.width.result c.args.a1.now s c.deref-2.result.now c.place-column.result.1) s
     ∙ ap (λ (e : List ℤ). cipher c.width.result c.args.a1.now (secret c.args.seed.now c.args.number c.args.a1.now.cols) e c.place-column.result.1) e

@@ -3,7 +3,7 @@ use Rattle.std.specs.Prelude.{All}
 use Rattle.matrix_u32.proofs.Products.{length-list_of}
 use Rattle.seed_expand.specs.Words.{word}
 use Rattle.digit_pack.specs.Layout.{digits_per_record}
-use Rattle.simple_scheme.specs.Simple.{secret, reading}
+use Rattle.simple_scheme.specs.Simple.{secret, simple_reading}
 use Rattle.simple_scheme.proofs.Lists.{kept, read_is, small_reading, length-reading}
 use Rattle.simple_scheme.proofs.records.read_all.Goals as goal
 
@@ -14,7 +14,7 @@ read_digits-requires-clause-secret g c =
 
 pub returns : goal.returns
 returns g c =
-    let digits : List ℕ = reading c.args.layout.now c.args.hint.now c.args.seed.now c.args.number c.args.i c.args.answer.now in
+    let digits : List ℕ = simple_reading c.args.layout.now c.args.hint.now c.args.seed.now c.args.number c.args.i c.args.answer.now in
     let n : length c.deref_mut.result.now ≡ digits_per_record c.args.layout.now =
     omega (arith, c.deref_mut.ensures.len, c.in_ok-digits.ensures.len, c.digits_per_record.ensures.value) in
     let out : c.read_digits.new.out ≡ digits =

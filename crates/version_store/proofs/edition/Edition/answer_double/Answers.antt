@@ -3,7 +3,7 @@ use Rattle.std.specs.Prelude.{IfOk}
 use Rattle.matrix_u32.specs.Matrix.{WordMatrix}
 use Rattle.lane_kernels.specs.Digit.{split_count}
 use Rattle.digit_pack.specs.Layout.{Shape, digit_rows}
-use Rattle.double_scheme.specs.Double.{answer_of}
+use Rattle.double_scheme.specs.Double.{double_answer}
 use Rattle.pir_schemes.specs.Plans.{digits_at, second_public}
 use Rattle.pir_schemes.specs.Retrievals.{server_hint, answer_words}
 use Rattle.version_store.specs.Editions.{Records, version_shape}
@@ -25,9 +25,9 @@ unfolding answer_words
 returns g c =
     let e : Records = c.self.inside.layer in
     let words : List ℕ = c.args.words.now in
-    let is : Shape → WordMatrix → WordMatrix → WordMatrix → Type 0 = λ l d s a2. IfOk c.answer.result (λ v. v.items ≡ answer_of l d s a2 words) in
+    let is : Shape → WordMatrix → WordMatrix → WordMatrix → Type 0 = λ l d s a2. IfOk c.answer.result (λ v. v.items ≡ double_answer l d s a2 words) in
     let made : Records → Type 0 = λ e. IfOk c.answer.result (λ v.
-    v.items ≡ answer_of (version_shape e) (digits_at e.plan e.records) (server_hint e.plan e.records)
+    v.items ≡ double_answer (version_shape e) (digits_at e.plan e.records) (server_hint e.plan e.records)
     (second_public (version_shape e) e.plan.dimension e.plan.seed) words) in
     let shape : is (version_shape e) c.digits-digits.result.now c.self.inside.server c.self.inside.a2 =
     subst (λ l. is l c.digits-digits.result.now c.self.inside.server c.self.inside.a2) c.layout-layout.ensures.value c.answer.ensures.words in
