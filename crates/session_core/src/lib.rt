@@ -5,7 +5,8 @@
 //! [`serve`] and [`converse`] run them over a reader and a writer, and [`once`] serves one database over one stream.
 //!
 //! A whole session by hand: a publisher's store, a session, a client that is let in, gets its hint, and retrieves
-//! a record without the server learning which. The test `tests::a_record_is_retrieved` is this very code.
+//! a record without the server learning which. The test `tests::a_record_is_retrieved` is this code, over both kernels
+//! and by both schemes.
 //!
 //! ```
 //! let store = Store::open(alloc, Lanes, snapshot)?;

@@ -2,6 +2,7 @@
 
 use crate::{CallFault, ClientCore, Event, FeedError, Scheme, ServerCore};
 use lane_kernels::Lanes;
+use matrix_u32::{Kernel, Plain};
 use std::alloc::Global;
 use std::process::Abort;
 use std::test::Fail;
@@ -13,7 +14,7 @@ const READER: [u8; 32] = [0; 32];
 const MOST_ROUNDS: u32 = 4;
 
 // A server of the records 0a and c8 at version 1, for no publisher.
-fn server(rt: &impl Abort, alloc: Global) -> Result<ServerCore<Lanes>, Fail> {
+fn server<K: Kernel>(rt: &impl Abort, alloc: Global, kernel: K) -> Result<ServerCore<K>, Fail> {
     let header = Header {
         width: 8,
         record_len: 1,
@@ -25,7 +26,7 @@ fn server(rt: &impl Abort, alloc: Global) -> Result<ServerCore<Lanes>, Fail> {
         publisher: [0; 32],
     };
     let snapshot = header.with_records([10u8, 200].to_vec(alloc)?);
-    let Ok(store) = Store::open(alloc, Lanes, snapshot) else {
+    let Ok(store) = Store::open(alloc, kernel, snapshot) else {
         panic!(rt; "the store was not opened");
     };
     Ok(ServerCore::new(alloc, store))
@@ -33,25 +34,25 @@ fn server(rt: &impl Abort, alloc: Global) -> Result<ServerCore<Lanes>, Fail> {
 
 // The calls below have no clause, so that the test doesn't carry theirs.
 
-fn open_session(server: &mut ServerCore<Lanes>) -> bool {
+fn open_session<K: Kernel>(server: &mut ServerCore<K>) -> bool {
     server.open_session(7).is_ok()
 }
 
-fn hello(client: &mut ClientCore<Lanes>) -> Result<Vec<u8>, CallFault> {
+fn hello<K: Kernel>(client: &mut ClientCore<K>) -> Result<Vec<u8>, CallFault> {
     client.hello(READER)
 }
 
-fn sync(client: &mut ClientCore<Lanes>) -> Result<Vec<u8>, CallFault> {
-    client.sync(Scheme::Double)
+fn sync<K: Kernel>(client: &mut ClientCore<K>, scheme: Scheme) -> Result<Vec<u8>, CallFault> {
+    client.sync(scheme)
 }
 
-fn ask(client: &mut ClientCore<Lanes>) -> Result<Vec<u8>, CallFault> {
+fn ask<K: Kernel>(client: &mut ClientCore<K>) -> Result<Vec<u8>, CallFault> {
     client.ask(1)
 }
 
-fn replies_to(
+fn replies_to<K: Kernel>(
     alloc: Global,
-    server: &mut ServerCore<Lanes>,
+    server: &mut ServerCore<K>,
     sent: &[u8],
 ) -> Result<Vec<u8>, FeedError> {
     let mut replies = Vec::new(alloc);
@@ -62,17 +63,17 @@ fn replies_to(
 }
 
 // What the client says next, and the first event.
-fn heard(client: &mut ClientCore<Lanes>, replies: &[u8]) -> (Vec<u8>, Option<Event>) {
+fn heard<K: Kernel>(client: &mut ClientCore<K>, replies: &[u8]) -> (Vec<u8>, Option<Event>) {
     let fed = client.feed(replies);
     (fed.out, fed.events.into_iter().next())
 }
 
 // Carries bytes to and fro until the client has an event.
-fn exchange(
+fn exchange<K: Kernel>(
     rt: &impl Abort,
     alloc: Global,
-    server: &mut ServerCore<Lanes>,
-    client: &mut ClientCore<Lanes>,
+    server: &mut ServerCore<K>,
+    client: &mut ClientCore<K>,
     first: Vec<u8>,
 ) -> Result<Event, Fail> {
     let mut sent = first;
@@ -87,20 +88,17 @@ fn exchange(
     panic!(rt; "no event came");
 }
 
-// The session, over a server and a client that are lent to it.
-fn check_session(
+// Syncs by a scheme, and retrieves the second record.
+fn check_retrieval<K: Kernel>(
     rt: &impl Abort,
     alloc: Global,
-    server: &mut ServerCore<Lanes>,
-    client: &mut ClientCore<Lanes>,
+    server: &mut ServerCore<K>,
+    client: &mut ClientCore<K>,
+    scheme: Scheme,
 ) -> Result<(), Fail> {
-    assert!(rt; open_session(server));
-    let sent = hello(client)?;
+    let sent = sync(client, scheme)?;
     let event = exchange(rt, alloc, server, client, sent)?;
-    assert!(rt; matches!(event, Event::Welcomed(1)));
-    let sent = sync(client)?;
-    let event = exchange(rt, alloc, server, client, sent)?;
-    assert!(rt; matches!(event, Event::Synced(Scheme::Double, 1)));
+    assert!(rt; matches!(event, Event::Synced(synced, 1) if synced == scheme));
     let sent = ask(client)?;
     let event = exchange(rt, alloc, server, client, sent)?;
     let Event::Retrieved {
@@ -116,9 +114,38 @@ fn check_session(
     Ok(())
 }
 
+// The session, over a server and a client that are lent to it.
+fn check_session<K: Kernel>(
+    rt: &impl Abort,
+    alloc: Global,
+    server: &mut ServerCore<K>,
+    client: &mut ClientCore<K>,
+) -> Result<(), Fail> {
+    assert!(rt; open_session(server));
+    let sent = hello(client)?;
+    let event = exchange(rt, alloc, server, client, sent)?;
+    assert!(rt; matches!(event, Event::Welcomed(1)));
+    check_retrieval(rt, alloc, server, client, Scheme::Double)?;
+    check_retrieval(rt, alloc, server, client, Scheme::Simple)
+}
+
+fn client<K: Kernel>(alloc: Global, kernel: K) -> ClientCore<K> {
+    ClientCore::new(alloc, kernel, [0x11; 32], 0)
+}
+
 #[test]
 fn a_record_is_retrieved(rt: HostRuntime) -> Result<(), Fail> {
-    let mut server = server(&rt, rt.alloc())?;
-    let mut client = ClientCore::new(rt.alloc(), Lanes, [0x11; 32], 0);
-    check_session(&rt, rt.alloc(), &mut server, &mut client)
+    let alloc = rt.alloc();
+    check_session(
+        &rt,
+        alloc,
+        &mut server(&rt, alloc, Plain)?,
+        &mut client(alloc, Plain),
+    )?;
+    check_session(
+        &rt,
+        alloc,
+        &mut server(&rt, alloc, Lanes)?,
+        &mut client(alloc, Lanes),
+    )
 }
