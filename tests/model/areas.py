@@ -212,7 +212,7 @@ class Replies:
 
     def difference(self, case, programs):
         words = {
-            "get": ["--seed", "11" * 32, "--number", str(case["number"]), "--scheme", case["scheme"], str(case["index"])],
+            "get": ["--seed", "11" * 32, "--number", str(case["number"]), "--scheme", case["scheme"], "--least-dimension", "1", str(case["index"])],
             "put": ["--key", "01" * 32, str(case["index"]), "6465"],
             "publish": ["--key", "01" * 32],
         }[case["command"]]

@@ -1,3 +1,5 @@
 pub mod Conversations
+pub mod Endings
+pub mod Numbers
 pub mod Sendings
-pub mod Failings
+pub mod Speaking

@@ -1,29 +1,75 @@
--- What a command has sent, call by call.
-use Rattle.std.proofs.Common.{◌≡◌, ◌++◌, ℕ, Bool, true, false, List, Option, Some, None, Result, Ok, Err, refl, inl, inr, ap, sym, subst, ◌∙◌, append_assoc}
-use Rattle.std.specs.Prelude.{IfOk, IsOk, OnOk, is_some, if◌then◌else◌}
+-- What a retrieval has sent.
+use Rattle.std.proofs.Common.{◌≡◌, ◌++◌, ℕ, Bool, true, false, List, [], ◌∷◌, Option, Some, None, Result, Ok, Err, refl, inl, inr, ap, sym, subst, ◌∙◌, append_assoc, replicate}
+use Rattle.std.specs.Prelude.{IfOk, is_some, if◌then◌else◌}
+use Rattle.std.specs.declared.vec.Vec.{Vec}
+use Rattle.std.specs.declared.alloc.Global.{Global}
 use Rattle.std.specs.Io.KnownBytes.{Appends}
-use Rattle.std.proofs.KnownBytes.{Appends-trans}
 use Rattle.frame_codec.specs.declared.frame.Frame.{Frame}
 use Rattle.frame_codec.specs.Frames.{encoding}
 use Rattle.frame_codec.specs.declared.frame.Frame.TheVariants as frame
 use Rattle.pir_schemes.specs.declared.scheme.Scheme.{Scheme}
 use Rattle.pir_schemes.specs.declared.scheme.Scheme.TheVariants.{Simple, Double}
 use Rattle.pir_schemes.specs.Schemes.{scheme_byte}
+use Rattle.pir_schemes.specs.Plans.{client_profile}
 use Rattle.client_core.specs.declared.state.ClientState.{ClientState}
 use Rattle.client_core.specs.declared.state.Hint.{Hint}
+use Rattle.client_core.specs.declared.state.Event.{Event}
+use Rattle.client_core.specs.declared.state.CallFault.{CallFault}
 use Rattle.client_core.specs.declared.state.CallFault.TheVariants.{Failed, Busy, NotReady}
 use Rattle.client_core.specs.States.{is_idle, known_version, delta_base}
 use Rattle.client_core.specs.Endings.{IsNoSync}
-use Rattle.client_core.specs.declared.state.CallFault.{CallFault}
-use Rattle.client_core.specs.declared.state.Event.{Event}
+use Rattle.client_core.specs.Calls.{Want, Hello, Sync, Ask, call_frame, sync_begun, state_after_call, change_refusal, Accepts}
 use Rattle.client_core.specs.Feeding.{Client}
-use Rattle.session_engines.specs.Conversing.{Converses}
-use Rattle.client_core.specs.Calls.{Want, Hello, Sync, call_frame, sync_begun, state_after_call, change_refusal, Accepts}
 use Rattle.client_commands.specs.Sent.{SendsCommand}
+use Rattle.client_commands.specs.declared.fault.CommandError.TheVariants.{Call}
+use Rattle.client_commands.specs.Transcripts.{most_reads, AnswersCall, Exchanges, Calls, Judges, Transacts, retrieval}
+use Rattle.client_commands.proofs.Conversations.{event_leaves_the_hint}
 
 -- the frame of an accepted call
 abbrev pub frame_of : Want → ClientState → Frame
 frame_of want old = call_frame (state_after_call want old) (state_after_call want old).call
+
+accepted_bytes : (want : Want) (old new : ClientState) (bytes : List ℕ) → Accepts old want new bytes → bytes ≡ encoding (frame_of want old)
+accepted_bytes want old new bytes a = a.written ∙ ap (λ (c : ClientState). encoding (call_frame c c.call)) a.state
+
+-- a call that came to an event has sent its frame, and what the client said after it
+exchanged_bytes : (old : Client) (want : Want) (event : Event) (read out : List ℕ) (left : Option (List ℕ)) (new : Client)
+    → Exchanges old want (Ok event) read out left new → (said : List ℕ) × (out ≡ encoding (frame_of want old.state) ++ said)
+exchanged_bytes old want event read out left new x = elim (x.answered.1) [
+  | inl h ↦ absurd h
+  | inr h ↦ (h.0, h.1 ∙ ap (λ (b : List ℕ). b ++ h.0) (accepted_bytes want old.state x.called.state x.first x.accepted))
+]
+
+-- ---- a client that is let in holds no hint
+
+-- a client holds no hint before its greeting, where it holds none after it
+pub bare_before : (key : List ℕ) (old mid : Client) (sent : Result (Vec ℕ Global) CallFault) (event : Event) (read out : List ℕ) (left : Option (List ℕ)) (new : Client)
+    → IfOk sent (λ v. Accepts old.state (Hello key) mid.state v.items) → IfOk sent (λ v. mid.state.hint ≡ None)
+    → AnswersCall mid sent (Ok event) read out left new → old.state.hint ≡ None
+bare_before key old mid (Ok v) event read out left new a none h = sym (ap (λ (c : ClientState). c.hint) a.state) ∙ none
+bare_before key old mid (Err fault) event read out left new a none h = absurd (clash h.0)
+  where
+    clash : Ok event ≡ Err (Call fault) → ⊥
+    clash e = absurd cc
+
+alive : (c : ClientState) → change_refusal c ≡ None → c.failed ≡ false
+alive c e = by c.failed e
+  where
+    by : (b : Bool) → (if b then Some Failed else (if is_some c.known then (if is_idle c.call then None else Some Busy) else Some NotReady)) ≡ None →
+        b ≡ false
+    by true e = absurd cc
+    by false e = refl
+
+greeting_waits : (key : List ℕ) (old new : ClientState) (bytes : List ℕ) → Accepts old (Hello key) new bytes → IsNoSync new.call
+greeting_waits key old new bytes a = subst (λ (c : ClientState). IsNoSync c.call) (sym a.state) tt
+
+greeted : (key : List ℕ) (old : Client) (event : Event) (read out : List ℕ) (left : Option (List ℕ)) (new : Client)
+    → old.state.hint ≡ None → Exchanges old (Hello key) (Ok event) read out left new → new.state.failed ≡ false → new.state.hint ≡ None
+greeted key old event read out left new bare x fine =
+    event_leaves_the_hint x.called x.first most_reads event read out left new x.answered.1
+    (greeting_waits key old.state x.called.state x.first x.accepted) fine
+    ∙ ap (λ (c : ClientState). c.hint) x.accepted.state
+    ∙ bare
 
 no_base : (s : Scheme) → delta_base s None ≡ None
 no_base Simple = refl
@@ -34,73 +80,61 @@ by_parts : (s : Scheme) (old : ClientState) → old.hint ≡ None → frame_of (
 by_parts s old none =
     ap (λ (b : Option ℕ). call_frame (sync_begun b s old) (sync_begun b s old).call) (ap (λ (h : Option Hint). delta_base s h) none ∙ no_base s)
 
-greeting_waits : (key : List ℕ) (old new : ClientState) (bytes : List ℕ) → Accepts old (Hello key) new bytes → IsNoSync new.call
-greeting_waits key old new bytes a = subst (λ (c : ClientState). IsNoSync c.call) (sym a.state) tt
+-- ---- a retrieval
 
-alive : (c : ClientState) → change_refusal c ≡ None → c.failed ≡ false
-alive c e = by c.failed e
-  where
-    by : (b : Bool) → (if b then Some Failed else (if is_some c.known then (if is_idle c.call then None else Some Busy) else Some NotReady)) ≡ None →
-        b ≡ false
-    by true e = absurd cc
-    by false e = refl
+-- what was sent begins with these frames
+abbrev pub BeginsWith : Scheme → List ℕ → Type 0
+BeginsWith s out = (version : ℕ) × (between : List ℕ) × (beyond : List ℕ) × (out ≡ encoding (frame.Hello client_profile (replicate 32 0))
+    ++ (between ++ (encoding (frame.HintAsk (scheme_byte s) version 0) ++ beyond)))
 
--- the sync after a greeting asks for the first part of a hint
-pub first_sync : {V : Type 0} → (items : V → List ℕ) (key : List ℕ) (s : Scheme) (before greeted after new : ClientState) (hello sync : Result V CallFault)
-    → IsOk hello → IfOk hello (λ v. Accepts before (Hello key) greeted (items v)) → IfOk hello (λ v. greeted.hint ≡ None)
-    → (IsNoSync greeted.call → after.failed ≡ false → after.hint ≡ greeted.hint) → IsOk sync → IfOk sync (λ v. Accepts after (Sync s) new (items v))
-    → frame_of (Sync s) after ≡ frame.HintAsk (scheme_byte s) (known_version after.known) 0
-first_sync items key s before greeted after new (Err e) sync ok a none stays ok2 b = absurd cc
-first_sync items key s before greeted after new (Ok v) (Err e) ok a none stays ok2 b = absurd cc
-first_sync items key s before greeted after new (Ok v) (Ok w) ok a none stays ok2 b =
-    by_parts s after (stays (greeting_waits key before greeted (items v) a) (alive after b.may) ∙ none)
+glue : (a b c d e : List ℕ) → (a ++ b) ++ ((c ++ d) ++ e) ≡ a ++ (b ++ (c ++ (d ++ e)))
+glue a b c d e = append_assoc a b ((c ++ d) ++ e) ∙ ap (λ (x : List ℕ). a ++ (b ++ x)) (append_assoc c d e)
 
-pub accepted_bytes : (want : Want) (old new : ClientState) (bytes : List ℕ) → Accepts old want new bytes → bytes ≡ encoding (frame_of want old)
-accepted_bytes want old new bytes a = a.written ∙ ap (λ (c : ClientState). encoding (call_frame c c.call)) a.state
-
--- a frame went out at the beginning, and the client may have said more
-abbrev pub Went : Option (List ℕ) → Option (List ℕ) → Frame → Type 0
-Went old new frame = (said : List ℕ) × Appends old new (encoding frame ++ said)
-
--- a call that was made sent its frame
-pub call_went : {V : Type 0} → (items : V → List ℕ) (want : Want) (old new : ClientState) (result : Result V CallFault) (before after : Option (List ℕ)) →
-    IsOk result
-    → IfOk result (λ v. Accepts old want new (items v)) → IfOk result (λ v. (said : List ℕ) × Appends before after (items v ++ said)) →
-    Went before after (frame_of want old)
-call_went items want old new (Err fault) before after ok a s = absurd cc
-call_went items want old new (Ok v) before after ok a s =
-    (s.0, subst (λ (x : List ℕ). Appends before after (x ++ s.0)) (accepted_bytes want old new (items v) a) s.1)
-
--- two frames, one after the other
-pub both_went : (first second : Frame) (a b c : Option (List ℕ)) → Went a b first → Went b c second → SendsCommand a c first second
-both_went first second a b c p q =
-    (p.0, q.0, subst (Appends a c) (append_assoc (encoding first) p.0 (encoding second ++ q.0)) (Appends-trans a b c _ _ p.1 q.1))
-
--- and more after them
-pub more_went : (first second third : Frame) (a b c : Option (List ℕ)) → SendsCommand a b first second → Went b c third → SendsCommand a c first second
-more_went first second third a b c p q =
-    let beyond : List ℕ = encoding third ++ q.0 in
-    let sent = Appends-trans a b c _ _ p.2 q.1 in (
-      p.0,
-      p.1 ++ beyond,
-      subst (Appends a c)
-          (append_assoc (encoding first) (p.0 ++ (encoding second ++ p.1)) beyond
-          ∙ ap (λ (x : List ℕ). encoding first ++ x) (append_assoc p.0 (encoding second ++ p.1) beyond
-          ∙ ap (λ (x : List ℕ). p.0 ++ x) (append_assoc (encoding second) p.1 beyond)))
-          sent,
+synced : (s : Scheme) (old mid : Client) (greeting event : Event) (read1 out1 read2 out2 rest : List ℕ) (left1 left2 : Option (List ℕ)) (new : Client)
+    → old.state.hint ≡ None → Exchanges old (Hello (replicate 32 0)) (Ok greeting) read1 out1 left1 mid → Exchanges mid (Sync s) (Ok event) read2 out2 left2 new
+    → BeginsWith s (out1 ++ (out2 ++ rest))
+synced s old mid greeting event read1 out1 read2 out2 rest left1 left2 new bare x y =
+    let a = exchanged_bytes old (Hello (replicate 32 0)) greeting read1 out1 left1 mid x in
+    let b = exchanged_bytes mid (Sync s) event read2 out2 left2 new y in
+    let none : mid.state.hint ≡ None = greeted (replicate 32 0) old greeting read1 out1 left1 mid bare x (alive mid.state y.accepted.may) in
+    let second : List ℕ = encoding (frame.HintAsk (scheme_byte s) (known_version mid.state.known) 0) in
+    let first : List ℕ = encoding (frame.Hello client_profile (replicate 32 0)) in
+    let asks : out2 ≡ second ++ b.0 = b.1 ∙ ap (λ (f : Frame). encoding f ++ b.0) (by_parts s mid.state none) in (
+      known_version mid.state.known,
+      a.0,
+      b.0 ++ rest,
+      ap (λ (x : List ℕ). x ++ (out2 ++ rest)) a.1 ∙ ap (λ (x : List ℕ). (first ++ a.0) ++ (x ++ rest)) asks ∙ glue first a.0 second b.0 rest,
     )
 
--- what holds anyway, where a call answers Ok
-pub on_ok : {T E : Type 0} → (r : Result T E) (P : Type 0) → P → OnOk r P
-on_ok (Ok x) P p = p
-on_ok (Err e) P p = tt
+-- a retrieval that came to an event has sent the greeting, and after it the ask for the first part of the scheme's hint
+retrieval_sends : (least : ℕ) (s : Scheme) (index : ℕ) (old : Client) (event : Event) (read out : List ℕ) (left : Option (List ℕ)) (new : Client)
+    → old.state.hint ≡ None → Transacts old (retrieval least s index) (Ok event) read out left new → BeginsWith s out
+unfolding Transacts
+retrieval_sends least s index old event read out left new bare (inl h) = absurd cc
+retrieval_sends least s index old event read out left new bare (inr h) = looked h.10
+  where
+    asked : (mid : Client) (out2 : List ℕ) → mid ≡ h.0 → out ≡ h.3 ++ out2
+        → (r : List ℕ) → Transacts mid (Calls (Sync s) ∷ (Calls (Ask index) ∷ [])) (Ok event) r out2 left new → BeginsWith s out
+    asked mid out2 same whole r (inl k) = absurd cc
+    asked mid out2 same whole r (inr k) =
+        let x : Exchanges old (Hello (replicate 32 0)) (Ok h.9.0) h.1 h.3 h.5 mid =
+        subst (λ (c : Client). Exchanges old (Hello (replicate 32 0)) (Ok h.9.0) h.1 h.3 h.5 c) (sym same) h.9.1 in
+        let begins = synced s old mid h.9.0 k.9.0 h.1 h.3 k.1 k.3 k.4 h.5 k.5 k.0 bare x k.9.1 in
+        subst (BeginsWith s) (sym (whole ∙ ap (λ (o : List ℕ). h.3 ++ o) k.8)) begins
 
--- what a conversation that came to an event has written
-pub said_after : {V : Type 0} → (items : V → List ℕ) (sent : Result V CallFault) (v : V) (before after : Option (List ℕ))
-    (old : Client) (first : List ℕ) (turns : ℕ) (event : Event) (read out : List ℕ) (left : Option (List ℕ)) (new : Client)
-    → sent ≡ Ok v → first ≡ items v → Appends before after out → Converses old first turns (Ok event) read out left new
-    → IfOk sent (λ v. (said : List ℕ) × Appends before after (items v ++ said))
-said_after items sent v before after old first turns event read out left new is same went (inl h) = absurd h
-said_after {V = V} items sent v before after old first turns event read out left new is same went (inr h) =
-    let P : Result V CallFault → Type 0 = λ r. IfOk r (λ v. (said : List ℕ) × Appends before after (items v ++ said)) in
-    subst P (sym is) (h.0, subst (λ (x : List ℕ). Appends before after (x ++ h.0)) same (subst (Appends before after) h.1 went))
+    looked : Transacts h.0 (Judges least ∷ (Calls (Sync s) ∷ (Calls (Ask index) ∷ []))) (Ok event) h.2 h.4 left new → BeginsWith s out
+    looked (inl j) = absurd cc
+    looked (inr j) =
+        asked j.0 j.4 j.9.1.2 (h.8 ∙ ap (λ (o : List ℕ). h.3 ++ o) (j.8 ∙ ap (λ (o : List ℕ). o ++ j.4) j.9.1.1)) j.2 j.10
+
+-- the same, as a writer shows it
+pub retrieval_has_sent : (least : ℕ) (s : Scheme) (index : ℕ) (old : Client) (event : Event) (read out : List ℕ) (left held held2 : Option (List ℕ)) (new : Client)
+    → old.state.hint ≡ None → Appends held held2 out → Transacts old (retrieval least s index) (Ok event) read out left new
+    → (version : ℕ) × SendsCommand held held2 (frame.Hello client_profile (replicate 32 0)) (frame.HintAsk (scheme_byte s) version 0)
+retrieval_has_sent least s index old event read out left held held2 new bare went t =
+    let b = retrieval_sends least s index old event read out left new bare t in (b.0, (b.1, b.2, subst (Appends held held2) b.3 went))
+
+-- what holds anyway, where an answer is given
+pub on_answer : {T E : Type 0} → (r : Result T E) (P : Type 0) → P → IfOk r (λ x. P)
+on_answer (Ok x) P p = p
+on_answer (Err e) P p = tt

@@ -1,14 +1,14 @@
-//! One call over a connection, and how it failed.
+//! One call over a connection, and how it ended.
 
-ghost use Rattle.std.specs.Prelude.{◌≡◌, ◌++◌, List, ℕ, false, IfOk, IfErr, IsOk, OnOk};
-ghost use Rattle.std.specs.Io.KnownBytes.{Appends};
-ghost use Rattle.client_core.specs.Endings.{Ends, IsNoSync};
-ghost use Rattle.client_commands.specs.Done.{IsDone, IsSaid, IsTrueOf, failure_of, EndedWith};
+ghost use Rattle.std.specs.Prelude.{◌≡◌, ◌≤◌, ◌<◌, List, ℕ, MatchResult};
+ghost use Rattle.std.specs.Io.KnownBytes.{Appends, Consumes};
+ghost use Rattle.client_commands.specs.declared.fault.CommandError.TheVariants as fault;
+ghost use Rattle.client_commands.specs.Transcripts.{AnswersCall, said_against, secret_len};
 
+use crate::fault::CommandError;
 use client_core::{CallFault, ClientCore, Event};
-use command_words::Failure;
 use matrix_u32::Kernel;
-use session_engines::{ConverseFault, converse};
+use session_engines::converse;
 use std::alloc::Global;
 use std::io::{Read, Write};
 
@@ -23,24 +23,19 @@ pub(crate) fn exchange<K: Kernel, R: Read, W: Write>(
     sent: Result<Vec<u8>, CallFault>,
     reader: &mut R,
     writer: &mut W,
-) -> Result<Event, Failure>
-    ensures made { IfOk result (λ _. IsOk sent) }
-    ensures ends { IfOk result (λ event. Ends client.old.state.call event × IsDone event) }
-    ensures came { IfOk result (λ event. EndedWith client.old.state.call event client.new) }
-    ensures number { client.new.state.number ≡ client.old.state.number }
-    ensures hint { IfOk result (λ _. IsNoSync client.old.state.call →
-        client.new.state.failed ≡ false → client.new.state.hint ≡ client.old.state.hint) }
-    ensures said { IfErr result (λ failure. IsTrueOf failure client.new) }
-    ensures sends { OnOk result (IfOk sent (λ first. (said : List ℕ) ×
-        Appends (W.contents writer.old) (W.contents writer.new) (first.items ++ said))) }
+) -> Result<Event, CommandError>
+    ensures { (read : List ℕ) × (out : List ℕ)
+        × Consumes (R.remaining reader.old) (R.remaining reader.new) read
+        × Appends (W.contents writer.old) (W.contents writer.new) out
+        × AnswersCall client.old sent result read out (R.remaining reader.new) client.new }
 {
     let first = match sent {
         Ok(first) => first,
-        Err(fault) => return Err(call_failure(fault)),
+        Err(fault) => return Err(CommandError::Call(fault)),
     };
     let event = match converse(alloc, client, &first, reader, writer, TURNS) {
         Ok(event) => event,
-        Err(fault) => return Err(converse_failure(fault)),
+        Err(fault) => return Err(CommandError::Conversation(fault)),
     };
     match said_against(&event) {
         None => Ok(event),
@@ -48,14 +43,14 @@ pub(crate) fn exchange<K: Kernel, R: Read, W: Write>(
     }
 }
 
-/// The failure that an event reports.
-fn said_against(event: &Event) -> Option<Failure>
-    ensures { result ≡ failure_of event.now }
+/// What an event says against its call.
+fn said_against(event: &Event) -> Option<CommandError>
+    ensures { result ≡ said_against event.now }
 {
     match event {
-        Event::Refused(code) => Some(Failure::Refused(*code)),
-        Event::Stale(version) => Some(Failure::Stale(*version)),
-        Event::Unreadable { index, version } => Some(Failure::Unreadable {
+        Event::Refused(code) => Some(CommandError::Refused(*code)),
+        Event::Stale(version) => Some(CommandError::Stale(*version)),
+        Event::Unreadable { index, version } => Some(CommandError::Unreadable {
             index: *index,
             version: *version,
         }),
@@ -63,33 +58,19 @@ fn said_against(event: &Event) -> Option<Failure>
     }
 }
 
-/// The failure that a refused call is.
-fn call_failure(fault: CallFault) -> Failure
-    ensures { IsSaid result → ⊥ }
+/// Judges how many words a secret has by the server's Welcome: `ShortSecrets` where they are fewer than the
+/// least number accepted.
+pub(crate) fn judge<K: Kernel>(client: &ClientCore<K>, least: usize) -> Result<(), CommandError>
+    ensures { MatchResult result (λ _. least ≤ secret_len client.now.state.known)
+        (λ e. (e ≡ fault.ShortSecrets (secret_len client.now.state.known)) ×
+        (secret_len client.now.state.known < least)) }
 {
-    match fault {
-        CallFault::NotReady => Failure::Fault("NotReady"),
-        CallFault::Busy => Failure::Fault("Busy"),
-        CallFault::BadIndex => Failure::Fault("BadIndex"),
-        CallFault::SeedUsedUp => Failure::Fault("SeedUsedUp"),
-        CallFault::Memory => Failure::Memory,
-        CallFault::Failed => Failure::Fault("Failed"),
-        CallFault::AlreadyWelcome => Failure::Fault("AlreadyWelcome"),
+    let dimension = match client.known() {
+        Some(known) => known.dimension,
+        None => 0,
+    };
+    if dimension < least {
+        return Err(CommandError::ShortSecrets(dimension));
     }
-}
-
-/// The failure that a conversation without an event is.
-fn converse_failure(fault: ConverseFault) -> Failure
-    ensures { IsSaid result → ⊥ }
-{
-    match fault {
-        ConverseFault::Ended => Failure::Fault("Ended"),
-        ConverseFault::Read => Failure::Fault("Read"),
-        ConverseFault::Write => Failure::Fault("Write"),
-        ConverseFault::BadWelcome => Failure::Fault("BadWelcome"),
-        ConverseFault::BadReply => Failure::Fault("BadReply"),
-        ConverseFault::Memory => Failure::Memory,
-        ConverseFault::TurnsUsedUp => Failure::Fault("TurnsUsedUp"),
-        ConverseFault::Failed => Failure::Fault("Failed"),
-    }
+    Ok(())
 }

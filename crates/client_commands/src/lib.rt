@@ -1,11 +1,13 @@
 //! What a client's commands do over a connection: each is let in, makes its calls one after another, and
-//! answers what the last one brought, or how it failed.
+//! answers what the last one brought, or why it wasn't done.
 #![tactic(auto)]
 
 mod commands;
 mod connection;
+mod fault;
 
 pub use commands::{Retrieved, get, publish, put};
+pub use fault::CommandError;
 
 #[cfg(test)]
 mod tests;

@@ -1,9 +1,9 @@
 //! Commands against stored streams of a server.
 
-use crate::{Retrieved, get, publish, put};
-use client_core::{ClientCore, Scheme};
-use command_words::Failure;
+use crate::{CommandError, Retrieved, get, publish, put};
+use client_core::{CallFault, ClientCore, Scheme};
 use matrix_u32::Plain;
+use session_engines::ConverseFault;
 use std::alloc::{AllocError, Global};
 use std::io;
 use std::io::Read;
@@ -83,13 +83,14 @@ fn got(
     client: &mut ClientCore<Plain>,
     reader: &mut Replies,
     writer: &mut Vec<u8>,
+    least: usize,
     index: u32,
-) -> Result<Retrieved, Failure> {
-    get(alloc, client, reader, writer, Scheme::Simple, index)
+) -> Result<Retrieved, CommandError> {
+    get(alloc, client, reader, writer, least, Scheme::Simple, index)
 }
 
 // What a get came to, as a line.
-fn reported(alloc: Global, outcome: &Result<Retrieved, Failure>) -> Result<String, Fail> {
+fn reported(alloc: Global, outcome: &Result<Retrieved, CommandError>) -> Result<String, Fail> {
     match outcome {
         Ok(record) => {
             let bytes = hex_of(alloc, record.bytes.as_slice())?;
@@ -118,10 +119,29 @@ fn gets(
     wanted: &str,
     written: usize,
 ) -> Result<(), Fail> {
+    gets_with(rt, 1, index, parts, wanted, written)
+}
+
+// The same with the least number of words that a secret may have.
+fn gets_with(
+    rt: &(impl Abort + AllocGlobal),
+    least: usize,
+    index: u32,
+    parts: &[&[u8]],
+    wanted: &str,
+    written: usize,
+) -> Result<(), Fail> {
     let mut reader = stream_of(rt.alloc(), parts)?;
     let mut writer = Vec::new(rt.alloc());
     let mut client = client(rt.alloc());
-    let outcome = got(rt.alloc(), &mut client, &mut reader, &mut writer, index);
+    let outcome = got(
+        rt.alloc(),
+        &mut client,
+        &mut reader,
+        &mut writer,
+        least,
+        index,
+    );
     assert_eq!(rt; reported(rt.alloc(), &outcome)?.as_str(), wanted);
     assert_eq!(rt; writer.len(), written);
     Ok(())
@@ -133,6 +153,14 @@ const HELLO: usize = 39;
 const HINT_ASK: usize = 18;
 
 const QUERY: usize = 22;
+
+const ENDED: &str = "the server ended the connection";
+
+const BAD_REPLY: &str = "a bad reply";
+
+const REFUSED_8: &str = "the server refused with code 8";
+
+const STALE_2: &str = "version 2 is current";
 
 #[test]
 fn a_record_is_retrieved(rt: HostRuntime) -> Result<(), Fail> {
@@ -147,31 +175,46 @@ fn a_record_is_retrieved(rt: HostRuntime) -> Result<(), Fail> {
 
 #[test]
 fn a_hello_that_fails_is_the_last_call(rt: HostRuntime) -> Result<(), Fail> {
-    gets(&rt, 1, &[], "fault: Ended", HELLO)?;
-    gets(&rt, 1, &[REFUSED], "refused 8", HELLO)?;
-    gets(&rt, 1, &[DONE], "fault: BadReply", HELLO)?;
-    gets(&rt, 1, &[OTHER_PROFILE, &ZEROS], "fault: BadWelcome", HELLO)
+    gets(&rt, 1, &[], ENDED, HELLO)?;
+    gets(&rt, 1, &[REFUSED], REFUSED_8, HELLO)?;
+    gets(&rt, 1, &[DONE], BAD_REPLY, HELLO)?;
+    gets(&rt, 1, &[OTHER_PROFILE, &ZEROS], "a bad welcome", HELLO)
+}
+
+#[test]
+fn short_secrets_end_it_after_the_welcome(rt: HostRuntime) -> Result<(), Fail> {
+    let all: [&[u8]; 4] = [WELCOME, &ZEROS, HINT_PART, ANSWER];
+    let short = "secrets of 1 words are too short";
+    gets_with(&rt, 2, 1, &all, short, HELLO)?;
+    gets_with(
+        &rt,
+        0,
+        1,
+        &all,
+        "retrieved 1 1 c8",
+        HELLO + HINT_ASK + QUERY,
+    )
 }
 
 #[test]
 fn a_sync_that_fails_is_the_last_call(rt: HostRuntime) -> Result<(), Fail> {
     let both = HELLO + HINT_ASK;
-    gets(&rt, 1, &[WELCOME, &ZEROS, STALE], "stale 2", both)?;
-    gets(&rt, 1, &[WELCOME, &ZEROS, REFUSED], "refused 8", both)?;
+    gets(&rt, 1, &[WELCOME, &ZEROS, STALE], STALE_2, both)?;
+    gets(&rt, 1, &[WELCOME, &ZEROS, REFUSED], REFUSED_8, both)?;
     let half = &HINT_PART[..9];
-    gets(&rt, 1, &[WELCOME, &ZEROS, half], "fault: Ended", both)
+    gets(&rt, 1, &[WELCOME, &ZEROS, half], ENDED, both)
 }
 
 #[test]
 fn an_ask_that_fails(rt: HostRuntime) -> Result<(), Fail> {
     let all = HELLO + HINT_ASK + QUERY;
     let before: [&[u8]; 4] = [WELCOME, &ZEROS, HINT_PART, STALE];
-    gets(&rt, 1, &before, "stale 2", all)?;
+    gets(&rt, 1, &before, STALE_2, all)?;
     let again: [&[u8]; 4] = [WELCOME, &ZEROS, HINT_PART, HINT_PART];
-    gets(&rt, 1, &again, "fault: BadReply", all)?;
+    gets(&rt, 1, &again, BAD_REPLY, all)?;
     // A record that there is not is not asked for.
     let synced: [&[u8]; 3] = [WELCOME, &ZEROS, HINT_PART];
-    gets(&rt, 2, &synced, "fault: BadIndex", HELLO + HINT_ASK)
+    gets(&rt, 2, &synced, "there is no such record", HELLO + HINT_ASK)
 }
 
 fn done(
@@ -179,7 +222,7 @@ fn done(
     client: &mut ClientCore<Plain>,
     reader: &mut Replies,
     writer: &mut Vec<u8>,
-) -> Result<u64, Failure> {
+) -> Result<u64, CommandError> {
     put(alloc, client, reader, writer, ONES, 1, &[100])
 }
 
@@ -204,7 +247,7 @@ fn published(
     client: &mut ClientCore<Plain>,
     reader: &mut Replies,
     writer: &mut Vec<u8>,
-) -> Result<u64, Failure> {
+) -> Result<u64, CommandError> {
     publish(alloc, client, reader, writer, ONES)
 }
 
@@ -212,7 +255,7 @@ fn published(
 fn publishes(
     rt: &(impl Abort + AllocGlobal),
     last: &[u8],
-    wanted: Result<u64, Failure>,
+    wanted: Result<u64, CommandError>,
 ) -> Result<(), Fail> {
     let mut reader = stream_of(rt.alloc(), &[WELCOME, &ZEROS, last])?;
     let mut writer = Vec::new(rt.alloc());
@@ -227,5 +270,28 @@ fn publishes(
 #[test]
 fn a_publication_is_done_or_refused(rt: HostRuntime) -> Result<(), Fail> {
     publishes(&rt, DONE, Ok(1))?;
-    publishes(&rt, REFUSED, Err(Failure::Refused(8)))
+    publishes(&rt, REFUSED, Err(CommandError::Refused(8)))
+}
+
+// Compares how a failure prints.
+fn says(rt: &(impl Abort + AllocGlobal), failure: CommandError, wanted: &str) -> Result<(), Fail> {
+    let text = format!(in rt.alloc(); "{failure}")?;
+    assert_eq!(rt; text.as_str(), wanted);
+    Ok(())
+}
+
+#[test]
+fn each_failure_has_its_text(rt: HostRuntime) -> Result<(), Fail> {
+    says(&rt, CommandError::Refused(8), REFUSED_8)?;
+    says(&rt, CommandError::Stale(2), STALE_2)?;
+    let unreadable = CommandError::Unreadable {
+        index: 3,
+        version: 4,
+    };
+    says(&rt, unreadable, "record 3 of version 4 can't be read")?;
+    let short = CommandError::ShortSecrets(8);
+    says(&rt, short, "secrets of 8 words are too short")?;
+    let busy = CommandError::Call(CallFault::Busy);
+    says(&rt, busy, "another call is outstanding")?;
+    says(&rt, CommandError::Conversation(ConverseFault::Ended), ENDED)
 }

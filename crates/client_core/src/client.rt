@@ -15,7 +15,7 @@ use crate::calls::{
     spend_number,
 };
 use crate::parts::Parts;
-use crate::state::{Call, CallFault, ClientFault, ClientState, Event};
+use crate::state::{Call, CallFault, ClientFault, ClientState, Event, ServerInfo};
 use crate::taking::take_piece;
 use frame_codec::{Bytes, Bytes32, Frame, Reader};
 use matrix_u32::Kernel;
@@ -81,6 +81,13 @@ impl<K: Kernel> ClientCore<K> {
         ensures limit { result ≤ 2 ^ 62 }
     {
         self.state.number
+    }
+
+    /// What the server told of its store: `None` before the Welcome.
+    pub fn known(&self) -> Option<ServerInfo>
+        ensures { result ≡ self.now.state.known }
+    {
+        self.state.known
     }
 
     /// Asks to be let in: with a key of 32 zero bytes as a reader, with the publisher's key as the

@@ -17,7 +17,7 @@ mod taking;
 
 pub use client::{ClientCore, Fed};
 pub use pir_schemes::Scheme;
-pub use state::{CallFault, ClientFault, Event};
+pub use state::{CallFault, ClientFault, Event, ServerInfo};
 
 #[cfg(test)]
 mod tests;

@@ -1,5 +1,5 @@
 -- What a command line asks for.
-use Rattle.std.specs.Prelude.{◌≡◌, ◌≢◌, ◌<◌, ◌≤◌, ◌^◌, ℕ, List, length, replicate, codes, Some, Ok, MatchOption}
+use Rattle.std.specs.Prelude.{◌≡◌, ◌≢◌, ◌<◌, ◌≤◌, ◌^◌, ℕ, List, length, replicate, codes, Option, Some, None, Ok, MatchOption}
 use Rattle.std.specs.Str.Parse.{IsNumeral, digits_value}
 use Rattle.clap.specs.declared.parser.matches.Found.{Found}
 use Rattle.clap.specs.Matches.{first_value}
@@ -9,9 +9,14 @@ use Rattle.pir_schemes.specs.declared.scheme.Scheme.TheVariants.{Simple, Double}
 use Rattle.pir_client.specs.declared.command_line.Task.{Task}
 use Rattle.pir_client.specs.declared.command_line.Task.TheVariants.{Get, Put, Publish, Rehearse}
 
+-- a least dimension, where there is one, is that of some secrets
+abbrev pub IsDimension : Option ℕ → Type 0
+IsDimension None = Unit {0}
+IsDimension (Some n) = (1 ≤ n) × (n ≤ 1024)
+
 -- the number of a retrieval is one that there is, a key is a publisher's, and the bytes of a record fit a frame
 abbrev pub TaskFits : Task → Type 0
-TaskFits (Get port seed number scheme index) = number < 2 ^ 62
+TaskFits (Get port seed number least scheme index) = (number < 2 ^ 62) × IsDimension least
 TaskFits (Put port key index bytes) = (key ≢ replicate 32 0) × (1 ≤ length bytes.items) × (length bytes.items ≤ 65535)
 TaskFits (Publish port key) = key ≢ replicate 32 0
 TaskFits Rehearse = Unit {0}
@@ -19,6 +24,11 @@ TaskFits Rehearse = Unit {0}
 -- what was given for a name is this number in decimal digits
 abbrev pub IsNumberGiven : Found → List ℕ → ℕ → Type 0
 IsNumberGiven found name n = MatchOption (first_value found name) ⊥ (λ text. IsNumeral 10 text × (digits_value 10 text ≡ n))
+
+-- the same, where anything was given for it
+abbrev pub IsNumberIfGiven : Found → List ℕ → Option ℕ → Type 0
+IsNumberIfGiven found name n =
+    MatchOption (first_value found name) (n ≡ None) (λ text. IsNumeral 10 text × (n ≡ Some (digits_value 10 text)))
 
 -- what was given for a name are these bytes in hex
 abbrev pub AreBytesGiven : Found → List ℕ → List ℕ → Type 0
@@ -31,16 +41,17 @@ scheme_text Double = codes "double"
 
 -- a retrieval, as the options and the word of `get` ask for it
 abbrev pub ReadsGet : Found → Task → Type 0
-ReadsGet found (Get port seed number scheme index) =
+ReadsGet found (Get port seed number least scheme index) =
     IsNumberGiven found (codes "port") port × AreBytesGiven found (codes "seed") seed × IsNumberGiven found (codes "number") number
-    × (first_value found (codes "scheme") ≡ Some (scheme_text scheme)) × IsNumberGiven found (codes "INDEX") index
+    × IsNumberIfGiven found (codes "least-dimension") least × (first_value found (codes "scheme") ≡ Some (scheme_text scheme))
+    × IsNumberGiven found (codes "INDEX") index
 ReadsGet found (Put port key index bytes) = ⊥
 ReadsGet found (Publish port key) = ⊥
 ReadsGet found Rehearse = ⊥
 
 -- an edit, as those of `put` do
 abbrev pub ReadsPut : Found → Task → Type 0
-ReadsPut found (Get port seed number scheme index) = ⊥
+ReadsPut found (Get port seed number least scheme index) = ⊥
 ReadsPut found (Put port key index bytes) =
     IsNumberGiven found (codes "port") port × AreBytesGiven found (codes "key") key × IsNumberGiven found (codes "INDEX") index
     × AreBytesGiven found (codes "HEX") bytes.items
@@ -49,7 +60,7 @@ ReadsPut found Rehearse = ⊥
 
 -- a publication, as those of `publish` do
 abbrev pub ReadsPublish : Found → Task → Type 0
-ReadsPublish found (Get port seed number scheme index) = ⊥
+ReadsPublish found (Get port seed number least scheme index) = ⊥
 ReadsPublish found (Put port key index bytes) = ⊥
 ReadsPublish found (Publish port key) = IsNumberGiven found (codes "port") port × AreBytesGiven found (codes "key") key
 ReadsPublish found Rehearse = ⊥

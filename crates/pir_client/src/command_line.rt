@@ -1,8 +1,8 @@
 //! The command line.
 
-ghost use Rattle.std.specs.Prelude.{IfOk};
+ghost use Rattle.std.specs.Prelude.{IfOk, codes};
 ghost use Rattle.clap.specs.Matches.{found_of};
-ghost use Rattle.pir_client.specs.Tasks.{TaskFits, ReadsGet, ReadsPut, ReadsPublish};
+ghost use Rattle.pir_client.specs.Tasks.{TaskFits, IsDimension, IsNumberIfGiven, ReadsGet, ReadsPut, ReadsPublish};
 
 use clap::{ArgMatches, Command};
 use client_core::Scheme;
@@ -21,6 +21,11 @@ const KEY_TAKES: &str =
 
 const NUMBER_TAKES: &str = "--number takes a number below 4611686018427387904";
 
+/// The most words that a secret has.
+const DIMENSIONS: u64 = 1024;
+
+const DIMENSION_TAKES: &str = "--least-dimension takes a number from 1 to 1024";
+
 const SCHEME_TAKES: &str = "--scheme takes simple or double";
 
 const INDEX_TAKES: &str = "INDEX is a number from 0 to 4294967295";
@@ -35,6 +40,7 @@ pub enum Task {
         port: u16,
         seed: [u8; 32],
         number: u64,
+        least: Option<usize>,
         scheme: Scheme,
         index: u32,
     },
@@ -72,12 +78,19 @@ fn get_command<'a>(alloc: Global) -> Result<Command<'a>, AllocError> {
             "N",
             "The number of this retrieval, below 2^62: one that this seed has never been used with",
         ))?
+        .arg(option(
+            alloc,
+            "least-dimension",
+            "N",
+            "The least number of words, 1 to 1024, that the server's secrets may have",
+        )
+        .required(false))?
         .arg(option(alloc, "scheme", "NAME", "simple or double"))?
         .arg(word(alloc, "INDEX", "Which record, counted from 0"))
 }
 
 const GET_EXAMPLE: &str =
-    "Prints 'retrieved INDEX VERSION HEX', HEX being the record's bytes. Two retrievals with one seed and one\nnumber can tell the server what they ask, so count N up, also after a get that failed, and keep the seed to yourself.\n\nExample: pir_client get --port 7000 --seed 1111111111111111111111111111111111111111111111111111111111111111 --number 0 --scheme simple 1";
+    "Prints 'retrieved INDEX VERSION HEX', HEX being the record's bytes. Two retrievals with one seed and one\nnumber can tell the server what they ask, so count N up, also after a get that failed, and keep the seed to yourself.\nSecrets of fewer than 1024 words hide INDEX less: the server chooses their number. --least-dimension 1024 ends a get\nwith 'fault: BadWelcome' where they are fewer, before INDEX is asked for; without it a warning is printed.\n\nExample: pir_client get --port 7000 --seed 1111111111111111111111111111111111111111111111111111111111111111 --number 0 --scheme simple 1";
 
 // The command `put`.
 fn put_command<'a>(alloc: Global) -> Result<Command<'a>, AllocError> {
@@ -159,14 +172,30 @@ fn get_task<'a>(found: &ArgMatches<'a>) -> Result<Task, BadLine<'a>>
         "double" => Scheme::Double,
         _ => return Err(BadLine::Given(SCHEME_TAKES, name)),
     };
+    let least = least_dimension(found)?;
     let index = number_at(found, "INDEX", u64::from(u32::MAX), INDEX_TAKES)? as u32;
     Ok(Task::Get {
         port,
         seed,
         number,
+        least,
         scheme,
         index,
     })
+}
+
+// The least dimension that is accepted, where one is given.
+fn least_dimension<'a>(found: &ArgMatches<'a>) -> Result<Option<usize>, BadLine<'a>>
+    ensures fits { IfOk result IsDimension }
+    ensures read { IfOk result (IsNumberIfGiven (found_of found.now) (codes "least-dimension")) }
+{
+    let Some(text) = found.get_str("least-dimension") else {
+        return Ok(None);
+    };
+    match number_at(found, "least-dimension", DIMENSIONS, DIMENSION_TAKES)? {
+        0 => Err(BadLine::Given(DIMENSION_TAKES, text)),
+        least => Ok(Some(least as usize)),
+    }
 }
 
 // What the words of `put` ask for.

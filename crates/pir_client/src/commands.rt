@@ -1,9 +1,10 @@
 //! The commands over a connection.
 
 ghost use Rattle.std.specs.Prelude.{◌≤◌, ◌<◌, ◌^◌, length};
-ghost use Rattle.pir_client.specs.Tasks.{TaskFits};
+ghost use Rattle.pir_client.specs.Tasks.{TaskFits, IsDimension};
 
 use crate::command_line::{Task, task_of};
+use crate::failures::failure_of;
 use client_commands::{get, publish, put};
 use client_core::{ClientCore, Scheme};
 use command_words::{Failure, program_words};
@@ -40,9 +41,10 @@ fn done(rt: &HostRuntime, task: Task) -> Result<u8, Failure>
             port,
             seed,
             number,
+            least,
             scheme,
             index,
-        } => get_record(rt, port, seed, number, scheme, index)?,
+        } => get_record(rt, port, seed, number, least, scheme, index)?,
         Task::Put {
             port,
             key,
@@ -80,16 +82,33 @@ fn printed(said: io::Result<()>) -> Result<(), Failure> {
     }
 }
 
+/// The words of a secret with the publication's parameters.
+const WHOLE_SECRET: usize = 1024;
+
+// Warns of secrets of fewer words, once the server told their number.
+fn warn_of_short_secrets(rt: &HostRuntime, client: &ClientCore<Lanes>) {
+    if let Some(known) = client.known() {
+        let dimension = known.dimension;
+        if dimension < WHOLE_SECRET {
+            let _ = eprintln!(rt;
+                "warning: the server's secrets have {dimension} words, and hide less than 1024 do"
+            );
+        }
+    }
+}
+
 // Retrieves a record, and prints it.
 fn get_record(
     rt: &HostRuntime,
     port: u16,
     seed: [u8; 32],
     number: u64,
+    least: Option<usize>,
     scheme: Scheme,
     index: u32,
 ) -> Result<(), Failure>
-    requires { number < 2 ^ 62 }
+    requires number { number < 2 ^ 62 }
+    requires dimension { IsDimension least }
 {
     let stream = connect(rt, port)?;
     let mut client = ClientCore::new(rt.alloc(), Lanes, seed, number);
@@ -98,9 +117,14 @@ fn get_record(
         &mut client,
         &mut &stream,
         &mut &stream,
+        least.unwrap_or(1),
         scheme,
         index,
-    )?;
+    );
+    if least.is_none() {
+        warn_of_short_secrets(rt, &client);
+    }
+    let got = got.map_err(failure_of)?;
     let Ok(record) = hex::encode(rt.alloc(), got.bytes.as_slice()) else {
         return Err(Failure::Memory);
     };
@@ -129,7 +153,8 @@ fn put_record(
         key,
         index,
         bytes,
-    )?;
+    )
+    .map_err(failure_of)?;
     printed(println!(rt; "done {version}"))
 }
 
@@ -137,7 +162,9 @@ fn put_record(
 fn publish_draft(rt: &HostRuntime, port: u16, key: [u8; 32]) -> Result<(), Failure> {
     let stream = connect(rt, port)?;
     let mut client = publisher(rt);
-    let version = publish(rt.alloc(), &mut client, &mut &stream, &mut &stream, key)?;
+    let version = publish(rt.alloc(), &mut client, &mut &stream, &mut &stream, key).map_err(
+        failure_of,
+    )?;
     printed(println!(rt; "published {version}"))
 }
 

@@ -7,6 +7,7 @@
 
 mod command_line;
 mod commands;
+mod failures;
 
 use std::process::ExitCode;
 

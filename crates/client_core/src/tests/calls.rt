@@ -148,3 +148,40 @@ fn after_a_fault_every_call_fails(rt: HostRuntime) -> Result<(), Fail> {
     let mut client = synced(&rt, TWO_RECORDS, 0, &[0])?;
     fails_for_good(&rt, &mut client)
 }
+
+// What a store is known as once its Welcome came.
+fn info_of(store: Store, version: u64, count: u32) -> Option<ServerInfo> {
+    let layout = Layout::new(
+        u32::from(store.width),
+        usize::from(store.record_len),
+        usize::from(store.groups),
+        count as usize,
+    );
+    Some(ServerInfo {
+        version,
+        layout: layout.ok()?,
+        dimension: usize::from(store.dimension),
+        seed: ZEROS,
+    })
+}
+
+fn learns(
+    rt: &(impl Abort + AllocGlobal),
+    client: &mut ClientCore<Plain>,
+    store: Store,
+) -> Result<(), Fail> {
+    assert_eq!(rt; client.known(), None);
+    let_in(rt, client, store)?;
+    assert_eq!(rt; client.known(), info_of(store, 1, store.count));
+    makes(client, Wanted::Sync(Scheme::Simple))?;
+    let frame = stale(rt, 2, 3)?;
+    feeds(rt, client, frame.as_slice(), "stale 2 ")?;
+    assert_eq!(rt; client.known(), info_of(store, 2, 3));
+    Ok(())
+}
+
+#[test]
+fn what_the_server_told_is_known(rt: HostRuntime) -> Result<(), Fail> {
+    let mut client = newcomer(&rt, 0);
+    learns(&rt, &mut client, TWO_RECORDS)
+}

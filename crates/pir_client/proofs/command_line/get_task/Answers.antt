@@ -13,6 +13,7 @@ returns-clause-read c =
       c.in_ok-port.ensures.value,
       c.in_ok-seed.ensures.value,
       c.in_ok-number.ensures.value,
+      c.in_ok-least.ensures.read,
       c.in_ok-name.ensures.found
           ∙ ap Some scheme,
       c.in_ok-index.ensures.value,
