@@ -12,6 +12,7 @@ mod answers;
 mod calls;
 mod deltas;
 mod hints;
+mod refused_memory;
 mod replies;
 mod shapes;
 mod texts;

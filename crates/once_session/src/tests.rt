@@ -334,9 +334,9 @@ fn digits_of_six_bits_and_records_of_two_bytes(rt: HostRuntime) -> Result<(), Fa
 #[test]
 fn a_reader_that_fails(rt: HostRuntime) -> Result<(), Fail> {
     let bytes = joined(rt.alloc(), &[LOAD, QUERY])?;
-    for len in [0, 12, 20, bytes.len()] {
+    for len in 0..=bytes.len() {
         let mut reader = Input {
-            bytes: &bytes[..len.min(bytes.len())],
+            bytes: &bytes[..len],
             most: 5,
             fails: true,
         };
@@ -357,7 +357,7 @@ fn a_reader_that_fails(rt: HostRuntime) -> Result<(), Fail> {
 fn a_writer_that_fails_or_takes_nothing(rt: HostRuntime) -> Result<(), Fail> {
     let bytes = joined(rt.alloc(), &[LOAD, QUERY, QUERY])?;
     let said = joined(rt.alloc(), &[ANSWER, ANSWER])?;
-    for room in [0, 1, 17, 18, 35] {
+    for room in 0..36 {
         for fails in [false, true] {
             let mut reader = bytes.as_slice();
             let mut writer = make_output(rt.alloc(), room, fails)?;

@@ -2,11 +2,13 @@
 
 mod counting;
 mod deltas;
+mod failing_writers;
+mod refused_memory;
 
 use super::*;
 use lane_kernels::Lanes;
 use matrix_u32::{Kernel, Plain};
-use std::alloc::Global;
+use std::alloc::{AllocError, Global};
 use std::process::Abort;
 use std::test::Fail;
 
@@ -304,16 +306,8 @@ fn a_store_is_written_and_read_back(rt: HostRuntime) -> Result<(), Fail> {
     is_written_and_read_back(&rt, &mut two_records(rt.alloc(), Lanes, 1)?)
 }
 
-// The store of seven records of three bytes, two to a column; some of them are others where `is_changed`.
-fn seven_records<K: Kernel>(alloc: Global, kernel: K, is_changed: bool) -> Result<Store<K>, Fail> {
-    let header = Header {
-        width: 6,
-        record_len: 3,
-        groups: 2,
-        count: 7,
-        dimension: 5,
-        ..STORE
-    };
+// The bytes of seven records of three; some of them are others where `is_changed`.
+fn seven_times_three(alloc: Global, is_changed: bool) -> Result<Vec<u8>, AllocError> {
     let mut bytes = Vec::new(alloc);
     for i in 0..21u8 {
         bytes.push(match i {
@@ -323,8 +317,27 @@ fn seven_records<K: Kernel>(alloc: Global, kernel: K, is_changed: bool) -> Resul
             _ => i * 11,
         })?;
     }
-    let store = Store::open(alloc, kernel, header.with_records(bytes))?;
-    Ok(store)
+    Ok(bytes)
+}
+
+// The store of these records, two to a column.
+fn seven_records<K: Kernel>(
+    alloc: Global,
+    kernel: K,
+    is_changed: bool,
+) -> Result<Store<K>, OpenError> {
+    let header = Header {
+        width: 6,
+        record_len: 3,
+        groups: 2,
+        count: 7,
+        dimension: 5,
+        ..STORE
+    };
+    let Ok(bytes) = seven_times_three(alloc, is_changed) else {
+        return Err(OpenError::Memory);
+    };
+    Store::open(alloc, kernel, header.with_records(bytes))
 }
 
 fn keeps_its_hints<K: Kernel>(rt: &impl Abort, kept: &mut Store<K>, made: &Store<K>) {

@@ -48,7 +48,8 @@ fn says(rt: &impl Abort, alloc: Global, input: &[u8], said: &[u8]) -> Result<(),
             most,
             fails: false,
         };
-        let mut writer = Vec::new(alloc);
+        // With room for all, so that refused memory isn't reported as a failed write.
+        let mut writer = Vec::with_capacity(alloc, said.len())?;
         let result = once(alloc, &mut reader, &mut writer, 1_000_000);
         assert_eq!(rt; result, Ok(()), "{most} bytes a read");
         assert!(rt; writer.as_slice() == said, "{most} bytes a read");

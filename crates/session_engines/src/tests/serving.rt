@@ -91,25 +91,25 @@ fn nothing_is_read_after_the_piece_that_closes(rt: HostRuntime) -> Result<(), Fa
 
 #[test]
 fn a_reader_that_fails(rt: HostRuntime) -> Result<(), Fail> {
-    let greeting = joined(rt.alloc(), &[GREETING, &ZEROS])?;
-    let welcome = joined(rt.alloc(), &[WELCOME, &ZEROS])?;
-    let cases: [(&[u8], &[u8]); 3] = [
-        (&[], &[]),
-        (greeting.as_slice(), welcome.as_slice()),
-        (greeting.get(..38).unwrap_or(&[]), &[]),
-    ];
-    for (input, said) in cases {
+    let input = joined(rt.alloc(), &[GREETING, &ONES, EDIT])?;
+    let said = joined(rt.alloc(), &[WELCOME, &ZEROS, DONE])?;
+    for len in 0..50 {
+        let owed = match len {
+            0..39 => 0,
+            39..49 => 58,
+            _ => 71,
+        };
         let mut server = server(&rt, rt.alloc())?;
         let mut reader = Input {
-            bytes: input,
+            bytes: input.get(..len).unwrap_or(&[]),
             most: 5,
             fails: true,
         };
         let mut writer = Vec::new(rt.alloc());
         let result = serve_all(rt.alloc(), &mut server, 0, &mut reader, &mut writer, TURNS);
-        assert_eq!(rt; result, Err(ServeFault::Read));
-        assert_eq!(rt; writer.as_slice(), said);
-        assert_eq!(rt; server.has_session(0), false);
+        assert_eq!(rt; result, Err(ServeFault::Read), "{len}");
+        assert_eq!(rt; Some(writer.as_slice()), said.get(..owed), "{len}");
+        assert_eq!(rt; server.has_session(0), false, "{len}");
     }
     Ok(())
 }
@@ -142,20 +142,20 @@ fn all_turns_are_used_up(rt: HostRuntime) -> Result<(), Fail> {
 #[test]
 fn a_writer_that_fails_leaves_the_edit_accepted(rt: HostRuntime) -> Result<(), Fail> {
     let input = joined(rt.alloc(), &[GREETING, &ONES, EDIT])?;
-    let said = joined(rt.alloc(), &[WELCOME, &ZEROS, &DONE[..2]])?;
-    for fails in [false, true] {
+    let said = joined(rt.alloc(), &[WELCOME, &ZEROS, DONE])?;
+    for room in 0..71 {
         let mut server = server(&rt, rt.alloc())?;
         let mut reader = input.as_slice();
         let mut writer = Output {
             bytes: Vec::new(rt.alloc()),
-            room: 60,
-            fails,
+            room,
+            fails: room % 2 == 0,
         };
         let result = serve_all(rt.alloc(), &mut server, 7, &mut reader, &mut writer, TURNS);
-        assert_eq!(rt; result, Err(ServeFault::Write));
-        assert_eq!(rt; writer.bytes.as_slice(), said.as_slice());
-        assert_eq!(rt; server.has_session(7), false);
-        assert_eq!(rt; publish(&mut server), Ok(2));
+        assert_eq!(rt; result, Err(ServeFault::Write), "{room}");
+        assert_eq!(rt; Some(writer.bytes.as_slice()), said.get(..room), "{room}");
+        assert_eq!(rt; server.has_session(7), false, "{room}");
+        assert_eq!(rt; publish(&mut server), Ok(2), "{room}");
     }
     Ok(())
 }

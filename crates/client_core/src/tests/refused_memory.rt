@@ -1,0 +1,114 @@
+//! Memory that is refused once: a call that tells so leaves the client as it says, and is made when it is tried again.
+//! With ample memory no call here is refused. `scripts/refuse_memory` refuses each request of these tests in turn, and
+//! they pass each time.
+
+use super::*;
+use std::alloc::AllocError;
+
+/// The Welcome of the store of two records, and its whole hint.
+const WELCOME: [u8; 58] = [
+    0x35, 0, 0, 0, 0x82, 1, 0, 8, 1, 0, 1, 0, 2, 0, 0, 0, 1, 0, 0, 0, 0, 0, 0, 0, 1, 0, 0, 0, 0, 0,
+    0, 0, 0, 0, 0, 0, 0, 0, 0, 0, 0, 0, 0, 0, 0, 0, 0, 0, 0, 0, 0, 0, 0, 0, 0, 0, 0, 0,
+];
+
+const HINT_PART: [u8; 22] = [
+    0x11, 0, 0, 0, 0x83, 0, 1, 0, 0, 0, 0, 0, 0, 0, 0, 0, 0, 0, 0x9c, 0xf9, 0x2b, 0x7b,
+];
+
+/// The queries for record 1 of the retrievals 5 and 6 of the zero seed, by the definition as a program of another
+/// language has it.
+const FIFTH: [u8; 22] = [
+    0x11, 0, 0, 0, 0x05, 0, 1, 0, 0, 0, 0, 0, 0, 0, 0xbe, 0xc9, 0x46, 0xdb, 0x1f, 0x29, 0xc5, 0xc2,
+];
+
+const SIXTH: [u8; 22] = [
+    0x11, 0, 0, 0, 0x05, 0, 1, 0, 0, 0, 0, 0, 0, 0, 0xe7, 0x14, 0x7a, 0x8b, 0x1f, 0x7e, 0x11, 0x11,
+];
+
+// Feeds a piece, and answers the fault.
+fn fault_of(client: &mut ClientCore<Plain>, piece: &[u8]) -> Option<ClientFault> {
+    client.feed(piece).fault
+}
+
+// Makes a call, again where memory was refused, and feeds its reply. Answers whether that was taken: where memory was
+// refused for it, the client has failed.
+fn exchanges(
+    rt: &impl Abort,
+    client: &mut ClientCore<Plain>,
+    wanted: Wanted,
+    reply: &[u8],
+) -> bool {
+    if let Err(fault) = call(client, wanted) {
+        assert!(rt; fault == CallFault::Memory);
+        assert!(rt; call(client, wanted).is_ok());
+    }
+    let Some(fault) = fault_of(client, reply) else {
+        return true;
+    };
+    assert!(rt; fault == ClientFault::Memory);
+    counts(rt, client, 5);
+    refuses(rt, client, wanted, CallFault::Failed);
+    false
+}
+
+// A client that holds the hint of version 1, unless memory was refused for a reply.
+fn try_ready(rt: &(impl Abort + AllocGlobal)) -> Option<ClientCore<Plain>> {
+    let mut client = newcomer(rt, 5);
+    if !exchanges(rt, &mut client, Wanted::Hello(0), &WELCOME) {
+        return None;
+    }
+    if !exchanges(rt, &mut client, Wanted::Sync(Scheme::Simple), &HINT_PART) {
+        return None;
+    }
+    Some(client)
+}
+
+// The same, with a second try.
+fn ready(rt: &(impl Abort + AllocGlobal)) -> Result<ClientCore<Plain>, AllocError> {
+    match try_ready(rt) {
+        Some(client) => Ok(client),
+        None => try_ready(rt).ok_or(AllocError),
+    }
+}
+
+// Asks for record 1. Where memory is refused, the number is spent all the same, and the next ask has the next one.
+fn asks(rt: &impl Abort, client: &mut ClientCore<Plain>) {
+    counts(rt, client, 5);
+    let mut asked = call(client, Wanted::Ask(1));
+    counts(rt, client, 6);
+    let mut wanted = FIFTH;
+    if matches!(asked, Err(CallFault::Memory)) {
+        asked = call(client, Wanted::Ask(1));
+        counts(rt, client, 7);
+        wanted = SIXTH;
+    }
+    match asked {
+        Ok(sent) => assert_eq!(rt; sent.as_slice(), wanted.as_slice()),
+        Err(_) => panic!(rt; "the second ask was refused"),
+    }
+}
+
+#[test]
+fn a_refused_ask_spends_its_number(rt: HostRuntime) -> Result<(), Fail> {
+    asks(&rt, &mut ready(&rt)?);
+    Ok(())
+}
+
+// A sync of the other scheme drops the hint, but not where it is refused.
+fn keeps_its_hint(rt: &impl Abort, client: &mut ClientCore<Plain>) {
+    let refusal = call(client, Wanted::Sync(Scheme::Double)).err();
+    let asked = call(client, Wanted::Ask(1)).err();
+    match refusal {
+        None => assert_eq!(rt; asked, Some(CallFault::NotReady)),
+        Some(fault) => {
+            assert_eq!(rt; fault, CallFault::Memory);
+            assert_eq!(rt; asked, None);
+        }
+    }
+}
+
+#[test]
+fn a_refused_sync_drops_no_hint(rt: HostRuntime) -> Result<(), Fail> {
+    keeps_its_hint(&rt, &mut ready(&rt)?);
+    Ok(())
+}

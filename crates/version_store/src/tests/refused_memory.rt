@@ -1,0 +1,79 @@
+//! Memory that is refused once: the call that tells so has changed nothing, and is done when it is made again. With
+//! ample memory no call here is refused. `scripts/refuse_memory` refuses each request of this test in turn, and it
+//! passes each time.
+
+use super::*;
+
+// The store of seven records, opened again where memory was refused.
+fn opened<K: Kernel>(alloc: Global, kernel: K, is_changed: bool) -> Result<Store<K>, OpenError> {
+    match seven_records(alloc, kernel, is_changed) {
+        Ok(store) => Ok(store),
+        Err(_) => seven_records(alloc, kernel, is_changed),
+    }
+}
+
+// Compares all that two stores hold of their current versions, but the version's number.
+fn holds_the_same<K: Kernel>(rt: &impl Abort, store: &Store<K>, other: &Store<K>) {
+    assert_eq!(rt; store.bytes(), other.bytes());
+    assert_eq!(rt; store.digit_words(), other.digit_words());
+    assert_eq!(rt; store.server_words(), other.server_words());
+    for scheme in [Scheme::Simple, Scheme::Double] {
+        assert_eq!(rt; store.hint_words(scheme, 0), other.hint_words(scheme, 0));
+    }
+}
+
+// Edits a record, again where memory was refused: the first try has left the store as it was.
+fn edits<K: Kernel>(
+    rt: &impl Abort,
+    store: &mut Store<K>,
+    first: &Store<K>,
+    i: usize,
+    bytes: &[u8],
+) {
+    if let Err(fault) = store.edit(i, bytes) {
+        assert_eq!(rt; fault, EditError::Memory);
+        holds_the_same(rt, store, first);
+        assert_eq!(rt; store.edit(i, bytes), Ok(()));
+    }
+}
+
+// Publishes three edits, again where memory was refused: the first try has left the version, the bytes, the words
+// of digits and hints, and the edits as they were.
+fn publishes_the_edits<K: Kernel>(
+    rt: &impl Abort,
+    kept: &mut Store<K>,
+    first: &Store<K>,
+    made: &Store<K>,
+) {
+    for i in [1, 6, 3] {
+        assert!(rt; i < made.layout().count());
+        edits(rt, kept, first, i, made.bytes_of(i));
+    }
+    if let Err(fault) = kept.publish() {
+        assert_eq!(rt; fault, PublishError::Memory);
+        assert_eq!(rt; kept.version(), 1);
+        holds_the_same(rt, kept, first);
+        assert_eq!(rt; kept.publish(), Ok(2));
+    }
+    assert_eq!(rt; kept.version(), 2);
+    holds_the_same(rt, kept, made);
+    assert_eq!(rt; kept.publish(), Err(PublishError::NothingToPublish));
+}
+
+#[test]
+fn a_refused_publication_is_made_later(rt: HostRuntime) -> Result<(), Fail> {
+    let alloc = rt.alloc();
+    publishes_the_edits(
+        &rt,
+        &mut opened(alloc, Plain, false)?,
+        &opened(alloc, Plain, false)?,
+        &opened(alloc, Plain, true)?,
+    );
+    publishes_the_edits(
+        &rt,
+        &mut opened(alloc, Lanes, false)?,
+        &opened(alloc, Lanes, false)?,
+        &opened(alloc, Lanes, true)?,
+    );
+    Ok(())
+}
