@@ -3,7 +3,8 @@
 use crate::{Outcome, Step, StepFault, World};
 use client_core::{CallFault, ClientCore, Event, Scheme};
 use frame_codec::Bytes;
-use matrix_u32::Plain;
+use lane_kernels::Lanes;
+use matrix_u32::{Kernel, Plain};
 use server_core::ServerCore;
 use std::alloc::Global;
 use std::process::Abort;
@@ -54,11 +55,11 @@ fn snapshot(rt: &impl AllocGlobal, sizes: Sizes) -> Result<Snapshot, Fail> {
 }
 
 /// A world with two clients, whose seeds are 32 bytes 11 and 32 bytes 22.
-fn world(rt: &impl AllocGlobal, sizes: Sizes) -> Result<World<Plain>, Fail> {
+fn world<K: Kernel>(rt: &impl AllocGlobal, kernel: K, sizes: Sizes) -> Result<World<K>, Fail> {
     let mut seeds = Vec::new(rt.alloc());
     seeds.push([0x11; 32])?;
     seeds.push([0x22; 32])?;
-    Ok(World::new(rt.alloc(), Plain, snapshot(rt, sizes)?, seeds)?)
+    Ok(World::new(rt.alloc(), kernel, snapshot(rt, sizes)?, seeds)?)
 }
 
 fn edit(rt: &impl AllocGlobal, index: u32, bytes: &[u8]) -> Result<Step, Fail> {
@@ -71,27 +72,27 @@ fn edit(rt: &impl AllocGlobal, index: u32, bytes: &[u8]) -> Result<Step, Fail> {
 }
 
 /// Makes a step. It has no clause, so that no test carries those of all its steps.
-fn go(world: &mut World<Plain>, step: Step) -> Result<(), Fail> {
+fn go<K: Kernel>(world: &mut World<K>, step: Step) -> Result<(), Fail> {
     world.step(step)?;
     Ok(())
 }
 
-fn ask(world: &mut World<Plain>, client: usize, index: u32) -> Result<(), Fail> {
+fn ask<K: Kernel>(world: &mut World<K>, client: usize, index: u32) -> Result<(), Fail> {
     go(world, Step::Ask { client, index })
 }
 
-fn to_server(world: &mut World<Plain>, client: usize, most: usize) -> Result<(), Fail> {
+fn to_server<K: Kernel>(world: &mut World<K>, client: usize, most: usize) -> Result<(), Fail> {
     go(world, Step::ToServer { client, most })
 }
 
-fn to_client(world: &mut World<Plain>, client: usize, most: usize) -> Result<(), Fail> {
+fn to_client<K: Kernel>(world: &mut World<K>, client: usize, most: usize) -> Result<(), Fail> {
     go(world, Step::ToClient { client, most })
 }
 
 /// An edit of a record of one byte, and its publication.
-fn publish(
+fn publish<K: Kernel>(
     rt: &impl AllocGlobal,
-    world: &mut World<Plain>,
+    world: &mut World<K>,
     index: u32,
     byte: u8,
 ) -> Result<(), Fail> {
@@ -101,18 +102,23 @@ fn publish(
 }
 
 /// Client k's bytes to the server, and then the server's bytes to it.
-fn exchange(world: &mut World<Plain>, client: usize) -> Result<(), Fail> {
+fn exchange<K: Kernel>(world: &mut World<K>, client: usize) -> Result<(), Fail> {
     to_server(world, client, ALL)?;
     to_client(world, client, ALL)
 }
 
-fn greet(world: &mut World<Plain>, client: usize) -> Result<(), Fail> {
+fn greet<K: Kernel>(world: &mut World<K>, client: usize) -> Result<(), Fail> {
     go(world, Step::Hello { client })?;
     exchange(world, client)
 }
 
 /// A sync whose hint has this many parts.
-fn sync(world: &mut World<Plain>, client: usize, scheme: Scheme, parts: usize) -> Result<(), Fail> {
+fn sync<K: Kernel>(
+    world: &mut World<K>,
+    client: usize,
+    scheme: Scheme,
+    parts: usize,
+) -> Result<(), Fail> {
     go(world, Step::Sync { client, scheme })?;
     for _ in 0..parts {
         exchange(world, client)?;
@@ -148,7 +154,7 @@ fn add_event(rt: &impl AllocGlobal, text: &mut String, event: &Event) -> Result<
 }
 
 /// What came of the steps so far, with a semicolon after each.
-fn reported(rt: &impl AllocGlobal, world: &World<Plain>) -> Result<String, Fail> {
+fn reported<K: Kernel>(rt: &impl AllocGlobal, world: &World<K>) -> Result<String, Fail> {
     let mut text = String::new(rt.alloc());
     for outcome in world.outcomes() {
         match outcome {
@@ -178,13 +184,17 @@ fn reported(rt: &impl AllocGlobal, world: &World<Plain>) -> Result<String, Fail>
     Ok(text)
 }
 
-fn greet_and_sync(world: &mut World<Plain>, client: usize, scheme: Scheme) -> Result<(), Fail> {
+fn greet_and_sync<K: Kernel>(
+    world: &mut World<K>,
+    client: usize,
+    scheme: Scheme,
+) -> Result<(), Fail> {
     greet(world, client)?;
     sync(world, client, scheme, 1)
 }
 
-fn retrieve(
-    world: &mut World<Plain>,
+fn retrieve<K: Kernel>(
+    world: &mut World<K>,
     client: usize,
     scheme: Scheme,
     index: u32,
@@ -195,7 +205,7 @@ fn retrieve(
 }
 
 /// Client 0's query is cut by a publication, and client 1's comes before it.
-fn cut_query(rt: &impl AllocGlobal, world: &mut World<Plain>) -> Result<(), Fail> {
+fn cut_query<K: Kernel>(rt: &impl AllocGlobal, world: &mut World<K>) -> Result<(), Fail> {
     ask(world, 0, 1)?;
     to_server(world, 0, 11)?;
     ask(world, 1, 1)?;
@@ -206,9 +216,9 @@ fn cut_query(rt: &impl AllocGlobal, world: &mut World<Plain>) -> Result<(), Fail
 }
 
 /// Both clients, each with a scheme of its own.
-fn cut_and_whole(
+fn cut_and_whole<K: Kernel>(
     rt: &(impl Abort + AllocGlobal),
-    world: &mut World<Plain>,
+    world: &mut World<K>,
     cut: Scheme,
     whole: Scheme,
     text: &str,
@@ -223,10 +233,16 @@ fn cut_and_whole(
 
 #[test]
 fn a_query_of_simple_pir_cut_by_a_publication(rt: HostRuntime) -> Result<(), Fail> {
-    let mut world = world(&rt, TWO)?;
     cut_and_whole(
         &rt,
-        &mut world,
+        &mut world(&rt, Plain, TWO)?,
+        Scheme::Simple,
+        Scheme::Double,
+        "0 welcomed 1;0 simple 1;1 welcomed 1;1 double 1;edited 1;version 2;0 stale 2;1 retrieved 1 1 c8;0 simple 2;0 retrieved 1 2 64;",
+    )?;
+    cut_and_whole(
+        &rt,
+        &mut world(&rt, Lanes, TWO)?,
         Scheme::Simple,
         Scheme::Double,
         "0 welcomed 1;0 simple 1;1 welcomed 1;1 double 1;edited 1;version 2;0 stale 2;1 retrieved 1 1 c8;0 simple 2;0 retrieved 1 2 64;",
@@ -235,17 +251,26 @@ fn a_query_of_simple_pir_cut_by_a_publication(rt: HostRuntime) -> Result<(), Fai
 
 #[test]
 fn a_query_of_double_pir_cut_by_a_publication(rt: HostRuntime) -> Result<(), Fail> {
-    let mut world = world(&rt, TWO)?;
     cut_and_whole(
         &rt,
-        &mut world,
+        &mut world(&rt, Plain, TWO)?,
+        Scheme::Double,
+        Scheme::Simple,
+        "0 welcomed 1;0 double 1;1 welcomed 1;1 simple 1;edited 1;version 2;0 stale 2;1 retrieved 1 1 c8;0 double 2;0 retrieved 1 2 64;",
+    )?;
+    cut_and_whole(
+        &rt,
+        &mut world(&rt, Lanes, TWO)?,
         Scheme::Double,
         Scheme::Simple,
         "0 welcomed 1;0 double 1;1 welcomed 1;1 simple 1;edited 1;version 2;0 stale 2;1 retrieved 1 1 c8;0 double 2;0 retrieved 1 2 64;",
     )
 }
 
-fn single_bytes(rt: &(impl Abort + AllocGlobal), world: &mut World<Plain>) -> Result<(), Fail> {
+fn single_bytes<K: Kernel>(
+    rt: &(impl Abort + AllocGlobal),
+    world: &mut World<K>,
+) -> Result<(), Fail> {
     greet(world, 0)?;
     sync(world, 0, Scheme::Simple, 1)?;
     ask(world, 0, 0)?;
@@ -268,16 +293,16 @@ fn single_bytes(rt: &(impl Abort + AllocGlobal), world: &mut World<Plain>) -> Re
 
 #[test]
 fn byte_by_byte(rt: HostRuntime) -> Result<(), Fail> {
-    let mut world = world(&rt, TWO)?;
-    single_bytes(&rt, &mut world)
+    single_bytes(&rt, &mut world(&rt, Plain, TWO)?)?;
+    single_bytes(&rt, &mut world(&rt, Lanes, TWO)?)
 }
 
 /// How many outcomes there are.
-fn count(world: &World<Plain>) -> usize {
+fn count<K: Kernel>(world: &World<K>) -> usize {
     world.outcomes().len()
 }
 
-fn two_parts(rt: &(impl Abort + AllocGlobal), world: &mut World<Plain>) -> Result<(), Fail> {
+fn two_parts<K: Kernel>(rt: &(impl Abort + AllocGlobal), world: &mut World<K>) -> Result<(), Fail> {
     greet(world, 0)?;
     sync(world, 0, Scheme::Simple, 1)?;
     publish(rt, world, 3, 0x11)?;
@@ -306,16 +331,16 @@ fn a_hint_of_two_parts_between_publications(rt: HostRuntime) -> Result<(), Fail>
         dimension: 1024,
         version: 1,
     };
-    let mut world = world(&rt, sizes)?;
-    two_parts(&rt, &mut world)
+    two_parts(&rt, &mut world(&rt, Plain, sizes)?)?;
+    two_parts(&rt, &mut world(&rt, Lanes, sizes)?)
 }
 
 /// What a step is refused for.
-fn refusal(world: &mut World<Plain>, step: Step) -> Option<StepFault> {
+fn refusal<K: Kernel>(world: &mut World<K>, step: Step) -> Option<StepFault> {
     world.step(step).err()
 }
 
-fn refusals(rt: &(impl Abort + AllocGlobal), world: &mut World<Plain>) -> Result<(), Fail> {
+fn refusals<K: Kernel>(rt: &(impl Abort + AllocGlobal), world: &mut World<K>) -> Result<(), Fail> {
     let refused = refusal(world, Step::Hello { client: 5 });
     assert_eq!(rt; refused, Some(StepFault::NoClient));
     assert_eq!(rt; steps(world), 0);
@@ -337,12 +362,12 @@ fn refusals(rt: &(impl Abort + AllocGlobal), world: &mut World<Plain>) -> Result
 
 #[test]
 fn refused_steps(rt: HostRuntime) -> Result<(), Fail> {
-    let mut world = world(&rt, TWO)?;
-    refusals(&rt, &mut world)
+    refusals(&rt, &mut world(&rt, Plain, TWO)?)?;
+    refusals(&rt, &mut world(&rt, Lanes, TWO)?)
 }
 
 /// How many steps were made.
-fn steps(world: &World<Plain>) -> usize {
+fn steps<K: Kernel>(world: &World<K>) -> usize {
     world.steps().len()
 }
 

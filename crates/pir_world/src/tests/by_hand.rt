@@ -50,21 +50,21 @@ const SCRIPT: &[Move] = &[
 
 /// The cores, the bytes that wait, and what came of the moves so far.
 #[derive(Drop)]
-struct Hand {
-    server: ServerCore<Plain>,
-    client: ClientCore<Plain>,
+struct Hand<K: Kernel> {
+    server: ServerCore<K>,
+    client: ClientCore<K>,
     up: Vec<u8>,
     down: Vec<u8>,
     text: String,
 }
 
-fn opened_hand(rt: &impl AllocGlobal) -> Result<Hand, Fail> {
-    let store = Store::open(rt.alloc(), Plain, snapshot(rt, TWO)?)?;
+fn opened_hand<K: Kernel>(rt: &impl AllocGlobal, kernel: K) -> Result<Hand<K>, Fail> {
+    let store = Store::open(rt.alloc(), kernel, snapshot(rt, TWO)?)?;
     let mut server = ServerCore::new(rt.alloc(), store);
     server.open_session(0)?;
     Ok(Hand {
         server,
-        client: ClientCore::new(rt.alloc(), Plain, [0x11; 32], 0),
+        client: ClientCore::new(rt.alloc(), kernel, [0x11; 32], 0),
         up: Vec::new(rt.alloc()),
         down: Vec::new(rt.alloc()),
         text: String::new(rt.alloc()),
@@ -72,9 +72,9 @@ fn opened_hand(rt: &impl AllocGlobal) -> Result<Hand, Fail> {
 }
 
 /// What a call gives is on its way, or the call is refused.
-fn call(
+fn call<K: Kernel>(
     rt: &impl AllocGlobal,
-    hand: &mut Hand,
+    hand: &mut Hand<K>,
     called: Result<Vec<u8>, CallFault>,
 ) -> Result<(), Fail> {
     match called {
@@ -95,13 +95,13 @@ fn prefix(rt: &impl AllocGlobal, bytes: &mut Vec<u8>, most: usize) -> Result<Vec
     Ok(prefix)
 }
 
-fn up(rt: &impl AllocGlobal, hand: &mut Hand, most: usize) -> Result<(), Fail> {
+fn up<K: Kernel>(rt: &impl AllocGlobal, hand: &mut Hand<K>, most: usize) -> Result<(), Fail> {
     let piece = prefix(rt, &mut hand.up, most)?;
     hand.server.feed(0, piece.as_slice(), &mut hand.down)?;
     Ok(())
 }
 
-fn down(rt: &impl AllocGlobal, hand: &mut Hand, most: usize) -> Result<(), Fail> {
+fn down<K: Kernel>(rt: &impl AllocGlobal, hand: &mut Hand<K>, most: usize) -> Result<(), Fail> {
     let piece = prefix(rt, &mut hand.down, most)?;
     let fed = hand.client.feed(piece.as_slice());
     hand.up.extend_from_slice(fed.out.as_slice())?;
@@ -113,7 +113,7 @@ fn down(rt: &impl AllocGlobal, hand: &mut Hand, most: usize) -> Result<(), Fail>
     Ok(())
 }
 
-fn published(rt: &impl AllocGlobal, hand: &mut Hand) -> Result<(), Fail> {
+fn published<K: Kernel>(rt: &impl AllocGlobal, hand: &mut Hand<K>) -> Result<(), Fail> {
     match hand.server.publish() {
         Ok(version) => hand
             .text
@@ -125,7 +125,12 @@ fn published(rt: &impl AllocGlobal, hand: &mut Hand) -> Result<(), Fail> {
     Ok(())
 }
 
-fn edited(rt: &impl AllocGlobal, hand: &mut Hand, index: u32, byte: u8) -> Result<(), Fail> {
+fn edited<K: Kernel>(
+    rt: &impl AllocGlobal,
+    hand: &mut Hand<K>,
+    index: u32,
+    byte: u8,
+) -> Result<(), Fail> {
     let line = match hand.server.edit(index as usize, &[byte]) {
         Ok(()) => format!(in rt.alloc(); "edited {index};")?,
         Err(fault) => format!(in rt.alloc(); "edit {index} {fault:?};")?,
@@ -134,7 +139,7 @@ fn edited(rt: &impl AllocGlobal, hand: &mut Hand, index: u32, byte: u8) -> Resul
     Ok(())
 }
 
-fn move_hand(rt: &impl AllocGlobal, hand: &mut Hand, one: Move) -> Result<(), Fail> {
+fn move_hand<K: Kernel>(rt: &impl AllocGlobal, hand: &mut Hand<K>, one: Move) -> Result<(), Fail> {
     match one {
         Move::Hello => {
             let called = hand.client.hello([0; 32]);
@@ -172,10 +177,10 @@ fn step_of(rt: &impl AllocGlobal, one: Move) -> Result<Step, Fail> {
 }
 
 /// One move of both, and what came of it.
-fn both(
+fn both<K: Kernel>(
     rt: &(impl Abort + AllocGlobal),
-    world: &mut World<Plain>,
-    hand: &mut Hand,
+    world: &mut World<K>,
+    hand: &mut Hand<K>,
     one: Move,
 ) -> Result<(), Fail> {
     let step = step_of(rt, one)?;
@@ -185,10 +190,10 @@ fn both(
     Ok(())
 }
 
-fn each_move(
+fn each_move<K: Kernel>(
     rt: &(impl Abort + AllocGlobal),
-    world: &mut World<Plain>,
-    hand: &mut Hand,
+    world: &mut World<K>,
+    hand: &mut Hand<K>,
 ) -> Result<(), Fail> {
     for one in SCRIPT {
         both(rt, world, hand, *one)?;
@@ -196,14 +201,30 @@ fn each_move(
     Ok(())
 }
 
-#[test]
-fn a_world_is_its_cores_driven_by_hand(rt: HostRuntime) -> Result<(), Fail> {
-    let mut world = world(&rt, TWO)?;
-    let mut hand = opened_hand(&rt)?;
-    each_move(&rt, &mut world, &mut hand)?;
+/// The script, by a world and by hand.
+fn script<K: Kernel>(
+    rt: &(impl Abort + AllocGlobal),
+    world: &mut World<K>,
+    hand: &mut Hand<K>,
+) -> Result<(), Fail> {
+    each_move(rt, world, hand)?;
     assert_eq!(rt;
         hand.text.as_str(),
         "0 NotReady;0 NotReady;0 welcomed 1;0 AlreadyWelcome;0 simple 1;0 BadIndex;0 Busy;publish NothingToPublish;edited 1;edit 2 BadIndex;version 2;0 stale 2;0 NotReady;0 simple 2;0 retrieved 1 2 64;"
     );
     Ok(())
+}
+
+#[test]
+fn a_world_is_its_cores_driven_by_hand(rt: HostRuntime) -> Result<(), Fail> {
+    script(
+        &rt,
+        &mut world(&rt, Plain, TWO)?,
+        &mut opened_hand(&rt, Plain)?,
+    )?;
+    script(
+        &rt,
+        &mut world(&rt, Lanes, TWO)?,
+        &mut opened_hand(&rt, Lanes)?,
+    )
 }

@@ -6,7 +6,7 @@ use super::*;
 const CLIENTS: usize = 300;
 
 /// A world with this many clients, each of a seed of its own.
-fn crowd(rt: &impl AllocGlobal) -> Result<World<Plain>, Fail> {
+fn crowd<K: Kernel>(rt: &impl AllocGlobal, kernel: K) -> Result<World<K>, Fail> {
     let mut seeds = Vec::new(rt.alloc());
     for client in 0..CLIENTS {
         let mut seed = [0x11; 32];
@@ -14,11 +14,11 @@ fn crowd(rt: &impl AllocGlobal) -> Result<World<Plain>, Fail> {
         seed[1] = (client / 256 % 256) as u8;
         seeds.push(seed)?;
     }
-    Ok(World::new(rt.alloc(), Plain, snapshot(rt, TWO)?, seeds)?)
+    Ok(World::new(rt.alloc(), kernel, snapshot(rt, TWO)?, seeds)?)
 }
 
 /// All say hello, before the first greeting comes to the server. They are welcomed from the last on.
-fn all_greet(world: &mut World<Plain>) -> Result<(), Fail> {
+fn all_greet<K: Kernel>(world: &mut World<K>) -> Result<(), Fail> {
     for client in 0..CLIENTS {
         go(world, Step::Hello { client })?;
     }
@@ -29,7 +29,7 @@ fn all_greet(world: &mut World<Plain>) -> Result<(), Fail> {
 }
 
 /// The first, the last and one between retrieve, in both schemes.
-fn some_retrieve(world: &mut World<Plain>) -> Result<(), Fail> {
+fn some_retrieve<K: Kernel>(world: &mut World<K>) -> Result<(), Fail> {
     retrieve(world, 299, Scheme::Simple, 1)?;
     retrieve(world, 0, Scheme::Double, 1)?;
     retrieve(world, 150, Scheme::Simple, 0)
@@ -45,9 +45,9 @@ fn welcomes(rt: &impl AllocGlobal) -> Result<String, Fail> {
     Ok(text)
 }
 
-fn greet_and_retrieve(
+fn greet_and_retrieve<K: Kernel>(
     rt: &(impl Abort + AllocGlobal),
-    world: &mut World<Plain>,
+    world: &mut World<K>,
 ) -> Result<(), Fail> {
     all_greet(world)?;
     some_retrieve(world)?;
@@ -61,6 +61,6 @@ fn greet_and_retrieve(
 
 #[test]
 fn three_hundred_clients(rt: HostRuntime) -> Result<(), Fail> {
-    let mut world = crowd(&rt)?;
-    greet_and_retrieve(&rt, &mut world)
+    greet_and_retrieve(&rt, &mut crowd(&rt, Plain)?)?;
+    greet_and_retrieve(&rt, &mut crowd(&rt, Lanes)?)
 }
