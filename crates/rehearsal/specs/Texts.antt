@@ -98,3 +98,23 @@ outcome_text (PublishRefused e) = codes "publish: refused " ++ (publish_fault_na
 outcome_text (Reported client e) = event_text client e
 outcome_text (CallRefused client e) = call_refused_text client (call_fault_name e)
 outcome_text (Failed client e) = about_client client (codes ": failed " ++ (client_fault_name e ++ codes "\n"))
+
+-- the line of a step of a client that there is none of
+abbrev pub no_client_text : ℕ → List ℕ
+no_client_text client = about_client client (codes ": none\n")
+
+-- the line of a line, counted from 1, that doesn't fit its place
+abbrev pub bad_line_text : ℕ → List ℕ
+bad_line_text number = codes "line " ++ (decimal number ++ codes ": bad\n")
+
+-- the line of a world that can't be opened
+abbrev pub refused_world_text : OpenError → List ℕ
+refused_world_text e = codes "world: refused " ++ (open_fault_name e ++ codes "\n")
+
+-- the line of a script that is too long
+abbrev pub too_long_text : List ℕ
+too_long_text = codes "script: too long\n"
+
+-- the line that tells that there was no memory
+abbrev pub memory_text : List ℕ
+memory_text = codes "memory\n"

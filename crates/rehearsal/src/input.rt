@@ -1,7 +1,8 @@
 //! The script as a whole.
 
-ghost use Rattle.std.specs.Prelude.{◌≤◌, ◌<◌, ℕ, List, IfOk, IsErrOf, length};
+ghost use Rattle.std.specs.Prelude.{◌≤◌, IfErr, IfOk, length};
 ghost use Rattle.std.specs.Io.KnownBytes.{Consumes, IsAtEnd};
+ghost use Rattle.rehearsal.specs.Stages.{StopsReading};
 
 use crate::stop::Stop;
 use engine_io::{piece_buffer, read_piece};
@@ -18,9 +19,8 @@ pub fn read_script<R: Read>(alloc: Global, reader: &mut R) -> Result<Vec<u8>, St
         (R.remaining reader.new) script.items) }
     ensures end { IfOk result (λ script. IsAtEnd (R.remaining reader.new)) }
     ensures within { IfOk result (λ script. length script.items ≤ SCRIPT_LIMIT) }
-    ensures long { IsErrOf result Stop.TooLong → (read : List ℕ) ×
-        Consumes (R.remaining reader.old) (R.remaining reader.new) read ×
-        (SCRIPT_LIMIT < length read) }
+    ensures stops { IfErr result (λ stop. StopsReading (R.remaining reader.old) stop
+        (R.remaining reader.new)) }
 {
     let Ok(mut buffer) = piece_buffer(alloc) else {
         return Err(Stop::Memory);

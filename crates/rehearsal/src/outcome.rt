@@ -2,7 +2,7 @@
 
 ghost use Rattle.std.specs.Prelude.{◌≡◌, IfOk};
 ghost use Rattle.std.specs.String.{string_bytes};
-ghost use Rattle.rehearsal.specs.Texts.{outcome_text, call_fault_name, call_refused_text, client_fault_name, edit_fault_name, event_text, open_fault_name, publish_fault_name, retrieved_text, scheme_name, shown_bytes};
+ghost use Rattle.rehearsal.specs.Texts.{outcome_text, call_fault_name, call_refused_text, client_fault_name, edit_fault_name, event_text, open_fault_name, publish_fault_name, refused_world_text, retrieved_text, scheme_name, shown_bytes};
 
 use client_core::{CallFault, ClientFault, Event, Scheme};
 use pir_world::Outcome;
@@ -40,6 +40,14 @@ fn call_refused_line(alloc: Global, client: usize, name: &str) -> Result<String,
     ensures { IfOk result (λ line. string_bytes line ≡ call_refused_text client name.now) }
 {
     format!(in alloc; "client {client}: call refused {name}\n")
+}
+
+/// The line that tells why a world can't be opened.
+pub fn refused_world_line(alloc: Global, fault: OpenError) -> Result<String, AllocError>
+    ensures { IfOk result (λ line. string_bytes line ≡ refused_world_text fault) }
+{
+    let name = open_fault_name(fault);
+    format!(in alloc; "world: refused {name}\n")
 }
 
 /// The line that tells a client's event.
@@ -153,9 +161,8 @@ fn client_fault_name(fault: ClientFault) -> &'static str
     }
 }
 
-/// Why a world can't be opened.
 #[tactic(auto, unfolding(crate::specs::Texts::open_fault_name))]
-pub fn open_fault_name(fault: OpenError) -> &'static str
+fn open_fault_name(fault: OpenError) -> &'static str
     ensures { result.now ≡ open_fault_name fault }
 {
     match fault {

@@ -1,10 +1,14 @@
 //! A script, played line by line.
 
-ghost use Rattle.std.specs.Prelude.{◌≡◌, ◌⊎◌, IfOk};
+ghost use Rattle.std.specs.Prelude.{◌≡◌, ◌≤◌, ◌<◌, ◌⊎◌, ◌∷◌, [], ℕ, List, IfOk, IsErrOf, MatchOption, length, take};
+ghost use Rattle.std.specs.Io.KnownBytes.{Appends, Consumes};
+ghost use Rattle.rehearsal.specs.Lines.{is_silent, lines_of};
+ghost use Rattle.rehearsal.specs.Scripts.{IsRehearsal, LeadsText, Place, Plays, Start};
+ghost use Rattle.rehearsal.specs.Stages.{IsAt, IsEarly, MovesTo, PlaysScript, Reports, SaysText, last_text};
 
 use crate::input::read_script;
 use crate::line::read_line;
-use crate::outcome::open_fault_name;
+use crate::outcome::refused_world_line;
 use crate::stage::{Stage, say};
 use crate::stop::Stop;
 use std::alloc::Global;
@@ -30,94 +34,166 @@ pub enum RehearseFault {
 ///
 /// # Errors
 ///
-/// `Read` where a read fails; nothing was printed then. `Write` where a write fails or takes no byte.
+/// `Read` where a read fails; nothing was printed then. `Write` where a write fails or takes no byte; what was
+/// printed then is a part of what the script prints, from its start on.
 pub fn rehearse<R: Read, W: Write>(
     alloc: Global,
     reader: &mut R,
     writer: &mut W,
 ) -> Result<u8, RehearseFault>
+    ensures done { IfOk result (λ status. (script : List ℕ) × (printed : List ℕ) ×
+        Consumes (R.remaining reader.old) (R.remaining reader.new) script ×
+        Appends (W.contents writer.old) (W.contents writer.new) printed ×
+        IsRehearsal script (R.remaining reader.new) printed status) }
+    ensures cut { IsErrOf result RehearseFault.Write → (script : List ℕ) × (printed : List ℕ) ×
+        (status : ℕ) × (count : ℕ) × (count < length printed) ×
+        Consumes (R.remaining reader.old) (R.remaining reader.new) script ×
+        Appends (W.contents writer.old) (W.contents writer.new) (take count printed) ×
+        IsRehearsal script (R.remaining reader.new) printed status }
+    ensures unread { IsErrOf result RehearseFault.Read →
+        Appends (W.contents writer.old) (W.contents writer.new) [] }
     ensures status { IfOk result (λ status. (status ≡ 0) ⊎ (status ≡ 3) ⊎ (status ≡ 4)) }
 {
-    let stop = match play(alloc, reader, writer) {
-        Ok(()) => return Ok(0),
-        Err(stop) => stop,
+    let script = match read_script(alloc, reader) {
+        Ok(script) => script,
+        Err(stop) => return report(alloc, stop, writer),
     };
-    match report(alloc, stop, writer) {
-        Ok(status) => Ok(status),
-        Err(fault) => Err(fault),
+    match play(alloc, script.as_slice(), writer) {
+        Ok(()) => Ok(0),
+        Err(stop) => report(alloc, stop, writer),
     }
 }
 
 /// Prints why a rehearsal ended before its script, and answers the status.
 fn report<W: Write>(alloc: Global, stop: Stop, writer: &mut W) -> Result<u8, RehearseFault>
+    ensures printed { Reports stop (W.contents writer.old) result (W.contents writer.new) }
     ensures status { IfOk result (λ status. (status ≡ 3) ⊎ (status ≡ 4)) }
 {
-    let reported = match stop {
-        Stop::Read => return Err(RehearseFault::Read),
-        Stop::Write => return Err(RehearseFault::Write),
-        Stop::TooLong => say(writer, "script: too long\n"),
-        Stop::BadLine { number } => match format!(in alloc; "line {number}: bad\n") {
-            Ok(line) => say(writer, line.as_str()),
-            Err(_) => Err(Stop::Memory),
-        },
-        Stop::World(fault) => {
-            let name = open_fault_name(fault);
-            match format!(in alloc; "world: refused {name}\n") {
-                Ok(line) => say(writer, line.as_str()),
-                Err(_) => Err(Stop::Memory),
-            }
-        }
-        Stop::Memory => Err(Stop::Memory),
-    };
-    match reported {
+    match stop {
+        Stop::Read => Err(RehearseFault::Read),
+        Stop::Write => Err(RehearseFault::Write),
+        Stop::Memory => report_memory(writer),
+        Stop::TooLong => report_end(alloc, Stop::TooLong, writer),
+        Stop::BadLine { number } => report_end(alloc, Stop::BadLine { number }, writer),
+        Stop::World(fault) => report_end(alloc, Stop::World(fault), writer),
+    }
+}
+
+/// Prints the last line of a script that ended early, or that there was no memory for it.
+fn report_end<W: Write>(alloc: Global, stop: Stop, writer: &mut W) -> Result<u8, RehearseFault>
+    requires { IsEarly stop }
+    ensures printed { Reports stop (W.contents writer.old) result (W.contents writer.new) }
+    ensures status { IfOk result (λ status. (status ≡ 3) ⊎ (status ≡ 4)) }
+{
+    match say_end(alloc, stop, writer) {
         Ok(()) => Ok(3),
         Err(Stop::Memory) => report_memory(writer),
         Err(_) => Err(RehearseFault::Write),
     }
 }
 
+/// Prints the last line of a script that ended early.
+#[tactic(auto, using(crate::proofs::Reported::appends_nothing))]
+fn say_end<W: Write>(alloc: Global, stop: Stop, writer: &mut W) -> Result<(), Stop>
+    ensures { SaysText (last_text stop) (W.contents writer.old) result (W.contents writer.new) }
+{
+    match stop {
+        Stop::Read => Ok(()),
+        Stop::Write => Ok(()),
+        Stop::TooLong => say(writer, "script: too long\n"),
+        Stop::BadLine { number } => {
+            let Ok(line) = format!(in alloc; "line {number}: bad\n") else {
+                return Err(Stop::Memory);
+            };
+            say(writer, line.as_str())
+        }
+        Stop::World(fault) => {
+            let Ok(line) = refused_world_line(alloc, fault) else {
+                return Err(Stop::Memory);
+            };
+            say(writer, line.as_str())
+        }
+        Stop::Memory => say(writer, "memory\n"),
+    }
+}
+
 /// Prints that there was no memory. This takes none.
 fn report_memory<W: Write>(writer: &mut W) -> Result<u8, RehearseFault>
-    ensures { IfOk result (λ status. status ≡ 4) }
+    ensures printed { Reports Stop.Memory (W.contents writer.old) result
+        (W.contents writer.new) }
+    ensures status { IfOk result (λ status. status ≡ 4) }
 {
-    if say(writer, "memory\n").is_err() {
-        return Err(RehearseFault::Write);
+    match say(writer, "memory\n") {
+        Ok(()) => Ok(4),
+        Err(_) => Err(RehearseFault::Write),
     }
-    Ok(4)
 }
 
-/// Reads a script and plays its lines, one after another.
-fn play<R: Read, W: Write>(alloc: Global, reader: &mut R, writer: &mut W) -> Result<(), Stop> {
-    let script = read_script(alloc, reader)?;
+/// Plays a script's lines, one after another.
+fn play<W: Write>(alloc: Global, script: &[u8], writer: &mut W) -> Result<(), Stop>
+    requires { length script.now ≤ 1048576 }
+    ensures { PlaysScript (Plays (lines_of script.now) Start 1)
+        (W.contents writer.old) result (W.contents writer.new) }
+{
     let mut stage = Stage::Start;
     let mut number = 1u64;
-    for line in script.split_inclusive(|byte| *byte == b'\n') {
-        stage = play_line(alloc, stage, number, line, writer)?;
-        number = number.saturating_add(1);
+    let mut rest = script;
+    while let Some((text, after)) = first_line(rest) {
+        stage = match play_line(alloc, stage, number, text, writer) {
+            Ok(next) => next,
+            Err(stop) => return Err(stop),
+        };
+        number += 1;
+        rest = after;
     }
-    match stage.end(alloc)? {
-        Some(()) => Ok(()),
-        None => Err(Stop::BadLine { number }),
+    match stage.end(alloc, number) {
+        Ok(()) => Ok(()),
+        Err(stop) => Err(stop),
     }
 }
 
-/// Plays a line, which may have its line feed. Empty lines and those that begin with `#` say nothing.
+/// The first line of a script without its line feed, and what follows it.
+fn first_line(script: &[u8]) -> Option<(&[u8], &[u8])>
+    ensures { MatchOption result (lines_of script.now ≡ []) (λ cut.
+        (lines_of script.now ≡ cut.0.now ∷ lines_of cut.1.now) ×
+        (length cut.1.now < length script.now)) }
+{
+    if script.is_empty() {
+        return None;
+    }
+    match script.iter().position(|byte| *byte == b'\n') {
+        Some(at) => Some((&script[..at], &script[at + 1..])),
+        None => Some((script, &script[script.len()..])),
+    }
+}
+
+/// Plays the line of a number.
 fn play_line<W: Write>(
     alloc: Global,
     stage: Stage,
     number: u64,
-    line: &[u8],
+    text: &[u8],
     writer: &mut W,
-) -> Result<Stage, Stop> {
-    let text = line.strip_suffix(b"\n").unwrap_or(line);
-    if text.is_empty() || text.starts_with(b"#") {
+) -> Result<Stage, Stop>
+    ensures { (place : Place) → IsAt stage place → MovesTo (LeadsText place text.now) number
+        (W.contents writer.old) result (W.contents writer.new) }
+{
+    if is_silent(text) {
         return Ok(stage);
     }
-    let Some(line) = read_line(alloc, text)? else {
-        return Err(Stop::BadLine { number });
-    };
-    match stage.take(alloc, line, writer)? {
-        Some(next) => Ok(next),
-        None => Err(Stop::BadLine { number }),
+    match read_line(alloc, text) {
+        Ok(Some(line)) => stage.take(alloc, number, line, writer),
+        Ok(None) => Err(Stop::BadLine { number }),
+        Err(_) => Err(Stop::Memory),
+    }
+}
+
+/// An empty line, or one that begins with `#`.
+fn is_silent(text: &[u8]) -> bool
+    ensures { result ≡ is_silent text.now }
+{
+    match text {
+        [] => true,
+        [first, ..] => *first == b'#',
     }
 }

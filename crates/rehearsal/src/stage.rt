@@ -1,17 +1,20 @@
 //! How far a script has come.
 
-ghost use Rattle.std.specs.Prelude.{OnOk};
-ghost use Rattle.std.specs.Io.KnownBytes.{Appends};
-ghost use Rattle.std.specs.List.{flat_map};
-ghost use Rattle.rehearsal.specs.Texts.{outcome_text};
+ghost use Rattle.std.specs.Prelude.{◌≡◌, ℕ, drop, false, length};
+ghost use Rattle.pir_world.specs.Runs.{State};
+ghost use Rattle.pir_world.specs.Worlds.{IsRunOf};
+ghost use Rattle.rehearsal.specs.Texts.{no_client_text};
+ghost use Rattle.rehearsal.specs.Scripts.{Leads, LeadsAtEnd, LeadsFilled, MakesStep, Place, client_move, named_client, record_move, sized_move, start_move};
+ghost use Rattle.rehearsal.specs.Stages.{EndsAs, IsAt, MovesQuietly, MovesTo, OpensWorld, SaysAll, SaysText, course_of, filling_of};
 
 use crate::line::{Line, Sizes};
 use crate::outcome::outcome_line;
 use crate::stop::Stop;
 use engine_io::write_out;
+use frame_codec::Bytes;
 use lane_kernels::Lanes;
 use pir_world::{Outcome, Step, StepFault, World};
-use std::alloc::{AllocError, Global};
+use std::alloc::Global;
 use std::io::Write;
 use version_store::{OpenError, Snapshot};
 
@@ -28,7 +31,7 @@ pub enum Stage {
     /// The seed was, and maybe records, and after these maybe clients.
     Filling(Opening),
     /// Steps are made.
-    Running(Running),
+    Running(World<Lanes>),
 }
 
 /// What a world is opened with.
@@ -41,112 +44,153 @@ pub struct Opening {
     clients: Vec<[u8; 32]>,
 }
 
-/// A world, and how many of its outcomes were printed.
-#[derive(Drop)]
-pub struct Running {
-    world: World<Lanes>,
-    printed: usize,
-}
-
 impl Stage {
-    /// Takes a line. `None` where it has no place here.
+    /// Takes the line of a number.
     pub fn take<W: Write>(
         self,
         alloc: Global,
+        number: u64,
         line: Line,
         writer: &mut W,
-    ) -> Result<Option<Stage>, Stop> {
+    ) -> Result<Stage, Stop>
+        ensures { (place : Place) → IsAt self place →
+            MovesTo (Leads place line) number (W.contents writer.old) result (W.contents writer.new) }
+    {
         match self {
-            Stage::Start => Ok(sized(line)),
-            Stage::Sized(sizes) => Ok(seeded(alloc, sizes, line)),
-            Stage::Filling(opening) => match line {
-                Line::Step(step) => opening.make_first_step(alloc, step, writer),
-                other => opening.fill(other),
-            },
-            Stage::Running(running) => match line {
-                Line::Step(step) => running.make_step(alloc, step, writer),
-                _ => Ok(None),
+            Stage::Start => sized(number, line),
+            Stage::Sized(sizes) => seeded(alloc, number, sizes, line),
+            Stage::Filling(opening) => opening.take(alloc, number, line, writer),
+            Stage::Running(world) => match line {
+                Line::Step(step) => make_step(alloc, world, step, writer),
+                _ => Err(Stop::BadLine { number }),
             },
         }
     }
 
-    /// Ends the script. A world that made no step is opened now. `None` where the header isn't whole.
-    pub fn end(self, alloc: Global) -> Result<Option<()>, Stop> {
+    /// Ends the script before the line of a number. A world that made no step is opened now.
+    pub fn end(self, alloc: Global, number: u64) -> Result<(), Stop>
+        ensures { (place : Place) → IsAt self place → EndsAs (LeadsAtEnd place) number result }
+    {
         match self {
-            Stage::Start | Stage::Sized(_) => Ok(None),
+            Stage::Start => Err(Stop::BadLine { number }),
+            Stage::Sized(_) => Err(Stop::BadLine { number }),
             Stage::Filling(opening) => {
                 if opening.clients.is_empty() {
-                    return Ok(None);
+                    return Err(Stop::BadLine { number });
                 }
-                opening.open(alloc)?;
-                Ok(Some(()))
+                match opening.open(alloc) {
+                    Ok(_) => Ok(()),
+                    Err(stop) => Err(stop),
+                }
             }
-            Stage::Running(_) => Ok(Some(())),
+            Stage::Running(_) => Ok(()),
         }
     }
 }
 
 /// The first line of a header.
-fn sized(line: Line) -> Option<Stage> {
+fn sized(number: u64, line: Line) -> Result<Stage, Stop>
+    ensures { MovesQuietly (λ move. move ≡ start_move line) number result }
+{
     match line {
-        Line::World(sizes) => Some(Stage::Sized(sizes)),
-        _ => None,
+        Line::World(sizes) => Ok(Stage::Sized(sizes)),
+        _ => Err(Stop::BadLine { number }),
     }
 }
 
 /// The second line of a header.
-fn seeded(alloc: Global, sizes: Sizes, line: Line) -> Option<Stage> {
+fn seeded(alloc: Global, number: u64, sizes: Sizes, line: Line) -> Result<Stage, Stop>
+    ensures { MovesQuietly (λ move. move ≡ sized_move sizes line) number result }
+{
     match line {
-        Line::Seed(seed) => Some(Stage::Filling(Opening {
+        Line::Seed(seed) => Ok(Stage::Filling(Opening {
             sizes,
             seed,
             records: Vec::new(alloc),
             count: 0,
             clients: Vec::new(alloc),
         })),
-        _ => None,
+        _ => Err(Stop::BadLine { number }),
     }
 }
 
 impl Opening {
-    /// Takes a record, or after the records a client. `None` where it has no place here.
-    fn fill(mut self, line: Line) -> Result<Option<Stage>, Stop> {
+    /// Takes a line once the seed was said. The first step opens the world.
+    fn take<W: Write>(
+        self,
+        alloc: Global,
+        number: u64,
+        line: Line,
+        writer: &mut W,
+    ) -> Result<Stage, Stop>
+        ensures { MovesTo (LeadsFilled (filling_of self) line) number
+            (W.contents writer.old) result (W.contents writer.new) }
+    {
         match line {
-            Line::Record(bytes) => {
-                if !self.clients.is_empty() || bytes.len() != usize::from(self.sizes.record_len) {
-                    return Ok(None);
-                }
-                self.records.extend_from_slice(&bytes)?;
-                self.count = self.count.saturating_add(1);
-            }
-            Line::Client(seed) => {
-                if self.count == 0 || self.clients.len() == MOST_CLIENTS {
-                    return Ok(None);
-                }
-                self.clients.push(seed).map_err(AllocError::from)?;
-            }
-            _ => return Ok(None),
+            Line::Record(bytes) => self.add_record(number, bytes),
+            Line::Client(seed) => self.add_client(number, seed),
+            Line::Step(step) => self.make_first_step(alloc, number, step, writer),
+            _ => Err(Stop::BadLine { number }),
         }
-        Ok(Some(Stage::Filling(self)))
     }
 
-    /// Opens the world and makes its first step. `None` where there is no client yet.
+    /// Takes a record.
+    fn add_record(mut self, number: u64, bytes: Bytes) -> Result<Stage, Stop>
+        ensures { MovesQuietly (λ move. move ≡ record_move (filling_of self) bytes) number result }
+    {
+        if !self.clients.is_empty()
+            || bytes.as_slice().len() != usize::from(self.sizes.record_len)
+        {
+            return Err(Stop::BadLine { number });
+        }
+        // No script within its limit has so many.
+        let Some(count) = self.count.checked_add(1) else {
+            return Err(Stop::Memory);
+        };
+        if self.records.extend_from_slice(bytes.as_slice()).is_err() {
+            return Err(Stop::Memory);
+        }
+        self.count = count;
+        Ok(Stage::Filling(self))
+    }
+
+    /// Takes a client.
+    fn add_client(mut self, number: u64, seed: [u8; 32]) -> Result<Stage, Stop>
+        ensures { MovesQuietly (λ move. move ≡ client_move (filling_of self) seed) number result }
+    {
+        if self.count == 0 || self.clients.len() >= MOST_CLIENTS {
+            return Err(Stop::BadLine { number });
+        }
+        if self.clients.push(seed).is_err() {
+            return Err(Stop::Memory);
+        }
+        Ok(Stage::Filling(self))
+    }
+
+    /// Opens the world and makes its first step.
     fn make_first_step<W: Write>(
         self,
         alloc: Global,
+        number: u64,
         step: Step,
         writer: &mut W,
-    ) -> Result<Option<Stage>, Stop> {
+    ) -> Result<Stage, Stop>
+        ensures { MovesTo (LeadsFilled (filling_of self) (Line.Step step)) number
+            (W.contents writer.old) result (W.contents writer.new) }
+    {
         if self.clients.is_empty() {
-            return Ok(None);
+            return Err(Stop::BadLine { number });
         }
-        let world = self.open(alloc)?;
-        let running = Running { world, printed: 0 };
-        running.make_step(alloc, step, writer)
+        match self.open(alloc) {
+            Ok(world) => make_step(alloc, world, step, writer),
+            Err(stop) => Err(stop),
+        }
     }
 
     /// Opens the world, at version 1 and for no publisher.
-    fn open(self, alloc: Global) -> Result<World<Lanes>, Stop> {
+    fn open(self, alloc: Global) -> Result<World<Lanes>, Stop>
+        ensures { OpensWorld (filling_of self) result }
+    {
         let Opening {
             sizes,
             seed,
@@ -166,75 +210,105 @@ impl Opening {
             records,
         };
         match World::new(alloc, Lanes, snapshot, clients) {
-            Ok(world) => Ok(world),
+            Ok(world) => {
+                // Their contract says what the world was opened with.
+                world.outcomes();
+                Ok(world)
+            }
             Err(OpenError::Memory) => Err(Stop::Memory),
             Err(fault) => Err(Stop::World(fault)),
         }
     }
 }
 
-impl Running {
-    /// Makes a step, and prints what comes of it.
-    fn make_step<W: Write>(
-        mut self,
-        alloc: Global,
-        step: Step,
-        writer: &mut W,
-    ) -> Result<Option<Stage>, Stop> {
-        let client = client_of(&step);
-        match self.world.step(step) {
-            Ok(()) => self.print(alloc, writer)?,
-            Err(StepFault::NoClient) => {
-                let line = format!(in alloc; "client {client}: none\n")?;
-                say(writer, line.as_str())?;
-            }
-            Err(StepFault::Memory | StepFault::Broken) => return Err(Stop::Memory),
-        }
-        Ok(Some(Stage::Running(self)))
+/// Makes a step, and prints what comes of it.
+fn make_step<W: Write>(
+    alloc: Global,
+    mut world: World<Lanes>,
+    step: Step,
+    writer: &mut W,
+) -> Result<Stage, Stop>
+    ensures { (s : State) (number : ℕ) → IsRunOf world s → world.broken ≡ false →
+        MovesTo (MakesStep (course_of world s) step) number
+        (W.contents writer.old) result (W.contents writer.new) }
+{
+    let client = client_of(&step);
+    let before = world.outcomes().len();
+    match world.step(step) {
+        Ok(()) => match say_added(alloc, &world, before, writer) {
+            Ok(()) => Ok(Stage::Running(world)),
+            Err(stop) => Err(stop),
+        },
+        Err(StepFault::NoClient) => match say_no_client(alloc, client, writer) {
+            Ok(()) => Ok(Stage::Running(world)),
+            Err(stop) => Err(stop),
+        },
+        Err(_) => Err(Stop::Memory),
     }
+}
 
-    /// Prints the outcomes that weren't printed yet.
-    fn print<W: Write>(&mut self, alloc: Global, writer: &mut W) -> Result<(), Stop> {
-        let outcomes = self.world.outcomes();
-        let from = self.printed.min(outcomes.len());
-        say_all(alloc, &outcomes[from..], writer)?;
-        self.printed = outcomes.len();
-        Ok(())
-    }
+/// Prints a line for each outcome after the first ones.
+fn say_added<W: Write>(
+    alloc: Global,
+    world: &World<Lanes>,
+    before: usize,
+    writer: &mut W,
+) -> Result<(), Stop>
+    ensures { SaysAll (drop before world.now.outcomes)
+        (W.contents writer.old) result (W.contents writer.new) }
+{
+    let outcomes = world.outcomes();
+    let from = before.min(outcomes.len());
+    say_all(alloc, &outcomes[from..], writer)
 }
 
 /// Prints a line for each outcome.
 fn say_all<W: Write>(alloc: Global, outcomes: &[Outcome], writer: &mut W) -> Result<(), Stop>
-    ensures { OnOk result (Appends (W.contents writer.old) (W.contents writer.new)
-        (flat_map outcome_text outcomes.now)) }
+    ensures { SaysAll outcomes.now (W.contents writer.old) result (W.contents writer.new) }
 {
     for outcome in outcomes {
-        let line = outcome_line(alloc, outcome)?;
-        if let Err(stop) = say(writer, line.as_str()) {
-            return Err(stop);
+        let Ok(line) = outcome_line(alloc, outcome) else {
+            return Err(Stop::Memory);
+        };
+        if write_out(writer, line.as_bytes()).is_err() {
+            return Err(Stop::Write);
         }
     }
     Ok(())
 }
 
+/// Prints that there is no such client.
+fn say_no_client<W: Write>(alloc: Global, client: usize, writer: &mut W) -> Result<(), Stop>
+    ensures { SaysText (no_client_text client)
+        (W.contents writer.old) result (W.contents writer.new) }
+{
+    let Ok(line) = format!(in alloc; "client {client}: none\n") else {
+        return Err(Stop::Memory);
+    };
+    say(writer, line.as_str())
+}
+
 /// The client that a step names, or 0.
-fn client_of(step: &Step) -> usize {
+fn client_of(step: &Step) -> usize
+    ensures { result ≡ named_client step.now }
+{
     match step {
-        Step::Edit { .. } | Step::Publish => 0,
-        Step::Hello { client }
-        | Step::Sync { client, .. }
-        | Step::Ask { client, .. }
-        | Step::ToServer { client, .. }
-        | Step::ToClient { client, .. } => *client,
+        Step::Edit { .. } => 0,
+        Step::Publish => 0,
+        Step::Hello { client } => *client,
+        Step::Sync { client, .. } => *client,
+        Step::Ask { client, .. } => *client,
+        Step::ToServer { client, .. } => *client,
+        Step::ToClient { client, .. } => *client,
     }
 }
 
 /// Prints.
 pub fn say<W: Write>(writer: &mut W, text: &str) -> Result<(), Stop>
-    ensures { OnOk result (Appends (W.contents writer.old) (W.contents writer.new) text.now) }
+    ensures { SaysText text.now (W.contents writer.old) result (W.contents writer.new) }
 {
-    if write_out(writer, text.as_bytes()).is_err() {
-        return Err(Stop::Write);
+    match write_out(writer, text.as_bytes()) {
+        Ok(()) => Ok(()),
+        Err(_) => Err(Stop::Write),
     }
-    Ok(())
 }

@@ -1,6 +1,5 @@
 //! Why a rehearsal ends before its script does.
 
-use std::alloc::AllocError;
 use thiserror::Error;
 use version_store::OpenError;
 
@@ -25,10 +24,4 @@ pub enum Stop {
     /// Memory was refused.
     #[error("out of memory")]
     Memory,
-}
-
-impl From<AllocError> for Stop {
-    fn from(_: AllocError) -> Stop {
-        Stop::Memory
-    }
 }

@@ -1,0 +1,25 @@
+use Rattle.std.proofs.Common.{refl, subst, sym}
+use Rattle.std.proofs.KnownBytes.{Appends-nil}
+use Rattle.rehearsal.specs.declared.line.Line.{Line}
+use Rattle.rehearsal.specs.declared.stage.Stage.{Stage}
+use Rattle.rehearsal.specs.declared.stage.Stage.TheVariants as stage
+use Rattle.rehearsal.specs.Scripts.{Place, Running, Leads, Bad}
+use Rattle.rehearsal.specs.Stages.{IsAt, MovesTo, course_of}
+use Rattle.rehearsal.proofs.Stepping.{no_step}
+use Rattle.rehearsal.proofs.stage.Stage.take.Goals as goal
+
+pub returns-in-Step : goal.returns-in-Step
+returns-in-Step g c = λ place at.
+    let a : IsAt (stage.Running c.in-Running.world) place = subst (λ (s : Stage). IsAt s place) c.in-Running.is at in
+    subst (λ (p : Place). MovesTo (Leads p c.args.line) c.args.number (g.W.Write.contents c.args.writer.now) c.make_step.result (g.W.Write.contents c.make_step.new.writer))
+    (sym a.3)
+    (subst (λ (l : Line). MovesTo (Leads (Running (course_of c.in-Running.world a.0)) l) c.args.number (g.W.Write.contents c.args.writer.now) c.make_step.result (g.W.Write.contents c.make_step.new.writer))
+    (sym c.in-Step.is) (c.make_step.ensures a.0 c.args.number a.1 a.2))
+
+pub returns : goal.returns
+returns g c = λ place at.
+    let a : IsAt (stage.Running c.in-Running.world) place = subst (λ (s : Stage). IsAt s place) c.in-Running.is at in (
+      refl,
+      subst (λ (p : Place). Leads p c.args.line Bad) (sym a.3) (no_step (course_of c.in-Running.world a.0) c.args.line c.in_default.not-Step),
+      Appends-nil (g.W.Write.contents c.args.writer.now),
+    )
