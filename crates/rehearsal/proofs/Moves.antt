@@ -138,6 +138,7 @@ StopsAt-map L M n o t stop.Write f h = (h.0, h.1, h.2, f (Goes h.0 h.1) h.3, h.4
 StopsAt-map L M n o t stop.Read f h = absurd h
 StopsAt-map L M n o t stop.TooLong f h = absurd h
 
-pub MovesTo-map : (L M : Move → Type 0) (n : ℕ) (o t : Option (List ℕ)) (r : Result Stage Stop) → ((m : Move) → L m → M m) → MovesTo L n o r t → MovesTo M n o r t
+pub MovesTo-map : (L M : Move → Type 0) (n : ℕ) (o t : Option (List ℕ)) (r : Result Stage Stop) → ((m : Move) → L m → M m) →
+    MovesTo L n o r t → MovesTo M n o r t
 MovesTo-map L M n o t (Ok s) f h = (h.0, h.1, h.2, f (Goes h.0 h.1) h.3, h.4)
 MovesTo-map L M n o t (Err e) f h = StopsAt-map L M n o t e f h

@@ -81,7 +81,8 @@ pub bytes32_is : (word : List ℕ) (r : Option (List ℕ)) → IfSome r (λ byte
     (IsSome r ↔ ((length word ≡ 64) × AllPass is_hex_digit word)) → r ≡ bytes32_in word
 bytes32_is word None value found =
     elim (length word == 64) as (λ b. ((b ≡ true) → length word ≡ 64) → None ≡ cond b (result_ok (decode_of word)) None) [
-      | true ↦ λ (k : true ≡ true → length word ≡ 64). none_decodes word (decode_of word) refl (λ (h : AllPass is_hex_digit word). let bad : false ≡ true = found.1 (k refl, h) in cc)
+      | true ↦ λ (k : true ≡ true → length word ≡ 64). none_decodes word (decode_of word) refl
+          (λ (h : AllPass is_hex_digit word). let bad : false ≡ true = found.1 (k refl, h) in cc)
       | false ↦ λ (k : false ≡ true → length word ≡ 64). refl
     ] (λ (e : (length word == 64) ≡ true). eqb-true (length word) 64 e)
 bytes32_is word (Some bytes) value found =

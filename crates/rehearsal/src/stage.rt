@@ -54,7 +54,8 @@ impl Stage {
         writer: &mut W,
     ) -> Result<Stage, Stop>
         ensures { (place : Place) → IsAt self place →
-            MovesTo (Leads place line) number (W.contents writer.old) result (W.contents writer.new) }
+            MovesTo (Leads place line) number (W.contents writer.old) result
+            (W.contents writer.new) }
     {
         match self {
             Stage::Start => sized(number, line),

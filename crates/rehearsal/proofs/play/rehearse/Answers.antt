@@ -40,4 +40,5 @@ returns-clause-cut g c = λ e.
     playing_cut c.as_slice.result.now (g.R.Read.remaining c.args.reader.now) (g.R.Read.remaining c.read_script.new.reader)
     (g.W.Write.contents c.args.writer.now) (g.W.Write.contents c.play.new.writer) (g.W.Write.contents c.report-in-Err-play.new.writer)
     c.in-Err-play.stop read c.in-Ok.ensures.end within c.in-Err-play.ensures
-    (subst (λ r. Reports c.in-Err-play.stop (g.W.Write.contents c.play.new.writer) r (g.W.Write.contents c.report-in-Err-play.new.writer)) e c.report-in-Err-play.ensures.printed)
+    (subst (λ r. Reports c.in-Err-play.stop (g.W.Write.contents c.play.new.writer) r (g.W.Write.contents c.report-in-Err-play.new.writer)) e
+    c.report-in-Err-play.ensures.printed)

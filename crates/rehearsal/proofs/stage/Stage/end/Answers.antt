@@ -12,7 +12,8 @@ pub returns-in-Ok : goal.returns-in-Ok
 returns-in-Ok c = λ place at.
     let a : place ≡ Filled (filling_of c.in-Filling.opening) = subst (λ (s : Stage). IsAt s place) c.in-Filling.is at in
     let positive : 0 < length c.in-Filling.opening.clients.items =
-    (let some : vec_len c.in-Filling.opening.clients ≢ 0 = eqb-false (vec_len c.in-Filling.opening.clients) 0 (sym c.if-is_empty.ensures) in omega (arith, some)) in
+    (let some : vec_len c.in-Filling.opening.clients ≢ 0 =
+    eqb-false (vec_len c.in-Filling.opening.clients) 0 (sym c.if-is_empty.ensures) in omega (arith, some)) in
     let w : IsOpened (filling_of c.in-Filling.opening) c.in-Ok.field-0 = c.in-Ok.ensures in (
       Running (opened_course (filling_of c.in-Filling.opening)),
       subst (λ (p : Place). LeadsAtEnd p (Goes (Running (opened_course (filling_of c.in-Filling.opening))) [])) (sym a)

@@ -11,9 +11,13 @@ use Rattle.rehearsal.proofs.stage.Stage.take.Goals as goal
 pub returns-in-Step : goal.returns-in-Step
 returns-in-Step g c = λ place at.
     let a : IsAt (stage.Running c.in-Running.world) place = subst (λ (s : Stage). IsAt s place) c.in-Running.is at in
-    subst (λ (p : Place). MovesTo (Leads p c.args.line) c.args.number (g.W.Write.contents c.args.writer.now) c.make_step.result (g.W.Write.contents c.make_step.new.writer))
+    subst
+    (λ (p : Place). MovesTo (Leads p c.args.line) c.args.number (g.W.Write.contents c.args.writer.now) c.make_step.result
+    (g.W.Write.contents c.make_step.new.writer))
     (sym a.3)
-    (subst (λ (l : Line). MovesTo (Leads (Running (course_of c.in-Running.world a.0)) l) c.args.number (g.W.Write.contents c.args.writer.now) c.make_step.result (g.W.Write.contents c.make_step.new.writer))
+    (subst
+    (λ (l : Line). MovesTo (Leads (Running (course_of c.in-Running.world a.0)) l) c.args.number (g.W.Write.contents c.args.writer.now)
+    c.make_step.result (g.W.Write.contents c.make_step.new.writer))
     (sym c.in-Step.is) (c.make_step.ensures a.0 c.args.number a.1 a.2))
 
 pub returns : goal.returns
