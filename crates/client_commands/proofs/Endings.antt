@@ -8,7 +8,7 @@ use Rattle.client_core.specs.Calls.{Want, Ask, Edit, Publish, state_after_call}
 use Rattle.client_core.specs.Endings.{Ends}
 use Rattle.client_core.specs.Feeding.{Client}
 use Rattle.client_commands.specs.declared.fault.CommandError.{CommandError}
-use Rattle.client_commands.specs.Transcripts.{most_reads, IsDone, Exchanges, ComesTo, IsRecord, IsVersion}
+use Rattle.client_commands.specs.Transcripts.{most_reads, IsDone, Exchanges, ComesTo, IsRecordAsked, IsDoneVersion}
 use Rattle.client_commands.proofs.Conversations.{event_ends_the_call}
 
 -- the event of a call ends it
@@ -17,7 +17,7 @@ ends : (want : Want) (old : Client) (event : Event) (read out : List ℕ) (left 
 ends want old event read out left new x =
     subst (λ (c : ClientState). Ends c.call event) x.accepted.state (event_ends_the_call x.called x.first most_reads event read out left new x.answered.1)
 
-record_of : (i : ℕ) (c : ClientState) (e : Event) → IsDone e → Ends (state_after_call (Ask i) c).call e → IsRecord i e
+record_of : (i : ℕ) (c : ClientState) (e : Event) → IsDone e → Ends (state_after_call (Ask i) c).call e → IsRecordAsked i e
 record_of i c (event.Retrieved index of bytes) done h = h.0
 record_of i c (event.Unreadable index of) done h = absurd done
 record_of i c (event.Stale of) done h = absurd done
@@ -26,7 +26,7 @@ record_of i c (event.Welcomed of) done h = absurd h
 record_of i c (event.Synced scheme of) done h = absurd h
 record_of i c (event.Done of) done h = absurd h
 
-version_of_edit : (i : ℕ) (bytes : List ℕ) (c : ClientState) (e : Event) → IsDone e → Ends (state_after_call (Edit i bytes) c).call e → IsVersion e
+version_of_edit : (i : ℕ) (bytes : List ℕ) (c : ClientState) (e : Event) → IsDone e → Ends (state_after_call (Edit i bytes) c).call e → IsDoneVersion e
 version_of_edit i b c (event.Done of) done h = tt
 version_of_edit i b c (event.Retrieved index of bytes) done h = absurd h
 version_of_edit i b c (event.Unreadable index of) done h = absurd done
@@ -35,7 +35,7 @@ version_of_edit i b c (event.Refused code) done h = absurd done
 version_of_edit i b c (event.Welcomed of) done h = absurd h
 version_of_edit i b c (event.Synced scheme of) done h = absurd h
 
-version_of_publication : (c : ClientState) (e : Event) → IsDone e → Ends (state_after_call Publish c).call e → IsVersion e
+version_of_publication : (c : ClientState) (e : Event) → IsDone e → Ends (state_after_call Publish c).call e → IsDoneVersion e
 version_of_publication c (event.Done of) done h = tt
 version_of_publication c (event.Retrieved index of bytes) done h = absurd h
 version_of_publication c (event.Unreadable index of) done h = absurd done
@@ -46,19 +46,19 @@ version_of_publication c (event.Synced scheme of) done h = absurd h
 
 -- an ask that was done ends with the record asked for
 pub ask_ends : (i : ℕ) (old : Client) (result : Result Event CommandError) (read out : List ℕ) (left : Option (List ℕ)) (new : Client)
-    → ComesTo old (Ask i) result read out left new → IfOk result (IsRecord i)
+    → ComesTo old (Ask i) result read out left new → IfOk result (IsRecordAsked i)
 ask_ends i old (Ok e) read out left new x = record_of i old.state e x.answered.0 (ends (Ask i) old e read out left new x)
 ask_ends i old (Err failure) read out left new x = tt
 
 -- an edit that was done ends with a version
 pub edit_ends : (i : ℕ) (bytes : List ℕ) (old : Client) (result : Result Event CommandError) (read out : List ℕ) (left : Option (List ℕ)) (new : Client)
-    → ComesTo old (Edit i bytes) result read out left new → IfOk result IsVersion
+    → ComesTo old (Edit i bytes) result read out left new → IfOk result IsDoneVersion
 edit_ends i bytes old (Ok e) read out left new x =
     version_of_edit i bytes old.state e x.answered.0 (ends (Edit i bytes) old e read out left new x)
 edit_ends i bytes old (Err failure) read out left new x = tt
 
 -- so does a publication
 pub publication_ends : (old : Client) (result : Result Event CommandError) (read out : List ℕ) (left : Option (List ℕ)) (new : Client)
-    → ComesTo old Publish result read out left new → IfOk result IsVersion
+    → ComesTo old Publish result read out left new → IfOk result IsDoneVersion
 publication_ends old (Ok e) read out left new x = version_of_publication old.state e x.answered.0 (ends Publish old e read out left new x)
 publication_ends old (Err failure) read out left new x = tt

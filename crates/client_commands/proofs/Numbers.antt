@@ -45,12 +45,16 @@ refused_number Publish old new fault calm (inr r) = number_after old new _ r.2 r
 answered_number : (called : Client) (first : List ℕ) (result : Result Event CommandError) (read out : List ℕ) (left : Option (List ℕ)) (new : Client)
     → Answers called first result read out left new → new.state.number ≡ called.state.number
 answered_number called first (Ok event) read out left new h = conversing_spends_no_number called first most_reads (Ok event) read out left new h.1
-answered_number called first (Err (Refused code)) read out left new h = conversing_spends_no_number called first most_reads (Ok (event.Refused code)) read out left new h
-answered_number called first (Err (Stale version)) read out left new h = conversing_spends_no_number called first most_reads (Ok (event.Stale version)) read out left new h
-answered_number called first (Err (Unreadable index version)) read out left new h = conversing_spends_no_number called first most_reads (Ok (event.Unreadable index version)) read out left new h
+answered_number called first (Err (Refused code)) read out left new h =
+    conversing_spends_no_number called first most_reads (Ok (event.Refused code)) read out left new h
+answered_number called first (Err (Stale version)) read out left new h =
+    conversing_spends_no_number called first most_reads (Ok (event.Stale version)) read out left new h
+answered_number called first (Err (Unreadable index version)) read out left new h =
+    conversing_spends_no_number called first most_reads (Ok (event.Unreadable index version)) read out left new h
 answered_number called first (Err (ShortSecrets dimension)) read out left new h = absurd h
 answered_number called first (Err (Call fault)) read out left new h = absurd h
-answered_number called first (Err (Conversation fault)) read out left new h = conversing_spends_no_number called first most_reads (Err fault) read out left new h
+answered_number called first (Err (Conversation fault)) read out left new h =
+    conversing_spends_no_number called first most_reads (Err fault) read out left new h
 
 -- a call was refused, or accepted and answered
 either : (old : Client) (want : Want) (result : Result Event CommandError) (read out : List ℕ) (left : Option (List ℕ)) (new : Client)
@@ -83,7 +87,8 @@ abbrev pub Spends : Result Event CommandError → ℕ → ℕ → Type 0
 Spends (Ok event) old new = new ≡ old + 1
 Spends (Err failure) old new = (new ≡ old) ⊎ (new ≡ old + 1)
 
-none_spent : (step : Step) (later : List Step) (result : Result Event CommandError) (old new : ℕ) → IsLastOf (step ∷ later) result → new ≡ old → Spends result old new
+none_spent : (step : Step) (later : List Step) (result : Result Event CommandError) (old new : ℕ) → IsLastOf (step ∷ later) result → new ≡ old →
+    Spends result old new
 none_spent step later (Ok event) old new is same = absurd cc
 none_spent step later (Err failure) old new is same = inl same
 

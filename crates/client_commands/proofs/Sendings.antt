@@ -43,7 +43,8 @@ exchanged_bytes old want event read out left new x = elim (x.answered.1) [
 -- ---- a client that is let in holds no hint
 
 -- a client holds no hint before its greeting, where it holds none after it
-pub bare_before : (key : List ℕ) (old mid : Client) (sent : Result (Vec ℕ Global) CallFault) (event : Event) (read out : List ℕ) (left : Option (List ℕ)) (new : Client)
+pub bare_before : (key : List ℕ) (old mid : Client) (sent : Result (Vec ℕ Global) CallFault) (event : Event) (read out : List ℕ)
+    (left : Option (List ℕ)) (new : Client)
     → IfOk sent (λ v. Accepts old.state (Hello key) mid.state v.items) → IfOk sent (λ v. mid.state.hint ≡ None)
     → AnswersCall mid sent (Ok event) read out left new → old.state.hint ≡ None
 bare_before key old mid (Ok v) event read out left new a none h = sym (ap (λ (c : ClientState). c.hint) a.state) ∙ none
@@ -128,7 +129,8 @@ retrieval_sends least s index old event read out left new bare (inr h) = looked 
         asked j.0 j.4 j.9.1.2 (h.8 ∙ ap (λ (o : List ℕ). h.3 ++ o) (j.8 ∙ ap (λ (o : List ℕ). o ++ j.4) j.9.1.1)) j.2 j.10
 
 -- the same, as a writer shows it
-pub retrieval_has_sent : (least : ℕ) (s : Scheme) (index : ℕ) (old : Client) (event : Event) (read out : List ℕ) (left held held2 : Option (List ℕ)) (new : Client)
+pub retrieval_has_sent : (least : ℕ) (s : Scheme) (index : ℕ) (old : Client) (event : Event) (read out : List ℕ) (left held held2 : Option (List ℕ))
+    (new : Client)
     → old.state.hint ≡ None → Appends held held2 out → Transacts old (retrieval least s index) (Ok event) read out left new
     → (version : ℕ) × SendsCommand held held2 (frame.Hello client_profile (replicate 32 0)) (frame.HintAsk (scheme_byte s) version 0)
 retrieval_has_sent least s index old event read out left held held2 new bare went t =

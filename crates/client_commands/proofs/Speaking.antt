@@ -63,7 +63,8 @@ exchanged : (want : Want) (old mid : Client) (v : Vec ℕ Global) (result : Resu
     → Exchanges old want result read out left new
 exchanged want old mid v result read out left new a same h = record { called = mid; first = v.items; accepted = a; reader = same; answered = h }
 
-accepted_comes : (want : Want) (old mid : Client) (v : Vec ℕ Global) (result : Result Event CommandError) (read out : List ℕ) (left : Option (List ℕ)) (new : Client)
+accepted_comes : (want : Want) (old mid : Client) (v : Vec ℕ Global) (result : Result Event CommandError) (read out : List ℕ)
+    (left : Option (List ℕ)) (new : Client)
     → Accepts old.state want mid.state v.items → mid.reader ≡ old.reader → Answers mid v.items result read out left new
     → ComesTo old want result read out left new
 accepted_comes want old mid v (Ok event) read out left new a same h = exchanged want old mid v (Ok event) read out left new a same h
@@ -76,7 +77,8 @@ accepted_comes want old mid v (Err (Call fault)) read out left new a same h = ab
 accepted_comes want old mid v (Err (Conversation fault)) read out left new a same h =
     exchanged want old mid v (Err (Conversation fault)) read out left new a same h
 
-refused_comes : (want : Want) (old mid : Client) (fault : CallFault) (result : Result Event CommandError) (read out : List ℕ) (left : Option (List ℕ)) (new : Client)
+refused_comes : (want : Want) (old mid : Client) (fault : CallFault) (result : Result Event CommandError) (read out : List ℕ)
+    (left : Option (List ℕ)) (new : Client)
     → Refuses old.state want fault mid.state → mid.reader ≡ old.reader → result ≡ Err (Call fault) → read ≡ [] → out ≡ [] → new ≡ mid
     → ComesTo old want result read out left new
 refused_comes want old mid fault result read out left new r same is unread unwritten still =

@@ -50,7 +50,8 @@ AnswersCall called (Ok first) result read out left new = Answers called first.it
 AnswersCall called (Err fault) result read out left new = (result ≡ Err (Call fault)) × (read ≡ []) × (out ≡ []) × (new ≡ called)
 
 -- a call that the client accepted, and what came of its bytes
-pub record Exchanges (old : Client) (want : Want) (result : Result Event CommandError) (read out : List ℕ) (left : Option (List ℕ)) (new : Client) : Type 0 where
+pub record Exchanges (old : Client) (want : Want) (result : Result Event CommandError) (read out : List ℕ) (left : Option (List ℕ)) (new : Client) :
+    Type 0 where
   pub called : Client
   pub first : List ℕ
   pub accepted : Accepts old.state want called.state first
@@ -124,14 +125,14 @@ abbrev pub publication : List ℕ → List Step
 publication key = Calls (Hello key) ∷ (Calls Publish ∷ [])
 
 -- the event has this record
-abbrev pub IsRecord : ℕ → Event → Type 0
-IsRecord asked (event.Retrieved index version bytes) = index ≡ asked
-IsRecord asked _ = ⊥
+abbrev pub IsRecordAsked : ℕ → Event → Type 0
+IsRecordAsked asked (event.Retrieved index version bytes) = index ≡ asked
+IsRecordAsked asked _ = ⊥
 
 -- the event reports a version as done
-abbrev pub IsVersion : Event → Type 0
-IsVersion (event.Done version) = Unit {0}
-IsVersion _ = ⊥
+abbrev pub IsDoneVersion : Event → Type 0
+IsDoneVersion (event.Done version) = Unit {0}
+IsDoneVersion _ = ⊥
 
 -- a record that was answered, as the event that told it
 abbrev pub as_retrieved : Result Retrieved CommandError → Result Event CommandError

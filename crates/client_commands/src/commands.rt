@@ -7,8 +7,8 @@ ghost use Rattle.pir_schemes.specs.Plans.{client_profile};
 ghost use Rattle.frame_codec.specs.declared.frame.Frame.TheVariants as frame;
 ghost use Rattle.client_commands.specs.Transcripts.{
   Transacts,
-  IsRecord,
-  IsVersion,
+  IsRecordAsked,
+  IsDoneVersion,
   retrieval,
   edition,
   publication,
@@ -106,7 +106,7 @@ fn retrieve<K: Kernel, R: Read, W: Write>(
         × Appends (W.contents writer.old) (W.contents writer.new) out
         × Transacts client.old (retrieval least scheme index) result read out
         (R.remaining reader.new) client.new }
-    ensures record { IfOk result (λ event. IsRecord index event) }
+    ensures record { IfOk result (λ event. IsRecordAsked index event) }
     ensures bare { IfOk result (λ _. client.old.state.hint ≡ None) }
 {
     let sent = client.hello(READER);
@@ -165,7 +165,7 @@ fn edit_record<K: Kernel, R: Read, W: Write>(
         × Appends (W.contents writer.old) (W.contents writer.new) out
         × Transacts client.old (edition key index bytes.now) result read out
         (R.remaining reader.new) client.new }
-    ensures done { IfOk result IsVersion }
+    ensures done { IfOk result IsDoneVersion }
 {
     let sent = client.hello(key);
     exchange(alloc, client, sent, reader, writer)?;
@@ -213,7 +213,7 @@ fn publish_draft<K: Kernel, R: Read, W: Write>(
         × Appends (W.contents writer.old) (W.contents writer.new) out
         × Transacts client.old (publication key) result read out
         (R.remaining reader.new) client.new }
-    ensures done { IfOk result IsVersion }
+    ensures done { IfOk result IsDoneVersion }
 {
     let sent = client.hello(key);
     exchange(alloc, client, sent, reader, writer)?;

@@ -10,14 +10,14 @@ use Rattle.rehearsal.specs.declared.stop.Stop.TheVariants as stop
 use Rattle.rehearsal.specs.Texts.{memory_text, too_long_text}
 use Rattle.rehearsal.specs.Lines.{lines_of}
 use Rattle.rehearsal.specs.Scripts.{Start, Plays, IsRehearsal}
-use Rattle.rehearsal.specs.Stages.{IsBefore, IsEarly, IsTold, StopsScript, StopsReading, Reports, SaysText, last_text, last_status}
+use Rattle.rehearsal.specs.Stages.{IsBefore, IsEarly, IsTold, StopsScript, StopsReading, ReportsEnd, SaysText, last_text, last_status}
 
 -- nothing more was written
 pub and_nothing : (a b c : Option (List ℕ)) (said : List ℕ) → Appends a b said → Appends b c [] → Appends a c said
 and_nothing a b c said p q = subst (Appends a c) (append-nil said) (Appends-trans a b c said [] p q)
 
 -- an end with its line
-pub early_done : (e : Stop) (o n : Option (List ℕ)) → IsEarly e → Appends o n (last_text e) → Reports e o (Ok 3) n
+pub early_done : (e : Stop) (o n : Option (List ℕ)) → IsEarly e → Appends o n (last_text e) → ReportsEnd e o (Ok 3) n
 early_done stop.TooLong o n h said = (tt, inl (said, refl))
 early_done (stop.BadLine m) o n h said = (tt, inl (said, refl))
 early_done (stop.World f) o n h said = (tt, inl (said, refl))
@@ -34,7 +34,7 @@ early_told stop.Write h = absurd h
 early_told stop.Memory h = absurd h
 
 -- an end for which there was no memory
-pub early_memory : (e : Stop) (o m n : Option (List ℕ)) (r : Result ℕ RehearseFault) → IsEarly e → Appends o m [] → Reports stop.Memory m r n → Reports e o r n
+pub early_memory : (e : Stop) (o m n : Option (List ℕ)) (r : Result ℕ RehearseFault) → IsEarly e → Appends o m [] → ReportsEnd stop.Memory m r n → ReportsEnd e o r n
 early_memory e o m n (Ok status) h p (x, inl q) = (early_told e h, inr (Appends-trans o m n [] memory_text p q.0, q.1))
 early_memory e o m n (Ok status) h p (x, inr q) = (early_told e h, inr (Appends-trans o m n [] memory_text p q.0, q.1))
 early_memory e o m n (Err fault.Read) h p q = let bad : stop.Memory ≡ stop.Read = q.0 in cc
@@ -43,7 +43,7 @@ early_memory e o m n (Err fault.Write) h p (inr (inl (x, q))) = inr (inr (early_
 early_memory e o m n (Err fault.Write) h p (inr (inr (x, q))) = inr (inr (early_told e h, (q.0, q.1, Appends-trans o m n [] (take q.0 memory_text) p q.2)))
 
 -- an end whose line was cut off
-pub early_cut : (e f : Stop) (o n : Option (List ℕ)) → IsEarly e → (f ≡ stop.Memory → ⊥) → SaysText (last_text e) o (Err f) n → Reports e o (Err fault.Write) n
+pub early_cut : (e f : Stop) (o n : Option (List ℕ)) → IsEarly e → (f ≡ stop.Memory → ⊥) → SaysText (last_text e) o (Err f) n → ReportsEnd e o (Err fault.Write) n
 early_cut e stop.Write o n h k q = inr (inl (early_told e h, q))
 early_cut e stop.Memory o n h k q = absurd (k refl)
 early_cut e stop.Read o n h k q = absurd q
@@ -61,7 +61,7 @@ Cut ro rn wo wn =
     (script : List ℕ) × (printed : List ℕ) × (status : ℕ) × (count : ℕ) × (count < length printed) × Consumes ro rn script
     × Appends wo wn (take count printed) × IsRehearsal script rn printed status
 
-pub reading_done : (ro rn wo wn : Option (List ℕ)) (e : Stop) (status : ℕ) → StopsReading ro e rn → Reports e wo (Ok status) wn → Done ro rn wo wn status
+pub reading_done : (ro rn wo wn : Option (List ℕ)) (e : Stop) (status : ℕ) → StopsReading ro e rn → ReportsEnd e wo (Ok status) wn → Done ro rn wo wn status
 reading_done ro rn wo wn stop.Memory status s (x, inl h) = (s.0, memory_text, s.1, h.0, inl (refl, h.1))
 reading_done ro rn wo wn stop.Memory status s (x, inr h) = (s.0, memory_text, s.1, h.0, inl (refl, h.1))
 reading_done ro rn wo wn stop.TooLong status s (x, inl h) = (s.0, too_long_text, s.1, h.0, inr (inl (s.2, refl, h.1)))
@@ -71,7 +71,7 @@ reading_done ro rn wo wn stop.Write status s h = absurd s
 reading_done ro rn wo wn (stop.BadLine m) status s h = absurd s
 reading_done ro rn wo wn (stop.World f) status s h = absurd s
 
-pub reading_cut : (ro rn wo wn : Option (List ℕ)) (e : Stop) → StopsReading ro e rn → Reports e wo (Err fault.Write) wn → Cut ro rn wo wn
+pub reading_cut : (ro rn wo wn : Option (List ℕ)) (e : Stop) → StopsReading ro e rn → ReportsEnd e wo (Err fault.Write) wn → Cut ro rn wo wn
 reading_cut ro rn wo wn stop.Memory s (inl h) = let bad : stop.Memory ≡ stop.Write = h.0 in cc
 reading_cut ro rn wo wn stop.Memory s (inr (inl (x, h))) = (s.0, memory_text, 4, h.0, h.1, s.1, h.2, inl (refl, refl))
 reading_cut ro rn wo wn stop.Memory s (inr (inr (x, h))) = (s.0, memory_text, 4, h.0, h.1, s.1, h.2, inl (refl, refl))
@@ -106,7 +106,7 @@ before_done script ro rn wo wm wn e status read end within b (inr h) = (
 
 pub playing_done : (script : List ℕ) (ro rn wo wm wn : Option (List ℕ)) (e : Stop) (status : ℕ) →
     Consumes ro rn script → IsAtEnd rn → length script ≤ 1048576 → StopsScript (Plays (lines_of script) Start 1) wo e wm →
-    Reports e wm (Ok status) wn → Done ro rn wo wn status
+    ReportsEnd e wm (Ok status) wn → Done ro rn wo wn status
 playing_done script ro rn wo wm wn stop.Memory status read end within b h = before_done script ro rn wo wm wn stop.Memory status read end within b h.1
 playing_done script ro rn wo wm wn stop.TooLong status read end within b h = before_done script ro rn wo wm wn stop.TooLong status read end within b h.1
 playing_done script ro rn wo wm wn (stop.BadLine m) status read end within b h = before_done script ro rn wo wm wn (stop.BadLine m) status read end within b h.1
@@ -123,7 +123,7 @@ cut_more said text k a b c p lt q =
 
 pub before_cut : (script : List ℕ) (ro rn wo wm wn : Option (List ℕ)) (e : Stop) →
     Consumes ro rn script → IsAtEnd rn → length script ≤ 1048576 → IsBefore (Plays (lines_of script) Start 1) e wo wm → (e ≡ stop.Write → ⊥) →
-    Reports e wm (Err fault.Write) wn → Cut ro rn wo wn
+    ReportsEnd e wm (Err fault.Write) wn → Cut ro rn wo wn
 before_cut script ro rn wo wm wn e read end within b other (inl h) = absurd (other h.0)
 before_cut script ro rn wo wm wn e read end within b other (inr (inl (x, h))) =
     let cut = cut_more b.said (last_text e) h.0 wo wm wn b.wrote h.1 h.2 in
@@ -134,7 +134,7 @@ before_cut script ro rn wo wm wn e read end within b other (inr (inr (x, h))) =
 
 pub playing_cut : (script : List ℕ) (ro rn wo wm wn : Option (List ℕ)) (e : Stop) →
     Consumes ro rn script → IsAtEnd rn → length script ≤ 1048576 → StopsScript (Plays (lines_of script) Start 1) wo e wm →
-    Reports e wm (Err fault.Write) wn → Cut ro rn wo wn
+    ReportsEnd e wm (Err fault.Write) wn → Cut ro rn wo wn
 playing_cut script ro rn wo wm wn stop.Memory read end within b h = before_cut script ro rn wo wm wn stop.Memory read end within b (λ e. cc) h
 playing_cut script ro rn wo wm wn stop.TooLong read end within b h = before_cut script ro rn wo wm wn stop.TooLong read end within b (λ e. cc) h
 playing_cut script ro rn wo wm wn (stop.BadLine m) read end within b h = before_cut script ro rn wo wm wn (stop.BadLine m) read end within b (λ e. cc) h
@@ -147,6 +147,6 @@ playing_cut script ro rn wo wm wn stop.Write read end within b (inr (inr h)) = a
 
 -- the same of results
 pub if_done : (ro rn wo wn wm : Option (List ℕ)) (e : Stop) (r : Result ℕ RehearseFault) →
-    ((status : ℕ) → Reports e wm (Ok status) wn → Done ro rn wo wn status) → Reports e wm r wn → IfOk r (λ status. Done ro rn wo wn status)
+    ((status : ℕ) → ReportsEnd e wm (Ok status) wn → Done ro rn wo wn status) → ReportsEnd e wm r wn → IfOk r (λ status. Done ro rn wo wn status)
 if_done ro rn wo wn wm e (Ok status) f h = f status h
 if_done ro rn wo wn wm e (Err x) f h = tt

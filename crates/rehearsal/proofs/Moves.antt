@@ -11,15 +11,15 @@ use Rattle.rehearsal.specs.declared.stage.Stage.{Stage}
 use Rattle.rehearsal.specs.declared.stop.Stop.{Stop}
 use Rattle.rehearsal.specs.declared.stop.Stop.TheVariants as stop
 use Rattle.rehearsal.specs.Texts.{outcome_text, bad_line_text, refused_world_text, memory_text}
-use Rattle.rehearsal.specs.Scripts.{Place, Move, Goes, Bad, Refused, Follows, IsOutOfMemory, joined}
-use Rattle.rehearsal.specs.Stages.{MovesQuietly, MovesTo, StopsAt, StopsScript, SaysAll, SaysText}
+use Rattle.rehearsal.specs.Scripts.{Place, Move, Goes, Bad, Refused, FollowsMove, IsOutOfMemory, joined_texts}
+use Rattle.rehearsal.specs.Stages.{MovesQuietly, MovesTo, StopsAtMove, StopsScript, SaysAll, SaysText}
 
 -- the lines of outcomes are their texts, one after another
-pub joined-map : (outcomes : List Outcome) → joined (map outcome_text outcomes) ≡ flat_map outcome_text outcomes
+pub joined-map : (outcomes : List Outcome) → joined_texts (map outcome_text outcomes) ≡ flat_map outcome_text outcomes
 joined-map outcomes = flat_map-map (λ (t : List ℕ). t) outcome_text outcomes
 
 -- one text is what it is
-pub joined_one : (text : List ℕ) → joined (text ∷ []) ≡ text
+pub joined_one : (text : List ℕ) → joined_texts (text ∷ []) ≡ text
 joined_one text = append-nil text
 
 -- a move that prints nothing
@@ -34,14 +34,14 @@ MovesTo-from_quiet L n o (Err stop.TooLong) h = absurd h
 
 -- a move whose texts are those of outcomes ends as they were said
 pub StopsAt-from_all : (L : Move → Type 0) (n : ℕ) (next : Place) (outcomes : List Outcome) (o t : Option (List ℕ)) (e : Stop) →
-    L (Goes next (map outcome_text outcomes)) → SaysAll outcomes o (Err e) t → StopsAt L n o e t
+    L (Goes next (map outcome_text outcomes)) → SaysAll outcomes o (Err e) t → StopsAtMove L n o e t
 StopsAt-from_all L n next outcomes o t stop.Memory l h =
     inr (
       next,
       map outcome_text outcomes,
       h.0,
       l,
-      subst (Appends o t) (sym (ap joined (take-map outcome_text h.0 outcomes) ∙ joined-map (take h.0 outcomes))) h.1,
+      subst (Appends o t) (sym (ap joined_texts (take-map outcome_text h.0 outcomes) ∙ joined-map (take h.0 outcomes))) h.1,
     )
 StopsAt-from_all L n next outcomes o t stop.Write l h = (
   next,
@@ -58,7 +58,7 @@ StopsAt-from_all L n next outcomes o t stop.TooLong l h = absurd h
 
 -- a move whose only text is cut off
 pub StopsAt-from_text : (L : Move → Type 0) (n : ℕ) (next : Place) (text : List ℕ) (o t : Option (List ℕ)) (e : Stop) →
-    L (Goes next (text ∷ [])) → SaysText text o (Err e) t → StopsAt L n o e t
+    L (Goes next (text ∷ [])) → SaysText text o (Err e) t → StopsAtMove L n o e t
 StopsAt-from_text L n next text o t stop.Memory l h = inl h
 StopsAt-from_text L n next text o t stop.Write l h = (
   next,
@@ -78,8 +78,8 @@ pub StopsScript-from : (L : Move → Type 0) (Prints : List ℕ → ℕ → Type
     (first mid last : Option (List ℕ)) (said : List ℕ) (e : Stop) →
     Appends first mid said →
     ((printed : List ℕ) (status : ℕ) → IsOutOfMemory printed status → Prints (said ++ printed) status) →
-    ((m : Move) (printed : List ℕ) (status : ℕ) → L m → Follows n then_ m printed status → Prints (said ++ printed) status) →
-    StopsAt L n mid e last → StopsScript Prints first e last
+    ((m : Move) (printed : List ℕ) (status : ℕ) → L m → FollowsMove n then_ m printed status → Prints (said ++ printed) status) →
+    StopsAtMove L n mid e last → StopsScript Prints first e last
 StopsScript-from L Prints n then_ first mid last said (stop.BadLine m) wrote forgets goes h = record {
   said = said;
   wrote = subst (Appends first last) (append-nil said) (Appends-trans first mid last said [] wrote h.2);
@@ -99,7 +99,7 @@ StopsScript-from L Prints n then_ first mid last said stop.Memory wrote forgets 
   forgets = forgets memory_text 4 (refl, refl);
 }
 StopsScript-from L Prints n then_ first mid last said stop.Memory wrote forgets goes (inr h) =
-    let part : List ℕ = joined (take h.2 h.1) in
+    let part : List ℕ = joined_texts (take h.2 h.1) in
     let ends : Prints ((said ++ part) ++ memory_text) 4 =
     subst (λ (x : List ℕ). Prints x 4) (sym (append_assoc said part memory_text))
     (goes (Goes h.0 h.1) (part ++ memory_text) 4 h.3 (inr (h.2, refl, refl)))
@@ -110,7 +110,7 @@ StopsScript-from L Prints n then_ first mid last said stop.Memory wrote forgets 
       forgets = ends;
     }
 StopsScript-from L Prints n then_ first mid last said stop.Write wrote forgets goes h =
-    let all : List ℕ = joined h.1 in
+    let all : List ℕ = joined_texts h.1 in
     let short : h.2 < length all = h.4 in
     let cut : take (length said + h.2) (said ++ (all ++ memory_text)) ≡ said ++ take h.2 all =
     take-append-add said (all ++ memory_text) h.2 ∙ ap (λ (x : List ℕ). said ++ x) (take-append-le h.2 all memory_text (omega (arith, short))) in
@@ -121,7 +121,7 @@ StopsScript-from L Prints n then_ first mid last said stop.Write wrote forgets g
       status = 4;
       count = length said + h.2;
       prints = goes (Goes h.0 h.1) (all ++ memory_text) 4 h.3
-          (inr (length h.1, ap (λ (x : List (List ℕ)). joined x ++ memory_text) (sym (take-length h.1)), refl));
+          (inr (length h.1, ap (λ (x : List (List ℕ)). joined_texts x ++ memory_text) (sym (take-length h.1)), refl));
       short = omega (arith, long, short);
       wrote = subst (Appends first last) (sym cut) (Appends-trans first mid last said (take h.2 all) wrote h.5);
     }
@@ -129,7 +129,7 @@ StopsScript-from L Prints n then_ first mid last said stop.Read wrote forgets go
 StopsScript-from L Prints n then_ first mid last said stop.TooLong wrote forgets goes h = absurd h
 
 -- moves of one kind are moves of another
-pub StopsAt-map : (L M : Move → Type 0) (n : ℕ) (o t : Option (List ℕ)) (e : Stop) → ((m : Move) → L m → M m) → StopsAt L n o e t → StopsAt M n o e t
+pub StopsAt-map : (L M : Move → Type 0) (n : ℕ) (o t : Option (List ℕ)) (e : Stop) → ((m : Move) → L m → M m) → StopsAtMove L n o e t → StopsAtMove M n o e t
 StopsAt-map L M n o t (stop.BadLine m) f h = (h.0, f Bad h.1, h.2)
 StopsAt-map L M n o t (stop.World x) f h = (f (Refused x) h.0, h.1)
 StopsAt-map L M n o t stop.Memory f (inl h) = inl h

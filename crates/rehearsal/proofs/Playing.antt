@@ -7,8 +7,8 @@ use Rattle.rehearsal.specs.declared.stop.Stop.{Stop}
 use Rattle.rehearsal.specs.declared.stop.Stop.TheVariants as stop
 use Rattle.rehearsal.specs.Texts.{bad_line_text, refused_world_text, memory_text}
 use Rattle.rehearsal.specs.Lines.{lines_of}
-use Rattle.rehearsal.specs.Scripts.{Place, Start, Move, Goes, Bad, Refused, Follows, IsOutOfMemory, IsOver, LeadsText, LeadsAtEnd, Plays, joined}
-use Rattle.rehearsal.specs.Stages.{IsAt, MovesTo, StopsAt, StopsScript, PlaysScript, EndsAs}
+use Rattle.rehearsal.specs.Scripts.{Place, Start, Move, Goes, Bad, Refused, FollowsMove, IsOutOfMemory, IsOver, LeadsText, LeadsAtEnd, Plays, joined_texts}
+use Rattle.rehearsal.specs.Stages.{IsAt, MovesTo, StopsAtMove, StopsScript, PlaysScript, EndsAs}
 use Rattle.rehearsal.proofs.Moves.{StopsScript-from}
 
 -- some of a script's lines were played: what is still to come, after what was said, is what the script prints
@@ -26,7 +26,7 @@ IsPlayed-start script stage o at = record { place = Start; said = []; at = at; w
 -- what a line's move says of all that is to come
 pub line_goes : (rest text after : List ℕ) (place : Place) (number : ℕ) → lines_of rest ≡ text ∷ lines_of after →
     (m : Move) (printed : List ℕ) (status : ℕ) → LeadsText place text m →
-    Follows number (λ next r s. Plays (lines_of after) next (number + 1) r s) m printed status →
+    FollowsMove number (λ next r s. Plays (lines_of after) next (number + 1) r s) m printed status →
     Plays (lines_of rest) place number printed status
 line_goes rest text after place number e m printed status l f =
     subst (λ (ls : List (List ℕ)). Plays ls place number printed status) (sym e) (inr (m, l, f))
@@ -43,19 +43,19 @@ pub IsPlayed-more : (script rest text after : List ℕ) (stage next : Stage) (nu
     MovesTo (LeadsText p.place text) number mid (Ok next) new → IsPlayed script after next (number + 1) old new
 IsPlayed-more script rest text after stage next number old mid new p e h = record {
   place = h.0;
-  said = p.said ++ joined h.1;
+  said = p.said ++ joined_texts h.1;
   at = h.2;
-  wrote = Appends-trans old mid new p.said (joined h.1) p.wrote h.4;
+  wrote = Appends-trans old mid new p.said (joined_texts h.1) p.wrote h.4;
   plays = λ printed status k.
-      subst (λ (x : List ℕ). Plays (lines_of script) Start 1 x status) (sym (append_assoc p.said (joined h.1) printed))
-      (p.plays (joined h.1 ++ printed) status
-      (line_goes rest text after p.place number e (Goes h.0 h.1) (joined h.1 ++ printed) status h.3 (inl (printed, refl, k))));
+      subst (λ (x : List ℕ). Plays (lines_of script) Start 1 x status) (sym (append_assoc p.said (joined_texts h.1) printed))
+      (p.plays (joined_texts h.1 ++ printed) status
+      (line_goes rest text after p.place number e (Goes h.0 h.1) (joined_texts h.1 ++ printed) status h.3 (inl (printed, refl, k))));
 }
 
 -- a line that stops
 pub IsPlayed-stops : (script rest text after : List ℕ) (stage : Stage) (number : ℕ) (old mid new : Option (List ℕ)) (e : Stop) →
     (p : IsPlayed script rest stage number old mid) → lines_of rest ≡ text ∷ lines_of after →
-    StopsAt (LeadsText p.place text) number mid e new → StopsScript (Plays (lines_of script) Start 1) old e new
+    StopsAtMove (LeadsText p.place text) number mid e new → StopsScript (Plays (lines_of script) Start 1) old e new
 IsPlayed-stops script rest text after stage number old mid new e p is h =
     StopsScript-from (LeadsText p.place text) (Plays (lines_of script) Start 1) number
     (λ next r s. Plays (lines_of after) next (number + 1) r s) old mid new p.said e p.wrote
@@ -65,7 +65,7 @@ IsPlayed-stops script rest text after stage number old mid new e p is h =
 
 -- what the end's move says of all that is to come
 pub end_goes : (rest : List ℕ) (place : Place) (number : ℕ) → lines_of rest ≡ [] → (m : Move) (printed : List ℕ) (status : ℕ) →
-    LeadsAtEnd place m → Follows number IsOver m printed status → Plays (lines_of rest) place number printed status
+    LeadsAtEnd place m → FollowsMove number IsOver m printed status → Plays (lines_of rest) place number printed status
 end_goes rest place number e m printed status l f =
     subst (λ (ls : List (List ℕ)). Plays ls place number printed status) (sym e) (inr (m, l, f))
 

@@ -14,8 +14,8 @@ use Rattle.rehearsal.specs.declared.line.Line.TheVariants as line
 use Rattle.rehearsal.specs.declared.stage.Stage.TheVariants as stage
 use Rattle.rehearsal.specs.declared.stop.Stop.{Stop}
 use Rattle.rehearsal.specs.Texts.{outcome_text, no_client_text}
-use Rattle.rehearsal.specs.Scripts.{Filling, Course, Place, Running, Goes, Bad, MakesStep, LeadsRunning, named_client, added_outcomes, opened_course, header_of_filling}
-use Rattle.rehearsal.specs.Stages.{IsAt, IsOpened, MovesTo, StopsAt, SaysAll, SaysText, course_of}
+use Rattle.rehearsal.specs.Scripts.{Filling, RunningWorld, Place, Running, Goes, Bad, MakesStep, LeadsRunning, named_client, added_outcomes, opened_course, header_of_filling}
+use Rattle.rehearsal.specs.Stages.{IsAt, IsOpened, MovesTo, StopsAtMove, SaysAll, SaysText, running_world}
 use Rattle.rehearsal.proofs.Moves.{joined-map, joined_one, StopsAt-from_all, StopsAt-from_text}
 
 pub is_true : (b : Bool) → (b ≡ false → ⊥) → b ≡ true
@@ -27,7 +27,7 @@ pub after_step : Kept → State → Place
 after_step w t = Running (record { header = w.header; clients = length w.ends; state = t })
 
 -- the place is that of the world as it is now
-pub after_step_is : (w v : Kept) (t : State) → v.header ≡ w.header → length v.ends ≡ length w.ends → after_step w t ≡ Running (course_of v t)
+pub after_step_is : (w v : Kept) (t : State) → v.header ≡ w.header → length v.ends ≡ length w.ends → after_step w t ≡ Running (running_world v t)
 unfolding after_step
 after_step_is w v t e n =
     ap (λ (h : Header). Running (record { header = h; clients = length w.ends; state = t })) (sym e)
@@ -42,7 +42,7 @@ told_is w v s t before e p q =
 
 -- the move of a step that was made
 pub made : (w : Kept) (s t : State) (step : Step) → has_client step (length w.ends) ≡ true → Steps (setting_in w.header) s step t →
-    MakesStep (course_of w s) step (Goes (after_step w t) (map outcome_text (added_outcomes s t)))
+    MakesStep (running_world w s) step (Goes (after_step w t) (map outcome_text (added_outcomes s t)))
 unfolding after_step
 made w s t step has steps = inl (has, (t, steps, refl))
 
@@ -51,7 +51,7 @@ pub MovesTo-from_step : (w v : Kept) (s t : State) (step : Step) (n : ℕ) (befo
     v.header ≡ w.header → length v.ends ≡ length w.ends → v.broken ≡ false → before ≡ w.outcomes → IsRunOf w s → IsRunOf v t →
     has_client step (length w.ends) ≡ true → Steps (setting_in w.header) s step t →
     Appends o new (flat_map outcome_text (drop (length before) v.outcomes)) →
-    MovesTo (MakesStep (course_of w s) step) n o (Ok (stage.Running v)) new
+    MovesTo (MakesStep (running_world w s) step) n o (Ok (stage.Running v)) new
 MovesTo-from_step w v s t step n before o new e ends alive b p q has steps said = (
   after_step w t,
   map outcome_text (added_outcomes s t),
@@ -64,36 +64,36 @@ MovesTo-from_step w v s t step n before o new e ends alive b p q has steps said 
 pub StopsAt-from_step : (w v : Kept) (s t : State) (step : Step) (n : ℕ) (before : List Outcome) (o new : Option (List ℕ)) (e : Stop) →
     before ≡ w.outcomes → IsRunOf w s → IsRunOf v t →
     has_client step (length w.ends) ≡ true → Steps (setting_in w.header) s step t →
-    SaysAll (drop (length before) v.outcomes) o (Err e) new → StopsAt (MakesStep (course_of w s) step) n o e new
+    SaysAll (drop (length before) v.outcomes) o (Err e) new → StopsAtMove (MakesStep (running_world w s) step) n o e new
 StopsAt-from_step w v s t step n before o new e b p q has steps said =
-    StopsAt-from_all (MakesStep (course_of w s) step) n (after_step w t) (added_outcomes s t) o new e (made w s t step has steps)
+    StopsAt-from_all (MakesStep (running_world w s) step) n (after_step w t) (added_outcomes s t) o new e (made w s t step has steps)
     (subst (λ (x : List Outcome). SaysAll x o (Err e) new) (told_is w v s t before b p q) said)
 
 -- the move of a step of no client
 pub unmade : (w : Kept) (s : State) (step : Step) → has_client step (length w.ends) ≡ false →
-    MakesStep (course_of w s) step (Goes (Running (course_of w s)) (no_client_text (named_client step) ∷ []))
+    MakesStep (running_world w s) step (Goes (Running (running_world w s)) (no_client_text (named_client step) ∷ []))
 unmade w s step has = inr (has, refl)
 
 pub MovesTo-from_none : (w v : Kept) (s : State) (step : Step) (n k : ℕ) (o new : Option (List ℕ)) → v ≡ w → w.broken ≡ false → IsRunOf w s →
     has_client step (length w.ends) ≡ false → k ≡ named_client step → Appends o new (no_client_text k) →
-    MovesTo (MakesStep (course_of w s) step) n o (Ok (stage.Running v)) new
+    MovesTo (MakesStep (running_world w s) step) n o (Ok (stage.Running v)) new
 MovesTo-from_none w v s step n k o new same alive run has named said = (
-  Running (course_of w s),
+  Running (running_world w s),
   no_client_text (named_client step) ∷ [],
-  subst (λ (u : Kept). IsAt (stage.Running u) (Running (course_of w s))) (sym same) (s, run, alive, refl),
+  subst (λ (u : Kept). IsAt (stage.Running u) (Running (running_world w s))) (sym same) (s, run, alive, refl),
   unmade w s step has,
   subst (Appends o new) (ap no_client_text named ∙ sym (joined_one (no_client_text (named_client step)))) said,
 )
 
 pub StopsAt-from_none : (w : Kept) (s : State) (step : Step) (n k : ℕ) (o new : Option (List ℕ)) (e : Stop) →
     has_client step (length w.ends) ≡ false → k ≡ named_client step → SaysText (no_client_text k) o (Err e) new →
-    StopsAt (MakesStep (course_of w s) step) n o e new
+    StopsAtMove (MakesStep (running_world w s) step) n o e new
 StopsAt-from_none w s step n k o new e has named said =
-    StopsAt-from_text (MakesStep (course_of w s) step) n (Running (course_of w s)) (no_client_text (named_client step)) o new e (unmade w s step has)
+    StopsAt-from_text (MakesStep (running_world w s) step) n (Running (running_world w s)) (no_client_text (named_client step)) o new e (unmade w s step has)
     (subst (λ (x : ℕ). SaysText (no_client_text x) o (Err e) new) named said)
 
 -- while the world runs no line but a step has a place
-pub no_step : (c : Course) (l : Line) → ((s : Step) → l ≡ line.Step s → ⊥) → LeadsRunning c l Bad
+pub no_step : (c : RunningWorld) (l : Line) → ((s : Step) → l ≡ line.Step s → ⊥) → LeadsRunning c l Bad
 no_step c (line.Step s) h = absurd (h s refl)
 no_step c (line.World x) h = refl
 no_step c (line.Seed x) h = refl
@@ -107,7 +107,7 @@ opening_of f w h =
     (subst (λ (x : Header). IsOpening x w.records) h.header h.run.opens)
 
 -- it is at its first place
-pub opened_is : (f : Filling) (w : Kept) → IsOpened f w → opened_course f ≡ course_of w (opened_course f).state
+pub opened_is : (f : Filling) (w : Kept) → IsOpened f w → opened_course f ≡ running_world w (opened_course f).state
 opened_is f w h =
-    let at : Header → ℕ → Course = λ x k. record { header = x; clients = k; state = (opened_course f).state } in
+    let at : Header → ℕ → RunningWorld = λ x k. record { header = x; clients = k; state = (opened_course f).state } in
     ap (λ (x : Header). at x (length f.clients)) (sym h.header) ∙ ap (λ (k : ℕ). at w.header k) (sym h.clients)

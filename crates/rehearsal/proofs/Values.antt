@@ -12,7 +12,7 @@ use Rattle.hex.specs.Hex.{decode_of, is_hex_digit}
 use Rattle.hex.specs.declared.error.FromHexError.{FromHexError}
 use Rattle.hex.proofs.HexLemmas.{decode_of-ok}
 use Rattle.rehearsal.specs.declared.line.Line.{Line}
-use Rattle.rehearsal.specs.Lines.{bytes32_in, is_numeral, line_of, line_of_words, number_in}
+use Rattle.rehearsal.specs.Lines.{bytes32_in, is_numeral, line_of, line_of_words, numeral_value}
 
 pub and_true : (a b : Bool) → a ≡ true → b ≡ true → (a && b) ≡ true
 and_true true true p q = refl
@@ -52,7 +52,7 @@ pass_digits (c ∷ cs) h = (
 
 -- what a number reads is its value
 pub number_is : (word : List ℕ) (limit : ℕ) (r : Option ℕ) →
-    SomeIff r (IsNumeral 10 word × (digits_value 10 word < limit)) (digits_value 10 word) → r ≡ number_in limit word
+    SomeIff r (IsNumeral 10 word × (digits_value 10 word < limit)) (digits_value 10 word) → r ≡ numeral_value limit word
 number_is word limit None h =
     nothing_of (is_numeral word && nat_lt (digits_value 10 word) limit) (digits_value 10 word)
     (λ (p : (is_numeral word && nat_lt (digits_value 10 word) limit) ≡ true).

@@ -39,12 +39,12 @@ abbrev pub is_numeral : List ℕ → Bool
 is_numeral word = nat_lt 0 (length word) && list_all (λ c. is_digit c 10) word
 
 -- the number that a numeral writes, where it is below a limit; leading zeros are as good as none
-abbrev pub number_in : ℕ → List ℕ → Option ℕ
-number_in limit word = if is_numeral word && nat_lt (digits_value 10 word) limit then Some (digits_value 10 word) else None
+abbrev pub numeral_value : ℕ → List ℕ → Option ℕ
+numeral_value limit word = if is_numeral word && nat_lt (digits_value 10 word) limit then Some (digits_value 10 word) else None
 
 -- how many bytes are handed on at most
 abbrev pub most_in : List ℕ → Option ℕ
-most_in word = if bytes_eq word (codes "all") then Some (2 ^ 64 - 1) else number_in (2 ^ 64) word
+most_in word = if bytes_eq word (codes "all") then Some (2 ^ 64 - 1) else numeral_value (2 ^ 64) word
 
 -- a scheme by its name
 abbrev pub scheme_in : List ℕ → Option Scheme
@@ -68,31 +68,31 @@ abbrev pub sizes_in : List ℕ → List ℕ → List ℕ → List ℕ → Option
 sizes_in w r g n =
     option_and_then (λ width. option_and_then (λ record_len. option_and_then (λ groups. option_map (λ dimension.
     record { width = width; record_len = record_len; groups = groups; dimension = dimension })
-    (number_in (2 ^ 16) n)) (number_in (2 ^ 16) g)) (number_in (2 ^ 16) r)) (number_in (2 ^ 8) w)
+    (numeral_value (2 ^ 16) n)) (numeral_value (2 ^ 16) g)) (numeral_value (2 ^ 16) r)) (numeral_value (2 ^ 8) w)
 
 -- the edit of a record
 abbrev pub edit_in : List ℕ → List ℕ → Option Step
-edit_in i b = option_and_then (λ index. option_map (λ bytes. step.Edit index bytes) (bytes_in b)) (number_in (2 ^ 32) i)
+edit_in i b = option_and_then (λ index. option_map (λ bytes. step.Edit index bytes) (bytes_in b)) (numeral_value (2 ^ 32) i)
 
 -- a client's greeting
 abbrev pub hello_in : List ℕ → Option Step
-hello_in k = option_map (λ client. step.Hello client) (number_in (2 ^ 64) k)
+hello_in k = option_map (λ client. step.Hello client) (numeral_value (2 ^ 64) k)
 
 -- a client's ask for a hint
 abbrev pub sync_in : List ℕ → List ℕ → Option Step
-sync_in k s = option_and_then (λ client. option_map (λ scheme. step.Sync client scheme) (scheme_in s)) (number_in (2 ^ 64) k)
+sync_in k s = option_and_then (λ client. option_map (λ scheme. step.Sync client scheme) (scheme_in s)) (numeral_value (2 ^ 64) k)
 
 -- a client's ask for a record
 abbrev pub ask_in : List ℕ → List ℕ → Option Step
-ask_in k i = option_and_then (λ client. option_map (λ index. step.Ask client index) (number_in (2 ^ 32) i)) (number_in (2 ^ 64) k)
+ask_in k i = option_and_then (λ client. option_map (λ index. step.Ask client index) (numeral_value (2 ^ 32) i)) (numeral_value (2 ^ 64) k)
 
 -- a delivery to the server
 abbrev pub to_server_in : List ℕ → List ℕ → Option Step
-to_server_in k n = option_and_then (λ client. option_map (λ most. step.ToServer client most) (most_in n)) (number_in (2 ^ 64) k)
+to_server_in k n = option_and_then (λ client. option_map (λ most. step.ToServer client most) (most_in n)) (numeral_value (2 ^ 64) k)
 
 -- a delivery to a client
 abbrev pub to_client_in : List ℕ → List ℕ → Option Step
-to_client_in k n = option_and_then (λ client. option_map (λ most. step.ToClient client most) (most_in n)) (number_in (2 ^ 64) k)
+to_client_in k n = option_and_then (λ client. option_map (λ most. step.ToClient client most) (most_in n)) (numeral_value (2 ^ 64) k)
 
 -- a name with one word after it
 abbrev pub line_of_one : List ℕ → List ℕ → Option Line

@@ -29,7 +29,7 @@ pub record Filling : Type 0 where
   pub clients : List (List ℕ)
 
 -- a world that runs: what it was opened with, how many clients it has, and its state
-pub record Course : Type 0 where
+pub record RunningWorld : Type 0 where
   pub header : Header
   pub clients : ℕ
   pub state : State
@@ -39,7 +39,7 @@ pub data Place : Type 0 where
   Start : Place
   Sized : (sizes : Sizes) → Place
   Filled : (filling : Filling) → Place
-  Running : (course : Course) → Place
+  Running : (course : RunningWorld) → Place
 
 -- what a line leads to: the next place and the texts that are printed on the way, or an end of the script
 pub data Move : Type 0 where
@@ -92,7 +92,7 @@ header_of_filling f = record {
 }
 
 -- the world as it is opened
-abbrev pub opened_course : Filling → Course
+abbrev pub opened_course : Filling → RunningWorld
 opened_course f = record {
   header = header_of_filling f;
   clients = length f.clients;
@@ -100,7 +100,7 @@ opened_course f = record {
 }
 
 -- it is opened and goes on, or it is refused for a fault of what it is opened with
-abbrev pub Opens : Filling → (Course → Move → Type 0) → Move → Type 0
+abbrev pub Opens : Filling → (RunningWorld → Move → Type 0) → Move → Type 0
 Opens f goes move =
     (IsOpening (header_of_filling f) f.records × goes (opened_course f) move)
     ⊎ ((fault : OpenError) × (fault ≢ opening_error.Memory) × IsOpenFault (header_of_filling f) f.records fault × (move ≡ Refused fault))
@@ -119,7 +119,7 @@ abbrev pub added_outcomes : State → State → List Outcome
 added_outcomes s t = drop (length (outcomes_of s.log)) (outcomes_of t.log)
 
 -- a step is made, and each outcome that it adds is told; or it names a client that there is none of
-abbrev pub MakesStep : Course → Step → Move → Type 0
+abbrev pub MakesStep : RunningWorld → Step → Move → Type 0
 MakesStep c s move =
     ((has_client s c.clients ≡ true)
     × ((t : State)
@@ -138,7 +138,7 @@ LeadsFilled f (line.Client seed) move = move ≡ client_move f seed
 LeadsFilled f _ move = move ≡ Bad
 
 -- what a line leads to while the world runs
-abbrev pub LeadsRunning : Course → Line → Move → Type 0
+abbrev pub LeadsRunning : RunningWorld → Line → Move → Type 0
 LeadsRunning c (line.Step s) move = MakesStep c s move
 LeadsRunning c _ move = move ≡ Bad
 
@@ -170,20 +170,20 @@ LeadsAtEnd place move = move ≡ Bad
 -- ---- scripts
 
 -- texts one after another
-abbrev pub joined : List (List ℕ) → List ℕ
-joined texts = flat_map (λ text. text) texts
+abbrev pub joined_texts : List (List ℕ) → List ℕ
+joined_texts texts = flat_map (λ text. text) texts
 
 -- there was no memory: one line says so, and nothing comes after it
 abbrev pub IsOutOfMemory : List ℕ → ℕ → Type 0
 IsOutOfMemory printed status = (printed ≡ memory_text) × (status ≡ 4)
 
 -- what is printed from a move on, and the status. The number is that of the line. Memory may be refused after any of the texts.
-abbrev pub Follows : ℕ → (Place → List ℕ → ℕ → Type 0) → Move → List ℕ → ℕ → Type 0
-Follows number then_ (Goes next texts) printed status =
-    ((rest : List ℕ) × (printed ≡ joined texts ++ rest) × then_ next rest status)
-    ⊎ ((k : ℕ) × (printed ≡ joined (take k texts) ++ memory_text) × (status ≡ 4))
-Follows number then_ Bad printed status = (printed ≡ bad_line_text number) × (status ≡ 3)
-Follows number then_ (Refused fault) printed status = (printed ≡ refused_world_text fault) × (status ≡ 3)
+abbrev pub FollowsMove : ℕ → (Place → List ℕ → ℕ → Type 0) → Move → List ℕ → ℕ → Type 0
+FollowsMove number then_ (Goes next texts) printed status =
+    ((rest : List ℕ) × (printed ≡ joined_texts texts ++ rest) × then_ next rest status)
+    ⊎ ((k : ℕ) × (printed ≡ joined_texts (take k texts) ++ memory_text) × (status ≡ 4))
+FollowsMove number then_ Bad printed status = (printed ≡ bad_line_text number) × (status ≡ 3)
+FollowsMove number then_ (Refused fault) printed status = (printed ≡ refused_world_text fault) × (status ≡ 3)
 
 -- a script that was played to its end prints nothing more
 abbrev pub IsOver : Place → List ℕ → ℕ → Type 0
@@ -192,10 +192,10 @@ IsOver place printed status = (printed ≡ []) × (status ≡ 0)
 -- What these lines print from a place on, and the status. The number is that of the next line. Memory may be refused at any of them.
 abbrev pub Plays : List (List ℕ) → Place → ℕ → List ℕ → ℕ → Type 0
 Plays [] place number printed status =
-    IsOutOfMemory printed status ⊎ ((move : Move) × LeadsAtEnd place move × Follows number IsOver move printed status)
+    IsOutOfMemory printed status ⊎ ((move : Move) × LeadsAtEnd place move × FollowsMove number IsOver move printed status)
 Plays (text ∷ texts) place number printed status =
     IsOutOfMemory printed status
-    ⊎ ((move : Move) × LeadsText place text move × Follows number (λ next rest s. Plays texts next (number + 1) rest s) move printed status)
+    ⊎ ((move : Move) × LeadsText place text move × FollowsMove number (λ next rest s. Plays texts next (number + 1) rest s) move printed status)
 
 -- What a script prints, and the status: it is played, or it is too long. These are its bytes as far as they were read; `left` are those after them.
 abbrev pub IsRehearsal : List ℕ → Option (List ℕ) → List ℕ → ℕ → Type 0

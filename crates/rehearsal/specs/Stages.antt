@@ -15,22 +15,22 @@ use Rattle.rehearsal.specs.declared.stop.Stop.TheVariants as stop
 use Rattle.rehearsal.specs.declared.play.RehearseFault.{RehearseFault}
 use Rattle.rehearsal.specs.declared.play.RehearseFault.TheVariants as fault
 use Rattle.rehearsal.specs.Texts.{outcome_text, bad_line_text, refused_world_text, too_long_text, memory_text}
-use Rattle.rehearsal.specs.Scripts.{Filling, Course, Place, Move, Start, Sized, Filled, Running, Goes, Bad, Refused, header_of_filling, joined}
+use Rattle.rehearsal.specs.Scripts.{Filling, RunningWorld, Place, Move, Start, Sized, Filled, Running, Goes, Bad, Refused, header_of_filling, joined_texts}
 
 -- what a header has said
 abbrev pub filling_of : Opening → Filling
 filling_of o = record { sizes = o.sizes; seed = o.seed; records = o.records.items; count = o.count; clients = o.clients.items }
 
 -- a world in a state
-abbrev pub course_of : Kept → State → Course
-course_of w s = record { header = w.header; clients = length w.ends; state = s }
+abbrev pub running_world : Kept → State → RunningWorld
+running_world w s = record { header = w.header; clients = length w.ends; state = s }
 
 -- a stage is at a place: of a world, its steps lead to the state
 abbrev pub IsAt : Stage → Place → Type 0
 IsAt stage.Start place = place ≡ Start
 IsAt (stage.Sized sizes) place = place ≡ Sized sizes
 IsAt (stage.Filling o) place = place ≡ Filled (filling_of o)
-IsAt (stage.Running w) place = (s : State) × IsRunOf w s × (w.broken ≡ false) × (place ≡ Running (course_of w s))
+IsAt (stage.Running w) place = (s : State) × IsRunOf w s × (w.broken ≡ false) × (place ≡ Running (running_world w s))
 
 -- what the outcomes' lines are, after a fault those that were printed before it, or a part of them
 abbrev pub SaysAll : List Outcome → Option (List ℕ) → Result (Unit {0}) Stop → Option (List ℕ) → Type 0
@@ -41,21 +41,21 @@ SaysAll outcomes old (Err stop.Write) new =
 SaysAll outcomes old (Err _) new = ⊥
 
 -- why a script ends at moves of a kind, and what was printed on the way
-abbrev pub StopsAt : (Move → Type 0) → ℕ → Option (List ℕ) → Stop → Option (List ℕ) → Type 0
-StopsAt Makes number old (stop.BadLine n) new = (n ≡ number) × Makes Bad × Appends old new []
-StopsAt Makes number old (stop.World fault) new = Makes (Refused fault) × Appends old new []
-StopsAt Makes number old stop.Memory new =
+abbrev pub StopsAtMove : (Move → Type 0) → ℕ → Option (List ℕ) → Stop → Option (List ℕ) → Type 0
+StopsAtMove Makes number old (stop.BadLine n) new = (n ≡ number) × Makes Bad × Appends old new []
+StopsAtMove Makes number old (stop.World fault) new = Makes (Refused fault) × Appends old new []
+StopsAtMove Makes number old stop.Memory new =
     Appends old new []
-    ⊎ ((next : Place) × (texts : List (List ℕ)) × (k : ℕ) × Makes (Goes next texts) × Appends old new (joined (take k texts)))
-StopsAt Makes number old stop.Write new =
-    (next : Place) × (texts : List (List ℕ)) × (k : ℕ) × Makes (Goes next texts) × (k < length (joined texts)) × Appends old new (take k (joined texts))
-StopsAt Makes number old _ new = ⊥
+    ⊎ ((next : Place) × (texts : List (List ℕ)) × (k : ℕ) × Makes (Goes next texts) × Appends old new (joined_texts (take k texts)))
+StopsAtMove Makes number old stop.Write new =
+    (next : Place) × (texts : List (List ℕ)) × (k : ℕ) × Makes (Goes next texts) × (k < length (joined_texts texts)) × Appends old new (take k (joined_texts texts))
+StopsAtMove Makes number old _ new = ⊥
 
 -- one of these moves is made, and its texts are printed
 abbrev pub MovesTo : (Move → Type 0) → ℕ → Option (List ℕ) → Result Stage Stop → Option (List ℕ) → Type 0
 MovesTo Makes number old (Ok s) new =
-    (next : Place) × (texts : List (List ℕ)) × IsAt s next × Makes (Goes next texts) × Appends old new (joined texts)
-MovesTo Makes number old (Err e) new = StopsAt Makes number old e new
+    (next : Place) × (texts : List (List ℕ)) × IsAt s next × Makes (Goes next texts) × Appends old new (joined_texts texts)
+MovesTo Makes number old (Err e) new = StopsAtMove Makes number old e new
 
 -- one of these moves is made, and nothing is printed
 abbrev pub MovesQuietly : (Move → Type 0) → ℕ → Result Stage Stop → Type 0
@@ -108,7 +108,7 @@ last_status stop.Memory = 4
 last_status _ = 3
 
 -- bytes that were printed, the first of a script's
-pub record IsCutOff (Prints : List ℕ → ℕ → Type 0) (old new : Option (List ℕ)) : Type 0 where
+pub record IsCutShort (Prints : List ℕ → ℕ → Type 0) (old new : Option (List ℕ)) : Type 0 where
   pub printed : List ℕ
   pub status : ℕ
   pub count : ℕ
@@ -125,7 +125,7 @@ pub record IsBefore (Prints : List ℕ → ℕ → Type 0) (e : Stop) (old new :
 
 -- how a script ends early
 abbrev pub StopsScript : (List ℕ → ℕ → Type 0) → Option (List ℕ) → Stop → Option (List ℕ) → Type 0
-StopsScript Prints old stop.Write new = IsCutOff Prints old new
+StopsScript Prints old stop.Write new = IsCutShort Prints old new
 StopsScript Prints old stop.Read new = ⊥
 StopsScript Prints old e new = IsBefore Prints e old new
 
@@ -148,11 +148,11 @@ IsTold stop.Write = ⊥
 IsTold _ = Unit {0}
 
 -- what is printed of an end: its last line; or that there was no memory for it; after a fault a part of these
-abbrev pub Reports : Stop → Option (List ℕ) → Result ℕ RehearseFault → Option (List ℕ) → Type 0
-Reports e old (Ok status) new =
+abbrev pub ReportsEnd : Stop → Option (List ℕ) → Result ℕ RehearseFault → Option (List ℕ) → Type 0
+ReportsEnd e old (Ok status) new =
     IsTold e × ((Appends old new (last_text e) × (status ≡ last_status e)) ⊎ (Appends old new memory_text × (status ≡ 4)))
-Reports e old (Err fault.Read) new = (e ≡ stop.Read) × Appends old new []
-Reports e old (Err fault.Write) new =
+ReportsEnd e old (Err fault.Read) new = (e ≡ stop.Read) × Appends old new []
+ReportsEnd e old (Err fault.Write) new =
     ((e ≡ stop.Write) × Appends old new [])
     ⊎ (IsTold e × ((k : ℕ) × (k < length (last_text e)) × Appends old new (take k (last_text e))))
     ⊎ (IsTold e × ((k : ℕ) × (k < length memory_text) × Appends old new (take k memory_text)))

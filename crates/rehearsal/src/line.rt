@@ -3,7 +3,7 @@
 ghost use Rattle.std.specs.Prelude.{◌≡◌, ◌==◌, ◌<◌, ◌^◌, ◌∷◌, [], IfOk, MatchOption, map, true};
 ghost use Rattle.std.specs.List.{slice_split};
 ghost use Rattle.std.specs.Option.{option_map};
-ghost use Rattle.rehearsal.specs.Lines.{ask_in, bytes32_in, bytes_in, edit_in, hello_in, line_of, line_of_one, line_of_two, line_of_words, most_in, number_in, scheme_in, sizes_in, sync_in, to_client_in, to_server_in};
+ghost use Rattle.rehearsal.specs.Lines.{ask_in, bytes32_in, bytes_in, edit_in, hello_in, line_of, line_of_one, line_of_two, line_of_words, most_in, numeral_value, scheme_in, sizes_in, sync_in, to_client_in, to_server_in};
 
 use client_core::Scheme;
 use command_words::{bytes32_from_hex, decimal};
@@ -222,7 +222,7 @@ fn sizes_of(width: &str, record_len: &str, groups: &str, dimension: &str) -> Opt
 
 /// A number of bits.
 fn width_of(text: &str) -> Option<u8>
-    ensures { result ≡ number_in (2 ^ 8) text.now }
+    ensures { result ≡ numeral_value (2 ^ 8) text.now }
 {
     let number = number_of(text)?;
     u8::try_from(number).ok()
@@ -230,7 +230,7 @@ fn width_of(text: &str) -> Option<u8>
 
 /// A number of bytes, records or words.
 fn size_of(text: &str) -> Option<u16>
-    ensures { result ≡ number_in (2 ^ 16) text.now }
+    ensures { result ≡ numeral_value (2 ^ 16) text.now }
 {
     let number = number_of(text)?;
     u16::try_from(number).ok()
@@ -238,7 +238,7 @@ fn size_of(text: &str) -> Option<u16>
 
 /// A record's index.
 fn index_of(text: &str) -> Option<u32>
-    ensures { result ≡ number_in (2 ^ 32) text.now }
+    ensures { result ≡ numeral_value (2 ^ 32) text.now }
 {
     let number = number_of(text)?;
     u32::try_from(number).ok()
@@ -246,7 +246,7 @@ fn index_of(text: &str) -> Option<u32>
 
 /// A client's number.
 fn client_of(text: &str) -> Option<usize>
-    ensures { result ≡ number_in (2 ^ 64) text.now }
+    ensures { result ≡ numeral_value (2 ^ 64) text.now }
 {
     let number = number_of(text)?;
     Some(number as usize)
@@ -254,7 +254,7 @@ fn client_of(text: &str) -> Option<usize>
 
 /// A number.
 fn number_of(text: &str) -> Option<u64>
-    ensures { result ≡ number_in (2 ^ 64) text.now }
+    ensures { result ≡ numeral_value (2 ^ 64) text.now }
 {
     decimal(text)
 }

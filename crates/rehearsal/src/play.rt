@@ -4,7 +4,7 @@ ghost use Rattle.std.specs.Prelude.{◌≡◌, ◌≤◌, ◌<◌, ◌⊎◌, �
 ghost use Rattle.std.specs.Io.KnownBytes.{Appends, Consumes};
 ghost use Rattle.rehearsal.specs.Lines.{is_silent, lines_of};
 ghost use Rattle.rehearsal.specs.Scripts.{IsRehearsal, LeadsText, Place, Plays, Start};
-ghost use Rattle.rehearsal.specs.Stages.{IsAt, IsEarly, MovesTo, PlaysScript, Reports, SaysText, last_text};
+ghost use Rattle.rehearsal.specs.Stages.{IsAt, IsEarly, MovesTo, PlaysScript, ReportsEnd, SaysText, last_text};
 
 use crate::input::read_script;
 use crate::line::read_line;
@@ -66,7 +66,7 @@ pub fn rehearse<R: Read, W: Write>(
 
 /// Prints why a rehearsal ended before its script, and answers the status.
 fn report<W: Write>(alloc: Global, stop: Stop, writer: &mut W) -> Result<u8, RehearseFault>
-    ensures printed { Reports stop (W.contents writer.old) result (W.contents writer.new) }
+    ensures printed { ReportsEnd stop (W.contents writer.old) result (W.contents writer.new) }
     ensures status { IfOk result (λ status. (status ≡ 3) ⊎ (status ≡ 4)) }
 {
     match stop {
@@ -82,7 +82,7 @@ fn report<W: Write>(alloc: Global, stop: Stop, writer: &mut W) -> Result<u8, Reh
 /// Prints the last line of a script that ended early, or that there was no memory for it.
 fn report_end<W: Write>(alloc: Global, stop: Stop, writer: &mut W) -> Result<u8, RehearseFault>
     requires { IsEarly stop }
-    ensures printed { Reports stop (W.contents writer.old) result (W.contents writer.new) }
+    ensures printed { ReportsEnd stop (W.contents writer.old) result (W.contents writer.new) }
     ensures status { IfOk result (λ status. (status ≡ 3) ⊎ (status ≡ 4)) }
 {
     match say_end(alloc, stop, writer) {
@@ -119,7 +119,7 @@ fn say_end<W: Write>(alloc: Global, stop: Stop, writer: &mut W) -> Result<(), St
 
 /// Prints that there was no memory. This takes none.
 fn report_memory<W: Write>(writer: &mut W) -> Result<u8, RehearseFault>
-    ensures printed { Reports Stop.Memory (W.contents writer.old) result
+    ensures printed { ReportsEnd Stop.Memory (W.contents writer.old) result
         (W.contents writer.new) }
     ensures status { IfOk result (λ status. status ≡ 4) }
 {

@@ -5,7 +5,7 @@ ghost use Rattle.pir_world.specs.Runs.{State};
 ghost use Rattle.pir_world.specs.Worlds.{IsRunOf};
 ghost use Rattle.rehearsal.specs.Texts.{no_client_text};
 ghost use Rattle.rehearsal.specs.Scripts.{Leads, LeadsAtEnd, LeadsFilled, MakesStep, Place, client_move, named_client, record_move, sized_move, start_move};
-ghost use Rattle.rehearsal.specs.Stages.{EndsAs, IsAt, MovesQuietly, MovesTo, OpensWorld, SaysAll, SaysText, course_of, filling_of};
+ghost use Rattle.rehearsal.specs.Stages.{EndsAs, IsAt, MovesQuietly, MovesTo, OpensWorld, SaysAll, SaysText, running_world, filling_of};
 
 use crate::line::{Line, Sizes};
 use crate::outcome::outcome_line;
@@ -230,7 +230,7 @@ fn make_step<W: Write>(
     writer: &mut W,
 ) -> Result<Stage, Stop>
     ensures { (s : State) (number : ℕ) → IsRunOf world s → world.broken ≡ false →
-        MovesTo (MakesStep (course_of world s) step) number
+        MovesTo (MakesStep (running_world world s) step) number
         (W.contents writer.old) result (W.contents writer.new) }
 {
     let client = client_of(&step);

@@ -170,11 +170,12 @@ fn the_servers_stream_may_end(rt: HostRuntime) -> Result<(), Fail> {
 
 #[test]
 fn a_reader_that_fails(rt: HostRuntime) -> Result<(), Fail> {
-    for len in [0, 26] {
+    let welcome = joined(rt.alloc(), &[WELCOME, &ZEROS])?;
+    for len in 0..58 {
         let mut client = client(rt.alloc());
         let first = hello(&mut client, ZEROS)?;
         let mut reader = Input {
-            bytes: &WELCOME[..len],
+            bytes: welcome.get(..len).unwrap_or(&[]),
             most: 9,
             fails: true,
         };
@@ -195,7 +196,7 @@ fn a_reader_that_fails(rt: HostRuntime) -> Result<(), Fail> {
 
 #[test]
 fn a_writer_that_fails_or_takes_nothing(rt: HostRuntime) -> Result<(), Fail> {
-    for room in [0, 30] {
+    for room in 0..39 {
         for fails in [false, true] {
             let mut client = client(rt.alloc());
             let first = hello(&mut client, ZEROS)?;

@@ -17,13 +17,15 @@ pub returns-clause-transcript : goal.returns-clause-transcript
 returns-clause-transcript g c =
     let hello = called (Hello c.args.key) _ _ c.hello-sent.result (Ok c.in_ok-exchange.field-0) _ _ _ _ _ c.hello-sent.ensures.accepted
     c.hello-sent.ensures.refused c.hello-sent.ensures.reader c.in_ok-exchange.ensures in
-    let then = called (Edit c.args.index c.args.bytes.now) _ _ c.edit-sent.result c.exchange-2.result _ _ _ _ _ c.edit-sent.ensures.accepted c.edit-sent.ensures.refused
+    let then =
+    called (Edit c.args.index c.args.bytes.now) _ _ c.edit-sent.result c.exchange-2.result _ _ _ _ _ c.edit-sent.ensures.accepted c.edit-sent.ensures.refused
     c.edit-sent.ensures.reader c.exchange-2.ensures in
     after_call (Hello c.args.key) (Calls (Edit c.args.index c.args.bytes.now) ∷ []) _ _ _ _ _ _ _ c.in_ok-exchange.field-0 _ c.exchange-2.result _ hello
     (last_call (Edit c.args.index c.args.bytes.now) [] _ _ _ _ _ c.exchange-2.result _ (end c.exchange-2.result) then)
 
 pub returns-clause-done : goal.returns-clause-done
 returns-clause-done g c =
-    let then = called (Edit c.args.index c.args.bytes.now) _ _ c.edit-sent.result c.exchange-2.result _ _ _ _ _ c.edit-sent.ensures.accepted c.edit-sent.ensures.refused
+    let then =
+    called (Edit c.args.index c.args.bytes.now) _ _ c.edit-sent.result c.exchange-2.result _ _ _ _ _ c.edit-sent.ensures.accepted c.edit-sent.ensures.refused
     c.edit-sent.ensures.reader c.exchange-2.ensures in
     edit_ends c.args.index c.args.bytes.now _ c.exchange-2.result then.0 then.1 _ _ then.4

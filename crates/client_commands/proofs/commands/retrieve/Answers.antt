@@ -62,5 +62,6 @@ returns-clause-record g c =
 pub returns-clause-bare : goal.returns-clause-bare
 returns-clause-bare g c =
     let e = c.in_ok-exchange.ensures in
-    on_answer c.exchange-3.result _ (bare_before (replicate 32 0) c.args.client.now c.hello-sent.new.self c.hello-sent.result c.in_ok-exchange.field-0 e.0 e.1 _ _ c.hello-sent.ensures.accepted
+    on_answer c.exchange-3.result _
+    (bare_before (replicate 32 0) c.args.client.now c.hello-sent.new.self c.hello-sent.result c.in_ok-exchange.field-0 e.0 e.1 _ _ c.hello-sent.ensures.accepted
     c.hello-sent.ensures.hint e.4)

@@ -21,11 +21,25 @@ returns-in-Err-converse g c =
 pub returns-in-None : goal.returns-in-None
 returns-in-None g c =
     let e = c.in-Ok-converse.ensures in
-    let told = event_is_told _ c.deref.result.now c.in-Ok-converse.event None e.0 e.1 None _ (sym c.said_against.ensures ∙ c.in-None.is) e.5 in
-    (e.0, e.1, e.2, e.3, call_is_answered _ c.args.sent c.in-Ok.first c.deref.result.now (Ok c.in-Ok-converse.event) e.0 e.1 _ _ c.in-Ok.is c.deref.ensures.value told)
+    let told = event_is_told _ c.deref.result.now c.in-Ok-converse.event None e.0 e.1 None _ (sym c.said_against.ensures ∙ c.in-None.is) e.5 in (
+      e.0,
+      e.1,
+      e.2,
+      e.3,
+      call_is_answered _ c.args.sent c.in-Ok.first c.deref.result.now (Ok c.in-Ok-converse.event)
+          e.0 e.1 _ _ c.in-Ok.is c.deref.ensures.value told,
+    )
 
 pub returns : goal.returns
 returns g c =
     let e = c.in-Ok-converse.ensures in
-    let told = event_is_told _ c.deref.result.now c.in-Ok-converse.event (Some c.in-Some.failure) e.0 e.1 (g.R.Read.remaining c.converse.new.reader) _ (sym c.said_against.ensures ∙ c.in-Some.is) e.5 in
-    (e.0, e.1, e.2, e.3, call_is_answered _ c.args.sent c.in-Ok.first c.deref.result.now (Err c.in-Some.failure) e.0 e.1 _ _ c.in-Ok.is c.deref.ensures.value told)
+    let told =
+    event_is_told _ c.deref.result.now c.in-Ok-converse.event (Some c.in-Some.failure) e.0 e.1 (g.R.Read.remaining c.converse.new.reader) _
+    (sym c.said_against.ensures ∙ c.in-Some.is) e.5 in (
+      e.0,
+      e.1,
+      e.2,
+      e.3,
+      call_is_answered _ c.args.sent c.in-Ok.first c.deref.result.now (Err c.in-Some.failure)
+          e.0 e.1 _ _ c.in-Ok.is c.deref.ensures.value told,
+    )

@@ -1,6 +1,6 @@
 use Rattle.std.proofs.Common.{◌≤◌, length, subst, sym, ℕ, List}
 use Rattle.std.specs.Io.KnownBytes.{Consumes}
-use Rattle.rehearsal.specs.Stages.{Reports}
+use Rattle.rehearsal.specs.Stages.{ReportsEnd}
 use Rattle.rehearsal.proofs.Ending.{if_done, reading_done, reading_cut, playing_done, playing_cut}
 use Rattle.rehearsal.proofs.play.rehearse.Goals as goal
 
@@ -16,7 +16,7 @@ pub returns-in-Err-clause-cut : goal.returns-in-Err-clause-cut
 returns-in-Err-clause-cut g c = λ e.
     reading_cut (g.R.Read.remaining c.args.reader.now) (g.R.Read.remaining c.read_script.new.reader) (g.W.Write.contents c.args.writer.now)
     (g.W.Write.contents c.report.new.writer) c.in-Err.stop c.in-Err.ensures.stops
-    (subst (λ r. Reports c.in-Err.stop (g.W.Write.contents c.args.writer.now) r (g.W.Write.contents c.report.new.writer)) e c.report.ensures.printed)
+    (subst (λ r. ReportsEnd c.in-Err.stop (g.W.Write.contents c.args.writer.now) r (g.W.Write.contents c.report.new.writer)) e c.report.ensures.printed)
 
 pub returns-clause-done : goal.returns-clause-done
 returns-clause-done g c =
@@ -40,5 +40,5 @@ returns-clause-cut g c = λ e.
     playing_cut c.as_slice.result.now (g.R.Read.remaining c.args.reader.now) (g.R.Read.remaining c.read_script.new.reader)
     (g.W.Write.contents c.args.writer.now) (g.W.Write.contents c.play.new.writer) (g.W.Write.contents c.report-in-Err-play.new.writer)
     c.in-Err-play.stop read c.in-Ok.ensures.end within c.in-Err-play.ensures
-    (subst (λ r. Reports c.in-Err-play.stop (g.W.Write.contents c.play.new.writer) r (g.W.Write.contents c.report-in-Err-play.new.writer)) e
+    (subst (λ r. ReportsEnd c.in-Err-play.stop (g.W.Write.contents c.play.new.writer) r (g.W.Write.contents c.report-in-Err-play.new.writer)) e
     c.report-in-Err-play.ensures.printed)

@@ -4,7 +4,7 @@ use Rattle.rehearsal.specs.declared.line.Line.{Line}
 use Rattle.rehearsal.specs.declared.stage.Stage.{Stage}
 use Rattle.rehearsal.specs.declared.stage.Stage.TheVariants as stage
 use Rattle.rehearsal.specs.Scripts.{Place, Running, Leads, Bad}
-use Rattle.rehearsal.specs.Stages.{IsAt, MovesTo, course_of}
+use Rattle.rehearsal.specs.Stages.{IsAt, MovesTo, running_world}
 use Rattle.rehearsal.proofs.Stepping.{no_step}
 use Rattle.rehearsal.proofs.stage.Stage.take.Goals as goal
 
@@ -16,7 +16,7 @@ returns-in-Step g c = λ place at.
     (g.W.Write.contents c.make_step.new.writer))
     (sym a.3)
     (subst
-    (λ (l : Line). MovesTo (Leads (Running (course_of c.in-Running.world a.0)) l) c.args.number (g.W.Write.contents c.args.writer.now)
+    (λ (l : Line). MovesTo (Leads (Running (running_world c.in-Running.world a.0)) l) c.args.number (g.W.Write.contents c.args.writer.now)
     c.make_step.result (g.W.Write.contents c.make_step.new.writer))
     (sym c.in-Step.is) (c.make_step.ensures a.0 c.args.number a.1 a.2))
 
@@ -24,6 +24,6 @@ pub returns : goal.returns
 returns g c = λ place at.
     let a : IsAt (stage.Running c.in-Running.world) place = subst (λ (s : Stage). IsAt s place) c.in-Running.is at in (
       refl,
-      subst (λ (p : Place). Leads p c.args.line Bad) (sym a.3) (no_step (course_of c.in-Running.world a.0) c.args.line c.in_default.not-Step),
+      subst (λ (p : Place). Leads p c.args.line Bad) (sym a.3) (no_step (running_world c.in-Running.world a.0) c.args.line c.in_default.not-Step),
       Appends-nil (g.W.Write.contents c.args.writer.now),
     )
