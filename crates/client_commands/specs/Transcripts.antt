@@ -1,4 +1,4 @@
--- What a command says and hears, step by step.
+-- What a command sends and receives, step by step.
 use Rattle.std.specs.Prelude.{◌≡◌, ◌≤◌, ◌<◌, ◌⊎◌, ℕ, List, [], ◌∷◌, ◌++◌, Option, Some, None, Result, Ok, Err, replicate}
 use Rattle.std.specs.Io.KnownBytes.{Consumes}
 use Rattle.std.specs.declared.vec.Vec.{Vec}
@@ -134,12 +134,12 @@ abbrev pub IsDoneVersion : Event → Type 0
 IsDoneVersion (event.Done version) = Unit {0}
 IsDoneVersion _ = ⊥
 
--- a record that was answered, as the event that told it
+-- a record that was answered, as the event that reported it
 abbrev pub as_retrieved : Result Retrieved CommandError → Result Event CommandError
 as_retrieved (Ok r) = Ok (event.Retrieved r.index r.version r.bytes)
 as_retrieved (Err fault) = Err fault
 
--- a version that was answered, as the event that told it
+-- a version that was answered, as the event that reported it
 abbrev pub as_done : Result ℕ CommandError → Result Event CommandError
 as_done (Ok version) = Ok (event.Done version)
 as_done (Err fault) = Err fault

@@ -83,7 +83,7 @@ impl<K: Kernel> ClientCore<K> {
         self.state.number
     }
 
-    /// What the server told of its store: `None` before the Welcome.
+    /// What the server reported of its store: `None` before the Welcome.
     pub fn known(&self) -> Option<ServerInfo>
         ensures { result ≡ self.now.state.known }
     {

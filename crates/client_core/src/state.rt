@@ -7,7 +7,7 @@ use matrix_u32::Matrix;
 use pir_schemes::Scheme;
 use thiserror::Error;
 
-/// What the server told of its store: the last version known, the layout with that version's count of
+/// What the server reported of its store: the last version known, the layout with that version's count of
 /// records, the dimension n of the public matrix and the seed of its words.
 #[derive(Clone, Copy, Debug, PartialEq, Eq)]
 pub struct ServerInfo {

@@ -85,7 +85,7 @@ fn printed(said: io::Result<()>) -> Result<(), Failure> {
 /// The words of a secret with the publication's parameters.
 const WHOLE_SECRET: usize = 1024;
 
-// Warns of secrets of fewer words, once the server told their number.
+// Warns of secrets of fewer words, once the server has reported their number.
 fn warn_of_short_secrets(rt: &HostRuntime, client: &ClientCore<Lanes>) {
     if let Some(known) = client.known() {
         let dimension = known.dimension;

@@ -10,7 +10,7 @@ use Rattle.rehearsal.specs.declared.stop.Stop.TheVariants as stop
 use Rattle.rehearsal.specs.Texts.{memory_text, too_long_text}
 use Rattle.rehearsal.specs.Lines.{lines_of}
 use Rattle.rehearsal.specs.Scripts.{Start, Plays, IsRehearsal}
-use Rattle.rehearsal.specs.Stages.{IsBefore, IsEarly, IsTold, StopsScript, StopsReading, ReportsEnd, SaysText, last_text, last_status}
+use Rattle.rehearsal.specs.Stages.{IsBefore, IsEarly, HasLastLine, StopsScript, StopsReading, ReportsEnd, SaysText, last_text, last_status}
 
 -- nothing more was written
 pub and_nothing : (a b c : Option (List ℕ)) (said : List ℕ) → Appends a b said → Appends b c [] → Appends a c said
@@ -25,26 +25,26 @@ early_done stop.Read o n h said = absurd h
 early_done stop.Write o n h said = absurd h
 early_done stop.Memory o n h said = absurd h
 
-pub early_told : (e : Stop) → IsEarly e → IsTold e
-early_told stop.TooLong h = tt
-early_told (stop.BadLine m) h = tt
-early_told (stop.World f) h = tt
-early_told stop.Read h = absurd h
-early_told stop.Write h = absurd h
-early_told stop.Memory h = absurd h
+pub early_has_line : (e : Stop) → IsEarly e → HasLastLine e
+early_has_line stop.TooLong h = tt
+early_has_line (stop.BadLine m) h = tt
+early_has_line (stop.World f) h = tt
+early_has_line stop.Read h = absurd h
+early_has_line stop.Write h = absurd h
+early_has_line stop.Memory h = absurd h
 
 -- an end for which there was no memory
 pub early_memory : (e : Stop) (o m n : Option (List ℕ)) (r : Result ℕ RehearseFault) → IsEarly e → Appends o m [] → ReportsEnd stop.Memory m r n → ReportsEnd e o r n
-early_memory e o m n (Ok status) h p (x, inl q) = (early_told e h, inr (Appends-trans o m n [] memory_text p q.0, q.1))
-early_memory e o m n (Ok status) h p (x, inr q) = (early_told e h, inr (Appends-trans o m n [] memory_text p q.0, q.1))
+early_memory e o m n (Ok status) h p (x, inl q) = (early_has_line e h, inr (Appends-trans o m n [] memory_text p q.0, q.1))
+early_memory e o m n (Ok status) h p (x, inr q) = (early_has_line e h, inr (Appends-trans o m n [] memory_text p q.0, q.1))
 early_memory e o m n (Err fault.Read) h p q = let bad : stop.Memory ≡ stop.Read = q.0 in cc
 early_memory e o m n (Err fault.Write) h p (inl q) = let bad : stop.Memory ≡ stop.Write = q.0 in cc
-early_memory e o m n (Err fault.Write) h p (inr (inl (x, q))) = inr (inr (early_told e h, (q.0, q.1, Appends-trans o m n [] (take q.0 memory_text) p q.2)))
-early_memory e o m n (Err fault.Write) h p (inr (inr (x, q))) = inr (inr (early_told e h, (q.0, q.1, Appends-trans o m n [] (take q.0 memory_text) p q.2)))
+early_memory e o m n (Err fault.Write) h p (inr (inl (x, q))) = inr (inr (early_has_line e h, (q.0, q.1, Appends-trans o m n [] (take q.0 memory_text) p q.2)))
+early_memory e o m n (Err fault.Write) h p (inr (inr (x, q))) = inr (inr (early_has_line e h, (q.0, q.1, Appends-trans o m n [] (take q.0 memory_text) p q.2)))
 
 -- an end whose line was cut off
 pub early_cut : (e f : Stop) (o n : Option (List ℕ)) → IsEarly e → (f ≡ stop.Memory → ⊥) → SaysText (last_text e) o (Err f) n → ReportsEnd e o (Err fault.Write) n
-early_cut e stop.Write o n h k q = inr (inl (early_told e h, q))
+early_cut e stop.Write o n h k q = inr (inl (early_has_line e h, q))
 early_cut e stop.Memory o n h k q = absurd (k refl)
 early_cut e stop.Read o n h k q = absurd q
 early_cut e stop.TooLong o n h k q = absurd q

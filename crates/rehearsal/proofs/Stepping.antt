@@ -33,7 +33,7 @@ after_step_is w v t e n =
     ap (λ (h : Header). Running (record { header = h; clients = length w.ends; state = t })) (sym e)
     ∙ ap (λ (k : ℕ). Running (record { header = v.header; clients = k; state = t })) (sym n)
 
--- what a world told since an earlier state
+-- what a world has reported since an earlier state
 pub told_is : (w v : Kept) (s t : State) (before : List Outcome) → before ≡ w.outcomes → IsRunOf w s → IsRunOf v t →
     drop (length before) v.outcomes ≡ added_outcomes s t
 told_is w v s t before e p q =

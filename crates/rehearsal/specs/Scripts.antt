@@ -118,7 +118,7 @@ named_client _ = 0
 abbrev pub added_outcomes : State → State → List Outcome
 added_outcomes s t = drop (length (outcomes_of s.log)) (outcomes_of t.log)
 
--- a step is made, and each outcome that it adds is told; or it names a client that there is none of
+-- a step is made, and each outcome that it adds is printed; or it names a client that there is none of
 abbrev pub MakesStep : RunningWorld → Step → Move → Type 0
 MakesStep c s move =
     ((has_client s c.clients ≡ true)

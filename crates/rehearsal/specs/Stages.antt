@@ -141,21 +141,21 @@ StopsReading old stop.Memory new = (read : List ℕ) × Consumes old new read
 StopsReading old stop.TooLong new = (read : List ℕ) × Consumes old new read × (1048576 < length read)
 StopsReading old _ new = ⊥
 
--- an end that a line of its own tells, and no fault of a reader or a writer
-abbrev pub IsTold : Stop → Type 0
-IsTold stop.Read = ⊥
-IsTold stop.Write = ⊥
-IsTold _ = Unit {0}
+-- an end that has a line of its own, and no fault of a reader or a writer
+abbrev pub HasLastLine : Stop → Type 0
+HasLastLine stop.Read = ⊥
+HasLastLine stop.Write = ⊥
+HasLastLine _ = Unit {0}
 
 -- what is printed of an end: its last line; or that there was no memory for it; after a fault a part of these
 abbrev pub ReportsEnd : Stop → Option (List ℕ) → Result ℕ RehearseFault → Option (List ℕ) → Type 0
 ReportsEnd e old (Ok status) new =
-    IsTold e × ((Appends old new (last_text e) × (status ≡ last_status e)) ⊎ (Appends old new memory_text × (status ≡ 4)))
+    HasLastLine e × ((Appends old new (last_text e) × (status ≡ last_status e)) ⊎ (Appends old new memory_text × (status ≡ 4)))
 ReportsEnd e old (Err fault.Read) new = (e ≡ stop.Read) × Appends old new []
 ReportsEnd e old (Err fault.Write) new =
     ((e ≡ stop.Write) × Appends old new [])
-    ⊎ (IsTold e × ((k : ℕ) × (k < length (last_text e)) × Appends old new (take k (last_text e))))
-    ⊎ (IsTold e × ((k : ℕ) × (k < length memory_text) × Appends old new (take k memory_text)))
+    ⊎ (HasLastLine e × ((k : ℕ) × (k < length (last_text e)) × Appends old new (take k (last_text e))))
+    ⊎ (HasLastLine e × ((k : ℕ) × (k < length memory_text) × Appends old new (take k memory_text)))
 
 -- an end with a line of its own, but for memory
 abbrev pub IsEarly : Stop → Type 0

@@ -115,6 +115,6 @@ refused_world_text e = codes "world: refused " ++ (open_fault_name e ++ codes "\
 abbrev pub too_long_text : List ℕ
 too_long_text = codes "script: too long\n"
 
--- the line that tells that there was no memory
+-- the line printed where memory was refused
 abbrev pub memory_text : List ℕ
 memory_text = codes "memory\n"

@@ -9,7 +9,7 @@ use pir_world::Outcome;
 use std::alloc::{AllocError, Global};
 use version_store::{EditError, OpenError, PublishError};
 
-/// The line that tells an outcome, with its end.
+/// The line of an outcome, with its end.
 pub fn outcome_line(alloc: Global, outcome: &Outcome) -> Result<String, AllocError>
     ensures { IfOk result (λ line. string_bytes line ≡ outcome_text outcome.now) }
 {
@@ -35,14 +35,14 @@ pub fn outcome_line(alloc: Global, outcome: &Outcome) -> Result<String, AllocErr
     }
 }
 
-/// The line that tells a refused call.
+/// The line of a refused call.
 fn call_refused_line(alloc: Global, client: usize, name: &str) -> Result<String, AllocError>
     ensures { IfOk result (λ line. string_bytes line ≡ call_refused_text client name.now) }
 {
     format!(in alloc; "client {client}: call refused {name}\n")
 }
 
-/// The line that tells why a world can't be opened.
+/// The line that says why a world can't be opened.
 pub fn refused_world_line(alloc: Global, fault: OpenError) -> Result<String, AllocError>
     ensures { IfOk result (λ line. string_bytes line ≡ refused_world_text fault) }
 {
@@ -50,7 +50,7 @@ pub fn refused_world_line(alloc: Global, fault: OpenError) -> Result<String, All
     format!(in alloc; "world: refused {name}\n")
 }
 
-/// The line that tells a client's event.
+/// The line of a client's event.
 fn event_line(alloc: Global, client: usize, event: &Event) -> Result<String, AllocError>
     ensures { IfOk result (λ line. string_bytes line ≡ event_text client event.now) }
 {
@@ -77,7 +77,7 @@ fn event_line(alloc: Global, client: usize, event: &Event) -> Result<String, All
     }
 }
 
-/// The line that tells a record.
+/// The line of a record.
 fn retrieved_line(
     alloc: Global,
     client: usize,

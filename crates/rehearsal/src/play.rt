@@ -15,7 +15,7 @@ use std::alloc::Global;
 use std::io::{Read, Write};
 use thiserror::Error;
 
-/// Why a rehearsal could not be read or told.
+/// Why a rehearsal could not be read or printed.
 #[derive(Clone, Copy, Debug, PartialEq, Eq, Error)]
 pub enum RehearseFault {
     /// A read failed.

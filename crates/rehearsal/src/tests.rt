@@ -242,7 +242,7 @@ fn a_step_that_is_not_written_so_is_bad(rt: HostRuntime) -> Result<(), Fail> {
     for step in BAD_STEPS {
         check_steps(&rt, rt.alloc(), step, "line 6: bad\n", 3)?;
     }
-    // Skipped lines count, and what was made before stays told.
+    // Skipped lines count, and what was printed before stays.
     check_steps(
         &rt,
         rt.alloc(),

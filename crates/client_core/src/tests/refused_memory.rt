@@ -1,4 +1,4 @@
-//! Memory that is refused once: a call that tells so leaves the client as it says, and is made when it is tried again.
+//! Memory that is refused once: a call that reports it leaves the client as it says, and is made when it is tried again.
 //! With ample memory no call here is refused. `scripts/refuse_memory` refuses each request of these tests in turn, and
 //! they pass each time.
 

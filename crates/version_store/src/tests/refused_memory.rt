@@ -1,4 +1,4 @@
-//! Memory that is refused once: the call that tells so has changed nothing, and is done when it is made again. With
+//! Memory that is refused once: the call that reports it has changed nothing, and is done when it is made again. With
 //! ample memory no call here is refused. `scripts/refuse_memory` refuses each request of this test in turn, and it
 //! passes each time.
 
