@@ -9,7 +9,7 @@ use Rattle.std.proofs.lemmas.List.FromFn.{length-range_with_len}
 use Rattle.std.proofs.Math.Seq.{take-length}
 use Rattle.std.specs.Simd.Lanes.{put_chunk}
 use Rattle.std.specs.List.{range_with_len}
-use Rattle.matrix_u32.specs.Sum.{sum_below, list_of, dot}
+use Rattle.matrix_u32.specs.Sum.{sum_below, dot}
 use Rattle.matrix_u32.specs.Matrix.{WordMatrix, IsWhole, entry, matrix_of, row, column, product, plus_scaled, zero_matrix, with_row, overwritten, written_row}
 use Rattle.matrix_u32.specs.Blocks.{plus_rows, SoFar}
 use Rattle.matrix_u32.proofs.Sums.{sum_below_more, sum_below_none, sum_below-add, sum_same}

@@ -1,8 +1,9 @@
 //! The products of words, and the plain way to make them.
 
-ghost use Rattle.std.specs.Prelude.{◌≡◌, ◌<◌, length};
+ghost use Rattle.std.specs.Prelude.{◌≡◌, ◌+◌, ◌<◌, ◌≤◌, length, slice_index};
 ghost use Rattle.matrix_u32.specs.Sum.{dot};
 ghost use Rattle.matrix_u32.specs.Matrix.{entry, product, row, times_vector, plus_scaled};
+ghost use Rattle.matrix_u32.specs.Blocks.{plus_rows};
 
 use crate::matrix::Matrix;
 
@@ -33,6 +34,13 @@ pub trait Kernel: Copy {
     fn add_scaled(self, out: &mut [u32], x: &[u32], k: u32)
         requires { length x.now ≡ length out.old }
         ensures { out.new ≡ plus_scaled out.old x.now k };
+
+    /// Adds the rows of `b` from `start` on to `out`, each times its factor.
+    fn add_rows(self, out: &mut [u32], factors: &[u32], b: &Matrix, start: usize)
+        requires width { length out.old ≡ b.now.cols }
+        requires inside { start + length factors.now ≤ b.now.rows }
+        ensures { out.new
+            ≡ plus_rows out.old (length factors.now) (λ k. slice_index factors.now k) b.now start };
 }
 
 /// The plain kernel: one word after the other, as the definitions say it. It is what faster kernels are
@@ -66,6 +74,13 @@ impl Kernel for Plain {
     fn add_scaled(self, out: &mut [u32], x: &[u32], k: u32) {
         for j in 0..out.len() {
             out[j] = out[j].wrapping_add(k.wrapping_mul(x[j]));
+        }
+    }
+
+    fn add_rows(self, out: &mut [u32], factors: &[u32], b: &Matrix, start: usize) {
+        let _rows = b.rows();
+        for k in 0..factors.len() {
+            self.add_scaled(out, b.row(start + k), factors[k]);
         }
     }
 }

@@ -2,7 +2,7 @@ use super::*;
 use std::process::Abort;
 use std::test::Fail;
 
-// The four calls of a kernel on the worked example of one encryption: a digit row (10, 200) under
+// The calls of a kernel on the worked example of one encryption: a digit row (10, 200) under
 // A = (3), (5) with secret 7.
 fn products_agree<K: Kernel>(
     kernel: K,
@@ -33,6 +33,10 @@ fn products_agree<K: Kernel>(
     kernel.add_scaled(&mut row, &[2, 3], 5);
     assert_eq!(rt; row[0], 11);
     assert_eq!(rt; row[1], 14);
+
+    let mut sum = [7u32];
+    kernel.add_rows(&mut sum, &[2, u32::MAX], a, 0);
+    assert_eq!(rt; sum[0], 8);
 }
 
 #[test]
