@@ -29,6 +29,11 @@ impl Kernel for Lanes {
     fn add_scaled(self, out: &mut [u32], x: &[u32], k: u32) {
         add_scaled(out, x, k);
     }
+
+    fn add_rows(self, out: &mut [u32], factors: &[u32], b: &Matrix, start: usize) {
+        let _rows = b.rows();
+        add_rows(out, factors, b, start);
+    }
 }
 
 fn dot(x: &[u32], y: &[u32]) -> u32

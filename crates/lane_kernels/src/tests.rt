@@ -24,7 +24,7 @@ fn dots_of_the_largest_word(rt: HostRuntime) -> Result<(), Fail> {
     Ok(())
 }
 
-// The four calls of a kernel on the worked example of one encryption: a digit row (10, 200) under
+// The calls of a kernel on the worked example of one encryption: a digit row (10, 200) under
 // A = (3), (5) with secret 7.
 fn encrypts<K: Kernel>(kernel: K, rt: &impl Abort, a: &Matrix, digits: &Matrix, hint: &mut Matrix)
     requires a_rows { a.now.rows ≡ 2 }
@@ -46,6 +46,10 @@ fn encrypts<K: Kernel>(kernel: K, rt: &impl Abort, a: &Matrix, digits: &Matrix, 
     kernel.add_scaled(&mut row, &[2, 3], 5);
     assert_eq!(rt; row[0], 11);
     assert_eq!(rt; row[1], 14);
+
+    let mut sum = [7u32];
+    kernel.add_rows(&mut sum, &[2, u32::MAX], a, 0);
+    assert_eq!(rt; sum[0], 8);
 }
 
 #[test]
