@@ -1,3 +1,4 @@
 pub mod Follows
 pub mod Columns
+pub mod Runs
 pub mod Logs

@@ -31,25 +31,25 @@ fn an_equal_digit_changes_nothing(rt: HostRuntime) -> Result<(), Fail> {
     Ok(())
 }
 
-// The hints of both sides for the first hint's words, one for each row of D: A2 = (2), (7), digits of 8 bits.
+// The hints of both sides for the words of the first hint, of as many rows and columns as A2: digits of 8
+// bits.
 fn both_hints<K: Kernel, S: DigitStore + Drop>(
     rt: &(impl Abort + AllocGlobal),
     kernel: K,
     words: &[u32],
     a2: &Matrix,
 ) -> Result<(S, Matrix), Fail> {
-    let hint = Matrix::from_words(2, 1, words.to_vec(rt.alloc())?)?;
+    let hint = Matrix::from_words(a2.rows(), a2.cols(), words.to_vec(rt.alloc())?)?;
     assert!(rt; a2.rows() == hint.rows() && a2.cols() == hint.cols());
     assert!(rt; hint.rows() <= 4096 && hint.cols() <= 1024);
     let hints = double_scheme::setup(rt.alloc(), kernel, &hint, a2, 8)?;
     Ok(hints)
 }
 
-// Both columns of the server's hint.
+// The columns of the server's hint.
 fn columns<S: DigitStore>(rt: &(impl Abort + AllocGlobal), server: &S) -> Result<Vec<u32>, Fail> {
-    assert!(rt; server.cols() == 2);
     let mut digits = Vec::new(rt.alloc());
-    for j in 0..2 {
+    for j in 0..server.cols() {
         for r in 0..server.rows() {
             digits.push(server.get(r, j))?;
         }
@@ -83,4 +83,57 @@ fn follows_one_row<K: Kernel, S: DigitStore + Drop>(
 fn both_hints_follow_a_row(rt: HostRuntime) -> Result<(), Fail> {
     follows_one_row::<Plain, Flat>(&rt, Plain)?;
     follows_one_row::<Lanes, Packed3>(&rt, Lanes)
+}
+
+// Rows 1 to 3 of five take the words 1003, 6 (as it was) and 4000000000.
+fn follows_a_run<K: Kernel, S: DigitStore + Drop>(
+    rt: &(impl Abort + AllocGlobal),
+    kernel: K,
+) -> Result<(), Fail> {
+    let a2 = Matrix::from_words(5, 1, vec![in rt.alloc(); 2u32, 7, 11, u32::MAX, 17]?)?;
+    let new = [13, 1003, 6, 4_000_000_000, 12];
+    let hint = Matrix::from_words(5, 1, new.to_vec(rt.alloc())?)?;
+    let (mut server, mut client): (S, Matrix) = both_hints(rt, kernel, &[13, 29, 6, 8, 12], &a2)?;
+    assert!(rt; hint.rows() == 5 && server.cols() == 5 && a2.rows() == 5);
+    assert!(rt; hint.cols() == 1 && server.rows() == split_count(8));
+    assert!(rt; client.rows() == server.rows() && client.cols() == a2.cols());
+    update_double_rows(
+        kernel,
+        &mut server,
+        &mut client,
+        &a2,
+        8,
+        1,
+        &hint,
+        &mut [9u32; 3],
+    );
+    let (fresh, fresh_client): (S, Matrix) = both_hints(rt, kernel, &new, &a2)?;
+    assert!(rt; columns(rt, &server)? == columns(rt, &fresh)?);
+    assert_eq!(rt; client.words(), fresh_client.words());
+    follows_row_by_row(rt, kernel, &[13, 29, 6, 8, 12], &a2, &client)
+}
+
+// The same, one row after the other.
+fn follows_row_by_row<K: Kernel>(
+    rt: &(impl Abort + AllocGlobal),
+    kernel: K,
+    old: &[u32],
+    a2: &Matrix,
+    wanted: &Matrix,
+) -> Result<(), Fail> {
+    let (mut server, mut client): (Flat, Matrix) = both_hints(rt, kernel, old, a2)?;
+    for (row, word) in [(1, 1003), (2, 6), (3, 4_000_000_000)] {
+        assert!(rt; server.rows() == split_count(8) && row < server.cols());
+        assert!(rt; client.rows() == server.rows() && client.cols() == a2.cols());
+        assert!(rt; a2.rows() == server.cols());
+        update_double(kernel, &mut server, &mut client, a2, 8, row, &[word]);
+    }
+    assert_eq!(rt; client.words(), wanted.words());
+    Ok(())
+}
+
+#[test]
+fn both_hints_follow_a_run(rt: HostRuntime) -> Result<(), Fail> {
+    follows_a_run::<Plain, Flat>(&rt, Plain)?;
+    follows_a_run::<Lanes, Packed3>(&rt, Lanes)
 }
