@@ -1,15 +1,15 @@
 -- Hints of DoublePIR that follow rows of digits, one after the other.
-use Rattle.std.proofs.Common.{◌≡◌, ℕ, ◌+◌, ◌*◌, ◌<◌, ◌≤◌, ◌==◌, if◌then◌else◌, arith, ap, ◌∙◌, sym, refl, ⊎_elim, subst, List, length, Bool, false, inl, inr}
+use Rattle.std.proofs.Common.{◌≡◌, ℕ, ◌+◌, ◌*◌, ◌<◌, ◌≤◌, if◌then◌else◌, arith, ap, ◌∙◌, sym, refl, subst, List, length, Bool, false, inl, inr}
 use Rattle.std.specs.Prelude.{slice_index, nat_lt}
 use Rattle.std.proofs.lemmas.Bool.{cases_eq, cases_lt}
 use Rattle.std.proofs.lemmas.Bool.Decides.{nat_tests}
 use Rattle.matrix_u32.specs.Sum.{list_of}
-use Rattle.matrix_u32.specs.Matrix.{WordMatrix, IsWhole, entry, matrix_of, row, product, vector_times, with_row}
+use Rattle.matrix_u32.specs.Matrix.{WordMatrix, IsWhole, entry, matrix_of, row, product, vector_times}
 use Rattle.matrix_u32.proofs.Changes.{same-matrix_of, matrix_by_entries}
 use Rattle.matrix_u32.proofs.Products.{entry-matrix_of, same-list_of, row-product}
-use Rattle.matrix_u32.proofs.Rows.{if_here, if_elsewhere, row_index}
+use Rattle.matrix_u32.proofs.Rows.{row_index}
 use Rattle.lane_kernels.specs.Digit.{split_count}
-use Rattle.hint_update.specs.Updates.{AreHintsOf, FollowsRow}
+use Rattle.hint_update.specs.Updates.{AreHintsOf, IsRunChange, FollowsRun}
 use Rattle.version_store.specs.Editions.{IsRowChange, is_marked}
 
 -- the new matrix in the rows before row r, the old one in the others
@@ -55,38 +55,49 @@ mixed_kept r old new cols same =
       ]
     ])
 
--- a row that is replaced by the new one
-pub mixed_more : (r : ℕ) (old new : WordMatrix) → old.cols ≡ new.cols → with_row (mixed r old new) r (row new r) ≡ mixed (r + 1) old new
+-- its words
+mixed_before : (r i j : ℕ) (old new : WordMatrix) → i < r → i < old.rows → j < old.cols → entry (mixed r old new) i j ≡ entry new i j
 unfolding mixed
-mixed_more r old new cols =
-    let m : WordMatrix = mixed r old new in
-    same-matrix_of old.rows old.cols (λ i j. if i == r then slice_index (row new r) j else entry m i j) (λ i j. if nat_lt i (r + 1) then entry new i j
-    else entry old i j) (λ i j p q.
-    ⊎_elim
-    (λ e.
-    if_here i r (slice_index (row new r) j) (entry m i j) e ∙ row_index new r j (omega (arith, cols)) ∙ ap (λ i. entry new i j) (sym e)
-    ∙ sym (before i (r + 1) (entry new i j) (entry old i j) (omega arith)))
-    (λ apart.
-    if_elsewhere i r (slice_index (row new r) j) (entry m i j) apart
-    ∙ entry-matrix_of old.rows old.cols (λ i j. if nat_lt i r then entry new i j else entry old i j) i j p q
-    ∙ elim (cases_lt i r) [
-      | inl l ↦ before i r (entry new i j) (entry old i j) l ∙ sym (before i (r + 1) (entry new i j) (entry old i j) (omega arith))
-      | inr g ↦ past i r (entry new i j) (entry old i j) g ∙ sym (past i (r + 1) (entry new i j) (entry old i j) (omega arith))
-    ])
-    (cases_eq i r))
+mixed_before r i j old new l p q =
+    entry-matrix_of old.rows old.cols (λ i j. if nat_lt i r then entry new i j else entry old i j) i j p q
+    ∙ before i r (entry new i j) (entry old i j) l
 
--- its row of the product is that of the new matrix
-pub mixed_row : (r : ℕ) (old new a : WordMatrix) → old.rows ≡ new.rows → old.cols ≡ new.cols → r < new.rows →
-    row (product (mixed (r + 1) old new) a) r ≡ row (product new a) r
+mixed_past : (r i j : ℕ) (old new : WordMatrix) → r ≤ i → i < old.rows → j < old.cols → entry (mixed r old new) i j ≡ entry old i j
 unfolding mixed
-mixed_row r old new a rows cols p =
-    let m : WordMatrix = mixed (r + 1) old new in
-    let same : row m r ≡ row new r =
-    same-list_of old.cols (λ j. entry m r j) (λ j. entry new r j) (λ j q.
-    entry-matrix_of old.rows old.cols (λ i j. if nat_lt i (r + 1) then entry new i j else entry old i j) r j (omega (arith, rows)) q
-    ∙ before r (r + 1) (entry new r j) (entry old r j) (omega arith))
-    ∙ ap (λ n. list_of n (λ j. entry new r j)) cols in
-    row-product m a r (omega (arith, rows)) ∙ ap (λ x. vector_times x a) same ∙ sym (row-product new a r p)
+mixed_past r i j old new l p q =
+    entry-matrix_of old.rows old.cols (λ i j. if nat_lt i r then entry new i j else entry old i j) i j p q
+    ∙ past i r (entry new i j) (entry old i j) l
+
+-- its rows, that have the same words as those of another
+mixed_same : (r s i : ℕ) (old new : WordMatrix) → ((j : ℕ) → j < old.cols → entry (mixed r old new) i j ≡ entry (mixed s old new) i j) →
+    row (mixed r old new) i ≡ row (mixed s old new) i
+unfolding mixed
+mixed_same r s i old new each = same-list_of old.cols (λ j. entry (mixed r old new) i j) (λ j. entry (mixed s old new) i j) each
+
+-- a row of its product, which is that of the new matrix
+mixed_row : (r i : ℕ) (old new a : WordMatrix) → old.rows ≡ new.rows → old.cols ≡ new.cols → i < r → i < new.rows →
+    row (product (mixed r old new) a) i ≡ row (product new a) i
+unfolding mixed
+mixed_row r i old new a rows cols l p =
+    let m : WordMatrix = mixed r old new in
+    let same : row m i ≡ row new i =
+    same-list_of old.cols (λ j. entry m i j) (λ j. entry new i j) (λ j q. mixed_before r i j old new l (omega (arith, rows)) q)
+    ∙ ap (λ n. list_of n (λ j. entry new i j)) cols in
+    row-product m a i (omega (arith, rows)) ∙ ap (λ x. vector_times x a) same ∙ sym (row-product new a i p)
+
+-- n rows that are replaced by the new ones
+mixed_run : (r n : ℕ) (hint a1 old new : WordMatrix) (marks : List Bool) → IsRowChange hint a1 old new marks → r + n ≤ new.rows →
+    IsRunChange hint a1 (mixed r old new) (mixed (r + n) old new) r n
+unfolding mixed
+mixed_run r n hint a1 old new marks h fits = record {
+  rows = refl;
+  cols = refl;
+  inner = h.cols ∙ h.inner;
+  before = λ i l p. mixed_same (r + n) r i old new (λ j q. mixed_before (r + n) i j old new (omega arith) p q ∙ sym (mixed_before r i j old new l p q));
+  run = λ i low high.
+      ap (λ m. row m i) h.hint_is ∙ sym (mixed_row (r + n) i old new a1 h.rows h.cols high (omega (arith, high, fits)));
+  after = λ i l p. mixed_same (r + n) r i old new (λ j q. mixed_past (r + n) i j old new l p q ∙ sym (mixed_past r i j old new (omega arith) p q));
+}
 
 -- both hints follow the rows before row r, and keep their sizes
 pub record FollowsTo (r w : ℕ) (hint a2 s0 s c0 c : WordMatrix) (marks : List Bool) : Type 0 where
@@ -118,21 +129,17 @@ row_kept r w hint a2 s0 s c0 c marks l unmarked f = record {
       subst (λ m. AreHintsOf w m a1 a2 s c) (mixed_kept r old new h.cols (h.kept r (omega (arith, l, h.count)) unmarked)) (f.follows old new a1 h made);
 }
 
--- a row that is
-pub row_followed : (r w : ℕ) (hint a2 s0 s s' c0 c c' : WordMatrix) (words : List ℕ) (marks : List Bool) → r < length marks → words ≡ row hint r →
-    s'.rows ≡ s.rows → s'.cols ≡ s.cols → c'.rows ≡ c.rows → c'.cols ≡ c.cols → FollowsRow w s s' c c' a2 r words →
-    FollowsTo r w hint a2 s0 s c0 c marks → FollowsTo (r + 1) w hint a2 s0 s' c0 c' marks
-row_followed r w hint a2 s0 s s' c0 c c' words marks l is sr sc cr cc follows f = record {
+-- a run of rows
+pub run_followed : (r n w : ℕ) (hint a2 s0 s s' c0 c c' : WordMatrix) (marks : List Bool) → r + n ≤ length marks →
+    s'.rows ≡ s.rows → s'.cols ≡ s.cols → c'.rows ≡ c.rows → c'.cols ≡ c.cols → FollowsRun w hint a2 s s' c c' r n →
+    FollowsTo r w hint a2 s0 s c0 c marks → FollowsTo (r + n) w hint a2 s0 s' c0 c' marks
+run_followed r n w hint a2 s0 s s' c0 c c' marks l sr sc cr cc follows f = record {
   server_rows = sr ∙ f.server_rows;
   server_cols = sc ∙ f.server_cols;
   client_rows = cr ∙ f.client_rows;
   client_cols = cc ∙ f.client_cols;
   follows = λ old new a1 h made.
-      let m : WordMatrix = mixed r old new in
-      let more : with_row m r (row new r) ≡ mixed (r + 1) old new = mixed_more r old new h.cols in
-      let word : words ≡ row (product (with_row m r (row new r)) a1) r =
-      is ∙ ap (λ m. row m r) h.hint_is ∙ sym (mixed_row r old new a1 h.rows h.cols (omega (arith, l, h.count))) ∙ ap (λ m. row (product m a1) r) (sym more) in
-      subst (λ m. AreHintsOf w m a1 a2 s' c') more (follows m a1 (row new r) (mixed_cols r old new ∙ h.cols ∙ h.inner) word (f.follows old new a1 h made));
+      follows (mixed r old new) (mixed (r + n) old new) a1 (mixed_run r n hint a1 old new marks h (omega (arith, l, h.count))) (f.follows old new a1 h made);
 }
 
 -- all rows

@@ -202,6 +202,7 @@ impl<K: Kernel> Edition<K> {
             &mut self.server,
             &mut self.client,
             marks,
+            scratch,
         );
     }
 }

@@ -1,15 +1,16 @@
 //! The hints of DoublePIR, after the rows of digits that changed.
 
-ghost use Rattle.std.specs.Prelude.{◌≡◌, ◌*◌, ◌≤◌, length};
+ghost use Rattle.std.specs.Prelude.{◌≡◌, ℕ, ◌+◌, ◌*◌, ◌<◌, ◌≤◌, length, true, false};
 ghost use Rattle.lane_kernels.specs.Digit.{split_count};
-ghost use Rattle.version_store.specs.Editions.{FollowsRows};
+ghost use Rattle.version_store.specs.Editions.{FollowsRows, is_marked};
 
 use digit_pack::DigitStore;
-use hint_update::update_double;
+use hint_update::update_double_rows;
 use matrix_u32::{Kernel, Matrix};
 
 /// Changes both hints of DoublePIR by the rows that are marked, each once, where `hint` is the hint of the
-/// changed digits. Nothing is multiplied for the other rows.
+/// changed digits. Nothing is multiplied for the other rows. Rows that stand one after another are taken
+/// together, at most as many as `scratch` has words; what these held is lost.
 pub fn follow_rows<K: Kernel, S: DigitStore>(
     kernel: K,
     hint: &Matrix,
@@ -18,6 +19,7 @@ pub fn follow_rows<K: Kernel, S: DigitStore>(
     server: &mut S,
     client: &mut Matrix,
     marks: &[bool],
+    scratch: &mut [u32],
 )
     requires width { (6 ≤ w) × (w ≤ 10) }
     requires marks { length marks.now ≡ hint.now.rows }
@@ -27,12 +29,36 @@ pub fn follow_rows<K: Kernel, S: DigitStore>(
     requires server_cols { (S.digits server.old).cols ≡ hint.now.rows }
     requires client_rows { client.old.rows ≡ hint.now.cols * split_count w }
     requires client_cols { client.old.cols ≡ hint.now.cols }
+    requires room { 0 < length scratch.old }
     ensures { FollowsRows w hint.now a2.now (S.digits server.old) (S.digits server.new)
         client.old client.new marks.now }
 {
-    for r in 0..marks.len() {
-        if marks[r] {
-            update_double(kernel, server, client, a2, w, r, hint.row(r));
+    let mut r = 0;
+    while r < marks.len() {
+        let count = marked_run(marks, r, scratch.len());
+        if count == 0 {
+            r += 1;
+        } else {
+            let factors = &mut scratch[..count];
+            update_double_rows(kernel, server, client, a2, w, r, hint, factors);
+            r += count;
         }
     }
+}
+
+// How many rows are marked one after another from row `from` on, counted up to `most`.
+fn marked_run(marks: &[bool], from: usize, most: usize) -> usize
+    requires { from < length marks.now }
+    ensures few { result ≤ most }
+    ensures inside { from + result ≤ length marks.now }
+    ensures marked { (k : ℕ) → k < result → is_marked marks.now (from + k) ≡ true }
+    ensures all { result < most → is_marked marks.now (from + result) ≡ false }
+{
+    let room = most.min(marks.len() - from);
+    for count in 0..room {
+        if !marks[from + count] {
+            return count;
+        }
+    }
+    room
 }
