@@ -3,16 +3,16 @@
 use std::fmt;
 
 /// How long one piece of work took, and how much it was.
-#[derive(Clone, Copy, Debug)]
+#[derive(Clone, Copy)]
 pub struct Figure {
-    pub name: &'static str,
-    /// The bytes of the matrix that it read.
-    pub bytes: u64,
-    /// How many products of two words it added.
-    pub products: u64,
-    pub nanos: u64,
-    /// A sum of the words that it made, to compare them with another program's.
-    pub check: u32,
+    name: &'static str,
+    // The bytes of the matrix that it read.
+    bytes: u64,
+    // How many products of two words it added.
+    products: u64,
+    nanos: u64,
+    // A sum of the words that it made, to compare them with another program's.
+    check: u32,
 }
 
 const GIB: u128 = 1 << 30;
@@ -20,6 +20,27 @@ const GIB: u128 = 1 << 30;
 const NANOS: u128 = 1_000_000_000;
 
 impl Figure {
+    /// The figure of a piece of work that read so many words and made these.
+    pub fn new(
+        name: &'static str,
+        words: usize,
+        products: usize,
+        nanos: u64,
+        made: &[u32],
+    ) -> Figure {
+        let mut check = 0u32;
+        for word in made {
+            check = check.wrapping_mul(31).wrapping_add(*word);
+        }
+        Figure {
+            name,
+            bytes: (words as u64).saturating_mul(4),
+            products: products as u64,
+            nanos,
+            check,
+        }
+    }
+
     // Hundredths of a GiB in a second.
     fn speed(&self) -> u128 {
         u128::from(self.bytes) * NANOS * 100 / GIB / u128::from(self.nanos.max(1))
@@ -28,6 +49,12 @@ impl Figure {
     // Millions of products in a second.
     fn rate(&self) -> u128 {
         u128::from(self.products) * 1000 / u128::from(self.nanos.max(1))
+    }
+
+    /// Prints it in a line, where a time is given with that in place of its own.
+    pub fn print(mut self, rt: &HostRuntime, nanos: Option<u64>) -> Option<()> {
+        self.nanos = nanos.unwrap_or(self.nanos);
+        println!(rt; "{self}").ok()
     }
 }
 
@@ -46,28 +73,5 @@ impl fmt::Display for Figure {
             self.rate(),
             self.check
         )
-    }
-}
-
-#[cfg(test)]
-mod tests {
-    use super::*;
-    use std::test::Fail;
-
-    #[test]
-    fn shows_the_rates(rt: HostRuntime) -> Result<(), Fail> {
-        let figure = Figure {
-            name: "a product",
-            bytes: 1 << 28,
-            products: 3_000_000_000,
-            nanos: 125_042_999,
-            check: 7,
-        };
-        let text = format!(in rt.alloc(); "{figure}")?;
-        assert_eq!(rt;
-            text.as_str(),
-            "a product\t125.042 ms\t1.99 GiB/s\t23991 M products/s\tcheck 7"
-        );
-        Ok(())
     }
 }

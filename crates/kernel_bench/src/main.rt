@@ -1,9 +1,9 @@
 //! Times the kernels over lanes, and what is made with them.
 //!
-//! With no argument each piece of work is done once at small sizes, and one fixed line is printed. With the argument
-//! `full` the kernels and the schemes' setups are timed at the sizes of a large server, with `store` a publication in a
-//! store of the largest size. Each has a line of its own: the time of its quickest turn, what it read in a second,
-//! how many products it added in a second, and a sum of the words that it made. Fields are parted by tabs.
+//! With no argument each piece of work is done once at small sizes, and its line is printed with one fixed time. With the
+//! argument `full` the kernels and the schemes' setups are timed at the sizes of a large server, with `store` a
+//! publication in a store of the largest size. Each has a line of its own: the time of its quickest turn, what it read in
+//! a second, how many products it added in a second, and a sum of the words that it made. Fields are parted by tabs.
 #![tactic(auto)]
 
 mod data;
@@ -12,8 +12,8 @@ mod stores;
 mod timing;
 mod work;
 
-use anyhow::bail;
 use std::env;
+use std::process::ExitCode;
 use work::Sizes;
 
 const SMALL: Sizes = Sizes {
@@ -21,6 +21,7 @@ const SMALL: Sizes = Sizes {
     secret: 19,
     groups: 1,
     turns: 1,
+    nanos: Some(10_042),
 };
 
 const FULL: Sizes = Sizes {
@@ -28,24 +29,52 @@ const FULL: Sizes = Sizes {
     secret: 1024,
     groups: 64,
     turns: 9,
+    nanos: None,
 };
 
-fn main(rt: HostRuntime) -> anyhow::Result<()> {
-    let mut words = env::args(&rt)?;
+// What the program's words ask for.
+#[derive(Clone, Copy)]
+enum Task {
+    Small,
+    Full,
+    Store,
+}
+
+fn main(rt: HostRuntime) -> ExitCode {
+    let Some(task) = asked(&rt) else {
+        let _ = eprintln!(&rt; "usage: kernel_bench [full | store]");
+        return ExitCode::FAILURE;
+    };
+    match done(&rt, task) {
+        Some(()) => ExitCode::SUCCESS,
+        None => {
+            let _ = eprintln!(&rt; "memory, the clock or the output was refused");
+            ExitCode::FAILURE
+        }
+    }
+}
+
+fn asked(rt: &HostRuntime) -> Option<Task> {
+    let mut words = env::args(rt).ok()?;
     words.next();
     let Some(word) = words.next() else {
-        work::figures(&rt, rt.alloc(), SMALL)?;
-        stores::figures(&rt, rt.alloc(), SMALL)?;
-        println!(rt; "kernels timed")?;
-        return Ok(());
+        return Some(Task::Small);
     };
-    let figures = match word.as_str() {
-        "full" => work::figures(&rt, rt.alloc(), FULL)?,
-        "store" => stores::figures(&rt, rt.alloc(), FULL)?,
-        _ => bail!("usage: kernel_bench [full | store]"),
-    };
-    for figure in figures.iter() {
-        println!(rt; "{figure}")?;
+    match word.as_str() {
+        "full" => Some(Task::Full),
+        "store" => Some(Task::Store),
+        _ => None,
     }
-    Ok(())
+}
+
+fn done(rt: &HostRuntime, task: Task) -> Option<()> {
+    match task {
+        Task::Small => {
+            work::time_kernels(rt, SMALL)?;
+            stores::time_publication(rt, SMALL)?;
+            println!(rt; "kernels timed").ok()
+        }
+        Task::Full => work::time_kernels(rt, FULL),
+        Task::Store => stores::time_publication(rt, FULL),
+    }
 }

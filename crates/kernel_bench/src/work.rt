@@ -1,17 +1,16 @@
 //! The pieces of work that are timed.
 
-ghost use Rattle.std.specs.Prelude.{◌≡◌, ◌<◌, length, IfOk};
+ghost use Rattle.std.specs.Prelude.{◌≡◌, ◌<◌, ◌*◌, length, IfSome, OnSome};
 
-use crate::data::{fill, filled, pack};
+use crate::data::{filled, vector};
 use crate::figure::Figure;
 use crate::timing;
 use digit_pack::{DigitStore, Packed3};
-use matrix_u32::{MAX_WORDS, Matrix, MatrixError};
-use std::alloc::{AllocError, Global};
-use std::rt::Runtime;
+use matrix_u32::{MAX_WORDS, Matrix};
+use std::alloc::Global;
 
 /// How large the matrices are, and how often the short pieces are done.
-#[derive(Clone, Copy, Debug)]
+#[derive(Clone, Copy)]
 pub struct Sizes {
     /// The rows of the digit matrix, its columns, and the rows of the public matrix.
     pub side: u16,
@@ -20,129 +19,126 @@ pub struct Sizes {
     /// How many records share a column.
     pub groups: u16,
     pub turns: u32,
+    /// The time that is printed in place of each that was measured, so that all lines are known before.
+    pub nanos: Option<u64>,
 }
 
 // The bits of a digit.
 const DIGIT: u32 = 1023;
 
-/// Does every piece of work, and says how long each took.
-pub fn figures(rt: &impl Runtime, alloc: Global, sizes: Sizes) -> anyhow::Result<Vec<Figure>> {
-    let mut figures = Vec::new(alloc);
+/// Does every piece of work, and prints how long each took. None where memory or the clock is refused.
+pub fn time_kernels(rt: &HostRuntime, sizes: Sizes) -> Option<()> {
     let side = usize::from(sizes.side);
-    let digits = filled(alloc, side, side, 1, DIGIT)?;
-    let public = filled(alloc, side, usize::from(sizes.secret), 2, u32::MAX)?;
-    flat_digits(rt, alloc, sizes.turns, &digits, &mut figures)?;
-    packed_digits(rt, alloc, sizes.turns, &digits, &mut figures)?;
-    stored_digits(rt, alloc, sizes.turns, &digits, &public, &mut figures)?;
-    hint(rt, alloc, &digits, &public, &mut figures)?;
-    both_hints(rt, alloc, &public, &mut figures)?;
-    server_hint(rt, alloc, sizes.turns, &public, &mut figures)?;
-    Ok(figures)
+    let digits = filled(rt.alloc(), side, side, 1, DIGIT)?;
+    let public = filled(rt.alloc(), side, usize::from(sizes.secret), 2, u32::MAX)?;
+    time_digits(rt, sizes, &digits)?;
+    time_packed(rt, sizes, &digits, &public)?;
+    hint(rt, &digits, &public)?.print(rt, sizes.nanos)?;
+    time_hints(rt, sizes, &public)
 }
 
-// D x for a flat D, by all rows at once, by one long list and by adding rows.
-fn flat_digits(
-    rt: &impl Runtime,
-    alloc: Global,
-    turns: u32,
-    digits: &Matrix,
-    figures: &mut Vec<Figure>,
-) -> anyhow::Result<()> {
+// What is done with the digits alone.
+fn time_digits(rt: &HostRuntime, sizes: Sizes, digits: &Matrix) -> Option<()> {
+    flat_product(rt, sizes.turns, digits)?.print(rt, sizes.nanos)?;
+    long_dot(rt, sizes.turns, digits)?.print(rt, sizes.nanos)?;
+    scaled_rows(rt, sizes.turns, digits)?.print(rt, sizes.nanos)
+}
+
+// D x for a flat D, all rows at once.
+fn flat_product(rt: &HostRuntime, turns: u32, digits: &Matrix) -> Option<Figure> {
+    let x = vector(rt.alloc(), digits.cols(), 3)?;
+    let mut out = vector(rt.alloc(), digits.rows(), 4)?;
+    let took = timing::flat(rt, turns, digits, &x, &mut out)?;
     let count = digits.words().len();
-    let x = vector(alloc, digits.cols(), 3)?;
-    let mut rows = vector(alloc, digits.rows(), 4)?;
-    let mut row = vector(alloc, digits.cols(), 5)?;
-    let flat = timing::flat(rt, turns, digits, x.as_slice(), rows.as_mut_slice())?;
-    figures.push(figure("flat matrix by vector", count, count, flat, rows.as_slice()))?;
-    let (dot, word) = timing::dot(rt, turns, digits.words(), digits.words())?;
-    figures.push(figure("one long dot product", count, count, dot, &[word]))?;
-    let scaled = timing::scaled(rt, turns, digits, 77, row.as_mut_slice())?;
-    figures.push(figure(
-        "rows scaled and added",
-        count,
-        count,
-        scaled,
-        row.as_slice(),
-    ))?;
-    Ok(())
+    Some(Figure::new("flat matrix by vector", count, count, took, &out))
+}
+
+// The digits as one long list.
+fn long_dot(rt: &HostRuntime, turns: u32, digits: &Matrix) -> Option<Figure> {
+    let (took, word) = timing::dot(rt, turns, digits.words(), digits.words())?;
+    let count = digits.words().len();
+    Some(Figure::new("one long dot product", count, count, took, &[word]))
+}
+
+// The rows of the digits, added.
+fn scaled_rows(rt: &HostRuntime, turns: u32, digits: &Matrix) -> Option<Figure> {
+    let mut row = vector(rt.alloc(), digits.cols(), 5)?;
+    let took = timing::scaled(rt, turns, digits, 77, &mut row)?;
+    let count = digits.words().len();
+    Some(Figure::new("rows scaled and added", count, count, took, &row))
+}
+
+// What is done with digits as a store keeps them.
+fn time_packed(rt: &HostRuntime, sizes: Sizes, digits: &Matrix, public: &Matrix) -> Option<()>
+    requires { digits.now.cols ≡ public.now.rows }
+{
+    let store = stored(rt.alloc(), digits)?;
+    packed_product(rt, sizes.turns, &store)?.print(rt, sizes.nanos)?;
+    query(rt, sizes.turns, &store)?.print(rt, sizes.nanos)?;
+    simple_hint(rt, &store, public)?.print(rt, sizes.nanos)
 }
 
 // D x for a packed D.
-fn packed_digits(
-    rt: &impl Runtime,
-    alloc: Global,
-    turns: u32,
-    digits: &Matrix,
-    figures: &mut Vec<Figure>,
-) -> anyhow::Result<()> {
-    let cols = digits.cols();
-    if cols == 0 {
-        return Ok(());
-    }
-    let width = cols.div_ceil(3);
-    let Some(count) = digits.rows().checked_mul(width) else {
-        return Ok(());
-    };
-    let x = vector(alloc, cols, 3)?;
-    let mut rows = vector(alloc, digits.rows(), 4)?;
-    let mut packed = vector(alloc, count, 0)?;
-    pack(digits.words(), cols, width, packed.as_mut_slice());
-    let took = timing::packed(
-        rt,
-        turns,
-        packed.as_slice(),
-        cols,
-        x.as_slice(),
-        rows.as_mut_slice(),
-    )?;
-    figures.push(figure(
+fn packed_product(rt: &HostRuntime, turns: u32, store: &Packed3) -> Option<Figure> {
+    let x = vector(rt.alloc(), store.cols(), 3)?;
+    let mut out = vector(rt.alloc(), store.rows(), 4)?;
+    let took = timing::packed(rt, turns, store, &x, &mut out)?;
+    let products = store.rows().saturating_mul(store.cols());
+    Some(Figure::new(
         "packed matrix by vector",
-        count,
-        digits.words().len(),
+        store.words().len(),
+        products,
         took,
-        rows.as_slice(),
-    ))?;
-    Ok(())
+        &out,
+    ))
 }
 
-// The answer to a query, and SimplePIR's hint, from digits as a store keeps them.
-fn stored_digits(
-    rt: &impl Runtime,
-    alloc: Global,
-    turns: u32,
-    digits: &Matrix,
-    public: &Matrix,
-    figures: &mut Vec<Figure>,
-) -> anyhow::Result<()>
-    requires { digits.now.cols ≡ public.now.rows }
+// The answer to a query.
+fn query(rt: &HostRuntime, turns: u32, store: &Packed3) -> Option<Figure> {
+    let asked = vector(rt.alloc(), store.cols(), 3)?;
+    let (took, words) = timing::answer(rt, turns, store, &asked)?;
+    let products = store.rows().saturating_mul(store.cols());
+    Some(Figure::new(
+        "query answered",
+        store.words().len(),
+        products,
+        took,
+        &words,
+    ))
+}
+
+// SimplePIR's hint.
+fn simple_hint(rt: &HostRuntime, store: &Packed3, public: &Matrix) -> Option<Figure>
+    requires { store.now.cols ≡ public.now.rows }
 {
-    let store = stored(alloc, digits)?;
-    let count = digits.words().len();
-    let x = vector(alloc, store.cols(), 3)?;
-    let (took, words) = timing::answer(rt, alloc, turns, &store, &x)?;
-    figures.push(figure("query answered", store.words().len(), count, took, &words))?;
-    let Some(size) = store.rows().checked_mul(public.cols()) else {
-        return Ok(());
-    };
-    if size > MAX_WORDS {
-        return Ok(());
+    if store.rows().checked_mul(public.cols())? > MAX_WORDS {
+        return None;
     }
-    let (took, hint) = timing::simple_setup(rt, alloc, &store, public)?;
+    let (took, hint) = timing::simple_setup(rt, store, public)?;
+    let count = store.rows().saturating_mul(store.cols());
     let products = count.saturating_mul(public.cols());
-    figures.push(figure("setup of SimplePIR", count, products, took, hint.words()))?;
-    Ok(())
+    Some(Figure::new("setup of SimplePIR", count, products, took, hint.words()))
 }
 
 // The digits, three in a word.
-fn stored(alloc: Global, digits: &Matrix) -> Result<Packed3, MatrixError>
-    ensures { IfOk result (λ store. (store.rows ≡ digits.now.rows) ×
+fn stored(alloc: Global, digits: &Matrix) -> Option<Packed3>
+    ensures { IfSome result (λ store. (store.rows ≡ digits.now.rows) ×
         (store.cols ≡ digits.now.cols)) }
 {
-    let mut store = Packed3::zeros(alloc, digits.rows(), digits.cols())?;
+    let mut store = Packed3::zeros(alloc, digits.rows(), digits.cols()).ok()?;
+    store_rows(digits, &mut store);
+    Some(store)
+}
+
+fn store_rows(digits: &Matrix, store: &mut Packed3)
+    requires rows { store.old.rows ≡ digits.now.rows }
+    requires cols { store.old.cols ≡ digits.now.cols }
+    ensures rows { store.new.rows ≡ store.old.rows }
+    ensures cols { store.new.cols ≡ store.old.cols }
+{
     for i in 0..digits.rows() {
-        store_row(digits.row(i), i, &mut store);
+        store_row(digits.row(i), i, store);
     }
-    Ok(store)
 }
 
 fn store_row(row: &[u32], i: usize, store: &mut Packed3)
@@ -156,33 +152,59 @@ fn store_row(row: &[u32], i: usize, store: &mut Packed3)
     }
 }
 
-// Both hints of DoublePIR, from a hint that is `across` read across.
-fn both_hints(
-    rt: &impl Runtime,
-    alloc: Global,
-    public: &Matrix,
-    figures: &mut Vec<Figure>,
-) -> anyhow::Result<()> {
-    let across = filled(alloc, public.cols(), public.rows(), 6, u32::MAX)?;
-    let hint = transposed(alloc, &across)?;
-    if public.rows() > 4096 || public.cols() > 1024 {
-        return Ok(());
-    }
-    let (took, client) = timing::double_setup(rt, alloc, &hint, public)?;
-    let count = public.rows().saturating_mul(client.rows());
+// The hint D A1.
+fn hint(rt: &HostRuntime, digits: &Matrix, public: &Matrix) -> Option<Figure>
+    requires { digits.now.cols ≡ public.now.rows }
+{
+    let mut hint = Matrix::zeros(rt.alloc(), digits.rows(), public.cols()).ok()?;
+    let took = timing::product(rt, digits, public, &mut hint)?;
+    let count = digits.words().len();
     let products = count.saturating_mul(public.cols());
-    figures.push(figure("setup of DoublePIR", count, products, took, client.words()))?;
-    Ok(())
+    Some(Figure::new("D A1", count, products, took, hint.words()))
 }
 
-fn transposed(alloc: Global, a: &Matrix) -> Result<Matrix, MatrixError>
-    ensures { IfOk result (λ m. (m.rows ≡ a.now.cols) × (m.cols ≡ a.now.rows)) }
+// What is done with a hint, which is `across` read across.
+fn time_hints(rt: &HostRuntime, sizes: Sizes, public: &Matrix) -> Option<()> {
+    let across = filled(rt.alloc(), public.cols(), public.rows(), 6, u32::MAX)?;
+    both_hints(rt, &across, public)?.print(rt, sizes.nanos)?;
+    let height = public.cols().checked_mul(4)?;
+    let mut server = Matrix::zeros(rt.alloc(), height, public.rows()).ok()?;
+    server_hint(rt, sizes.turns, &across, &mut server)?.print(rt, sizes.nanos)?;
+    client_hint(rt, &server, public)?.print(rt, sizes.nanos)
+}
+
+// Both hints of DoublePIR.
+fn both_hints(rt: &HostRuntime, across: &Matrix, public: &Matrix) -> Option<Figure>
+    requires rows { across.now.rows ≡ public.now.cols }
+    requires cols { across.now.cols ≡ public.now.rows }
 {
-    let mut m = Matrix::zeros(alloc, a.cols(), a.rows())?;
+    if public.rows() > 4096 || public.cols() > 1024 {
+        return None;
+    }
+    let hint = transposed(rt.alloc(), across)?;
+    let (took, client) = timing::double_setup(rt, &hint, public)?;
+    let count = public.rows().saturating_mul(client.rows());
+    let products = count.saturating_mul(public.cols());
+    Some(Figure::new("setup of DoublePIR", count, products, took, client.words()))
+}
+
+fn transposed(alloc: Global, a: &Matrix) -> Option<Matrix>
+    ensures { IfSome result (λ m. (m.rows ≡ a.now.cols) × (m.cols ≡ a.now.rows)) }
+{
+    let mut m = Matrix::zeros(alloc, a.cols(), a.rows()).ok()?;
+    read_columns(a, &mut m);
+    Some(m)
+}
+
+fn read_columns(a: &Matrix, m: &mut Matrix)
+    requires rows { m.old.rows ≡ a.now.cols }
+    requires cols { m.old.cols ≡ a.now.rows }
+    ensures rows { m.new.rows ≡ m.old.rows }
+    ensures cols { m.new.cols ≡ m.old.cols }
+{
     for i in 0..m.rows() {
         read_column(a, i, m.row_mut(i));
     }
-    Ok(m)
 }
 
 fn read_column(a: &Matrix, j: usize, out: &mut [u32])
@@ -194,72 +216,24 @@ fn read_column(a: &Matrix, j: usize, out: &mut [u32])
     }
 }
 
-// The hint D A1.
-fn hint(
-    rt: &impl Runtime,
-    alloc: Global,
-    digits: &Matrix,
-    public: &Matrix,
-    figures: &mut Vec<Figure>,
-) -> anyhow::Result<()>
-    requires { digits.now.cols ≡ public.now.rows }
+// The server hint H, which has four rows for each column of the hint.
+fn server_hint(rt: &HostRuntime, turns: u32, across: &Matrix, server: &mut Matrix) -> Option<Figure>
+    requires rows { server.old.rows ≡ across.now.rows * 4 }
+    requires cols { server.old.cols ≡ across.now.cols }
+    ensures { OnSome result (server.new.cols ≡ server.old.cols) }
 {
-    let mut hint = Matrix::zeros(alloc, digits.rows(), public.cols())?;
-    let took = timing::product(rt, digits, public, &mut hint)?;
-    let count = digits.words().len();
-    let products = count.saturating_mul(public.cols());
-    figures.push(figure("D A1", count, products, took, hint.words()))?;
-    Ok(())
-}
-
-// The server hint H, which has four rows for each column of a hint, and the client hint H A2.
-fn server_hint(
-    rt: &impl Runtime,
-    alloc: Global,
-    turns: u32,
-    public: &Matrix,
-    figures: &mut Vec<Figure>,
-) -> anyhow::Result<()> {
-    let Some(height) = public.cols().checked_mul(4) else {
-        return Ok(());
-    };
-    let across = filled(alloc, public.cols(), public.rows(), 6, u32::MAX)?;
-    let mut server = Matrix::zeros(alloc, height, public.rows())?;
-    let split = timing::split(rt, turns, &across, &mut server)?;
+    let took = timing::split(rt, turns, across, server)?;
     let count = server.words().len();
-    figures.push(figure("rows split into digits", count, 0, split, server.words()))?;
-    let mut client = Matrix::zeros(alloc, height, public.cols())?;
-    let took = timing::product(rt, &server, public, &mut client)?;
-    let products = count.saturating_mul(public.cols());
-    figures.push(figure("H A2", count, products, took, client.words()))?;
-    Ok(())
+    Some(Figure::new("rows split into digits", count, 0, took, server.words()))
 }
 
-fn vector(alloc: Global, count: usize, seed: u32) -> Result<Vec<u32>, AllocError>
-    ensures { IfOk result (λ words. length words.items ≡ count) }
+// H A2.
+fn client_hint(rt: &HostRuntime, server: &Matrix, public: &Matrix) -> Option<Figure>
+    requires { server.now.cols ≡ public.now.rows }
 {
-    let mut words = Vec::from_elem(alloc, 0u32, count)?;
-    fill(words.as_mut_slice(), seed, u32::MAX);
-    Ok(words)
-}
-
-/// The figure of a piece of work.
-pub fn figure(
-    name: &'static str,
-    words: usize,
-    products: usize,
-    nanos: u64,
-    made: &[u32],
-) -> Figure {
-    let mut check = 0u32;
-    for word in made {
-        check = check.wrapping_mul(31).wrapping_add(*word);
-    }
-    Figure {
-        name,
-        bytes: (words as u64).saturating_mul(4),
-        products: products as u64,
-        nanos,
-        check,
-    }
+    let mut client = Matrix::zeros(rt.alloc(), server.rows(), public.cols()).ok()?;
+    let took = timing::product(rt, server, public, &mut client)?;
+    let count = server.words().len();
+    let products = count.saturating_mul(public.cols());
+    Some(Figure::new("H A2", count, products, took, client.words()))
 }

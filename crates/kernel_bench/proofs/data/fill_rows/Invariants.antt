@@ -1,0 +1,8 @@
+use Rattle.std.proofs.Common.{◌≡◌}
+use Rattle.kernel_bench.proofs.data.fill_rows.Given as goal
+
+abbrev pub invariant-loop-i : goal.invariant-loop-i
+invariant-loop-i l = record {
+  height : l.m.rows ≡ l.fn.m.rows;
+  width : l.m.cols ≡ l.fn.m.cols;
+}
