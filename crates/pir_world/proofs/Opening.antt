@@ -124,4 +124,9 @@ opening_parts h bytes seeds core ends os held stands e at none = record {
 pub opening_run : (h : Header) (bytes : List ℕ) (seeds : List (List ℕ)) (w : Kept) → IsOpening h bytes → w.header ≡ h → w.records ≡ bytes → w.seeds ≡ seeds →
     w.steps ≡ [] → IsParts (setting_in h) w.core w.ends w.outcomes (opening h bytes seeds)
     → IsRunOf w (opening h bytes seeds)
-opening_run h bytes seeds w o a b d e parts = record { opens = rw (a, b) o; run = rw (a, b, d, e) refl; parts = rw a parts }
+opening_run h bytes seeds w o a b d e parts = record {
+  opens = rw (a, b) o;
+  run = rw (a, b, d, e) refl;
+  outcomes_are = parts.outcomes_are;
+  parts = λ alive. rw a parts;
+}

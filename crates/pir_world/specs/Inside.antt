@@ -1,5 +1,4 @@
 -- What a world keeps.
-use Rattle.std.specs.Prelude.{◌≡◌, false}
 use Rattle.pir_world.specs.declared.world.World.TheInside.{Inside}
 use Rattle.pir_world.specs.Runs.{State}
 use Rattle.pir_world.specs.Worlds.{Kept, IsRunOf}
@@ -18,6 +17,6 @@ shown w = record {
   broken = w.broken;
 }
 
--- until memory was refused, it is what a run of its steps leaves
+-- a run of its steps leads to its outcomes and, until memory was refused, to all that it is
 abbrev pub IsKept : {K : Type 0} → Inside K → Type 0
-IsKept w = w.broken ≡ false → (s : State) × IsRunOf (shown w) s
+IsKept w = (s : State) × IsRunOf (shown w) s

@@ -4,7 +4,7 @@ use Rattle.snapshot_file.specs.declared.snapshot.Header.{Header}
 use Rattle.server_core.specs.Cores.{Core}
 use Rattle.pir_world.specs.declared.steps.Step.{Step}
 use Rattle.pir_world.specs.declared.steps.Outcome.{Outcome}
-use Rattle.pir_world.specs.Runs.{State, Run, opening, setting_in}
+use Rattle.pir_world.specs.Runs.{State, Run, opening, outcomes_of, setting_in}
 use Rattle.pir_world.specs.Headlines.{IsOpening}
 use Rattle.pir_world.specs.Sides.{Side, IsParts}
 
@@ -20,11 +20,13 @@ pub record Kept : Type 0 where
   pub outcomes : List Outcome
   pub broken : Bool
 
--- a run of its steps from its opening leads to this state, and its parts are the state's
+-- a run of its steps from its opening leads to this state, whose outcomes it has; until memory was refused in a step,
+-- its parts are the state's
 pub record IsRunOf (w : Kept) (s : State) : Type 0 where
   pub opens : IsOpening w.header w.records
   pub run : Run (setting_in w.header) (opening w.header w.records w.seeds) w.steps s
-  pub parts : IsParts (setting_in w.header) w.core w.ends w.outcomes s
+  pub outcomes_are : w.outcomes ≡ outcomes_of s.log
+  pub parts : w.broken ≡ false → IsParts (setting_in w.header) w.core w.ends w.outcomes s
 
 -- a world that has made no step
 pub record IsNew (w : Kept) (h : Header) (records : List ℕ) (seeds : List (List ℕ)) : Type 0 where

@@ -24,7 +24,8 @@ use version_store::{Header, OpenError, Snapshot, Store};
 /// A store after its server, and clients with a session each, with the bytes that wait between them.
 ///
 /// Contracts see what it was opened with, the server, the clients' ends, the steps made, the outcomes, and
-/// whether memory was refused in a step. Until it was, they are what a run of the steps leaves.
+/// whether memory was refused in a step. The outcomes are those of a run of the steps; until memory was
+/// refused, the server and the ends are what that run leaves, too.
 #[derive(Drop)]
 pub struct World<K: Kernel> {
     alloc: Global,
@@ -94,10 +95,11 @@ impl<K: Kernel> World<K> {
     /// What came of the steps so far, in order: the accepted and refused edits and publications, the events,
     /// the refused calls and the faults.
     ///
-    /// They are what a run of the steps leaves, and all of it is right: an answered retrieval whose noise
-    /// sums stay below half of delta gave exactly its record's bytes in the version that its hint names, and
-    /// a query was refused as stale, with the current version, exactly when it named another. The log of the
-    /// run says by earlier entries which call, which query and which reply each retrieval had.
+    /// They are those of a run of the steps, also in a world that was refused memory in a later step, and all
+    /// of it is right: an answered retrieval whose noise sums stay below half of delta gave exactly its
+    /// record's bytes in the version that its hint names, and a query was refused as stale, with the current
+    /// version, exactly when it named another. The log of the run says by earlier entries which call, which
+    /// query and which reply each retrieval had.
     ///
     /// Steps that differ from these in the indices of asks alone put the same shapes on each link: as many
     /// frames each way, in the same order, of the same kinds and lengths. Of both it is asked that no reply
@@ -105,8 +107,7 @@ impl<K: Kernel> World<K> {
     /// that its client knew.
     pub fn outcomes(&self) -> &[Outcome]
         ensures kept { result.now ≡ self.now.outcomes }
-        ensures right { self.now.broken ≡ false →
-            (s : State) × IsRunOf self.now s × (result.now ≡ outcomes_of s.log) ×
+        ensures right { (s : State) × IsRunOf self.now s × (result.now ≡ outcomes_of s.log) ×
             Headline (setting_in self.now.header) self.now.seeds s × HidesIndices self.now s }
     {
         every_run_is_right();

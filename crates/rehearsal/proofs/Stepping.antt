@@ -37,8 +37,8 @@ after_step_is w v t e n =
 pub told_is : (w v : Kept) (s t : State) (before : List Outcome) → before ≡ w.outcomes → IsRunOf w s → IsRunOf v t →
     drop (length before) v.outcomes ≡ added_outcomes s t
 told_is w v s t before e p q =
-    ap (λ (x : List Outcome). drop (length x) v.outcomes) (e ∙ p.parts.outcomes_are)
-    ∙ ap (λ (x : List Outcome). drop (length (outcomes_of s.log)) x) q.parts.outcomes_are
+    ap (λ (x : List Outcome). drop (length x) v.outcomes) (e ∙ p.outcomes_are)
+    ∙ ap (λ (x : List Outcome). drop (length (outcomes_of s.log)) x) q.outcomes_are
 
 -- the move of a step that was made
 pub made : (w : Kept) (s t : State) (step : Step) → has_client step (length w.ends) ≡ true → Steps (setting_in w.header) s step t →

@@ -11,7 +11,7 @@ use Rattle.pir_world.proofs.Opening.{opening_parts, opening_run}
 use Rattle.pir_world.proofs.world.World.new.Goals as goal
 
 pub invariant_of-result : goal.invariant_of-result
-invariant_of-result g c alive =
+invariant_of-result g c =
     let h = header_of c.args.snapshot in
     let bytes = c.args.snapshot.records.items in
     let seeds = c.args.seeds.items in
