@@ -1,20 +1,16 @@
-//! A client against replies that are made here, frame by frame.
+//! A client against replies that are made here, frame by frame. Most of them are in tests/unproved.
 
 use super::*;
 use digit_pack::Layout;
 use frame_codec::{Bytes32, Frame, Reader, Rows, Words, write_frame};
-use matrix_u32::Plain;
+use lane_kernels::Lanes;
+use matrix_u32::{Kernel, Plain};
 use std::alloc::Global;
 use std::process::Abort;
 use std::test::Fail;
 
 mod answers;
-mod calls;
-mod deltas;
-mod hints;
 mod refused_memory;
-mod replies;
-mod shapes;
 mod texts;
 
 const ZEROS: [u8; 32] = [0; 32];
@@ -185,7 +181,7 @@ enum Wanted {
 }
 
 // Has no contract, so that a test of many calls carries none of their clauses.
-fn call(client: &mut ClientCore<Plain>, wanted: Wanted) -> Result<Vec<u8>, CallFault> {
+fn call<K: Kernel>(client: &mut ClientCore<K>, wanted: Wanted) -> Result<Vec<u8>, CallFault> {
     match wanted {
         Wanted::Hello(first) => {
             let mut key = ZEROS;
@@ -200,7 +196,12 @@ fn call(client: &mut ClientCore<Plain>, wanted: Wanted) -> Result<Vec<u8>, CallF
 }
 
 /// A call that is made and refused so.
-fn refuses(rt: &impl Abort, client: &mut ClientCore<Plain>, wanted: Wanted, fault: CallFault) {
+fn refuses<K: Kernel>(
+    rt: &impl Abort,
+    client: &mut ClientCore<K>,
+    wanted: Wanted,
+    fault: CallFault,
+) {
     match call(client, wanted) {
         Ok(_) => panic!(rt; "the call was made"),
         Err(refusal) => assert!(rt; refusal == fault),
@@ -208,9 +209,9 @@ fn refuses(rt: &impl Abort, client: &mut ClientCore<Plain>, wanted: Wanted, faul
 }
 
 /// A call that is made and sends that many bytes, the first of them these.
-fn sends(
+fn sends<K: Kernel>(
     rt: &impl Abort,
-    client: &mut ClientCore<Plain>,
+    client: &mut ClientCore<K>,
     wanted: Wanted,
     len: usize,
     prefix: &[u8],
@@ -223,20 +224,20 @@ fn sends(
 }
 
 /// A call that is made, whatever it sends.
-fn makes(client: &mut ClientCore<Plain>, wanted: Wanted) -> Result<(), Fail> {
+fn makes<K: Kernel>(client: &mut ClientCore<K>, wanted: Wanted) -> Result<(), Fail> {
     call(client, wanted)?;
     Ok(())
 }
 
 /// Compares the number of the next retrieval.
-fn counts(rt: &impl Abort, client: &ClientCore<Plain>, number: u64) {
+fn counts<K: Kernel>(rt: &impl Abort, client: &ClientCore<K>, number: u64) {
     assert_eq!(rt; client.next_number(), number);
 }
 
 /// Feeds a piece, and compares what comes of it and the bytes that are then to be sent.
-fn asks_on(
+fn asks_on<K: Kernel>(
     rt: &(impl Abort + AllocGlobal),
-    client: &mut ClientCore<Plain>,
+    client: &mut ClientCore<K>,
     piece: &[u8],
     wanted: &str,
     sent: &[u8],
@@ -248,9 +249,9 @@ fn asks_on(
 }
 
 /// Feeds a piece, after which nothing is to be sent, and compares what comes of it.
-fn feeds(
+fn feeds<K: Kernel>(
     rt: &(impl Abort + AllocGlobal),
-    client: &mut ClientCore<Plain>,
+    client: &mut ClientCore<K>,
     piece: &[u8],
     wanted: &str,
 ) -> Result<(), Fail> {
@@ -258,26 +259,27 @@ fn feeds(
 }
 
 /// A client with the zero seed.
-fn newcomer(rt: &(impl Abort + AllocGlobal), number: u64) -> ClientCore<Plain> {
+fn newcomer<K: Kernel>(rt: &(impl Abort + AllocGlobal), number: u64, kernel: K) -> ClientCore<K> {
     assert!(rt; number <= 1 << 62);
-    ClientCore::new(rt.alloc(), Plain, ZEROS, number)
+    ClientCore::new(rt.alloc(), kernel, ZEROS, number)
 }
 
 /// A client that was let in.
-fn guest(
+fn guest<K: Kernel>(
     rt: &(impl Abort + AllocGlobal),
     store: Store,
     number: u64,
-) -> Result<ClientCore<Plain>, Fail> {
-    let mut client = newcomer(rt, number);
+    kernel: K,
+) -> Result<ClientCore<K>, Fail> {
+    let mut client = newcomer(rt, number, kernel);
     let_in(rt, &mut client, store)?;
     Ok(client)
 }
 
 // Greets, and takes the Welcome of a store of version 1.
-fn let_in(
+fn let_in<K: Kernel>(
     rt: &(impl Abort + AllocGlobal),
-    client: &mut ClientCore<Plain>,
+    client: &mut ClientCore<K>,
     store: Store,
 ) -> Result<(), Fail> {
     makes(client, Wanted::Hello(0))?;
@@ -286,21 +288,22 @@ fn let_in(
 }
 
 /// A client that holds the hint of version 1, which has these words.
-fn synced(
+fn synced<K: Kernel>(
     rt: &(impl Abort + AllocGlobal),
     store: Store,
     number: u64,
     hint: &[u32],
-) -> Result<ClientCore<Plain>, Fail> {
-    let mut client = guest(rt, store, number)?;
+    kernel: K,
+) -> Result<ClientCore<K>, Fail> {
+    let mut client = guest(rt, store, number, kernel)?;
     fetches(rt, &mut client, 1, hint)?;
     Ok(client)
 }
 
 // Asks for a hint of one part, and takes it.
-fn fetches(
+fn fetches<K: Kernel>(
     rt: &(impl Abort + AllocGlobal),
-    client: &mut ClientCore<Plain>,
+    client: &mut ClientCore<K>,
     version: u64,
     hint: &[u32],
 ) -> Result<(), Fail> {

@@ -1,14 +1,14 @@
-//! Replies byte by byte, refusals, streams cut anywhere, and sessions beside one another. No reply is Refused 12:
-//! memory is ample in all of them.
+//! A reader's session byte by byte, and sessions that are opened and closed. Refusals, streams cut anywhere, deltas and
+//! sessions beside one another are in tests/unproved. No reply is Refused 12: memory is ample in all of them.
 
 use crate::{FeedError, OpenError, ServerCore, laws};
-use matrix_u32::Plain;
+use lane_kernels::Lanes;
+use matrix_u32::{Kernel, Plain};
 use std::alloc::Global;
 use std::process::Abort;
 use std::test::Fail;
-use version_store::{EditError, Header, PublishError, Store};
+use version_store::{Header, Store};
 
-mod deltas;
 mod texts;
 
 /// The SHA-256 digest of 32 bytes 01.
@@ -20,10 +20,8 @@ const PUBLISHER: [u8; 32] = [
 // The store of most tests.
 const RECORDS: &[u8] = &[0x0a, 0xc8];
 
-// A greeting, but its key, and one in another profile.
+// A greeting, but its key.
 const GREETING: &[u8] = &[0x22, 0, 0, 0, 0x02, 1, 0];
-
-const OTHER_PROFILE: &[u8] = &[0x22, 0, 0, 0, 0x02, 9, 0];
 
 // What an accepted greeting is answered at version 1, but the seed of zeros.
 const WELCOME: &[u8] = &[
@@ -44,34 +42,14 @@ const ANSWER: &[u8] = &[
     0x0d, 0, 0, 0, 0x85, 0, 1, 0, 0, 0, 0, 0, 0, 0, 0xa4, 0x1a, 0, 0xc8,
 ];
 
-// Record 1 becomes the byte 100, which is 64 in hex.
-const EDIT: &[u8] = &[5, 0, 0, 0, 0x06, 1, 0, 0, 0, 0x64];
-
-const PUBLISH: &[u8] = &[0, 0, 0, 0, 0x07];
-
 const BYE: &[u8] = &[0, 0, 0, 0, 0x08];
-
-const LOAD: &[u8] = &[7, 0, 0, 0, 0x01, 1, 0, 1, 0, 8, 0x0a, 0xc8];
-
-const STALE: &[u8] = &[0x0c, 0, 0, 0, 0x86, 2, 0, 0, 0, 0, 0, 0, 0, 2, 0, 0, 0];
-
-// A refusal, but its code.
-const REFUSED: &[u8] = &[1, 0, 0, 0, 0x8f];
-
-const DONE_1: &[u8] = &[8, 0, 0, 0, 0x87, 1, 0, 0, 0, 0, 0, 0, 0];
-
-const DONE_2: &[u8] = &[8, 0, 0, 0, 0x87, 2, 0, 0, 0, 0, 0, 0, 0];
 
 const ZEROS: &[u8] = &[0; 32];
 
-const ONES: &[u8] = &[1; 32];
-
-const TWOS: &[u8] = &[2; 32];
-
 // The calls below have no clause, so that a test doesn't carry theirs.
 
-fn feed(
-    server: &mut ServerCore<Plain>,
+fn feed<K: Kernel>(
+    server: &mut ServerCore<K>,
     id: u64,
     piece: &[u8],
     out: &mut Vec<u8>,
@@ -79,37 +57,25 @@ fn feed(
     server.feed(id, piece, out)
 }
 
-fn open_session(server: &mut ServerCore<Plain>, id: u64) -> Result<(), OpenError> {
+fn open_session<K: Kernel>(server: &mut ServerCore<K>, id: u64) -> Result<(), OpenError> {
     server.open_session(id)
 }
 
-fn close_session(server: &mut ServerCore<Plain>, id: u64) -> bool {
+fn close_session<K: Kernel>(server: &mut ServerCore<K>, id: u64) -> bool {
     server.close_session(id)
 }
 
-fn has_session(server: &ServerCore<Plain>, id: u64) -> bool {
+fn has_session<K: Kernel>(server: &ServerCore<K>, id: u64) -> bool {
     server.has_session(id)
 }
 
-fn is_open(server: &ServerCore<Plain>, id: u64) -> bool {
-    server.is_open(id)
-}
-
-fn edit(server: &mut ServerCore<Plain>, index: usize, bytes: &[u8]) -> Result<(), EditError> {
-    server.edit(index, bytes)
-}
-
-fn publish(server: &mut ServerCore<Plain>) -> Result<u64, PublishError> {
-    server.publish()
-}
-
 // A server of records of one byte, each a column of its own, with a session 0.
-fn server(
-    rt: &impl Abort,
+fn server<K: Kernel>(
     alloc: Global,
+    kernel: K,
     records: &[u8],
     version: u64,
-) -> Result<ServerCore<Plain>, Fail> {
+) -> Result<ServerCore<K>, Fail> {
     let header = Header {
         width: 8,
         record_len: 1,
@@ -121,10 +87,7 @@ fn server(
         publisher: PUBLISHER,
     };
     let snapshot = header.with_records(records.to_vec(alloc)?);
-    let Ok(store) = Store::open(alloc, Plain, snapshot) else {
-        panic!(rt; "the store was not opened");
-    };
-    let mut server = ServerCore::new(alloc, store);
+    let mut server = ServerCore::new(alloc, Store::open(alloc, kernel, snapshot)?);
     open_session(&mut server, 0)?;
     Ok(server)
 }
@@ -142,10 +105,10 @@ fn joined(alloc: Global, parts: &[&[u8]]) -> Result<Vec<u8>, Fail> {
 type Dialogue = &'static [(&'static [&'static [u8]], &'static [&'static [u8]])];
 
 // Feeds a session a piece, and compares what it is answered.
-fn check(
+fn check<K: Kernel>(
     rt: &impl Abort,
     alloc: Global,
-    server: &mut ServerCore<Plain>,
+    server: &mut ServerCore<K>,
     id: u64,
     asked: &[&[u8]],
     reported: &[&[u8]],
@@ -169,14 +132,22 @@ const RETRIEVAL: Dialogue = &[
 
 #[test]
 fn a_reader_gets_the_hint_and_answers(rt: HostRuntime) -> Result<(), Fail> {
-    let mut server = server(&rt, rt.alloc(), RECORDS, 1)?;
-    check_a_reader_gets_the_hint_and_answers(&rt, rt.alloc(), &mut server)
+    a_reader_gets_the_hint_and_answers_on(
+        &rt,
+        rt.alloc(),
+        &mut server(rt.alloc(), Plain, RECORDS, 1)?,
+    )?;
+    a_reader_gets_the_hint_and_answers_on(
+        &rt,
+        rt.alloc(),
+        &mut server(rt.alloc(), Lanes, RECORDS, 1)?,
+    )
 }
 
-fn check_a_reader_gets_the_hint_and_answers(
+fn a_reader_gets_the_hint_and_answers_on<K: Kernel>(
     rt: &impl Abort,
     alloc: Global,
-    server: &mut ServerCore<Plain>,
+    server: &mut ServerCore<K>,
 ) -> Result<(), Fail> {
     for (asked, reported) in RETRIEVAL {
         check(rt, alloc, server, 0, asked, reported)?;
@@ -186,282 +157,19 @@ fn check_a_reader_gets_the_hint_and_answers(
 }
 
 #[test]
-fn a_stream_can_be_cut_anywhere(rt: HostRuntime) -> Result<(), Fail> {
-    let alloc = rt.alloc();
-    let stream = joined(alloc, &[GREETING, ZEROS, HINT_ASK, QUERY, BYE])?;
-    let wanted = joined(alloc, &[WELCOME, ZEROS, HINT_PART, ANSWER])?;
-    for cut in 0..=stream.len() {
-        let (piece, later) = stream.split_at(cut);
-        let mut server = server(&rt, alloc, RECORDS, 1)?;
-        let mut out = Vec::new(alloc);
-        feed(&mut server, 0, piece, &mut out)?;
-        feed(&mut server, 0, later, &mut out)?;
-        assert_eq!(rt; out.as_slice(), wanted.as_slice(), "cut at {cut}");
-    }
-    Ok(())
-}
-
-#[test]
-fn a_stream_can_come_byte_by_byte(rt: HostRuntime) -> Result<(), Fail> {
-    let alloc = rt.alloc();
-    let stream = joined(alloc, &[GREETING, ZEROS, HINT_ASK, QUERY, BYE])?;
-    let wanted = joined(alloc, &[WELCOME, ZEROS, HINT_PART, ANSWER])?;
-    let mut server = server(&rt, alloc, RECORDS, 1)?;
-    let mut out = Vec::new(alloc);
-    for byte in stream.chunks(1) {
-        feed(&mut server, 0, byte, &mut out)?;
-    }
-    assert_eq!(rt; out.as_slice(), wanted.as_slice());
-    Ok(())
-}
-
-// Frames of one session that are refused or done, in this order, each with its reply.
-const REFUSALS: Dialogue = &[
-    (&[QUERY], &[REFUSED, &[2]]),
-    (&[OTHER_PROFILE, ZEROS], &[REFUSED, &[3]]),
-    (&[GREETING, TWOS], &[REFUSED, &[4]]),
-    (&[HINT_ASK], &[REFUSED, &[2]]),
-    (&[EDIT], &[REFUSED, &[2]]),
-    (&[PUBLISH], &[REFUSED, &[2]]),
-    (&[GREETING, ZEROS], &[WELCOME, ZEROS]),
-    (&[EDIT], &[REFUSED, &[5]]),
-    (&[PUBLISH], &[REFUSED, &[5]]),
-    (&[GREETING, ONES], &[WELCOME, ZEROS]),
-    (&[GREETING, TWOS], &[REFUSED, &[4]]),
-    (&[&[5, 0, 0, 0, 0x06, 2, 0, 0, 0, 1]], &[REFUSED, &[6]]),
-    (&[&[6, 0, 0, 0, 0x06, 0, 0, 0, 0, 1, 1]], &[REFUSED, &[7]]),
-    (&[PUBLISH], &[REFUSED, &[8]]),
-    (&[EDIT], &[DONE_1]),
-    (&[QUERY], &[ANSWER]),
-    (&[PUBLISH], &[DONE_2]),
-    (&[PUBLISH], &[REFUSED, &[8]]),
-    (&[QUERY], &[STALE]),
-    (
-        &[&[0x0d, 0, 0, 0, 0x03, 0, 2, 0, 0, 0, 0, 0, 0, 0, 1, 0, 0, 0]],
-        &[REFUSED, &[10]],
-    ),
-    (
-        &[&[0x0d, 0, 0, 0, 0x03, 2, 2, 0, 0, 0, 0, 0, 0, 0, 1, 0, 0, 0]],
-        &[REFUSED, &[13]],
-    ),
-    (
-        &[&[9, 0, 0, 0, 0x05, 2, 2, 0, 0, 0, 0, 0, 0, 0]],
-        &[REFUSED, &[13]],
-    ),
-    (
-        &[&[
-            0x15, 0, 0, 0, 0x05, 0, 2, 0, 0, 0, 0, 0, 0, 0, 1, 0, 0, 0, 2, 0, 0, 0, 3, 0, 0, 0,
-        ]],
-        &[REFUSED, &[11]],
-    ),
-    (&[LOAD], &[REFUSED, &[1]]),
-    (&[GREETING, ZEROS], &[]),
-];
-
-#[test]
-fn refusals_come_in_this_order(rt: HostRuntime) -> Result<(), Fail> {
-    let mut server = server(&rt, rt.alloc(), RECORDS, 1)?;
-    check_refusals_come_in_this_order(&rt, rt.alloc(), &mut server)
-}
-
-fn check_refusals_come_in_this_order(
-    rt: &impl Abort,
-    alloc: Global,
-    server: &mut ServerCore<Plain>,
-) -> Result<(), Fail> {
-    for (asked, reported) in REFUSALS {
-        check(rt, alloc, server, 0, asked, reported)?;
-    }
-    Ok(())
-}
-
-// An ask for part 0 of the hint of DoublePIR, and a query of it with three words.
-const DOUBLE_HINT_ASK: &[u8] = &[0x0d, 0, 0, 0, 0x03, 1, 1, 0, 0, 0, 0, 0, 0, 0, 0, 0, 0, 0];
-
-const DOUBLE_QUERY: &[u8] = &[
-    0x15, 0, 0, 0, 0x05, 1, 1, 0, 0, 0, 0, 0, 0, 0, 1, 0, 0, 0, 2, 0, 0, 0, 3, 0, 0, 0,
-];
-
-#[test]
-fn hints_and_answers_of_double_pir(rt: HostRuntime) -> Result<(), Fail> {
-    let alloc = rt.alloc();
-    let mut server = server(&rt, alloc, RECORDS, 1)?;
-    let stream = joined(alloc, &[GREETING, ZEROS, DOUBLE_HINT_ASK, DOUBLE_QUERY])?;
-    let mut out = Vec::new(alloc);
-    feed(&mut server, 0, &stream, &mut out)?;
-    // after the 58 bytes of the Welcome a part of four words, and then an answer of twelve
-    assert_eq!(rt; out.len(), 58 + 34 + 62);
-    assert_eq!(rt; &out[58..65], [29, 0, 0, 0, 0x83, 1, 1].as_slice());
-    assert_eq!(rt; &out[92..99], [57, 0, 0, 0, 0x85, 1, 1].as_slice());
-    Ok(())
-}
-
-// Stale at version 3 of five records.
-const STALE_3: &[u8] = &[0x0c, 0, 0, 0, 0x86, 3, 0, 0, 0, 0, 0, 0, 0, 5, 0, 0, 0];
-
-const FIVE_WORDS: &[u8] = &[0; 20];
-
-// Queries of versions 2 and 4, of 2 with no words, and of 3.
-const QUERIES: Dialogue = &[
-    (
-        &[
-            &[0x1d, 0, 0, 0, 0x05, 0, 2, 0, 0, 0, 0, 0, 0, 0],
-            FIVE_WORDS,
-        ],
-        &[STALE_3],
-    ),
-    (
-        &[
-            &[0x1d, 0, 0, 0, 0x05, 0, 4, 0, 0, 0, 0, 0, 0, 0],
-            FIVE_WORDS,
-        ],
-        &[STALE_3],
-    ),
-    (
-        &[&[9, 0, 0, 0, 0x05, 0, 2, 0, 0, 0, 0, 0, 0, 0]],
-        &[STALE_3],
-    ),
-    (
-        &[
-            &[0x1d, 0, 0, 0, 0x05, 0, 3, 0, 0, 0, 0, 0, 0, 0],
-            FIVE_WORDS,
-        ],
-        &[&[0x0d, 0, 0, 0, 0x85, 0, 3, 0, 0, 0, 0, 0, 0, 0, 0, 0, 0, 0]],
-    ),
-];
-
-#[test]
-fn an_old_version_is_reported_before_the_word_count(rt: HostRuntime) -> Result<(), Fail> {
-    let mut server = server(&rt, rt.alloc(), &[1, 2, 3, 4, 5], 3)?;
-    check_an_old_version_is_reported_before_the_word_count(&rt, rt.alloc(), &mut server)
-}
-
-fn check_an_old_version_is_reported_before_the_word_count(
-    rt: &impl Abort,
-    alloc: Global,
-    server: &mut ServerCore<Plain>,
-) -> Result<(), Fail> {
-    let mut out = Vec::new(alloc);
-    feed(server, 0, &joined(alloc, &[GREETING, ZEROS])?, &mut out)?;
-    for (asked, reported) in QUERIES {
-        check(rt, alloc, server, 0, asked, reported)?;
-    }
-    Ok(())
-}
-
-// The last version number.
-const LAST: &[u8] = &[0xff; 8];
-
-const TWO_WORDS: &[u8] = &[0x16, 0, 0, 0, 0x21, 0, 0, 1];
-
-// The publisher's session at the last version.
-const LAST_VERSION: Dialogue = &[
-    (
-        &[GREETING, ONES],
-        &[
-            &[0x35, 0, 0, 0, 0x82, 1, 0, 8, 1, 0, 1, 0, 2, 0, 0, 0],
-            LAST,
-            &[1, 0],
-            ZEROS,
-        ],
-    ),
-    (&[EDIT], &[&[8, 0, 0, 0, 0x87], LAST]),
-    (&[PUBLISH], &[REFUSED, &[9]]),
-    (
-        &[&[0x11, 0, 0, 0, 0x05, 0], LAST, TWO_WORDS],
-        &[&[0x0d, 0, 0, 0, 0x85, 0], LAST, &[0xa4, 0x1a, 0, 0xc8]],
-    ),
-];
-
-#[test]
-fn the_last_version_is_served_and_not_followed(rt: HostRuntime) -> Result<(), Fail> {
-    let mut server = server(&rt, rt.alloc(), RECORDS, u64::MAX)?;
-    check_the_last_version_is_served_and_not_followed(&rt, rt.alloc(), &mut server)
-}
-
-fn check_the_last_version_is_served_and_not_followed(
-    rt: &impl Abort,
-    alloc: Global,
-    server: &mut ServerCore<Plain>,
-) -> Result<(), Fail> {
-    for (asked, reported) in LAST_VERSION {
-        check(rt, alloc, server, 0, asked, reported)?;
-    }
-    Ok(())
-}
-
-// Sessions with a payload that is too long, a kind that there is not, and a question that lacks a byte.
-const FAULTS: &[(u64, &[u8])] = &[
-    (1, &[1, 0, 0, 1]),
-    (2, &[0, 0, 0, 0, 0x7f]),
-    (3, &[12, 0, 0, 0, 0x03, 0, 1, 0, 0, 0, 0, 0, 0, 0, 0, 0, 0]),
-];
-
-#[test]
-fn a_session_is_served_beside_closed_ones(rt: HostRuntime) -> Result<(), Fail> {
-    let mut server = server(&rt, rt.alloc(), RECORDS, 1)?;
-    check_a_session_is_served_beside_closed_ones(&rt, rt.alloc(), &mut server)
-}
-
-fn check_a_session_is_served_beside_closed_ones(
-    rt: &impl Abort,
-    alloc: Global,
-    server: &mut ServerCore<Plain>,
-) -> Result<(), Fail> {
-    check(rt, alloc, server, 0, &[GREETING, ZEROS], &[WELCOME, ZEROS])?;
-    for (id, fault) in FAULTS {
-        let id = *id;
-        open_session(server, id)?;
-        check(rt, alloc, server, id, &[fault], &[REFUSED, &[1]])?;
-        check(rt, alloc, server, id, &[GREETING, ZEROS], &[])?;
-        assert_eq!(rt; has_session(server, id), true);
-        check(rt, alloc, server, 0, &[QUERY], &[ANSWER])?;
-    }
-    Ok(())
-}
-
-#[test]
-fn a_query_is_served_when_its_last_byte_comes(rt: HostRuntime) -> Result<(), Fail> {
-    let mut server = server(&rt, rt.alloc(), RECORDS, 1)?;
-    check_a_query_is_served_when_its_last_byte_comes(&rt, rt.alloc(), &mut server)
-}
-
-fn check_a_query_is_served_when_its_last_byte_comes(
-    rt: &impl Abort,
-    alloc: Global,
-    server: &mut ServerCore<Plain>,
-) -> Result<(), Fail> {
-    let (prefix, rest) = QUERY.split_at(11);
-    check(
-        rt,
-        alloc,
-        server,
-        0,
-        &[GREETING, ZEROS, prefix],
-        &[WELCOME, ZEROS],
-    )?;
-    open_session(server, 1)?;
-    check(
-        rt,
-        alloc,
-        server,
-        1,
-        &[GREETING, ONES, EDIT, PUBLISH],
-        &[WELCOME, ZEROS, DONE_1, DONE_2],
-    )?;
-    check(rt, alloc, server, 0, &[rest], &[STALE])
-}
-
-#[test]
 fn sessions_are_opened_and_closed(rt: HostRuntime) -> Result<(), Fail> {
-    let mut server = server(&rt, rt.alloc(), RECORDS, 1)?;
-    check_sessions_are_opened_and_closed(&rt, rt.alloc(), &mut server)
+    sessions_are_opened_and_closed_on(
+        &rt,
+        rt.alloc(),
+        &mut server(rt.alloc(), Plain, RECORDS, 1)?,
+    )?;
+    sessions_are_opened_and_closed_on(&rt, rt.alloc(), &mut server(rt.alloc(), Lanes, RECORDS, 1)?)
 }
 
-fn check_sessions_are_opened_and_closed(
+fn sessions_are_opened_and_closed_on<K: Kernel>(
     rt: &impl Abort,
     alloc: Global,
-    server: &mut ServerCore<Plain>,
+    server: &mut ServerCore<K>,
 ) -> Result<(), Fail> {
     let mut out = Vec::new(alloc);
     assert_eq!(rt; feed(server, 9, QUERY, &mut out), Err(FeedError::NoSession));
@@ -474,134 +182,6 @@ fn check_sessions_are_opened_and_closed(
     assert_eq!(rt; close_session(server, 3), false);
     assert_eq!(rt; open_session(server, 3), Ok(()));
     assert_eq!(rt; has_session(server, 0), true);
-    Ok(())
-}
-
-#[test]
-fn a_session_is_open_until_it_is_closed(rt: HostRuntime) -> Result<(), Fail> {
-    let mut server = server(&rt, rt.alloc(), RECORDS, 1)?;
-    check_a_session_is_open_until_it_is_closed(&rt, rt.alloc(), &mut server)
-}
-
-fn check_a_session_is_open_until_it_is_closed(
-    rt: &impl Abort,
-    alloc: Global,
-    server: &mut ServerCore<Plain>,
-) -> Result<(), Fail> {
-    let mut out = Vec::new(alloc);
-    assert_eq!(rt; is_open(server, 0), true);
-    assert_eq!(rt; is_open(server, 1), false);
-    feed(server, 0, BYE, &mut out)?;
-    assert_eq!(rt; is_open(server, 0), false);
-    assert_eq!(rt; has_session(server, 0), true);
-    Ok(())
-}
-
-#[test]
-fn the_server_edits_its_store(rt: HostRuntime) -> Result<(), Fail> {
-    let mut server = server(&rt, rt.alloc(), RECORDS, 1)?;
-    check_the_server_edits_its_store(&rt, rt.alloc(), &mut server)
-}
-
-fn check_the_server_edits_its_store(
-    rt: &impl Abort,
-    alloc: Global,
-    server: &mut ServerCore<Plain>,
-) -> Result<(), Fail> {
-    assert_eq!(rt; edit(server, 1, &[100]), Ok(()));
-    assert_eq!(rt; publish(server), Ok(2));
-    assert_eq!(rt; server.store().version(), 2);
-    check(
-        rt,
-        alloc,
-        server,
-        0,
-        &[GREETING, ZEROS, QUERY],
-        &[
-            &[
-                0x35, 0, 0, 0, 0x82, 1, 0, 8, 1, 0, 1, 0, 2, 0, 0, 0, 2, 0, 0, 0, 0, 0, 0, 0, 1, 0,
-            ],
-            ZEROS,
-            STALE,
-        ],
-    )
-}
-
-// The prefix of a frame of 16,777,216 payload bytes, the most that there may be.
-const LONG_EDIT: &[u8] = &[0, 0, 0, 1, 0x06];
-
-#[test]
-fn a_long_frame_that_never_comes_holds_up_nobody(rt: HostRuntime) -> Result<(), Fail> {
-    let mut server = server(&rt, rt.alloc(), RECORDS, 1)?;
-    check_a_long_frame_that_never_comes_holds_up_nobody(&rt, rt.alloc(), &mut server)
-}
-
-fn check_a_long_frame_that_never_comes_holds_up_nobody(
-    rt: &impl Abort,
-    alloc: Global,
-    server: &mut ServerCore<Plain>,
-) -> Result<(), Fail> {
-    check(rt, alloc, server, 0, &[GREETING, ZEROS], &[WELCOME, ZEROS])?;
-    check(rt, alloc, server, 0, &[LONG_EDIT], &[])?;
-    open_session(server, 1)?;
-    for (asked, reported) in RETRIEVAL {
-        check(rt, alloc, server, 1, asked, reported)?;
-    }
-    assert_eq!(rt; is_open(server, 0), true);
-    check(rt, alloc, server, 0, &[&[0; 64]], &[])
-}
-
-#[test]
-fn a_thousand_sessions_are_opened_and_left(rt: HostRuntime) -> Result<(), Fail> {
-    let mut server = server(&rt, rt.alloc(), RECORDS, 1)?;
-    check_a_thousand_sessions_are_opened_and_left(&rt, rt.alloc(), &mut server)
-}
-
-fn check_a_thousand_sessions_are_opened_and_left(
-    rt: &impl Abort,
-    alloc: Global,
-    server: &mut ServerCore<Plain>,
-) -> Result<(), Fail> {
-    for id in 1..1000 {
-        open_session(server, id)?;
-        check(rt, alloc, server, id, &[LONG_EDIT], &[])?;
-    }
-    for (asked, reported) in RETRIEVAL {
-        check(rt, alloc, server, 0, asked, reported)?;
-    }
-    for id in 1..1000 {
-        assert_eq!(rt; is_open(server, id), true, "{id}");
-        assert_eq!(rt; close_session(server, id), true, "{id}");
-    }
-    Ok(())
-}
-
-// An empty piece says nothing, wherever it comes, and is no fault: between frames, within one, and after a Bye.
-const EMPTY_PIECES: Dialogue = &[
-    (&[], &[]),
-    (&[GREETING], &[]),
-    (&[], &[]),
-    (&[ZEROS], &[WELCOME, ZEROS]),
-    (&[], &[]),
-    (&[HINT_ASK], &[HINT_PART]),
-    (&[BYE], &[]),
-    (&[], &[]),
-];
-
-#[test]
-fn an_empty_piece_says_nothing(rt: HostRuntime) -> Result<(), Fail> {
-    let mut server = server(&rt, rt.alloc(), &[10, 200], 1)?;
-    check_an_empty_piece_says_nothing(&rt, rt.alloc(), &mut server)
-}
-
-fn check_an_empty_piece_says_nothing(
-    rt: &impl Abort,
-    alloc: Global,
-    server: &mut ServerCore<Plain>,
-) -> Result<(), Fail> {
-    for (asked, reported) in EMPTY_PIECES {
-        check(rt, alloc, server, 0, asked, reported)?;
-    }
     Ok(())
 }
 

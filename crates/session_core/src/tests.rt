@@ -14,7 +14,7 @@ const READER: [u8; 32] = [0; 32];
 const MOST_ROUNDS: u32 = 4;
 
 // A server of the records 0a and c8 at version 1, for no publisher.
-fn server<K: Kernel>(rt: &impl Abort, alloc: Global, kernel: K) -> Result<ServerCore<K>, Fail> {
+fn server<K: Kernel>(alloc: Global, kernel: K) -> Result<ServerCore<K>, Fail> {
     let header = Header {
         width: 8,
         record_len: 1,
@@ -26,16 +26,13 @@ fn server<K: Kernel>(rt: &impl Abort, alloc: Global, kernel: K) -> Result<Server
         publisher: [0; 32],
     };
     let snapshot = header.with_records([10u8, 200].to_vec(alloc)?);
-    let Ok(store) = Store::open(alloc, kernel, snapshot) else {
-        panic!(rt; "the store was not opened");
-    };
-    Ok(ServerCore::new(alloc, store))
+    Ok(ServerCore::new(alloc, Store::open(alloc, kernel, snapshot)?))
 }
 
 // The calls below have no clause, so that the test doesn't carry theirs.
 
-fn open_session<K: Kernel>(server: &mut ServerCore<K>) -> bool {
-    server.open_session(7).is_ok()
+fn open_session<K: Kernel>(server: &mut ServerCore<K>) -> Result<(), OpenError> {
+    server.open_session(7)
 }
 
 fn hello<K: Kernel>(client: &mut ClientCore<K>) -> Result<Vec<u8>, CallFault> {
@@ -121,7 +118,7 @@ fn check_session<K: Kernel>(
     server: &mut ServerCore<K>,
     client: &mut ClientCore<K>,
 ) -> Result<(), Fail> {
-    assert!(rt; open_session(server));
+    open_session(server)?;
     let sent = hello(client)?;
     let event = exchange(rt, alloc, server, client, sent)?;
     assert!(rt; matches!(event, Event::Welcomed(1)));
@@ -139,13 +136,13 @@ fn a_record_is_retrieved(rt: HostRuntime) -> Result<(), Fail> {
     check_session(
         &rt,
         alloc,
-        &mut server(&rt, alloc, Plain)?,
+        &mut server(alloc, Plain)?,
         &mut client(alloc, Plain),
     )?;
     check_session(
         &rt,
         alloc,
-        &mut server(&rt, alloc, Lanes)?,
+        &mut server(alloc, Lanes)?,
         &mut client(alloc, Lanes),
     )
 }

@@ -1,24 +1,17 @@
-//! Sessions over memory: readers that give a few bytes at a time or fail, and writers that take a few or fail.
+//! A session by each of both calls. Longer ones, and readers and writers that fail, are in tests/unproved.
 
-ghost use Rattle.std.specs.Prelude.{◌≤◌, length};
-
-use crate::{ConverseFault, Ending, ServeFault, converse, converse_over, serve, serve_over};
-use client_core::{CallFault, ClientCore, Event, Scheme};
-use connection_io::Connection;
-use matrix_u32::Plain;
-use server_core::{OpenError, ServerCore};
+use crate::{ConverseFault, Ending, ServeFault, converse, serve};
+use client_core::{CallFault, ClientCore, Event};
+use lane_kernels::Lanes;
+use matrix_u32::{Kernel, Plain};
+use server_core::ServerCore;
 use std::alloc::{AllocError, Global};
-use std::io;
 use std::io::{Read, Write};
 use std::process::Abort;
 use std::test::Fail;
-use version_store::{Header, PublishError, Store};
+use version_store::{Header, Store};
 
-mod conversing;
-mod large;
-mod serving;
 mod texts;
-mod turns;
 
 // The SHA-256 digest of 32 bytes 01.
 const PUBLISHER: [u8; 32] = [
@@ -39,65 +32,11 @@ const HINT_PART: &[u8] = &[
     0x11, 0, 0, 0, 0x83, 0, 1, 0, 0, 0, 0, 0, 0, 0, 0, 0, 0, 0, 0x9c, 0xf9, 0x2b, 0x7b,
 ];
 
-const EDIT: &[u8] = &[5, 0, 0, 0, 0x06, 1, 0, 0, 0, 100];
-
-const DONE: &[u8] = &[8, 0, 0, 0, 0x87, 1, 0, 0, 0, 0, 0, 0, 0];
-
 const BYE: &[u8] = &[0, 0, 0, 0, 0x08];
-
-const REFUSED: &[u8] = &[1, 0, 0, 0, 0x8f, 1];
 
 const ZEROS: [u8; 32] = [0; 32];
 
-const ONES: [u8; 32] = [1; 32];
-
-const PIECE: usize = 65_536;
-
 const TURNS: u64 = 1000;
-
-// Gives at most `most` bytes a read. Once they are all given, it fails or is at its end.
-#[derive(Drop)]
-struct Input<'a> {
-    bytes: &'a [u8],
-    most: usize,
-    fails: bool,
-}
-
-impl Read for Input<'_> {
-    fn read(&mut self, buf: &mut [u8]) -> io::Result<usize> {
-        if self.fails && self.bytes.is_empty() {
-            return Err(io::ErrorKind::Other.into());
-        }
-        let n = self.most.min(buf.len()).min(self.bytes.len());
-        buf[..n].copy_from_slice(&self.bytes[..n]);
-        self.bytes = &self.bytes[n..];
-        Ok(n)
-    }
-}
-
-// Takes at most `room` bytes in all. Then it takes 0 bytes, or fails.
-#[derive(Drop)]
-struct Output {
-    bytes: Vec<u8>,
-    room: usize,
-    fails: bool,
-}
-
-impl Write for Output {
-    fn write(&mut self, buf: &[u8]) -> io::Result<usize> {
-        if self.room == 0 && self.fails {
-            return Err(io::ErrorKind::Other.into());
-        }
-        let n = buf.len().min(self.room);
-        self.bytes.extend_from_slice(&buf[..n])?;
-        self.room -= n;
-        Ok(n)
-    }
-
-    fn flush(&mut self) -> io::Result<()> {
-        Ok(())
-    }
-}
 
 fn joined(alloc: Global, parts: &[&[u8]]) -> Result<Vec<u8>, AllocError> {
     let mut bytes = Vec::new(alloc);
@@ -108,7 +47,7 @@ fn joined(alloc: Global, parts: &[&[u8]]) -> Result<Vec<u8>, AllocError> {
 }
 
 // A server of the records 0a and c8 at version 1, without a session.
-fn server(rt: &impl Abort, alloc: Global) -> Result<ServerCore<Plain>, Fail> {
+fn server<K: Kernel>(alloc: Global, kernel: K) -> Result<ServerCore<K>, Fail> {
     let header = Header {
         width: 8,
         record_len: 1,
@@ -120,21 +59,18 @@ fn server(rt: &impl Abort, alloc: Global) -> Result<ServerCore<Plain>, Fail> {
         publisher: PUBLISHER,
     };
     let snapshot = header.with_records([10u8, 200].to_vec(alloc)?);
-    let Ok(store) = Store::open(alloc, Plain, snapshot) else {
-        panic!(rt; "the store was not opened");
-    };
-    Ok(ServerCore::new(alloc, store))
+    Ok(ServerCore::new(alloc, Store::open(alloc, kernel, snapshot)?))
 }
 
-fn client(alloc: Global) -> ClientCore<Plain> {
-    ClientCore::new(alloc, Plain, ZEROS, 0)
+fn client<K: Kernel>(alloc: Global, kernel: K) -> ClientCore<K> {
+    ClientCore::new(alloc, kernel, ZEROS, 0)
 }
 
 // The calls below have no clause, so that a test doesn't carry theirs.
 
-fn serve_all<R: Read, W: Write>(
+fn serve_all<K: Kernel, R: Read, W: Write>(
     alloc: Global,
-    server: &mut ServerCore<Plain>,
+    server: &mut ServerCore<K>,
     id: u64,
     reader: &mut R,
     writer: &mut W,
@@ -143,19 +79,9 @@ fn serve_all<R: Read, W: Write>(
     serve(alloc, server, id, reader, writer, turns)
 }
 
-fn serve_all_over<C: Connection>(
+fn converse_all<K: Kernel, R: Read, W: Write>(
     alloc: Global,
-    server: &mut ServerCore<Plain>,
-    id: u64,
-    connection: &mut C,
-    turns: u64,
-) -> Result<Ending, ServeFault> {
-    serve_over(alloc, server, id, connection, turns)
-}
-
-fn converse_all<R: Read, W: Write>(
-    alloc: Global,
-    client: &mut ClientCore<Plain>,
+    client: &mut ClientCore<K>,
     first: &[u8],
     reader: &mut R,
     writer: &mut W,
@@ -164,38 +90,50 @@ fn converse_all<R: Read, W: Write>(
     converse(alloc, client, first, reader, writer, turns)
 }
 
-fn converse_all_over<C: Connection>(
-    alloc: Global,
-    client: &mut ClientCore<Plain>,
-    first: &[u8],
-    connection: &mut C,
-    turns: u64,
-) -> Result<Event, ConverseFault> {
-    converse_over(alloc, client, first, connection, turns)
-}
-
-fn hello(client: &mut ClientCore<Plain>, key: [u8; 32]) -> Result<Vec<u8>, CallFault> {
+fn hello<K: Kernel>(client: &mut ClientCore<K>, key: [u8; 32]) -> Result<Vec<u8>, CallFault> {
     client.hello(key)
 }
 
-fn sync(client: &mut ClientCore<Plain>, scheme: Scheme) -> Result<Vec<u8>, CallFault> {
-    client.sync(scheme)
+#[test]
+fn a_session_is_served(rt: HostRuntime) -> Result<(), Fail> {
+    a_session_is_served_on(&rt, rt.alloc(), Plain)?;
+    a_session_is_served_on(&rt, rt.alloc(), Lanes)
 }
 
-fn ask(client: &mut ClientCore<Plain>, index: u32) -> Result<Vec<u8>, CallFault> {
-    client.ask(index)
+fn a_session_is_served_on<K: Kernel>(
+    rt: &impl Abort,
+    alloc: Global,
+    kernel: K,
+) -> Result<(), Fail> {
+    let said = joined(alloc, &[GREETING, &ZEROS, HINT_ASK, BYE])?;
+    let replies = joined(alloc, &[WELCOME, &ZEROS, HINT_PART])?;
+    let mut server = server(alloc, kernel)?;
+    let mut reader = said.as_slice();
+    let mut writer = Vec::new(alloc);
+    let ended = serve_all(alloc, &mut server, 0, &mut reader, &mut writer, TURNS);
+    assert_eq!(rt; ended, Ok(Ending::Closed));
+    assert_eq!(rt; writer.as_slice(), replies.as_slice());
+    Ok(())
 }
 
-fn edit(client: &mut ClientCore<Plain>, index: u32, bytes: &[u8]) -> Result<Vec<u8>, CallFault>
-    requires { length bytes.now ≤ 65535 }
-{
-    client.edit(index, bytes)
+#[test]
+fn a_client_is_welcomed(rt: HostRuntime) -> Result<(), Fail> {
+    a_client_is_welcomed_on(&rt, rt.alloc(), Plain)?;
+    a_client_is_welcomed_on(&rt, rt.alloc(), Lanes)
 }
 
-fn open_session(server: &mut ServerCore<Plain>, id: u64) -> Result<(), OpenError> {
-    server.open_session(id)
-}
-
-fn publish(server: &mut ServerCore<Plain>) -> Result<u64, PublishError> {
-    server.publish()
+fn a_client_is_welcomed_on<K: Kernel>(
+    rt: &impl Abort,
+    alloc: Global,
+    kernel: K,
+) -> Result<(), Fail> {
+    let welcome = joined(alloc, &[WELCOME, &ZEROS])?;
+    let mut client = client(alloc, kernel);
+    let first = hello(&mut client, ZEROS)?;
+    let mut reader = welcome.as_slice();
+    let mut writer = Vec::new(alloc);
+    let event = converse_all(alloc, &mut client, &first, &mut reader, &mut writer, TURNS);
+    assert!(rt; matches!(event, Ok(Event::Welcomed(1))));
+    assert_eq!(rt; writer.as_slice(), first.as_slice());
+    Ok(())
 }

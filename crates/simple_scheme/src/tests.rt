@@ -16,9 +16,7 @@ fn two_records<S: DigitStore + Drop>(
 ) -> Result<(S, Matrix), Fail> {
     assert_eq!(rt; layout.count(), 2);
     assert_eq!(rt; layout.groups(), 1);
-    let Ok(mut digits) = S::zeros(rt.alloc(), layout.rows(), layout.cols()) else {
-        panic!(rt; "no memory");
-    };
+    let mut digits = S::zeros(rt.alloc(), layout.rows(), layout.cols())?;
     let len = layout.record_len();
     assert_eq!(rt; records.len(), 2 * len);
     let mut packed = vec![in rt.alloc(); 0u32; layout.digits_per_record()]?;
@@ -136,9 +134,7 @@ fn digits_of_shape<S: DigitStore + Drop>(
     rows: usize,
     cols: usize,
 ) -> Result<S, Fail> {
-    let Ok(mut digits) = S::zeros(rt.alloc(), rows, cols) else {
-        panic!(rt; "no memory");
-    };
+    let mut digits = S::zeros(rt.alloc(), rows, cols)?;
     let mut state = 1u32;
     for i in 0..rows {
         for j in 0..cols {

@@ -173,9 +173,7 @@ fn a_store_is_read_back(rt: HostRuntime) -> Result<(), Fail> {
             most,
             fails: false,
         };
-        let Ok(snapshot) = read_snapshot(rt.alloc(), &mut reader) else {
-            panic!(rt; "{most}");
-        };
+        let snapshot = read_snapshot(rt.alloc(), &mut reader)?;
         assert_eq!(rt; snapshot.header(), store_header(), "{most}");
         assert_eq!(rt; snapshot.records.as_slice(), RECORDS.as_slice(), "{most}");
     }
@@ -194,9 +192,7 @@ fn a_slice_and_a_vector_will_do(rt: HostRuntime) -> Result<(), Fail> {
     assert_eq!(rt; written, Ok(()));
     assert_eq!(rt; bytes.len(), 126);
     let mut left = bytes.as_slice();
-    let Ok(snapshot) = read_snapshot(rt.alloc(), &mut left) else {
-        panic!(rt; "not read back");
-    };
+    let snapshot = read_snapshot(rt.alloc(), &mut left)?;
     assert_eq!(rt; snapshot.header(), header);
     assert_eq!(rt; snapshot.records.as_slice(), [1, 2, 3].as_slice());
     Ok(())
@@ -229,9 +225,7 @@ fn records_longer_than_a_piece(rt: HostRuntime) -> Result<(), Fail> {
             most,
             fails: false,
         };
-        let Ok(snapshot) = read_snapshot(rt.alloc(), &mut reader) else {
-            panic!(rt; "{most}");
-        };
+        let snapshot = read_snapshot(rt.alloc(), &mut reader)?;
         assert_eq!(rt; snapshot.header(), header, "{most}");
         assert!(rt; snapshot.records.as_slice() == records.as_slice(), "{most}");
     }

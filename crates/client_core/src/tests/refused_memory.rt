@@ -26,21 +26,21 @@ const SIXTH: [u8; 22] = [
 ];
 
 // Feeds a piece, and answers the fault.
-fn fault_of(client: &mut ClientCore<Plain>, piece: &[u8]) -> Option<ClientFault> {
+fn fault_of<K: Kernel>(client: &mut ClientCore<K>, piece: &[u8]) -> Option<ClientFault> {
     client.feed(piece).fault
 }
 
 // Makes a call, again where memory was refused, and feeds its reply. Answers whether that was taken: where memory was
 // refused for it, the client has failed.
-fn exchanges(
+fn exchanges<K: Kernel>(
     rt: &impl Abort,
-    client: &mut ClientCore<Plain>,
+    client: &mut ClientCore<K>,
     wanted: Wanted,
     reply: &[u8],
 ) -> bool {
     if let Err(fault) = call(client, wanted) {
         assert!(rt; fault == CallFault::Memory);
-        assert!(rt; call(client, wanted).is_ok());
+        assert_eq!(rt; call(client, wanted).err(), None);
     }
     let Some(fault) = fault_of(client, reply) else {
         return true;
@@ -52,8 +52,8 @@ fn exchanges(
 }
 
 // A client that holds the hint of version 1, unless memory was refused for a reply.
-fn try_ready(rt: &(impl Abort + AllocGlobal)) -> Option<ClientCore<Plain>> {
-    let mut client = newcomer(rt, 5);
+fn try_ready<K: Kernel>(rt: &(impl Abort + AllocGlobal), kernel: K) -> Option<ClientCore<K>> {
+    let mut client = newcomer(rt, 5, kernel);
     if !exchanges(rt, &mut client, Wanted::Hello(0), &WELCOME) {
         return None;
     }
@@ -64,15 +64,18 @@ fn try_ready(rt: &(impl Abort + AllocGlobal)) -> Option<ClientCore<Plain>> {
 }
 
 // The same, with a second try.
-fn ready(rt: &(impl Abort + AllocGlobal)) -> Result<ClientCore<Plain>, AllocError> {
-    match try_ready(rt) {
+fn ready<K: Kernel>(
+    rt: &(impl Abort + AllocGlobal),
+    kernel: K,
+) -> Result<ClientCore<K>, AllocError> {
+    match try_ready(rt, kernel) {
         Some(client) => Ok(client),
-        None => try_ready(rt).ok_or(AllocError),
+        None => try_ready(rt, kernel).ok_or(AllocError),
     }
 }
 
 // Asks for record 1. Where memory is refused, the number is spent all the same, and the next ask has the next one.
-fn asks(rt: &impl Abort, client: &mut ClientCore<Plain>) {
+fn asks<K: Kernel>(rt: &impl Abort, client: &mut ClientCore<K>) {
     counts(rt, client, 5);
     let mut asked = call(client, Wanted::Ask(1));
     counts(rt, client, 6);
@@ -90,12 +93,20 @@ fn asks(rt: &impl Abort, client: &mut ClientCore<Plain>) {
 
 #[test]
 fn a_refused_ask_spends_its_number(rt: HostRuntime) -> Result<(), Fail> {
-    asks(&rt, &mut ready(&rt)?);
+    a_refused_ask_spends_its_number_on(&rt, Plain)?;
+    a_refused_ask_spends_its_number_on(&rt, Lanes)
+}
+
+fn a_refused_ask_spends_its_number_on<K: Kernel>(
+    rt: &(impl Abort + AllocGlobal),
+    kernel: K,
+) -> Result<(), Fail> {
+    asks(rt, &mut ready(rt, kernel)?);
     Ok(())
 }
 
 // A sync of the other scheme drops the hint, but not where it is refused.
-fn keeps_its_hint(rt: &impl Abort, client: &mut ClientCore<Plain>) {
+fn keeps_its_hint<K: Kernel>(rt: &impl Abort, client: &mut ClientCore<K>) {
     let refusal = call(client, Wanted::Sync(Scheme::Double)).err();
     let asked = call(client, Wanted::Ask(1)).err();
     match refusal {
@@ -109,6 +120,14 @@ fn keeps_its_hint(rt: &impl Abort, client: &mut ClientCore<Plain>) {
 
 #[test]
 fn a_refused_sync_drops_no_hint(rt: HostRuntime) -> Result<(), Fail> {
-    keeps_its_hint(&rt, &mut ready(&rt)?);
+    a_refused_sync_drops_no_hint_on(&rt, Plain)?;
+    a_refused_sync_drops_no_hint_on(&rt, Lanes)
+}
+
+fn a_refused_sync_drops_no_hint_on<K: Kernel>(
+    rt: &(impl Abort + AllocGlobal),
+    kernel: K,
+) -> Result<(), Fail> {
+    keeps_its_hint(rt, &mut ready(rt, kernel)?);
     Ok(())
 }

@@ -3,6 +3,41 @@
 //! passes each time.
 
 use super::*;
+use std::alloc::AllocError;
+
+// The bytes of seven records of three; some of them are others where `is_changed`.
+fn seven_times_three(alloc: Global, is_changed: bool) -> Result<Vec<u8>, AllocError> {
+    let mut bytes = Vec::new(alloc);
+    for i in 0..21u8 {
+        bytes.push(match i {
+            4 if is_changed => 9,
+            9 if is_changed => 0,
+            20 if is_changed => 255,
+            _ => i * 11,
+        })?;
+    }
+    Ok(bytes)
+}
+
+// The store of these records, two to a column.
+pub fn seven_records<K: Kernel>(
+    alloc: Global,
+    kernel: K,
+    is_changed: bool,
+) -> Result<Store<K>, OpenError> {
+    let header = Header {
+        width: 6,
+        record_len: 3,
+        groups: 2,
+        count: 7,
+        dimension: 5,
+        ..STORE
+    };
+    let Ok(bytes) = seven_times_three(alloc, is_changed) else {
+        return Err(OpenError::Memory);
+    };
+    Store::open(alloc, kernel, header.with_records(bytes))
+}
 
 // The store of seven records, opened again where memory was refused.
 fn opened<K: Kernel>(alloc: Global, kernel: K, is_changed: bool) -> Result<Store<K>, OpenError> {

@@ -1,6 +1,11 @@
 //! A world beside its cores, driven by hand.
 
+use super::scripts::*;
 use super::*;
+use client_core::{CallFault, ClientCore, Event, Scheme};
+use server_core::ServerCore;
+use std::alloc::Global;
+use version_store::Store;
 
 /// A step of the one client, or of the publisher.
 #[derive(Clone, Copy)]

@@ -3,10 +3,10 @@
 use super::*;
 
 /// Makes a call, and adds the kind and the payload's length of the one frame that it sends.
-fn adds(
+fn adds<K: Kernel>(
     rt: &(impl Abort + AllocGlobal),
     shapes: &mut String,
-    client: &mut ClientCore<Plain>,
+    client: &mut ClientCore<K>,
     wanted: Wanted,
 ) -> Result<(), Fail> {
     let sent = call(client, wanted)?;
@@ -20,10 +20,10 @@ fn adds(
 }
 
 /// Asks for a hint of the version last known, and takes it in one part.
-fn takes_hint(
+fn takes_hint<K: Kernel>(
     rt: &(impl Abort + AllocGlobal),
     shapes: &mut String,
-    client: &mut ClientCore<Plain>,
+    client: &mut ClientCore<K>,
     version: u64,
     words: &[u32],
 ) -> Result<(), Fail> {
@@ -34,10 +34,10 @@ fn takes_hint(
 }
 
 /// Asks for what has changed in the hint since version 1, and for the parts of version 2, since it isn't known.
-fn moves_hint(
+fn moves_hint<K: Kernel>(
     rt: &(impl Abort + AllocGlobal),
     shapes: &mut String,
-    client: &mut ClientCore<Plain>,
+    client: &mut ClientCore<K>,
 ) -> Result<(), Fail> {
     adds(rt, shapes, client, Wanted::Sync(Scheme::Simple))?;
     let frame = no_delta(rt, 2, 2)?;
@@ -49,10 +49,10 @@ fn moves_hint(
 }
 
 /// Greets, and takes the Welcome of [`TWO_RECORDS`].
-fn greets(
+fn greets<K: Kernel>(
     rt: &(impl Abort + AllocGlobal),
     shapes: &mut String,
-    client: &mut ClientCore<Plain>,
+    client: &mut ClientCore<K>,
 ) -> Result<(), Fail> {
     adds(rt, shapes, client, Wanted::Hello(0))?;
     let frame = welcome(rt, TWO_RECORDS)?;
@@ -60,9 +60,13 @@ fn greets(
 }
 
 /// A reader by SimplePIR whose first query comes after a publication: it asks for one record twice.
-fn shapes_across_versions(rt: &(impl Abort + AllocGlobal), index: u32) -> Result<String, Fail> {
+fn shapes_across_versions<K: Kernel>(
+    rt: &(impl Abort + AllocGlobal),
+    index: u32,
+    kernel: K,
+) -> Result<String, Fail> {
     let mut shapes = String::new(rt.alloc());
-    let mut client = newcomer(rt, 0);
+    let mut client = newcomer(rt, 0, kernel);
     greets(rt, &mut shapes, &mut client)?;
     takes_hint(rt, &mut shapes, &mut client, 1, &[TWO_RECORDS_HINT])?;
     adds(rt, &mut shapes, &mut client, Wanted::Ask(index))?;
@@ -74,9 +78,13 @@ fn shapes_across_versions(rt: &(impl Abort + AllocGlobal), index: u32) -> Result
 }
 
 /// A reader by DoublePIR, which asks for one record.
-fn shapes_of_double(rt: &(impl Abort + AllocGlobal), index: u32) -> Result<String, Fail> {
+fn shapes_of_double<K: Kernel>(
+    rt: &(impl Abort + AllocGlobal),
+    index: u32,
+    kernel: K,
+) -> Result<String, Fail> {
     let mut shapes = String::new(rt.alloc());
-    let mut client = newcomer(rt, 0);
+    let mut client = newcomer(rt, 0, kernel);
     greets(rt, &mut shapes, &mut client)?;
     adds(rt, &mut shapes, &mut client, Wanted::Sync(Scheme::Double))?;
     let frame = part(rt, 1, 1, 0, &[0, 0, 0, 0])?;
@@ -87,18 +95,30 @@ fn shapes_of_double(rt: &(impl Abort + AllocGlobal), index: u32) -> Result<Strin
 
 #[test]
 fn frames_of_two_readers_whatever_they_ask_for(rt: HostRuntime) -> Result<(), Fail> {
+    frames_of_two_readers_whatever_they_ask_for_on(&rt, Plain)?;
+    frames_of_two_readers_whatever_they_ask_for_on(&rt, Lanes)
+}
+
+fn frames_of_two_readers_whatever_they_ask_for_on<K: Kernel>(
+    rt: &(impl Abort + AllocGlobal),
+    kernel: K,
+) -> Result<(), Fail> {
     let first = "(2,34) (3,13) (5,17) (4,8) (3,13) (5,17) ";
-    assert_eq!(rt; shapes_across_versions(&rt, 1)?.as_str(), first);
-    assert_eq!(rt; shapes_across_versions(&rt, 0)?.as_str(), first);
+    assert_eq!(rt; shapes_across_versions(rt, 1, kernel)?.as_str(), first);
+    assert_eq!(rt; shapes_across_versions(rt, 0, kernel)?.as_str(), first);
     let second = "(2,34) (3,13) (5,21) ";
-    assert_eq!(rt; shapes_of_double(&rt, 1)?.as_str(), second);
-    assert_eq!(rt; shapes_of_double(&rt, 0)?.as_str(), second);
+    assert_eq!(rt; shapes_of_double(rt, 1, kernel)?.as_str(), second);
+    assert_eq!(rt; shapes_of_double(rt, 0, kernel)?.as_str(), second);
     Ok(())
 }
 
 /// The words of the first query of a seed of 11 bytes, for one of two records.
-fn words_of_query(rt: &(impl Abort + AllocGlobal), index: u32) -> Result<[u32; 2], Fail> {
-    let mut client = ClientCore::new(rt.alloc(), Plain, [0x11; 32], 0);
+fn words_of_query<K: Kernel>(
+    rt: &(impl Abort + AllocGlobal),
+    index: u32,
+    kernel: K,
+) -> Result<[u32; 2], Fail> {
+    let mut client = ClientCore::new(rt.alloc(), kernel, [0x11; 32], 0);
     let_in(rt, &mut client, TWO_RECORDS)?;
     fetches(rt, &mut client, 1, &[TWO_RECORDS_HINT])?;
     let sent = call(&mut client, Wanted::Ask(index))?;
@@ -114,8 +134,16 @@ fn words_of_query(rt: &(impl Abort + AllocGlobal), index: u32) -> Result<[u32; 2
 
 #[test]
 fn queries_for_two_records_differ_by_delta_at_their_columns(rt: HostRuntime) -> Result<(), Fail> {
-    let first = words_of_query(&rt, 0)?;
-    let second = words_of_query(&rt, 1)?;
+    queries_for_two_records_differ_by_delta_at_their_columns_on(&rt, Plain)?;
+    queries_for_two_records_differ_by_delta_at_their_columns_on(&rt, Lanes)
+}
+
+fn queries_for_two_records_differ_by_delta_at_their_columns_on<K: Kernel>(
+    rt: &(impl Abort + AllocGlobal),
+    kernel: K,
+) -> Result<(), Fail> {
+    let first = words_of_query(rt, 0, kernel)?;
+    let second = words_of_query(rt, 1, kernel)?;
     assert_eq!(rt; first[0].wrapping_sub(second[0]), 16_777_216);
     assert_eq!(rt; second[1].wrapping_sub(first[1]), 16_777_216);
     Ok(())

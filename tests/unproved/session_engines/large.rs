@@ -2,6 +2,7 @@
 
 ghost use Rattle.std.specs.Prelude.{◌≤◌};
 
+use super::helpers::*;
 use super::*;
 use crate::Ending;
 use client_core::{Event, Scheme};
@@ -11,13 +12,13 @@ use frame_codec::{Frame, Words, write_frame};
 
 // A server at the other end: it is fed what is written, and its replies are there to be read.
 #[derive(Drop)]
-struct Wire {
-    server: ServerCore<Plain>,
+struct Wire<K: Kernel> {
+    server: ServerCore<K>,
     replies: Vec<u8>,
     read: usize,
 }
 
-impl Connection for Wire {
+impl<K: Kernel> Connection for Wire<K> {
     fn read(&mut self, buffer: &mut [u8]) -> Result<usize, ReadFailed> {
         let waiting = self.replies.get(self.read..).unwrap_or(&[]);
         let n = waiting.len().min(buffer.len());
@@ -48,13 +49,13 @@ fn records(alloc: Global, count: usize, record_len: usize) -> Result<Vec<u8>, Fa
     Ok(bytes)
 }
 
-fn large_server(
-    rt: &impl Abort,
+fn large_server<K: Kernel>(
     alloc: Global,
     count: u32,
     record_len: u16,
     dimension: u16,
-) -> Result<ServerCore<Plain>, Fail> {
+    kernel: K,
+) -> Result<ServerCore<K>, Fail> {
     let header = Header {
         width: 8,
         record_len,
@@ -66,29 +67,28 @@ fn large_server(
         publisher: PUBLISHER,
     };
     let bytes = records(alloc, count as usize, usize::from(record_len))?;
-    let Ok(store) = Store::open(alloc, Plain, header.with_records(bytes)) else {
-        panic!(rt; "the store was not opened");
-    };
+    let store = Store::open(alloc, kernel, header.with_records(bytes))?;
     Ok(ServerCore::new(alloc, store))
 }
 
 // Lets a client in, has it synced, and compares the records that it asks for.
-fn retrieves(
+fn retrieves<K: Kernel>(
     rt: &impl Abort,
     alloc: Global,
     count: u32,
     record_len: u16,
     dimension: u16,
     asked: &[u32],
+    kernel: K,
 ) -> Result<(), Fail> {
-    let mut server = large_server(rt, alloc, count, record_len, dimension)?;
+    let mut server = large_server(alloc, count, record_len, dimension, kernel)?;
     open_session(&mut server, 0)?;
     let mut wire = Wire {
         server,
         replies: Vec::new(alloc),
         read: 0,
     };
-    let mut client = client(alloc);
+    let mut client = client(alloc, kernel);
     let hello = hello(&mut client, ZEROS)?;
     let welcomed = converse_all_over(alloc, &mut client, &hello, &mut wire, TURNS);
     assert!(rt; matches!(welcomed, Ok(Event::Welcomed(1))));
@@ -112,17 +112,41 @@ fn retrieves(
 
 #[test]
 fn a_hint_of_three_parts_is_fetched(rt: HostRuntime) -> Result<(), Fail> {
-    retrieves(&rt, rt.alloc(), 4, 192, 1024, &[0, 3])
+    a_hint_of_three_parts_is_fetched_on(&rt, rt.alloc(), Lanes)
+}
+
+fn a_hint_of_three_parts_is_fetched_on<K: Kernel>(
+    rt: &impl Abort,
+    alloc: Global,
+    kernel: K,
+) -> Result<(), Fail> {
+    retrieves(rt, alloc, 4, 192, 1024, &[0, 3], kernel)
 }
 
 #[test]
 fn records_of_256_bytes_are_retrieved(rt: HostRuntime) -> Result<(), Fail> {
-    retrieves(&rt, rt.alloc(), 3, 256, 64, &[2, 0, 1])
+    records_of_256_bytes_are_retrieved_on(&rt, rt.alloc(), Lanes)
+}
+
+fn records_of_256_bytes_are_retrieved_on<K: Kernel>(
+    rt: &impl Abort,
+    alloc: Global,
+    kernel: K,
+) -> Result<(), Fail> {
+    retrieves(rt, alloc, 3, 256, 64, &[2, 0, 1], kernel)
 }
 
 #[test]
 fn a_query_of_4096_words_is_answered(rt: HostRuntime) -> Result<(), Fail> {
-    retrieves(&rt, rt.alloc(), 4096, 1, 16, &[4095, 0, 2048])
+    a_query_of_4096_words_is_answered_on(&rt, rt.alloc(), Lanes)
+}
+
+fn a_query_of_4096_words_is_answered_on<K: Kernel>(
+    rt: &impl Abort,
+    alloc: Global,
+    kernel: K,
+) -> Result<(), Fail> {
+    retrieves(rt, alloc, 4096, 1, 16, &[4095, 0, 2048], kernel)
 }
 
 // A query of 4,096 words, all of them 1.
@@ -141,10 +165,18 @@ fn query(alloc: Global, count: usize, out: &mut Vec<u8>) -> Result<(), Fail>
 
 #[test]
 fn more_than_100000_pieces_of_one_byte_are_served(rt: HostRuntime) -> Result<(), Fail> {
-    let mut server = large_server(&rt, rt.alloc(), 4096, 1, 1)?;
-    let mut input = joined(rt.alloc(), &[GREETING, &ZEROS])?;
+    more_than_100000_pieces_of_one_byte_are_served_on(&rt, rt.alloc(), Lanes)
+}
+
+fn more_than_100000_pieces_of_one_byte_are_served_on<K: Kernel>(
+    rt: &impl Abort,
+    alloc: Global,
+    kernel: K,
+) -> Result<(), Fail> {
+    let mut server = large_server(alloc, 4096, 1, 1, kernel)?;
+    let mut input = joined(alloc, &[GREETING, &ZEROS])?;
     for _ in 0..7 {
-        query(rt.alloc(), 4096, &mut input)?;
+        query(alloc, 4096, &mut input)?;
     }
     input.extend_from_slice(BYE)?;
     assert!(rt; input.len() > 100_000);
@@ -157,15 +189,8 @@ fn more_than_100000_pieces_of_one_byte_are_served(rt: HostRuntime) -> Result<(),
         most: 1,
         fails: true,
     };
-    let mut writer = Vec::new(rt.alloc());
-    let ended = serve_all(
-        rt.alloc(),
-        &mut server,
-        0,
-        &mut reader,
-        &mut writer,
-        1_000_000,
-    );
+    let mut writer = Vec::new(alloc);
+    let ended = serve_all(alloc, &mut server, 0, &mut reader, &mut writer, 1_000_000);
     assert_eq!(rt; ended, Ok(Ending::Closed));
     let answer: &[u8] = &[0x0d, 0, 0, 0, 0x85, 0, 1, 0, 0, 0, 0, 0, 0, 0];
     for k in 0..7usize {
@@ -180,15 +205,23 @@ fn more_than_100000_pieces_of_one_byte_are_served(rt: HostRuntime) -> Result<(),
 
 #[test]
 fn replies_of_more_than_65536_bytes_are_written(rt: HostRuntime) -> Result<(), Fail> {
-    let mut server = server(&rt, rt.alloc())?;
-    let mut input = joined(rt.alloc(), &[GREETING, &ZEROS])?;
+    replies_of_more_than_65536_bytes_are_written_on(&rt, rt.alloc(), Lanes)
+}
+
+fn replies_of_more_than_65536_bytes_are_written_on<K: Kernel>(
+    rt: &impl Abort,
+    alloc: Global,
+    kernel: K,
+) -> Result<(), Fail> {
+    let mut server = server(alloc, kernel)?;
+    let mut input = joined(alloc, &[GREETING, &ZEROS])?;
     for _ in 0..3600 {
         input.extend_from_slice(HINT_ASK)?;
     }
     assert!(rt; input.len() < PIECE);
     let mut reader = input.as_slice();
-    let mut writer = Vec::new(rt.alloc());
-    let ended = serve_all(rt.alloc(), &mut server, 0, &mut reader, &mut writer, 2);
+    let mut writer = Vec::new(alloc);
+    let ended = serve_all(alloc, &mut server, 0, &mut reader, &mut writer, 2);
     assert_eq!(rt; ended, Ok(Ending::EndOfInput));
     assert_eq!(rt; writer.len(), 58 + 22 * 3600);
     for k in 0..3600usize {
@@ -204,17 +237,25 @@ fn replies_of_more_than_65536_bytes_are_written(rt: HostRuntime) -> Result<(), F
 
 #[test]
 fn a_record_is_edited_three_times(rt: HostRuntime) -> Result<(), Fail> {
-    let mut server = server(&rt, rt.alloc())?;
-    let input = joined(rt.alloc(), &[GREETING, &ONES, EDIT, EDIT, EDIT])?;
-    let said = joined(rt.alloc(), &[WELCOME, &ZEROS, DONE, DONE, DONE])?;
+    a_record_is_edited_three_times_on(&rt, rt.alloc(), Lanes)
+}
+
+fn a_record_is_edited_three_times_on<K: Kernel>(
+    rt: &impl Abort,
+    alloc: Global,
+    kernel: K,
+) -> Result<(), Fail> {
+    let mut server = server(alloc, kernel)?;
+    let input = joined(alloc, &[GREETING, &ONES, EDIT, EDIT, EDIT])?;
+    let said = joined(alloc, &[WELCOME, &ZEROS, DONE, DONE, DONE])?;
     for most in [PIECE, 1] {
         let mut reader = Input {
             bytes: &input,
             most,
             fails: false,
         };
-        let mut writer = Vec::new(rt.alloc());
-        let ended = serve_all(rt.alloc(), &mut server, 0, &mut reader, &mut writer, TURNS);
+        let mut writer = Vec::new(alloc);
+        let ended = serve_all(alloc, &mut server, 0, &mut reader, &mut writer, TURNS);
         assert_eq!(rt; ended, Ok(Ending::EndOfInput));
         assert_eq!(rt; writer.as_slice(), said.as_slice());
     }

@@ -1,5 +1,6 @@
 //! Writers that fail at each byte of a snapshot.
 
+use super::stores::*;
 use super::*;
 use std::io;
 use std::io::Write;

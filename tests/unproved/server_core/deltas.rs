@@ -1,15 +1,7 @@
 //! Rows of a hint that have changed.
 
-use super::{
-    DONE_1, DONE_2, Dialogue, EDIT, GREETING, ONES, PUBLISH, PUBLISHER, RECORDS, REFUSED, WELCOME,
-    ZEROS, check, joined, server,
-};
-use crate::ServerCore;
-use matrix_u32::Plain;
-use std::alloc::Global;
-use std::process::Abort;
-use std::test::Fail;
-use version_store::{Header, Store};
+use super::dialogues::*;
+use super::*;
 
 // The rows since version 1, 2, 0 and 3 are asked for.
 const ASK_1: &[u8] = &[8, 0, 0, 0, 0x04, 1, 0, 0, 0, 0, 0, 0, 0];
@@ -54,32 +46,44 @@ const DELTAS: Dialogue = &[
 
 #[test]
 fn changed_rows_are_given(rt: HostRuntime) -> Result<(), Fail> {
-    let mut server = server(&rt, rt.alloc(), RECORDS, 1)?;
+    changed_rows_are_given_on(&rt, rt.alloc(), Plain)?;
+    changed_rows_are_given_on(&rt, rt.alloc(), Lanes)
+}
+
+fn changed_rows_are_given_on<K: Kernel>(
+    rt: &impl Abort,
+    alloc: Global,
+    kernel: K,
+) -> Result<(), Fail> {
+    let mut server = server(alloc, kernel, RECORDS, 1)?;
     for (asked, reported) in DELTAS {
-        check(&rt, rt.alloc(), &mut server, 0, asked, reported)?;
+        check(rt, alloc, &mut server, 0, asked, reported)?;
     }
     Ok(())
 }
 
 #[test]
 fn a_client_sends_no_no_delta(rt: HostRuntime) -> Result<(), Fail> {
-    let mut server = server(&rt, rt.alloc(), RECORDS, 1)?;
-    check(
-        &rt,
-        rt.alloc(),
-        &mut server,
-        0,
-        &[NO_DELTA],
-        &[REFUSED, &[1]],
-    )
+    a_client_sends_no_no_delta_on(&rt, rt.alloc(), Plain)?;
+    a_client_sends_no_no_delta_on(&rt, rt.alloc(), Lanes)
+}
+
+fn a_client_sends_no_no_delta_on<K: Kernel>(
+    rt: &impl Abort,
+    alloc: Global,
+    kernel: K,
+) -> Result<(), Fail> {
+    let mut server = server(alloc, kernel, RECORDS, 1)?;
+    check(rt, alloc, &mut server, 0, &[NO_DELTA], &[REFUSED, &[1]])
 }
 
 // A server of 2000 rows of one digit each, of which the first ones changed in version 2.
-fn changed_server(
+fn changed_server<K: Kernel>(
     rt: &impl Abort,
     alloc: Global,
+    kernel: K,
     changed: usize,
-) -> Result<ServerCore<Plain>, Fail> {
+) -> Result<ServerCore<K>, Fail> {
     let header = Header {
         width: 8,
         record_len: 1,
@@ -91,25 +95,22 @@ fn changed_server(
         publisher: PUBLISHER,
     };
     let snapshot = header.with_records(vec![in alloc; 0u8; 2000]?);
-    let Ok(store) = Store::open(alloc, Plain, snapshot) else {
-        panic!(rt; "the store was not opened");
-    };
-    let mut server = ServerCore::new(alloc, store);
+    let mut server = ServerCore::new(alloc, Store::open(alloc, kernel, snapshot)?);
     server.open_session(0)?;
     edit_first(rt, &mut server, changed);
     Ok(server)
 }
 
 // The first records become 1, and are published.
-fn edit_first(rt: &impl Abort, server: &mut ServerCore<Plain>, changed: usize) {
+fn edit_first<K: Kernel>(rt: &impl Abort, server: &mut ServerCore<K>, changed: usize) {
     for i in 0..changed {
-        assert!(rt; server.edit(i, &[1]).is_ok());
+        assert_eq!(rt; server.edit(i, &[1]), Ok(()));
     }
-    assert!(rt; server.publish().is_ok());
+    assert_eq!(rt; server.publish(), Ok(2));
 }
 
 // What a reader is answered that asks for the rows since version 1.
-fn answered(alloc: Global, server: &mut ServerCore<Plain>) -> Result<Vec<u8>, Fail> {
+fn answered<K: Kernel>(alloc: Global, server: &mut ServerCore<K>) -> Result<Vec<u8>, Fail> {
     let mut welcome = Vec::new(alloc);
     server.feed(0, &joined(alloc, &[GREETING, ZEROS])?, &mut welcome)?;
     let mut out = Vec::new(alloc);
@@ -119,12 +120,21 @@ fn answered(alloc: Global, server: &mut ServerCore<Plain>) -> Result<Vec<u8>, Fa
 
 #[test]
 fn a_delta_has_1024_rows_at_most(rt: HostRuntime) -> Result<(), Fail> {
-    let mut server = changed_server(&rt, rt.alloc(), 1024)?;
-    let out = answered(rt.alloc(), &mut server)?;
+    a_delta_has_1024_rows_at_most_on(&rt, rt.alloc(), Plain)?;
+    a_delta_has_1024_rows_at_most_on(&rt, rt.alloc(), Lanes)
+}
+
+fn a_delta_has_1024_rows_at_most_on<K: Kernel>(
+    rt: &impl Abort,
+    alloc: Global,
+    kernel: K,
+) -> Result<(), Fail> {
+    let mut server = changed_server(rt, alloc, kernel, 1024)?;
+    let out = answered(alloc, &mut server)?;
     assert_eq!(rt; out.len(), 5 + 8214);
     assert_eq!(rt; out.get(..5), Some([0x16, 0x20, 0, 0, 0x84].as_slice()));
-    let mut server = changed_server(&rt, rt.alloc(), 1025)?;
-    let out = answered(rt.alloc(), &mut server)?;
+    let mut server = changed_server(rt, alloc, kernel, 1025)?;
+    let out = answered(alloc, &mut server)?;
     let none = [
         0x0c, 0, 0, 0, 0x88, 2, 0, 0, 0, 0, 0, 0, 0, 0xd0, 0x07, 0, 0,
     ];

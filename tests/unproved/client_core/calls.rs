@@ -2,9 +2,9 @@
 
 use super::*;
 
-fn edits_and_publishes(
+fn edits_and_publishes<K: Kernel>(
     rt: &(impl Abort + AllocGlobal),
-    client: &mut ClientCore<Plain>,
+    client: &mut ClientCore<K>,
 ) -> Result<(), Fail> {
     sends(
         rt,
@@ -22,18 +22,26 @@ fn edits_and_publishes(
 
 #[test]
 fn hello_edit_and_publish(rt: HostRuntime) -> Result<(), Fail> {
-    let mut client = newcomer(&rt, 5);
-    counts(&rt, &client, 5);
-    let prefix = [34, 0, 0, 0, 2, 1, 0, 9, 0];
-    sends(&rt, &mut client, Wanted::Hello(9), 39, &prefix)?;
-    let frame = welcome(&rt, TWO_RECORDS)?;
-    feeds(&rt, &mut client, frame.as_slice(), "welcomed 1 ")?;
-    edits_and_publishes(&rt, &mut client)
+    hello_edit_and_publish_on(&rt, Plain)?;
+    hello_edit_and_publish_on(&rt, Lanes)
 }
 
-fn syncs_after_a_publication(
+fn hello_edit_and_publish_on<K: Kernel>(
     rt: &(impl Abort + AllocGlobal),
-    client: &mut ClientCore<Plain>,
+    kernel: K,
+) -> Result<(), Fail> {
+    let mut client = newcomer(rt, 5, kernel);
+    counts(rt, &client, 5);
+    let prefix = [34, 0, 0, 0, 2, 1, 0, 9, 0];
+    sends(rt, &mut client, Wanted::Hello(9), 39, &prefix)?;
+    let frame = welcome(rt, TWO_RECORDS)?;
+    feeds(rt, &mut client, frame.as_slice(), "welcomed 1 ")?;
+    edits_and_publishes(rt, &mut client)
+}
+
+fn syncs_after_a_publication<K: Kernel>(
+    rt: &(impl Abort + AllocGlobal),
+    client: &mut ClientCore<K>,
 ) -> Result<(), Fail> {
     makes(client, Wanted::Publish)?;
     let frame = done(rt, 2)?;
@@ -47,16 +55,21 @@ fn syncs_after_a_publication(
 
 #[test]
 fn sync_and_ask(rt: HostRuntime) -> Result<(), Fail> {
-    let mut client = guest(&rt, TWO_RECORDS, 5)?;
-    syncs_after_a_publication(&rt, &mut client)?;
+    sync_and_ask_on(&rt, Plain)?;
+    sync_and_ask_on(&rt, Lanes)
+}
+
+fn sync_and_ask_on<K: Kernel>(rt: &(impl Abort + AllocGlobal), kernel: K) -> Result<(), Fail> {
+    let mut client = guest(rt, TWO_RECORDS, 5, kernel)?;
+    syncs_after_a_publication(rt, &mut client)?;
     let prefix = [17, 0, 0, 0, 5, 0, 1, 0];
-    sends(&rt, &mut client, Wanted::Ask(1), 22, &prefix)?;
-    counts(&rt, &client, 6);
+    sends(rt, &mut client, Wanted::Ask(1), 22, &prefix)?;
+    counts(rt, &client, 6);
     Ok(())
 }
 
 // Not ready comes before busy, before an index and before the seed's end.
-fn is_not_ready(rt: &impl Abort, client: &mut ClientCore<Plain>) {
+fn is_not_ready<K: Kernel>(rt: &impl Abort, client: &mut ClientCore<K>) {
     for wanted in [
         Wanted::Ask(99),
         Wanted::Sync(Scheme::Simple),
@@ -67,9 +80,9 @@ fn is_not_ready(rt: &impl Abort, client: &mut ClientCore<Plain>) {
     }
 }
 
-fn greets_twice(
+fn greets_twice<K: Kernel>(
     rt: &(impl Abort + AllocGlobal),
-    client: &mut ClientCore<Plain>,
+    client: &mut ClientCore<K>,
 ) -> Result<(), Fail> {
     makes(client, Wanted::Hello(0))?;
     is_not_ready(rt, client);
@@ -81,13 +94,21 @@ fn greets_twice(
 
 #[test]
 fn before_the_welcome(rt: HostRuntime) -> Result<(), Fail> {
-    let mut client = newcomer(&rt, 1 << 62);
-    is_not_ready(&rt, &mut client);
-    greets_twice(&rt, &mut client)
+    before_the_welcome_on(&rt, Plain)?;
+    before_the_welcome_on(&rt, Lanes)
+}
+
+fn before_the_welcome_on<K: Kernel>(
+    rt: &(impl Abort + AllocGlobal),
+    kernel: K,
+) -> Result<(), Fail> {
+    let mut client = newcomer(rt, 1 << 62, kernel);
+    is_not_ready(rt, &mut client);
+    greets_twice(rt, &mut client)
 }
 
 // Busy comes before the index, and already welcome before busy.
-fn is_busy(rt: &impl Abort, client: &mut ClientCore<Plain>) {
+fn is_busy<K: Kernel>(rt: &impl Abort, client: &mut ClientCore<K>) {
     for wanted in [
         Wanted::Ask(2),
         Wanted::Sync(Scheme::Simple),
@@ -101,31 +122,42 @@ fn is_busy(rt: &impl Abort, client: &mut ClientCore<Plain>) {
 
 #[test]
 fn while_a_call_is_outstanding(rt: HostRuntime) -> Result<(), Fail> {
-    let mut client = synced(&rt, TWO_RECORDS, 0, &[0])?;
-    refuses(
-        &rt,
-        &mut client,
-        Wanted::Hello(0),
-        CallFault::AlreadyWelcome,
-    );
-    refuses(&rt, &mut client, Wanted::Ask(2), CallFault::BadIndex);
+    while_a_call_is_outstanding_on(&rt, Plain)?;
+    while_a_call_is_outstanding_on(&rt, Lanes)
+}
+
+fn while_a_call_is_outstanding_on<K: Kernel>(
+    rt: &(impl Abort + AllocGlobal),
+    kernel: K,
+) -> Result<(), Fail> {
+    let mut client = synced(rt, TWO_RECORDS, 0, &[0], kernel)?;
+    refuses(rt, &mut client, Wanted::Hello(0), CallFault::AlreadyWelcome);
+    refuses(rt, &mut client, Wanted::Ask(2), CallFault::BadIndex);
     makes(&mut client, Wanted::Publish)?;
-    is_busy(&rt, &mut client);
-    counts(&rt, &client, 0);
+    is_busy(rt, &mut client);
+    counts(rt, &client, 0);
     Ok(())
 }
 
 #[test]
 fn a_bad_index_comes_before_the_seeds_end(rt: HostRuntime) -> Result<(), Fail> {
-    let mut client = synced(&rt, TWO_RECORDS, 1 << 62, &[0])?;
-    refuses(&rt, &mut client, Wanted::Ask(2), CallFault::BadIndex);
-    refuses(&rt, &mut client, Wanted::Ask(1), CallFault::SeedUsedUp);
+    a_bad_index_comes_before_the_seeds_end_on(&rt, Plain)?;
+    a_bad_index_comes_before_the_seeds_end_on(&rt, Lanes)
+}
+
+fn a_bad_index_comes_before_the_seeds_end_on<K: Kernel>(
+    rt: &(impl Abort + AllocGlobal),
+    kernel: K,
+) -> Result<(), Fail> {
+    let mut client = synced(rt, TWO_RECORDS, 1 << 62, &[0], kernel)?;
+    refuses(rt, &mut client, Wanted::Ask(2), CallFault::BadIndex);
+    refuses(rt, &mut client, Wanted::Ask(1), CallFault::SeedUsedUp);
     Ok(())
 }
 
-fn fails_for_good(
+fn fails_for_good<K: Kernel>(
     rt: &(impl Abort + AllocGlobal),
-    client: &mut ClientCore<Plain>,
+    client: &mut ClientCore<K>,
 ) -> Result<(), Fail> {
     let frame = done(rt, 1)?;
     feeds(rt, client, frame.as_slice(), "BadReply ")?;
@@ -145,8 +177,16 @@ fn fails_for_good(
 
 #[test]
 fn after_a_fault_every_call_fails(rt: HostRuntime) -> Result<(), Fail> {
-    let mut client = synced(&rt, TWO_RECORDS, 0, &[0])?;
-    fails_for_good(&rt, &mut client)
+    after_a_fault_every_call_fails_on(&rt, Plain)?;
+    after_a_fault_every_call_fails_on(&rt, Lanes)
+}
+
+fn after_a_fault_every_call_fails_on<K: Kernel>(
+    rt: &(impl Abort + AllocGlobal),
+    kernel: K,
+) -> Result<(), Fail> {
+    let mut client = synced(rt, TWO_RECORDS, 0, &[0], kernel)?;
+    fails_for_good(rt, &mut client)
 }
 
 // What a store is known as once its Welcome came.
@@ -165,9 +205,9 @@ fn info_of(store: Store, version: u64, count: u32) -> Option<ServerInfo> {
     })
 }
 
-fn learns(
+fn learns<K: Kernel>(
     rt: &(impl Abort + AllocGlobal),
-    client: &mut ClientCore<Plain>,
+    client: &mut ClientCore<K>,
     store: Store,
 ) -> Result<(), Fail> {
     assert_eq!(rt; client.known(), None);
@@ -182,6 +222,14 @@ fn learns(
 
 #[test]
 fn what_the_server_told_is_known(rt: HostRuntime) -> Result<(), Fail> {
-    let mut client = newcomer(&rt, 0);
-    learns(&rt, &mut client, TWO_RECORDS)
+    what_the_server_told_is_known_on(&rt, Plain)?;
+    what_the_server_told_is_known_on(&rt, Lanes)
+}
+
+fn what_the_server_told_is_known_on<K: Kernel>(
+    rt: &(impl Abort + AllocGlobal),
+    kernel: K,
+) -> Result<(), Fail> {
+    let mut client = newcomer(rt, 0, kernel);
+    learns(rt, &mut client, TWO_RECORDS)
 }

@@ -1,5 +1,6 @@
 //! Turns over a connection: which calls are made, and in which order.
 
+use super::helpers::*;
 use super::*;
 use crate::{Ending, ServeFault};
 use client_core::Event;
@@ -62,11 +63,20 @@ fn make_peer<'a>(
 
 #[test]
 fn each_reply_is_written_before_the_next_read(rt: HostRuntime) -> Result<(), Fail> {
-    let says = joined(rt.alloc(), &[GREETING, &ONES, HINT_ASK, EDIT, BYE])?;
-    let replies = joined(rt.alloc(), &[WELCOME, &ZEROS, HINT_PART, DONE])?;
-    let mut server = server(&rt, rt.alloc())?;
-    let mut peer = make_peer(rt.alloc(), &says, &[39, 67, 69, 72], &[0, 58, 93, 93])?;
-    let ended = serve_all_over(rt.alloc(), &mut server, 0, &mut peer, TURNS);
+    each_reply_is_written_before_the_next_read_on(&rt, rt.alloc(), Plain)?;
+    each_reply_is_written_before_the_next_read_on(&rt, rt.alloc(), Lanes)
+}
+
+fn each_reply_is_written_before_the_next_read_on<K: Kernel>(
+    rt: &impl Abort,
+    alloc: Global,
+    kernel: K,
+) -> Result<(), Fail> {
+    let says = joined(alloc, &[GREETING, &ONES, HINT_ASK, EDIT, BYE])?;
+    let replies = joined(alloc, &[WELCOME, &ZEROS, HINT_PART, DONE])?;
+    let mut server = server(alloc, kernel)?;
+    let mut peer = make_peer(alloc, &says, &[39, 67, 69, 72], &[0, 58, 93, 93])?;
+    let ended = serve_all_over(alloc, &mut server, 0, &mut peer, TURNS);
     assert_eq!(rt; ended, Ok(Ending::Closed));
     assert_eq!(rt; peer.parts, 4);
     assert_eq!(rt; peer.received.as_slice(), replies.as_slice());
@@ -75,11 +85,20 @@ fn each_reply_is_written_before_the_next_read(rt: HostRuntime) -> Result<(), Fai
 
 #[test]
 fn a_read_that_fails_is_reported_as_such(rt: HostRuntime) -> Result<(), Fail> {
-    let greeting = joined(rt.alloc(), &[GREETING, &ONES])?;
-    let welcome = joined(rt.alloc(), &[WELCOME, &ZEROS])?;
-    let mut server = server(&rt, rt.alloc())?;
-    let mut peer = make_peer(rt.alloc(), &greeting, &[39], &[0])?;
-    let ended = serve_all_over(rt.alloc(), &mut server, 0, &mut peer, TURNS);
+    a_read_that_fails_is_reported_as_such_on(&rt, rt.alloc(), Plain)?;
+    a_read_that_fails_is_reported_as_such_on(&rt, rt.alloc(), Lanes)
+}
+
+fn a_read_that_fails_is_reported_as_such_on<K: Kernel>(
+    rt: &impl Abort,
+    alloc: Global,
+    kernel: K,
+) -> Result<(), Fail> {
+    let greeting = joined(alloc, &[GREETING, &ONES])?;
+    let welcome = joined(alloc, &[WELCOME, &ZEROS])?;
+    let mut server = server(alloc, kernel)?;
+    let mut peer = make_peer(alloc, &greeting, &[39], &[0])?;
+    let ended = serve_all_over(alloc, &mut server, 0, &mut peer, TURNS);
     assert_eq!(rt; ended, Err(ServeFault::Read));
     assert_eq!(rt; peer.received.as_slice(), welcome.as_slice());
     Ok(())
@@ -87,11 +106,20 @@ fn a_read_that_fails_is_reported_as_such(rt: HostRuntime) -> Result<(), Fail> {
 
 #[test]
 fn nothing_is_read_after_the_event(rt: HostRuntime) -> Result<(), Fail> {
-    let mut client = client(rt.alloc());
+    nothing_is_read_after_the_event_on(&rt, rt.alloc(), Plain)?;
+    nothing_is_read_after_the_event_on(&rt, rt.alloc(), Lanes)
+}
+
+fn nothing_is_read_after_the_event_on<K: Kernel>(
+    rt: &impl Abort,
+    alloc: Global,
+    kernel: K,
+) -> Result<(), Fail> {
+    let mut client = client(alloc, kernel);
     let first = hello(&mut client, ZEROS)?;
-    let welcome = joined(rt.alloc(), &[WELCOME, &ZEROS])?;
-    let mut peer = make_peer(rt.alloc(), &welcome, &[26, 58], &[39, 39])?;
-    let result = converse_all_over(rt.alloc(), &mut client, &first, &mut peer, TURNS);
+    let welcome = joined(alloc, &[WELCOME, &ZEROS])?;
+    let mut peer = make_peer(alloc, &welcome, &[26, 58], &[39, 39])?;
+    let result = converse_all_over(alloc, &mut client, &first, &mut peer, TURNS);
     assert!(rt; matches!(result, Ok(Event::Welcomed(1))));
     assert_eq!(rt; peer.parts, 2);
     Ok(())

@@ -1,6 +1,8 @@
 //! Many clients of one world.
 
+use super::scripts::*;
 use super::*;
+use client_core::Scheme;
 
 /// How many clients there are.
 const CLIENTS: usize = 300;
@@ -61,6 +63,5 @@ fn greet_and_retrieve<K: Kernel>(
 
 #[test]
 fn three_hundred_clients(rt: HostRuntime) -> Result<(), Fail> {
-    greet_and_retrieve(&rt, &mut crowd(&rt, Plain)?)?;
     greet_and_retrieve(&rt, &mut crowd(&rt, Lanes)?)
 }
