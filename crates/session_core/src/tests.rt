@@ -1,6 +1,6 @@
 //! The session that the crate's page shows.
 
-use crate::{CallFault, ClientCore, Event, FeedError, Scheme, ServerCore};
+use crate::{CallFault, ClientCore, Event, FeedError, OpenError, Scheme, ServerCore};
 use lane_kernels::Lanes;
 use matrix_u32::{Kernel, Plain};
 use std::alloc::Global;
