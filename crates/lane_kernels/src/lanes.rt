@@ -261,9 +261,17 @@ fn clear(m: &mut Matrix)
     }
 }
 
-// How many inner places are taken at a time: as many rows of b as stay near the processor while all rows of
-// a pass. More of them read and write out less often.
-const BLOCK: usize = 128;
+// The most rows of out that stay near the processor while all rows of b pass.
+const NEAR_ROWS: usize = 64;
+
+// How many inner places are taken at a time in a product of so many rows. Where out stays near, four: their rows
+// of b then stay nearest while all rows of out pass. Else as many as keep their rows of b near, so that out is
+// read and written less often.
+fn block_of(rows: usize) -> usize
+    ensures { 0 < result }
+{
+    if rows <= NEAR_ROWS { 4 } else { 128 }
+}
 
 fn mul_into(a: &Matrix, b: &Matrix, out: &mut Matrix)
     requires fits { a.now.cols ≡ b.now.rows }
@@ -273,9 +281,10 @@ fn mul_into(a: &Matrix, b: &Matrix, out: &mut Matrix)
 {
     clear(out);
     let inner = a.cols();
+    let block = block_of(a.rows());
     let mut start = 0;
     while start < inner {
-        let count = BLOCK.min(inner - start);
+        let count = block.min(inner - start);
         add_block(a, b, start, count, out);
         start += count;
     }
