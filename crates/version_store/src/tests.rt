@@ -38,18 +38,52 @@ const FIRST_HINT: u32 = 2066479516;
 
 const DOUBLE_HINT: [u32; 4] = [4027250084, 4280627063, 394247461, 1027848149];
 
+// The calls below have no clause, so that a test doesn't carry theirs.
+
+fn open<K: Kernel>(alloc: Global, kernel: K, snapshot: Snapshot) -> Result<Store<K>, OpenError> {
+    Store::open(alloc, kernel, snapshot)
+}
+
+fn edit<K: Kernel>(store: &mut Store<K>, i: usize, bytes: &[u8]) -> Result<(), EditError> {
+    store.edit(i, bytes)
+}
+
+fn publish<K: Kernel>(store: &mut Store<K>) -> Result<u64, PublishError> {
+    store.publish()
+}
+
+fn version<K: Kernel>(store: &Store<K>) -> u64 {
+    store.version()
+}
+
+fn bytes<K: Kernel>(store: &Store<K>) -> &[u8] {
+    store.bytes()
+}
+
+fn digit_words<K: Kernel>(store: &Store<K>) -> &[u32] {
+    store.digit_words()
+}
+
+fn server_words<K: Kernel>(store: &Store<K>) -> &[u32] {
+    store.server_words()
+}
+
+fn hint_words<K: Kernel>(store: &Store<K>, scheme: Scheme) -> Option<&[u32]> {
+    store.hint_words(scheme, 0)
+}
+
 // The store of two records, at some version.
 fn two_records<K: Kernel>(alloc: Global, kernel: K, version: u64) -> Result<Store<K>, Fail> {
     let header = Header { version, ..STORE };
     let snapshot = header.with_records([10u8, 200].to_vec(alloc)?);
-    let store = Store::open(alloc, kernel, snapshot)?;
+    let store = open(alloc, kernel, snapshot)?;
     Ok(store)
 }
 
 // 204810 is 10 + 200 * 1024; the server's hint has the four bytes of the first hint, one in a row.
 fn lends_its_words<K: Kernel>(rt: &impl Abort, store: &Store<K>) {
-    assert_eq!(rt; store.digit_words(), &[204810u32][..]);
-    assert_eq!(rt; store.server_words(), &[156u32, 249, 43, 123][..]);
+    assert_eq!(rt; digit_words(store), &[204810u32][..]);
+    assert_eq!(rt; server_words(store), &[156u32, 249, 43, 123][..]);
 }
 
 #[test]
@@ -92,27 +126,43 @@ fn a_double_answer_is_of_the_current_version(rt: HostRuntime) -> Result<(), Fail
     answers_double(&rt, &two_records(rt.alloc(), Lanes, 1)?)
 }
 
+// Compares words. It has no clause, so that a test carries none of them.
+fn are_words(rt: &impl Abort, words: &[u32], wanted: &[u32]) {
+    assert_eq!(rt; words, wanted);
+}
+
+// Compares the first part of a hint.
+fn hint_is<K: Kernel>(rt: &impl Abort, store: &Store<K>, scheme: Scheme, wanted: &[u32]) {
+    match hint_words(store, scheme) {
+        Some(words) => are_words(rt, words, wanted),
+        None => panic!(rt; "there is no hint"),
+    }
+}
+
+// Compares the version, the records, the word of their digits and that of the first hint.
+fn is_at<K: Kernel>(
+    rt: &impl Abort,
+    store: &Store<K>,
+    number: u64,
+    records: &[u8],
+    digits: u32,
+    hint: u32,
+) {
+    assert_eq!(rt; version(store), number);
+    assert_eq!(rt; bytes(store), records);
+    are_words(rt, digit_words(store), &[digits]);
+    hint_is(rt, store, Scheme::Simple, &[hint]);
+}
+
 fn sees_an_edit_after_its_publication<K: Kernel>(rt: &impl Abort, store: &mut Store<K>) {
-    assert_eq!(rt; store.publish(), Err(PublishError::NothingToPublish));
-    assert_eq!(rt; store.edit(1, &[100]), Ok(()));
-    assert_eq!(rt; store.version(), 1);
-    assert_eq!(rt; store.bytes(), &[10u8, 200][..]);
-    assert_eq!(rt; store.digit_words(), &[204810u32][..]);
-    assert_eq!(rt;
-        store.hint_words(Scheme::Simple, 0),
-        Some(&[FIRST_HINT][..])
-    );
-    assert_eq!(rt; store.publish(), Ok(2));
-    assert_eq!(rt; store.version(), 2);
-    assert_eq!(rt; store.bytes(), &[10u8, 100][..]);
-    assert_eq!(rt; store.digit_words(), &[102410u32][..]);
-    assert_eq!(rt;
-        store.hint_words(Scheme::Simple, 0),
-        Some(&[586782492u32][..])
-    );
+    assert_eq!(rt; publish(store), Err(PublishError::NothingToPublish));
+    assert_eq!(rt; edit(store, 1, &[100]), Ok(()));
+    is_at(rt, store, 1, &[10, 200], 204810, FIRST_HINT);
+    assert_eq!(rt; publish(store), Ok(2));
+    is_at(rt, store, 2, &[10, 100], 102410, 586782492);
     let double = [2154495524, 3182343673, 4280627063, 2309389758];
-    assert_eq!(rt; store.hint_words(Scheme::Double, 0), Some(&double[..]));
-    assert_eq!(rt; store.publish(), Err(PublishError::NothingToPublish));
+    hint_is(rt, store, Scheme::Double, &double);
+    assert_eq!(rt; publish(store), Err(PublishError::NothingToPublish));
 }
 
 #[test]
@@ -122,18 +172,33 @@ fn an_edit_is_seen_after_its_publication(rt: HostRuntime) -> Result<(), Fail> {
     Ok(())
 }
 
+// A snapshot of the store, as a file has it.
+fn written<K: Kernel>(alloc: Global, store: &Store<K>) -> Result<Vec<u8>, Fail> {
+    let mut file = Vec::with_capacity(alloc, 125)?;
+    write_snapshot(alloc, store, &mut file)?;
+    Ok(file)
+}
+
+fn read_back(alloc: Global, mut file: &[u8]) -> Result<Snapshot, Fail> {
+    let snapshot = read_snapshot(alloc, &mut file)?;
+    Ok(snapshot)
+}
+
+// Compares the fields and the records with those of the store as it was opened.
+fn is_as_opened(rt: &impl Abort, snapshot: &Snapshot) {
+    assert_eq!(rt; snapshot.header(), STORE);
+    assert_eq!(rt; snapshot.records.as_slice(), &[10u8, 200][..]);
+}
+
+// An edit that isn't published isn't written.
 fn is_written_and_read_back<K: Kernel>(
     rt: &(impl Abort + AllocGlobal),
     store: &mut Store<K>,
 ) -> Result<(), Fail> {
-    assert_eq!(rt; store.edit(1, &[100]), Ok(()));
-    let mut file = Vec::with_capacity(rt.alloc(), 125)?;
-    assert_eq!(rt; write_snapshot(rt.alloc(), store, &mut file), Ok(()));
+    assert_eq!(rt; edit(store, 1, &[100]), Ok(()));
+    let file = written(rt.alloc(), store)?;
     assert_eq!(rt; file.len(), 125);
-    let mut reader = file.as_slice();
-    let snapshot = read_snapshot(rt.alloc(), &mut reader)?;
-    assert_eq!(rt; snapshot.header(), STORE);
-    assert_eq!(rt; snapshot.records.as_slice(), &[10u8, 200][..]);
+    is_as_opened(rt, &read_back(rt.alloc(), file.as_slice())?);
     Ok(())
 }
 

@@ -1,6 +1,6 @@
 //! How many words a publication multiplies.
 
-use crate::{Header, Store};
+use crate::Header;
 use matrix_u32::{Kernel, Matrix, Plain};
 use std::cell::Cell;
 use std::test::Fail;
@@ -59,11 +59,11 @@ fn one_edit_multiplies_a_few_words(rt: HostRuntime) -> Result<(), Fail> {
         products: &products,
     };
     let snapshot = header.with_records([7u8; 64].to_vec(rt.alloc())?);
-    let mut store = Store::open(rt.alloc(), kernel, snapshot)?;
+    let mut store = super::open(rt.alloc(), kernel, snapshot)?;
     assert!(rt; products.get() > 16);
     products.set(0);
-    assert_eq!(rt; store.edit(19, &[200]), Ok(()));
-    assert_eq!(rt; store.publish(), Ok(2));
+    assert_eq!(rt; super::edit(&mut store, 19, &[200]), Ok(()));
+    assert_eq!(rt; super::publish(&mut store), Ok(2));
     let count = products.get();
     assert!(rt; count >= 1 && count <= 16);
     Ok(())

@@ -36,7 +36,7 @@ pub fn seven_records<K: Kernel>(
     let Ok(bytes) = seven_times_three(alloc, is_changed) else {
         return Err(OpenError::Memory);
     };
-    Store::open(alloc, kernel, header.with_records(bytes))
+    open(alloc, kernel, header.with_records(bytes))
 }
 
 // The store of seven records, opened again where memory was refused.
@@ -47,14 +47,26 @@ fn opened<K: Kernel>(alloc: Global, kernel: K, is_changed: bool) -> Result<Store
     }
 }
 
+// Compares the first part of a hint of two stores.
+fn holds_the_same_hint<K: Kernel>(
+    rt: &impl Abort,
+    store: &Store<K>,
+    other: &Store<K>,
+    scheme: Scheme,
+) {
+    match hint_words(other, scheme) {
+        Some(wanted) => hint_is(rt, store, scheme, wanted),
+        None => panic!(rt; "there is no hint"),
+    }
+}
+
 // Compares all that two stores hold of their current versions, but the version's number.
 fn holds_the_same<K: Kernel>(rt: &impl Abort, store: &Store<K>, other: &Store<K>) {
-    assert_eq!(rt; store.bytes(), other.bytes());
-    assert_eq!(rt; store.digit_words(), other.digit_words());
-    assert_eq!(rt; store.server_words(), other.server_words());
-    for scheme in [Scheme::Simple, Scheme::Double] {
-        assert_eq!(rt; store.hint_words(scheme, 0), other.hint_words(scheme, 0));
-    }
+    assert_eq!(rt; bytes(store), bytes(other));
+    are_words(rt, digit_words(store), digit_words(other));
+    are_words(rt, server_words(store), server_words(other));
+    holds_the_same_hint(rt, store, other, Scheme::Simple);
+    holds_the_same_hint(rt, store, other, Scheme::Double);
 }
 
 // Edits a record, again where memory was refused: the first try has left the store as it was.
@@ -65,10 +77,10 @@ fn edits<K: Kernel>(
     i: usize,
     bytes: &[u8],
 ) {
-    if let Err(fault) = store.edit(i, bytes) {
+    if let Err(fault) = edit(store, i, bytes) {
         assert_eq!(rt; fault, EditError::Memory);
         holds_the_same(rt, store, first);
-        assert_eq!(rt; store.edit(i, bytes), Ok(()));
+        assert_eq!(rt; edit(store, i, bytes), Ok(()));
     }
 }
 
@@ -84,31 +96,40 @@ fn publishes_the_edits<K: Kernel>(
         assert!(rt; i < made.layout().count());
         edits(rt, kept, first, i, made.bytes_of(i));
     }
-    if let Err(fault) = kept.publish() {
+    if let Err(fault) = publish(kept) {
         assert_eq!(rt; fault, PublishError::Memory);
-        assert_eq!(rt; kept.version(), 1);
+        assert_eq!(rt; version(kept), 1);
         holds_the_same(rt, kept, first);
-        assert_eq!(rt; kept.publish(), Ok(2));
+        assert_eq!(rt; publish(kept), Ok(2));
     }
-    assert_eq!(rt; kept.version(), 2);
+    assert_eq!(rt; version(kept), 2);
     holds_the_same(rt, kept, made);
-    assert_eq!(rt; kept.publish(), Err(PublishError::NothingToPublish));
+    assert_eq!(rt; publish(kept), Err(PublishError::NothingToPublish));
+}
+
+// The same, with the store as it is after the three edits.
+fn publishes_them_over<K: Kernel>(
+    rt: &(impl Abort + AllocGlobal),
+    kernel: K,
+    kept: &mut Store<K>,
+    first: &Store<K>,
+) -> Result<(), Fail> {
+    let made = opened(rt.alloc(), kernel, true)?;
+    publishes_the_edits(rt, kept, first, &made);
+    Ok(())
+}
+
+fn is_made_later<K: Kernel>(
+    rt: &(impl Abort + AllocGlobal),
+    kernel: K,
+    kept: &mut Store<K>,
+) -> Result<(), Fail> {
+    let first = opened(rt.alloc(), kernel, false)?;
+    publishes_them_over(rt, kernel, kept, &first)
 }
 
 #[test]
 fn a_refused_publication_is_made_later(rt: HostRuntime) -> Result<(), Fail> {
-    let alloc = rt.alloc();
-    publishes_the_edits(
-        &rt,
-        &mut opened(alloc, Plain, false)?,
-        &opened(alloc, Plain, false)?,
-        &opened(alloc, Plain, true)?,
-    );
-    publishes_the_edits(
-        &rt,
-        &mut opened(alloc, Lanes, false)?,
-        &opened(alloc, Lanes, false)?,
-        &opened(alloc, Lanes, true)?,
-    );
-    Ok(())
+    is_made_later(&rt, Plain, &mut opened(rt.alloc(), Plain, false)?)?;
+    is_made_later(&rt, Lanes, &mut opened(rt.alloc(), Lanes, false)?)
 }
