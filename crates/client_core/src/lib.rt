@@ -18,6 +18,3 @@ mod taking;
 pub use client::{ClientCore, Fed};
 pub use pir_schemes::Scheme;
 pub use state::{CallFault, ClientFault, Event, ServerInfo};
-
-#[cfg(test)]
-mod tests;

@@ -15,6 +15,3 @@ mod world;
 pub use ends::ClientEndpoint;
 pub use steps::{Outcome, Step, StepFault};
 pub use world::World;
-
-#[cfg(test)]
-mod tests;

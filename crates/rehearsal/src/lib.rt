@@ -15,6 +15,3 @@ mod stop;
 pub use input::SCRIPT_LIMIT;
 pub use outcome::outcome_line;
 pub use play::{RehearseFault, rehearse};
-
-#[cfg(test)]
-mod tests;

@@ -14,6 +14,3 @@ mod standing;
 
 pub use server::{FeedError, OpenError, ServerCore};
 pub use standing::Standing;
-
-#[cfg(test)]
-mod tests;

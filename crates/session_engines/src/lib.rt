@@ -9,6 +9,3 @@ mod serving;
 
 pub use conversing::{ConverseFault, converse, converse_over, converse_turn};
 pub use serving::{Ending, ServeFault, serve, serve_over, serve_turn};
-
-#[cfg(test)]
-mod tests;

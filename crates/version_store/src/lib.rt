@@ -15,6 +15,3 @@ pub use opening::OpenError;
 pub use pir_schemes::Scheme;
 pub use snapshot_file::{Header, Snapshot, SnapshotFault, WriteFault, read_snapshot};
 pub use store::{EditError, PublishError, Store, write_snapshot};
-
-#[cfg(test)]
-mod tests;

@@ -1,7 +1,6 @@
 //! What each fault prints.
 
 use super::*;
-use crate::{ConverseFault, ServeFault};
 
 #[test]
 fn each_serve_fault_has_its_text(rt: HostRuntime) -> Result<(), Fail> {

@@ -1,7 +1,7 @@
 //! Lines of scripts, and what they print.
 
 use super::*;
-use crate::SCRIPT_LIMIT;
+use rehearsal::SCRIPT_LIMIT;
 
 // The start of most scripts.
 const SEED: &str = "seed 0000000000000000000000000000000000000000000000000000000000000000\n";

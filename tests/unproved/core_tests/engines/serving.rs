@@ -2,7 +2,6 @@
 
 use super::helpers::*;
 use super::*;
-use crate::{Ending, ServeFault};
 
 // Serves the parts as session 0, whole and a few bytes at a time, and compares what was said and how it ended.
 fn check<K: Kernel>(

@@ -1,7 +1,6 @@
 //! What each fault prints.
 
 use super::*;
-use crate::{EditError, OpenError, PublishError};
 
 #[test]
 fn each_open_error_has_its_text(rt: HostRuntime) -> Result<(), Fail> {

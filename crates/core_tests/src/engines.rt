@@ -1,10 +1,10 @@
 //! A session by each of both calls. Longer ones, and readers and writers that fail, are in tests/unproved.
 
-use crate::{ConverseFault, Ending, ServeFault, converse, serve};
 use client_core::{CallFault, ClientCore, Event};
 use lane_kernels::Lanes;
 use matrix_u32::{Kernel, Plain};
 use server_core::ServerCore;
+use session_engines::{ConverseFault, Ending, ServeFault, converse, serve};
 use std::alloc::{AllocError, Global};
 use std::io::{Read, Write};
 use std::process::Abort;

@@ -1,7 +1,6 @@
 //! What each fault prints.
 
 use super::*;
-use crate::{CallFault, ClientFault};
 
 #[test]
 fn each_call_fault_has_its_text(rt: HostRuntime) -> Result<(), Fail> {

@@ -2,7 +2,6 @@
 
 use super::helpers::*;
 use super::*;
-use crate::{Ending, ServeFault};
 use client_core::Event;
 use connection_io::Connection;
 use engine_io::{ReadFailed, WriteFailed};

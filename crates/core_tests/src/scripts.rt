@@ -1,6 +1,6 @@
 //! The stored run. Other scripts, and readers and writers that fail, are in tests/unproved.
 
-use crate::rehearse;
+use rehearsal::rehearse;
 use std::alloc::Global;
 use std::process::Abort;
 use std::test::Fail;

@@ -1,9 +1,9 @@
 //! How many words a publication multiplies.
 
-use crate::Header;
 use matrix_u32::{Kernel, Matrix, Plain};
 use std::cell::Cell;
 use std::test::Fail;
+use version_store::Header;
 
 // Works as the plain kernel, and counts the products of words that it is asked for.
 #[derive(Clone, Copy)]

@@ -1,8 +1,8 @@
 //! A client that is let in, and worlds that are refused. Longer scripts of steps are in tests/unproved.
 
-use crate::{Step, StepFault, World};
 use lane_kernels::Lanes;
 use matrix_u32::{Kernel, Plain};
+use pir_world::{Step, StepFault, World};
 use std::process::Abort;
 use std::test::Fail;
 use version_store::{OpenError, Snapshot};

@@ -1,6 +1,6 @@
 //! A client against replies that are made here, frame by frame. Most of them are in tests/unproved.
 
-use super::*;
+use client_core::{CallFault, ClientCore, ClientFault, Event, Fed, Scheme};
 use digit_pack::Layout;
 use frame_codec::{Bytes32, Frame, Reader, Rows, Words, write_frame};
 use lane_kernels::Lanes;

@@ -1,6 +1,7 @@
 //! Each call's bytes and refusals.
 
 use super::*;
+use client_core::ServerInfo;
 
 fn edits_and_publishes<K: Kernel>(
     rt: &(impl Abort + AllocGlobal),

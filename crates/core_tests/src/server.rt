@@ -1,9 +1,9 @@
 //! A reader's session byte by byte, and sessions that are opened and closed. Refusals, streams cut anywhere, deltas and
 //! sessions beside one another are in tests/unproved. No reply is Refused 12: memory is ample in all of them.
 
-use crate::{FeedError, OpenError, ServerCore, laws};
 use lane_kernels::Lanes;
 use matrix_u32::{Kernel, Plain};
+use server_core::{FeedError, OpenError, ServerCore, laws};
 use std::alloc::Global;
 use std::process::Abort;
 use std::test::Fail;

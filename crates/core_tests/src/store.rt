@@ -4,12 +4,15 @@
 mod counting;
 mod refused_memory;
 
-use super::*;
 use lane_kernels::Lanes;
 use matrix_u32::{Kernel, Plain};
 use std::alloc::Global;
 use std::process::Abort;
 use std::test::Fail;
+use version_store::{
+    EditError, Header, OpenError, PublishError, Scheme, Snapshot, Store, laws, read_snapshot,
+    write_snapshot,
+};
 
 mod texts;
 

@@ -1,7 +1,7 @@
 //! Readers and writers that take a byte at a time, or fail.
 
 use super::*;
-use crate::RehearseFault;
+use rehearsal::RehearseFault;
 use std::io;
 use std::io::{Read, Write};
 

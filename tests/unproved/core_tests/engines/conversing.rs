@@ -4,7 +4,6 @@ ghost use Rattle.std.specs.Prelude.{◌≤◌};
 
 use super::helpers::*;
 use super::*;
-use crate::ConverseFault;
 use client_core::{CallFault, Event, Scheme};
 use frame_codec::{Bytes32, Frame, Words, write_frame};
 

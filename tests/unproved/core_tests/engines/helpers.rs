@@ -3,10 +3,10 @@
 ghost use Rattle.std.specs.Prelude.{◌≤◌, length};
 
 use super::*;
-use crate::{converse_over, serve_over};
 use client_core::Scheme;
 use connection_io::Connection;
 use server_core::OpenError;
+use session_engines::{converse_over, serve_over};
 use std::io;
 use version_store::PublishError;
 

@@ -4,6 +4,7 @@ use super::stores::*;
 use super::*;
 use std::io;
 use std::io::Write;
+use version_store::WriteFault;
 
 // Takes `room` bytes in all, and then fails. It has their memory from its start.
 #[derive(Drop)]

@@ -1,9 +1,9 @@
 //! Scripts of steps, and what comes of them.
 
 use super::*;
-use crate::Outcome;
 use client_core::{Event, Scheme};
 use frame_codec::Bytes;
+use pir_world::Outcome;
 
 pub fn edit(rt: &impl AllocGlobal, index: u32, bytes: &[u8]) -> Result<Step, Fail> {
     let mut copy = Vec::new(rt.alloc());

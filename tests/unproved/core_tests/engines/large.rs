@@ -4,7 +4,6 @@ ghost use Rattle.std.specs.Prelude.{◌≤◌};
 
 use super::helpers::*;
 use super::*;
-use crate::Ending;
 use client_core::{Event, Scheme};
 use connection_io::Connection;
 use engine_io::{ReadFailed, WriteFailed};
