@@ -1,7 +1,8 @@
 //! Tests of the store, of both cores, of the engines that run them, of the world and of its scripts.
 //!
-//! The gate proves a crate that has tests twice, once with them. These six crates are the ones whose proofs take longest, so
-//! their tests stand here, above them all, and are proved once over their public calls.
+//! The gate proves a crate that has tests twice, once with them. The tests of these six crates make public calls alone, so they
+//! stand here, above them all, and are proved over what the crates promise. There is nothing else in this crate: what is `pub`
+//! here is shared by test modules.
 #![tactic(auto)]
 
 #[cfg(test)]
