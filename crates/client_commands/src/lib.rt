@@ -8,6 +8,3 @@ mod fault;
 
 pub use commands::{Retrieved, get, publish, put};
 pub use fault::CommandError;
-
-#[cfg(test)]
-mod tests;

@@ -21,6 +21,3 @@ pub use layout::{
 pub use packed3::Packed3;
 pub use packing::{join_word, pack_bytes, split_count, split_word, word_digit};
 pub use store::{DigitStore, Flat};
-
-#[cfg(test)]
-mod tests;

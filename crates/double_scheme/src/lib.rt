@@ -28,6 +28,3 @@ pub use hints::setup;
 pub use queries::query;
 pub use records::recover;
 pub use simple_scheme::RecoverError;
-
-#[cfg(test)]
-mod tests;

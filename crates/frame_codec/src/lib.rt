@@ -11,8 +11,6 @@ mod payload;
 mod prefix;
 mod reader;
 mod refusal;
-#[cfg(test)]
-mod tests;
 mod writer;
 
 pub use frame::{Bytes, Bytes32, Frame, Rows, Words};

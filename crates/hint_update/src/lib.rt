@@ -191,6 +191,3 @@ fn are_zero(factors: &[u32]) -> bool
 {
     factors.iter().all(|factor| *factor == 0)
 }
-
-#[cfg(test)]
-mod tests;

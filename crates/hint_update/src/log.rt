@@ -109,6 +109,3 @@ impl DeltaLog {
         Ok(rows)
     }
 }
-
-#[cfg(test)]
-mod tests;

@@ -13,6 +13,3 @@ mod split;
 pub use lanes::Lanes;
 pub use packed::packed_mul_vec;
 pub use split::split_row;
-
-#[cfg(test)]
-mod tests;

@@ -9,6 +9,3 @@ mod stage;
 pub use engine::OnceFault;
 pub use session::{once, once_over, once_with};
 pub use stage::{Stage, Step, Table, step_of};
-
-#[cfg(test)]
-mod tests;

@@ -15,6 +15,3 @@ mod records;
 pub use hints::setup;
 pub use queries::{answer, noise_words, query};
 pub use records::{RecoverError, read_digits, record_of_digits, recover};
-
-#[cfg(test)]
-mod tests;

@@ -9,8 +9,6 @@ mod header;
 pub mod laws;
 mod reading;
 mod snapshot;
-#[cfg(test)]
-mod tests;
 mod writing;
 
 pub use reading::read_snapshot;

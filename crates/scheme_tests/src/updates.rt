@@ -1,7 +1,7 @@
-use super::*;
-use digit_pack::{DigitStore, Flat, Packed3};
+use digit_pack::{DigitStore, Flat, Packed3, split_count};
+use hint_update::{update_double, update_double_rows, update_simple};
 use lane_kernels::Lanes;
-use matrix_u32::{Kernel, Plain};
+use matrix_u32::{Kernel, Matrix, Plain};
 use std::process::Abort;
 use std::test::Fail;
 

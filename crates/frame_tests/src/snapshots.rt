@@ -1,7 +1,9 @@
 //! The snapshot of two records of one byte, written, read and damaged; readers and writers over memory that
 //! take their time or fail.
 
-use super::*;
+use snapshot_file::{
+    Header, Snapshot, SnapshotFault, WriteFault, read_snapshot, write_snapshot_bytes,
+};
 use std::alloc::Global;
 use std::io;
 use std::io::{Read, Write};

@@ -1,6 +1,6 @@
 //! Commands against stored streams of a server.
 
-use crate::{CommandError, Retrieved, get, publish, put};
+use client_commands::{CommandError, Retrieved, get, publish, put};
 use client_core::{CallFault, ClientCore, Scheme};
 use matrix_u32::Plain;
 use session_engines::ConverseFault;

@@ -1,6 +1,9 @@
 ghost use Rattle.std.specs.Prelude.{◌<◌};
 
-use super::*;
+use digit_pack::{
+    BadDigits, DigitStore, Flat, Layout, LayoutError, Packed3, digits_of_records, join_word, pack,
+    pack_bytes, record_of, split_count, split_word, unpack, word_digit, write_record,
+};
 use matrix_u32::{Kernel, MatrixError, Plain};
 use std::process::Abort;
 use std::test::Fail;

@@ -2,6 +2,7 @@
 
 use super::*;
 use digit_pack::split_count;
+use double_scheme::RecoverError;
 
 fn retrieves_long_records<K: Kernel, S: DigitStore + Drop>(
     rt: &(impl Abort + AllocGlobal),

@@ -1,5 +1,5 @@
-use crate::{OnceFault, once, once_with};
 use matrix_u32::Plain;
+use once_session::{OnceFault, once, once_with};
 use std::alloc::{AllocError, Global};
 use std::cell::Cell;
 use std::io;

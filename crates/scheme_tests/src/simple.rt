@@ -1,8 +1,8 @@
-use super::*;
 use digit_pack::{DigitStore, Flat, Layout, Packed3, pack};
 use lane_kernels::Lanes;
 use matrix_u32::{Kernel, Matrix, Plain};
 use seed_expand::expand;
+use simple_scheme::{RecoverError, answer, query, recover, setup};
 use std::process::Abort;
 use std::test::Fail;
 

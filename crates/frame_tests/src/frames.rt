@@ -1,6 +1,6 @@
 //! Each kind's bytes, each fault and its byte, and long streams.
 
-use crate::{Bytes, Bytes32, Frame, ReadFault, Reader, Rows, Words, write_frame};
+use frame_codec::{Bytes, Bytes32, Frame, ReadFault, Reader, Rows, Words, write_frame};
 use std::alloc::Global;
 use std::process::Abort;
 use std::test::Fail;

@@ -1,6 +1,6 @@
 ghost use Rattle.std.specs.Prelude.{◌≡◌, length, IfOk};
 
-use super::{Lanes, packed_mul_vec, split_row};
+use lane_kernels::{Lanes, packed_mul_vec, split_row};
 use matrix_u32::{Kernel, Matrix, Plain};
 use std::alloc::{AllocError, Global};
 use std::process::Abort;
@@ -147,7 +147,7 @@ fn packed_digits_agree_with_flat_ones(rt: HostRuntime) {
 }
 
 #[test]
-#[tactic(auto, unfolding(crate::specs::Digit::split_count))]
+#[tactic(auto, unfolding(lane_kernels::specs::Digit::split_count))]
 fn splits_words(rt: HostRuntime) {
     let words = [0xffff_ffff_u32, 0x0102_0304];
     let mut out = [9u32; 2];

@@ -1,4 +1,4 @@
-use super::*;
+use hint_update::DeltaLog;
 use std::process::Abort;
 use std::test::Fail;
 

@@ -1,8 +1,8 @@
 //! Both records of a store of two. A retrieval with chosen secrets, records of several digits and answers that give no
 //! record are in tests/unproved.
 
-use super::*;
 use digit_pack::{DigitStore, Flat, Layout, Packed3, digits_of_records};
+use double_scheme::{answer, query, recover, setup};
 use lane_kernels::Lanes;
 use matrix_u32::{Kernel, Matrix, Plain};
 use seed_expand::expand;
