@@ -1,3 +1,4 @@
+use crate::memory::{Input, Output};
 use matrix_u32::Plain;
 use once_session::{OnceFault, once, once_with};
 use std::alloc::{AllocError, Global};
@@ -32,54 +33,11 @@ const PIECE: usize = 65_536;
 
 const TURNS: u64 = 1000;
 
-// Gives at most `most` bytes a read. Once they are all given, it fails or is at its end.
-#[derive(Drop)]
-struct Input<'a> {
-    bytes: &'a [u8],
-    most: usize,
-    fails: bool,
-}
-
-impl Read for Input<'_> {
-    fn read(&mut self, buf: &mut [u8]) -> io::Result<usize> {
-        if self.fails && self.bytes.is_empty() {
-            return Err(io::ErrorKind::Other.into());
-        }
-        let n = self.most.min(buf.len()).min(self.bytes.len());
-        buf[..n].copy_from_slice(&self.bytes[..n]);
-        self.bytes = &self.bytes[n..];
-        Ok(n)
-    }
-}
-
-// Takes at most `room` bytes in all. Then it takes 0 bytes, or fails.
-#[derive(Drop)]
-struct Output {
-    bytes: Vec<u8>,
-    room: usize,
-    fails: bool,
-}
-
-impl Write for Output {
-    fn write(&mut self, buf: &[u8]) -> io::Result<usize> {
-        if self.room == 0 && self.fails {
-            return Err(io::ErrorKind::Other.into());
-        }
-        let n = buf.len().min(self.room);
-        self.bytes.extend_from_slice(&buf[..n])?;
-        self.room -= n;
-        Ok(n)
-    }
-
-    fn flush(&mut self) -> io::Result<()> {
-        Ok(())
-    }
-}
-
 // An output that asks for no memory when it is written to, so that refused memory isn't reported as a failed write.
 fn make_output(alloc: Global, room: usize, fails: bool) -> Result<Output, AllocError> {
     Ok(Output {
         bytes: Vec::with_capacity(alloc, room)?,
+        most: usize::MAX,
         room,
         fails,
     })

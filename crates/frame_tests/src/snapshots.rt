@@ -1,12 +1,11 @@
 //! The snapshot of two records of one byte, written, read and damaged; readers and writers over memory that
 //! take their time or fail.
 
+use crate::memory::{Input, Output};
 use snapshot_file::{
     Header, Snapshot, SnapshotFault, WriteFault, read_snapshot, write_snapshot_bytes,
 };
 use std::alloc::Global;
-use std::io;
-use std::io::{Read, Write};
 use std::process::Abort;
 use std::test::Fail;
 
@@ -56,55 +55,13 @@ fn store_header() -> Header {
     }
 }
 
-// Gives at most `most` bytes a read. After its bytes it ends, or every read fails.
-#[derive(Drop)]
-struct Input<'a> {
-    bytes: &'a [u8],
-    most: usize,
-    fails: bool,
-}
-
-impl Read for Input<'_> {
-    fn read(&mut self, buf: &mut [u8]) -> io::Result<usize> {
-        if self.fails && self.bytes.is_empty() {
-            return Err(io::ErrorKind::Other.into());
-        }
-        let n = self.most.min(buf.len()).min(self.bytes.len());
-        buf[..n].copy_from_slice(&self.bytes[..n]);
-        self.bytes = &self.bytes[n..];
-        Ok(n)
-    }
-}
-
-// Takes at most `most` bytes a write, and `room` in all. Without room every write fails.
-#[derive(Drop)]
-struct Output {
-    bytes: Vec<u8>,
-    most: usize,
-    room: usize,
-}
-
-impl Write for Output {
-    fn write(&mut self, buf: &[u8]) -> io::Result<usize> {
-        if self.room == 0 {
-            return Err(io::ErrorKind::Other.into());
-        }
-        let n = self.most.min(buf.len()).min(self.room);
-        self.bytes.extend_from_slice(&buf[..n])?;
-        self.room -= n;
-        Ok(n)
-    }
-
-    fn flush(&mut self) -> io::Result<()> {
-        Ok(())
-    }
-}
-
+// Without room every write fails.
 fn make_output(alloc: Global, most: usize, room: usize) -> Output {
     Output {
         bytes: Vec::new(alloc),
         most,
         room,
+        fails: true,
     }
 }
 
