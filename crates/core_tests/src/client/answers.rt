@@ -27,7 +27,7 @@ fn answered_word(rt: &(impl Abort + AllocGlobal), sent: &[u8]) -> Result<u32, Fa
 }
 
 /// Asks for one of two records, and takes the answer.
-pub fn retrieves<K: Kernel>(
+pub(crate) fn retrieves<K: Kernel>(
     rt: &(impl Abort + AllocGlobal),
     client: &mut ClientCore<K>,
     index: u32,

@@ -20,7 +20,7 @@ fn seven_times_three(alloc: Global, is_changed: bool) -> Result<Vec<u8>, AllocEr
 }
 
 // The store of these records, two to a column.
-pub fn seven_records<K: Kernel>(
+pub(crate) fn seven_records<K: Kernel>(
     alloc: Global,
     kernel: K,
     is_changed: bool,
