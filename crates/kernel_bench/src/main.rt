@@ -2,7 +2,7 @@
 //!
 //! With no argument each piece of work is done once at small sizes, and its line is printed with one fixed time. With the
 //! argument `full` the kernels and the schemes' setups are timed at the sizes of a large server, with `store` a
-//! publication in a store of the largest size. Each has a line of its own: the time of its quickest turn, what it read in
+//! publication in a store of the largest size, and one of 1,024 records of one byte in a store of 4,096. Each has a line of its own: the time of its quickest turn, what it read in
 //! a second, how many products it added in a second, and a sum of the words that it made. Fields are parted by tabs.
 #![tactic(auto)]
 
@@ -72,9 +72,13 @@ fn done(rt: &HostRuntime, task: Task) -> Option<()> {
         Task::Small => {
             work::time_kernels(rt, SMALL)?;
             stores::time_publication(rt, SMALL)?;
+            stores::time_neighbours(rt, SMALL)?;
             println!(rt; "kernels timed").ok()
         }
         Task::Full => work::time_kernels(rt, FULL),
-        Task::Store => stores::time_publication(rt, FULL),
+        Task::Store => {
+            stores::time_publication(rt, FULL)?;
+            stores::time_neighbours(rt, FULL)
+        }
     }
 }

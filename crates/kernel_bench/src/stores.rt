@@ -1,4 +1,4 @@
-//! A publication in a store.
+//! Publications in a store.
 
 use crate::figure::Figure;
 use crate::timing::{nanos_since, now};
@@ -18,7 +18,7 @@ const EDITED: usize = 17;
 /// Opens a store of `side` columns, publishes one record in each turn, of which each digit changes, and prints how long
 /// it took for each row of digits. None where memory or the clock is refused.
 pub fn time_publication(rt: &HostRuntime, sizes: Sizes) -> Option<()> {
-    let mut store = opened(rt.alloc(), sizes)?;
+    let mut store = opened(rt.alloc(), header_of(sizes))?;
     let took = publications(rt, sizes.turns, &mut store)?;
     let made = store.hint_words(Scheme::Simple, 0).unwrap_or(&[]);
     Figure::new("publication of a row", 0, 0, took / DIGITS, made).print(rt, sizes.nanos)
@@ -38,8 +38,40 @@ fn publications(rt: &HostRuntime, turns: u32, store: &mut Store<Lanes>) -> Optio
     Some(least)
 }
 
-fn opened(alloc: Global, sizes: Sizes) -> Option<Store<Lanes>> {
+/// Opens a store with a row of digits for each of `side` records of one byte, publishes a quarter of them in each turn,
+/// which stand one after another, and prints how long it took. None where memory or the clock is refused.
+pub fn time_neighbours(rt: &HostRuntime, sizes: Sizes) -> Option<()> {
     let header = Header {
+        width: 8,
+        record_len: 1,
+        groups: sizes.side,
+        count: u32::from(sizes.side),
+        ..header_of(sizes)
+    };
+    let mut store = opened(rt.alloc(), header)?;
+    let took = neighbours(rt, sizes, &mut store)?;
+    let made = store.hint_words(Scheme::Double, 0).unwrap_or(&[]);
+    Figure::new("publication of neighbours", 0, 0, took, made).print(rt, sizes.nanos)
+}
+
+// The time of the quickest publication.
+fn neighbours(rt: &HostRuntime, sizes: Sizes, store: &mut Store<Lanes>) -> Option<u64> {
+    let mut least = u64::MAX;
+    for turn in 0..sizes.turns {
+        let byte = if turn % 2 == 0 { 0xaa } else { 0x55 };
+        for record in 0..usize::from(sizes.side / 4) {
+            store.edit(record, &[byte]).ok()?;
+        }
+        let start = now(rt)?;
+        store.publish().ok()?;
+        least = least.min(nanos_since(rt, start)?);
+    }
+    Some(least)
+}
+
+// Records of 80 bytes in `side` columns.
+fn header_of(sizes: Sizes) -> Header {
+    Header {
         width: 10,
         record_len: RECORD_LEN,
         groups: sizes.groups,
@@ -48,7 +80,10 @@ fn opened(alloc: Global, sizes: Sizes) -> Option<Store<Lanes>> {
         version: 1,
         seed: [0; 32],
         publisher: [0; 32],
-    };
+    }
+}
+
+fn opened(alloc: Global, header: Header) -> Option<Store<Lanes>> {
     let records = records_of(alloc, &header)?;
     Store::open(alloc, Lanes, header.with_records(records)).ok()
 }

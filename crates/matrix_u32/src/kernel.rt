@@ -10,7 +10,8 @@ use crate::matrix::Matrix;
 /// What makes products of words. All arithmetic is modulo 2^32: each word of a result is the sum of the
 /// products over whole numbers, reduced once at the end.
 ///
-/// Every implementation gives the same words, so code above is proved once for all of them.
+/// Every implementation gives the same words, so code above is proved once for all of them. It writes four
+/// calls; `add_rows` goes by `add_scaled` where no faster way is written.
 pub trait Kernel: Copy {
     /// The dot product x . y of two lists of the same length.
     fn dot(self, x: &[u32], y: &[u32]) -> u32
@@ -40,7 +41,13 @@ pub trait Kernel: Copy {
         requires width { length out.old ≡ b.now.cols }
         requires inside { start + length factors.now ≤ b.now.rows }
         ensures { out.new
-            ≡ plus_rows out.old (length factors.now) (λ k. slice_index factors.now k) b.now start };
+            ≡ plus_rows out.old (length factors.now) (λ k. slice_index factors.now k) b.now start }
+    {
+        let _rows = b.rows();
+        for k in 0..factors.len() {
+            self.add_scaled(out, b.row(start + k), factors[k]);
+        }
+    }
 }
 
 /// The plain kernel: one word after the other, as the definitions say it. It is what faster kernels are
@@ -74,13 +81,6 @@ impl Kernel for Plain {
     fn add_scaled(self, out: &mut [u32], x: &[u32], k: u32) {
         for j in 0..out.len() {
             out[j] = out[j].wrapping_add(k.wrapping_mul(x[j]));
-        }
-    }
-
-    fn add_rows(self, out: &mut [u32], factors: &[u32], b: &Matrix, start: usize) {
-        let _rows = b.rows();
-        for k in 0..factors.len() {
-            self.add_scaled(out, b.row(start + k), factors[k]);
         }
     }
 }

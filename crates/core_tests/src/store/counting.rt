@@ -38,11 +38,6 @@ impl Kernel for Counting<'_> {
         self.count(x.len());
         Plain.add_scaled(out, x, k);
     }
-
-    fn add_rows(self, out: &mut [u32], factors: &[u32], b: &Matrix, start: usize) {
-        self.count(factors.len().wrapping_mul(out.len()));
-        Plain.add_rows(out, factors, b, start);
-    }
 }
 
 // 64 records of one byte, 8 to a column: one changed digit is one word of the first hint, and at most four
