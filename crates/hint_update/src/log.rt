@@ -15,6 +15,7 @@ const MAX_LISTS: usize = 16;
 /// version, and the lists of rows, the newest first.
 #[derive(Drop)]
 pub struct DeltaLog {
+    alloc: Global,
     version: u64,
     lists: VecDeque<Vec<u32>>,
 }
@@ -36,12 +37,17 @@ impl Model for DeltaLog {
 }
 
 impl DeltaLog {
-    /// A log that begins with this version, with room for 16 lists. Only refused memory gives an `Err`.
+    /// A log that begins with this version, with room for 16 lists; it keeps the allocator. Only refused
+    /// memory gives an `Err`.
     pub fn new(alloc: Global, version: u64) -> Result<DeltaLog, AllocError>
         ensures { IfOk result (λ log. log ≡ record { version = version; lists = [] }) }
     {
         let lists = VecDeque::with_capacity(alloc, MAX_LISTS)?;
-        Ok(DeltaLog { version, lists })
+        Ok(DeltaLog {
+            alloc,
+            version,
+            lists,
+        })
     }
 
     /// The number of the current version.
@@ -69,7 +75,7 @@ impl DeltaLog {
     ///
     /// `None` exactly when the version is neither the current one nor one of the 16 before it that the log
     /// has seen. Only refused memory gives an `Err`.
-    pub fn rows_since(&self, alloc: Global, version: u64) -> Result<Option<Vec<u32>>, AllocError>
+    pub fn rows_since(&self, version: u64) -> Result<Option<Vec<u32>>, AllocError>
         ensures none { IfOk result (λ found. IsNone found ↔ ¬ ReachesBack self.now version) }
         ensures rows { IfOk result (λ found. IfSome found (λ rows.
             AreRowsOf (lists_since self.now version) rows.items)) }
@@ -77,7 +83,7 @@ impl DeltaLog {
         let Some(count) = self.count_since(version) else {
             return Ok(None);
         };
-        let mut rows = self.first_lists(alloc, count)?;
+        let mut rows = self.first_lists(count)?;
         rows.sort_unstable();
         rows.dedup();
         Ok(Some(rows))
@@ -97,12 +103,12 @@ impl DeltaLog {
     }
 
     // The rows of the newest lists, one list after the other.
-    fn first_lists(&self, alloc: Global, count: usize) -> Result<Vec<u32>, AllocError>
+    fn first_lists(&self, count: usize) -> Result<Vec<u32>, AllocError>
         requires { count ≤ length self.now.lists }
         ensures { IfOk result (λ rows.
             rows.items ≡ flat_map (λ list. list) (take count self.now.lists)) }
     {
-        let mut rows = Vec::new(alloc);
+        let mut rows = Vec::new(self.alloc);
         for k in 0..count {
             rows.extend_from_slice(&self.lists[k])?;
         }
