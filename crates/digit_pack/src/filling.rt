@@ -46,7 +46,7 @@ pub fn write_digits<S: DigitStore>(digits: &mut S, first: usize, col: usize, wri
 
 /// The digit matrix of records that stand one after another in `bytes`, kept in a store. Only refused memory
 /// gives an `Err`.
-pub fn digits_of_records<S: DigitStore + Drop>(
+pub fn digits_of_records<S: DigitStore>(
     alloc: Global,
     layout: &Layout,
     bytes: &[u8],

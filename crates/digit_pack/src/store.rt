@@ -9,7 +9,7 @@ use std::marker::Model;
 
 /// What keeps a matrix of digits below 1024. Its contract is that of a list of rows: `get` gives what `set`
 /// last put there, every other place is kept, and the product is made on that list.
-pub trait DigitStore: Sized {
+pub trait DigitStore: Sized + Drop {
     /// The matrix, however it is kept.
     ghost digits: { Self → WordMatrix };
 

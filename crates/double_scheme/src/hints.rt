@@ -13,11 +13,7 @@ use matrix_u32::{Kernel, Matrix};
 use std::alloc::{AllocError, Global};
 
 // The columns of a matrix as rows, each word as a column of its digits.
-pub(crate) fn decompose<S: DigitStore + Drop>(
-    alloc: Global,
-    a: &Matrix,
-    w: u32,
-) -> Result<S, AllocError>
+pub(crate) fn decompose<S: DigitStore>(alloc: Global, a: &Matrix, w: u32) -> Result<S, AllocError>
     requires width { (6 ≤ w) × (w ≤ 10) }
     requires size { a.now.cols * split_count w * a.now.rows ≤ 33554432 }
     ensures { IfOk result (λ store. S.digits store ≡ decomposed w (transpose a.now)) }
@@ -59,7 +55,7 @@ fn decompose_row<S: DigitStore>(store: &mut S, a: &Matrix, w: u32, r: usize)
 ///
 /// The first layer's hint is read across: no transposed copy is made, and nothing is held but the two hints.
 /// There are at most 4096 rows and 1024 columns, so only memory can be wanting.
-pub fn setup<K: Kernel, S: DigitStore + Drop>(
+pub fn setup<K: Kernel, S: DigitStore>(
     alloc: Global,
     kernel: K,
     hint: &Matrix,

@@ -145,7 +145,7 @@ fn splits_and_joins_words(rt: HostRuntime) {
 }
 
 // What every store of digits does.
-fn keeps_digits<S: DigitStore + Drop, K: Kernel>(
+fn keeps_digits<S: DigitStore, K: Kernel>(
     rt: &(impl Abort + AllocGlobal),
     kernel: K,
 ) -> Result<(), Fail> {
@@ -210,7 +210,7 @@ fn test_digit(i: usize, j: usize) -> u32
 }
 
 // A store of these digits, and its product with others of them.
-fn product_of<S: DigitStore + Drop>(
+fn product_of<S: DigitStore>(
     rt: &(impl Abort + AllocGlobal),
     rows: usize,
     cols: usize,

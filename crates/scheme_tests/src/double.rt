@@ -12,7 +12,7 @@ use std::test::Fail;
 const ZERO_SEED: [u8; 32] = [0; 32];
 
 // The digits of records that stand one after another.
-fn store<S: DigitStore + Drop>(
+fn store<S: DigitStore>(
     rt: &(impl Abort + AllocGlobal),
     layout: &Layout,
     records: &[u8],
@@ -53,7 +53,7 @@ struct Retrieved {
 }
 
 // Retrieves record i under the first layer's hint.
-fn retrieve<K: Kernel, S: DigitStore + Drop>(
+fn retrieve<K: Kernel, S: DigitStore>(
     rt: &(impl Abort + AllocGlobal),
     kernel: K,
     layout: &Layout,
@@ -89,7 +89,7 @@ fn retrieve<K: Kernel, S: DigitStore + Drop>(
 }
 
 // Retrieves record i with the public matrices of n columns of the zero seed.
-fn from_zero_seed<K: Kernel, S: DigitStore + Drop>(
+fn from_zero_seed<K: Kernel, S: DigitStore>(
     rt: &(impl Abort + AllocGlobal),
     kernel: K,
     layout: &Layout,
@@ -107,7 +107,7 @@ fn from_zero_seed<K: Kernel, S: DigitStore + Drop>(
 }
 
 // The words were computed from the definitions by a program of another language.
-fn retrieves_both<K: Kernel, S: DigitStore + Drop>(
+fn retrieves_both<K: Kernel, S: DigitStore>(
     rt: &(impl Abort + AllocGlobal),
     kernel: K,
 ) -> Result<(), Fail> {

@@ -14,12 +14,12 @@ fn log_of(rt: &(impl Abort + AllocGlobal), publications: &[&[u32]]) -> Result<De
 
 // The rows since a version are these.
 fn gives(
-    rt: &(impl Abort + AllocGlobal),
+    rt: &impl Abort,
     log: &DeltaLog,
     version: u64,
     expected: Option<&[u32]>,
 ) -> Result<(), Fail> {
-    let found = log.rows_since(rt.alloc(), version)?;
+    let found = log.rows_since(version)?;
     assert_eq!(rt; found.as_deref(), expected);
     Ok(())
 }

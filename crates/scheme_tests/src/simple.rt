@@ -9,7 +9,7 @@ use std::test::Fail;
 const ZERO_SEED: [u8; 32] = [0; 32];
 
 // A store of two records, and the public matrix of the zero seed with one column.
-fn two_records<S: DigitStore + Drop>(
+fn two_records<S: DigitStore>(
     rt: &(impl Abort + AllocGlobal),
     layout: &Layout,
     records: &[u8],
@@ -66,7 +66,7 @@ fn retrieve<K: Kernel, S: DigitStore>(
 }
 
 // Both records of one byte.
-fn retrieves_both<K: Kernel, S: DigitStore + Drop>(
+fn retrieves_both<K: Kernel, S: DigitStore>(
     rt: &(impl Abort + AllocGlobal),
     kernel: K,
 ) -> Result<(), Fail> {
@@ -90,7 +90,7 @@ fn both_records_of_a_store_of_two(rt: HostRuntime) -> Result<(), Fail> {
 }
 
 // Its hint.
-fn makes_the_hint<K: Kernel, S: DigitStore + Drop>(
+fn makes_the_hint<K: Kernel, S: DigitStore>(
     rt: &(impl Abort + AllocGlobal),
     kernel: K,
 ) -> Result<(), Fail> {
@@ -109,7 +109,7 @@ fn the_hint_of_a_store_of_two(rt: HostRuntime) -> Result<(), Fail> {
 }
 
 // Both records of two bytes, of three digits each.
-fn retrieves_long_records<K: Kernel, S: DigitStore + Drop>(
+fn retrieves_long_records<K: Kernel, S: DigitStore>(
     rt: &(impl Abort + AllocGlobal),
     kernel: K,
 ) -> Result<(), Fail> {
@@ -129,7 +129,7 @@ fn records_of_several_digits(rt: HostRuntime) -> Result<(), Fail> {
 }
 
 // Digits of a shape, those of a linear congruential generator.
-fn digits_of_shape<S: DigitStore + Drop>(
+fn digits_of_shape<S: DigitStore>(
     rt: &(impl Abort + AllocGlobal),
     rows: usize,
     cols: usize,
@@ -147,7 +147,7 @@ fn digits_of_shape<S: DigitStore + Drop>(
 }
 
 // The hint that they have under a public matrix of two columns.
-fn hint_of_shape<K: Kernel, S: DigitStore + Drop>(
+fn hint_of_shape<K: Kernel, S: DigitStore>(
     rt: &(impl Abort + AllocGlobal),
     kernel: K,
     rows: usize,

@@ -33,7 +33,7 @@ fn an_equal_digit_changes_nothing(rt: HostRuntime) -> Result<(), Fail> {
 
 // The hints of both sides for the words of the first hint, of as many rows and columns as A2: digits of 8
 // bits.
-fn both_hints<K: Kernel, S: DigitStore + Drop>(
+fn both_hints<K: Kernel, S: DigitStore>(
     rt: &(impl Abort + AllocGlobal),
     kernel: K,
     words: &[u32],
@@ -58,7 +58,7 @@ fn columns<S: DigitStore>(rt: &(impl Abort + AllocGlobal), server: &S) -> Result
 }
 
 // Digits 1 2 over 3 4 under A1 = (3), (5) have the first hint 13, 29; with 200 for the 2 it is 1003, 29.
-fn follows_one_row<K: Kernel, S: DigitStore + Drop>(
+fn follows_one_row<K: Kernel, S: DigitStore>(
     rt: &(impl Abort + AllocGlobal),
     kernel: K,
 ) -> Result<(), Fail> {
@@ -86,7 +86,7 @@ fn both_hints_follow_a_row(rt: HostRuntime) -> Result<(), Fail> {
 }
 
 // Rows 1 to 3 of five take the words 1003, 6 (as it was) and 4000000000.
-fn follows_a_run<K: Kernel, S: DigitStore + Drop>(
+fn follows_a_run<K: Kernel, S: DigitStore>(
     rt: &(impl Abort + AllocGlobal),
     kernel: K,
 ) -> Result<(), Fail> {

@@ -178,14 +178,22 @@ impl<K: Kernel> Edition<K> {
     }
 
     /// Puts each change into the records, marks the rows whose digits change, and leaves no change. `scratch`
-    /// has room for a record's digits, and `marks` a mark for each row of digits.
+    /// has room for a record's digits, `marks` a mark and `factors` a word for each row of digits; what `scratch`
+    /// and `factors` held is lost.
     ///
     /// The hint of SimplePIR follows each digit that changes; those of DoublePIR follow each row that has
-    /// one, once. It takes no memory.
-    pub fn apply(&mut self, changes: &mut Changes, scratch: &mut [u32], marks: &mut [bool])
+    /// one, once, rows that stand one after another together. It takes no memory.
+    pub fn apply(
+        &mut self,
+        changes: &mut Changes,
+        scratch: &mut [u32],
+        marks: &mut [bool],
+        factors: &mut [u32],
+    )
         requires fit { FitRecords self.old changes.old.entries }
         requires room { length scratch.old ≡ digits_per_record (version_shape self.old) }
         requires marks { length marks.old ≡ digit_rows (version_shape self.old) }
+        requires factors { length factors.old ≡ digit_rows (version_shape self.old) }
         ensures records { self.new ≡
             record self.old { records = draft_of self.old.records changes.old.entries } }
         ensures none { changes.new.entries ≡ [] }
@@ -202,7 +210,7 @@ impl<K: Kernel> Edition<K> {
             &mut self.server,
             &mut self.client,
             marks,
-            scratch,
+            factors,
         );
     }
 }

@@ -10,7 +10,7 @@ use matrix_u32::{Kernel, Matrix};
 
 /// Changes both hints of DoublePIR by the rows that are marked, each once, where `hint` is the hint of the
 /// changed digits. Nothing is multiplied for the other rows. Rows that stand one after another are taken
-/// together, at most as many as `scratch` has words; what these held is lost.
+/// together: `factors` has a word for each row, and what it held is lost.
 pub fn follow_rows<K: Kernel, S: DigitStore>(
     kernel: K,
     hint: &Matrix,
@@ -19,7 +19,7 @@ pub fn follow_rows<K: Kernel, S: DigitStore>(
     server: &mut S,
     client: &mut Matrix,
     marks: &[bool],
-    scratch: &mut [u32],
+    factors: &mut [u32],
 )
     requires width { (6 ≤ w) × (w ≤ 10) }
     requires marks { length marks.now ≡ hint.now.rows }
@@ -29,32 +29,31 @@ pub fn follow_rows<K: Kernel, S: DigitStore>(
     requires server_cols { (S.digits server.old).cols ≡ hint.now.rows }
     requires client_rows { client.old.rows ≡ hint.now.cols * split_count w }
     requires client_cols { client.old.cols ≡ hint.now.cols }
-    requires room { 0 < length scratch.old }
+    requires room { length factors.old ≡ hint.now.rows }
     ensures { FollowsRows w hint.now a2.now (S.digits server.old) (S.digits server.new)
         client.old client.new marks.now }
 {
     let mut r = 0;
     while r < marks.len() {
-        let count = marked_run(marks, r, scratch.len());
+        let count = marked_run(marks, r);
         if count == 0 {
             r += 1;
         } else {
-            let factors = &mut scratch[..count];
-            update_double_rows(kernel, server, client, a2, w, r, hint, factors);
+            let run = &mut factors[..count];
+            update_double_rows(kernel, server, client, a2, w, r, hint, run);
             r += count;
         }
     }
 }
 
-// How many rows are marked one after another from row `from` on, counted up to `most`.
-fn marked_run(marks: &[bool], from: usize, most: usize) -> usize
+// How many rows are marked one after another from row `from` on.
+fn marked_run(marks: &[bool], from: usize) -> usize
     requires { from < length marks.now }
-    ensures few { result ≤ most }
     ensures inside { from + result ≤ length marks.now }
     ensures marked { (k : ℕ) → k < result → is_marked marks.now (from + k) ≡ true }
-    ensures all { result < most → is_marked marks.now (from + result) ≡ false }
+    ensures all { from + result < length marks.now → is_marked marks.now (from + result) ≡ false }
 {
-    let room = most.min(marks.len() - from);
+    let room = marks.len() - from;
     for count in 0..room {
         if !marks[from + count] {
             return count;

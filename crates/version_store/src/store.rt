@@ -270,7 +270,7 @@ impl<K: Kernel> Store<K> {
         ensures inside { IfOk result (λ found. IfSome found (λ rows.
             All (λ r. r < digit_rows (version_shape self.now.edition)) rows.items)) }
     {
-        self.log.rows_since(self.alloc, version)
+        self.log.rows_since(version)
     }
 
     /// The answer to the words of a scheme's query on the current version. Only refused memory gives an
@@ -377,8 +377,11 @@ impl<K: Kernel> Store<K> {
         let Ok(mut rows) = Vec::with_capacity(self.alloc, layout.rows()) else {
             return Err(PublishError::Memory);
         };
+        let Ok(mut factors) = factors_for(self.alloc, layout) else {
+            return Err(PublishError::Memory);
+        };
         self.edition
-            .apply(&mut self.changes, &mut scratch, &mut marks);
+            .apply(&mut self.changes, &mut scratch, &mut marks, &mut factors);
         push_marked(&marks, &mut rows);
         self.log.add(rows);
         Ok(self.version())
@@ -408,6 +411,13 @@ fn scratch_for(alloc: Global, layout: &Layout) -> Result<Vec<u32>, AllocError>
     ensures { IfOk result (λ v. length v.items ≡ digits_per_record layout.now) }
 {
     vec![in alloc; 0; layout.digits_per_record()]
+}
+
+// Room for the change of a digit in each row of digits.
+fn factors_for(alloc: Global, layout: &Layout) -> Result<Vec<u32>, AllocError>
+    ensures { IfOk result (λ v. length v.items ≡ digit_rows layout.now) }
+{
+    vec![in alloc; 0; layout.rows()]
 }
 
 fn copy_of(alloc: Global, bytes: &[u8]) -> Result<Vec<u8>, AllocError>

@@ -1,4 +1,4 @@
-use Rattle.std.proofs.Common.{◌≡◌, ◌+◌, arith, ap, subst, false, ℕ, length, take}
+use Rattle.std.proofs.Common.{◌≡◌, ◌+◌, ◌≤◌, arith, ap, subst, false, ℕ, length, take}
 use Rattle.std.proofs.lemmas.List.{length-take-le}
 use Rattle.matrix_u32.specs.Matrix.{WordMatrix}
 use Rattle.hint_update.specs.Updates.{FollowsRun}
@@ -18,7 +18,7 @@ loop-r-preserved-then-count-eq0 g c =
     let here : c.loop-r.r + c.marked_run-count.result ≡ c.loop-r.r = omega (arith, c.if-count-eq0.true) in
     let unmarked : is_marked c.args.marks.now c.loop-r.r ≡ false =
     subst (λ i. is_marked c.args.marks.now i ≡ false) here
-    (c.marked_run-count.ensures.all (omega (arith, c.if-count-eq0.true, c.requires.room, c.loop-r.auto.scratch))) in
+    (c.marked_run-count.ensures.all (omega (arith, c.if-count-eq0.true, c.loop-r-test.true))) in
     record {
       within = omega (arith, c.loop-r-test.true);
       follows = row_kept c.loop-r.r c.args.w c.args.hint.now c.args.a2.now (g.S.DigitStore.digits c.args.server.now) (g.S.DigitStore.digits c.loop-r.server)
@@ -33,7 +33,9 @@ loop-r-preserved g c =
     let s : WordMatrix = g.S.DigitStore.digits c.loop-r.server in
     let s' : WordMatrix = g.S.DigitStore.digits c.update_double_rows.new.server_hint in
     let c' : WordMatrix = c.update_double_rows.new.client_hint in
-    let long : length (take n c.loop-r.scratch) ≡ n = length-take-le n c.loop-r.scratch c.marked_run-count.ensures.few in
+    let room : n ≤ length c.loop-r.factors =
+    omega (arith, c.marked_run-count.ensures.inside, c.requires.marks, c.requires.room, c.loop-r.auto.factors) in
+    let long : length (take n c.loop-r.factors) ≡ n = length-take-le n c.loop-r.factors room in
     let follows : ℕ → Type 0 = λ n. FollowsRun c.args.w c.args.hint.now a2 s s' c.loop-r.client c' r n in
     record {
       within = c.marked_run-count.ensures.inside;

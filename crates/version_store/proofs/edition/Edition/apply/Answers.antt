@@ -1,10 +1,8 @@
-use Rattle.std.proofs.Common.{ap, ◌∙◌, sym, ◌≡◌, ◌<◌, ◌*◌, ℕ, List, length, arith}
+use Rattle.std.proofs.Common.{ap, ◌∙◌, sym, ◌≡◌, ◌*◌, ℕ, List, length}
 use Rattle.matrix_u32.specs.Matrix.{WordMatrix}
 use Rattle.matrix_u32.proofs.Products.{length-list_of}
 use Rattle.lane_kernels.specs.Digit.{split_count}
-use Rattle.digit_pack.specs.Layout.{digit_rows, digits_per_record, record_at}
-use Rattle.digit_pack.proofs.Changes.{some_digits}
-use Rattle.digit_pack.proofs.RecordLemmas.{shape_of_layout}
+use Rattle.digit_pack.specs.Layout.{digit_rows, record_at}
 use Rattle.version_store.specs.Drafts.{draft_of, bytes_or, change_at}
 use Rattle.version_store.specs.Editions.{Records, version_shape}
 use Rattle.version_store.proofs.DoubleLemmas.{server_rows, server_cols, client_rows, client_cols, version_followed}
@@ -40,15 +38,8 @@ follow_rows-requires-clause-client_cols g c =
 
 pub follow_rows-requires-clause-room : goal.follow_rows-requires-clause-room
 follow_rows-requires-clause-room g c =
-    let e : Records = c.self.inside.layer in
-    let new : Records = c.apply_changes.new.layer in
-    let some : 0 < digits_per_record (version_shape new) =
-    some_digits (version_shape new) (shape_of_layout (version_shape new) c.layout.ensures.plan.layout) in
-    let same : digits_per_record (version_shape new) ≡ digits_per_record (version_shape e) =
-    ap (λ e. digits_per_record (version_shape e)) c.apply_changes.ensures.records in
-    let room : length c.args.scratch.now ≡ digits_per_record (version_shape e) =
-    c.requires.room ∙ sym (ap (λ e. digits_per_record (version_shape e)) c.self.view_is) in
-    omega (arith, some, same, room, c.apply_changes.auto.scratch)
+    c.requires.factors ∙ sym (ap (λ e. digit_rows (version_shape e)) c.self.view_is)
+    ∙ sym (c.hint.ensures.rows ∙ ap (λ e. digit_rows (version_shape e)) c.apply_changes.ensures.records)
 
 pub invariant_of-self : goal.invariant_of-self
 invariant_of-self g c =
