@@ -4,7 +4,7 @@ use Rattle.std.proofs.Math.Nat.{div-div-eq-div-mul, pow-succ'}
 use Rattle.std.specs.Int.{byte_at, bytes_low_first}
 use Rattle.std.specs.List.{flat_map, AllByRecursion}
 use Rattle.std.proofs.lemmas.List.{length-append, append-nil, nil_from_length, take_more, take-append-drop, drop_at, drop-drop, get_or-drop, length-drop}
-use Rattle.std.proofs.lemmas.List.Concat.{flat_map-cons, flat_map-append}
+use Rattle.std.proofs.lemmas.List.Concat.{flat_map-append}
 use Rattle.byteorder.specs.Endian.{little_from, little_number, little_bytes, IsRead}
 use Rattle.byteorder.specs.Numbers.{little_from-cons, little_from-append, little_number-reads_back, length-bytes_low_first}
 use Rattle.frame_codec.specs.Numbers.{number_bytes, number_in, word_bytes}
@@ -87,15 +87,19 @@ pub words_none : (a : List ℕ) → a ++ word_bytes [] ≡ a
 unfolding word_bytes
 words_none a = append-nil a
 
-pub words_more : (a ws : List ℕ) (i : ℕ) → i < length ws → a ++ word_bytes (take (i + 1) ws) ≡ (a ++ word_bytes (take i ws)) ++ number_bytes 4 (get_or ws i 0)
+-- the bytes of words as they are written in one call
+pub words_written : (ws : List ℕ) → word_bytes ws ≡ flat_map (little_bytes 4) ws
+unfolding word_bytes number_bytes
+words_written ws = refl
+
+-- the words of a block and then the others
+pub words_split : (xs ys : List ℕ) → word_bytes (xs ++ ys) ≡ word_bytes xs ++ word_bytes ys
 unfolding word_bytes
-words_more a ws i lt = rw (
-  take_more ws i 0 lt,
-  flat_map-append (number_bytes 4) (take i ws) (get_or ws i 0 ∷ []),
-  flat_map-cons (number_bytes 4) (get_or ws i 0) [],
-  append-nil (number_bytes 4 (get_or ws i 0)),
-)
-    (sym (append_assoc a (flat_map (number_bytes 4) (take i ws)) (number_bytes 4 (get_or ws i 0))))
+words_split xs ys = flat_map-append (number_bytes 4) xs ys
+
+-- what a block adds, before the words that are left
+pub words_on : (out block beyond : List ℕ) → (out ++ word_bytes block) ++ word_bytes beyond ≡ out ++ word_bytes (block ++ beyond)
+words_on out block beyond = append_assoc out (word_bytes block) (word_bytes beyond) ∙ ap (λ (x : List ℕ). out ++ x) (sym (words_split block beyond))
 
 pub word_bytes-cons : (w : ℕ) (ws : List ℕ) → word_bytes (w ∷ ws) ≡ number_bytes 4 w ++ word_bytes ws
 unfolding word_bytes

@@ -57,7 +57,7 @@ pub record Reads (stream : List ℕ) (frames : List Frame) (rest : List ℕ) : T
   pub begins : Begins stream frames rest
   pub partial : IsPartial rest
 
--- a reader stops with this fault after these frames
+-- A reader stops with this fault after these frames: whole frames of the stream, in order, at refused memory too.
 abbrev pub Stops : List ℕ → List Frame → ReadFault → Type 0
 Stops stream frames fault = (rest : List ℕ) × Begins stream frames rest × StopsAt fault rest
 

@@ -81,15 +81,34 @@ pub fn put_u64(out: &mut Vec<u8>, number: u64)
     put(out, &bytes);
 }
 
-/// Adds four bytes for each word, for which there is room.
-#[tactic(auto, using(crate::proofs::NumberBytes::words_none, crate::proofs::NumberBytes::words_more))]
+/// How many words are encoded at once.
+const BLOCK_WORDS: usize = 256;
+
+/// Adds four bytes for each word of a block, for which there is room.
+fn put_block(out: &mut Vec<u8>, words: &[u32])
+    requires block { length words.now ≤ 256 }
+    requires space { vec_len out.old + 4 * length words.now ≤ vec_capacity out.old }
+    ensures items { out.new.items ≡ out.old.items ++ word_bytes words.now }
+    ensures len { vec_len out.new ≡ vec_len out.old + 4 * length words.now }
+    ensures room { vec_capacity out.old ≤ vec_capacity out.new }
+{
+    let mut block = [0u8; 4 * BLOCK_WORDS];
+    let bytes = &mut block[..4 * words.len()];
+    LittleEndian::write_u32_into(words, bytes);
+    put(out, bytes);
+}
+
+/// Adds four bytes for each word, for which there is room: block by block.
 pub fn put_words(out: &mut Vec<u8>, words: &[u32])
     requires { vec_len out.old + 4 * length words.now ≤ vec_capacity out.old }
     ensures items { out.new.items ≡ out.old.items ++ word_bytes words.now }
     ensures len { vec_len out.new ≡ vec_len out.old + 4 * length words.now }
     ensures room { vec_capacity out.old ≤ vec_capacity out.new }
 {
-    for word in words {
-        put_u32(out, *word);
+    let mut rest = words;
+    while !rest.is_empty() {
+        let (block, beyond) = rest.split_at(rest.len().min(BLOCK_WORDS));
+        put_block(out, block);
+        rest = beyond;
     }
 }

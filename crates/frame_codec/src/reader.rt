@@ -31,7 +31,7 @@ pub enum ReadFault {
     Failed,
 }
 
-/// The bytes of an unfinished frame, or that the stream has failed.
+/// The bytes of an unfinished frame, or that the stream has failed: then it keeps none, and no room for any.
 #[derive(Drop)]
 pub struct Reader {
     alloc: Global,
@@ -40,14 +40,15 @@ pub struct Reader {
 }
 
 impl Model for Reader {
-    ghost use Rattle.std.specs.Prelude.{◌≡◌, List, ℕ, Option, None, Some, cond, false};
+    ghost use Rattle.std.specs.Prelude.{◌≡◌, List, ℕ, Option, None, Some, cond, true, false, vec_capacity};
     ghost use Rattle.frame_codec.specs.Streams.{IsPartial};
 
     ghost Value = { Option (List ℕ) };
 
     ghost view = { λ r. cond r.failed None (Some r.pending.items) };
 
-    ghost invariant = { λ r. r.failed ≡ false → IsPartial r.pending.items };
+    ghost invariant = { λ r. (r.failed ≡ false → IsPartial r.pending.items)
+        × (r.failed ≡ true → vec_capacity r.pending ≡ 0) };
 }
 
 impl Reader {
@@ -72,7 +73,8 @@ impl Reader {
     /// Takes the next piece of the stream, and adds each frame that is whole now to `out`.
     ///
     /// A fault comes with the piece that has the byte by which it is judged. The whole frames before
-    /// it are added, and every later feed answers `Failed`.
+    /// it are added, what had come of the bad one is given up with its room, and every later feed
+    /// answers `Failed`. At `Memory` too the frames added are whole frames of the stream, in order.
     pub fn feed(&mut self, piece: &[u8], out: &mut Vec<Frame>) -> Result<(), ReadFault>
         ensures { (frames : List Frame) × (out.new.items ≡ out.old.items ++ frames) ×
             Feeds self.old piece.now result frames self.new }
@@ -82,6 +84,8 @@ impl Reader {
         }
         let answer = advance(self.alloc, &mut self.pending, piece, out);
         if answer.is_err() {
+            // What had come of the bad frame is of no more use.
+            self.pending = Vec::new(self.alloc);
             self.failed = true;
         }
         answer

@@ -39,7 +39,7 @@ use crate::header::{
     DIGEST_LEN, FIELDS_LEN, MAGIC_LEN, digest_of, header_bytes, header_in, magic_bytes,
 };
 use crate::snapshot::{Header, Snapshot, SnapshotFault};
-use engine_io::PIECE_LEN;
+use connection_io::PIECE_LEN;
 use std::alloc::{AllocError, Global};
 use std::io::Read;
 
@@ -103,7 +103,7 @@ fn piece_buffer(alloc: Global, len: usize) -> Result<Vec<u8>, AllocError>
 }
 
 // One read, added to what was read before.
-fn read_piece<R: Read>(
+fn keep_piece<R: Read>(
     reader: &mut R,
     buffer: &mut [u8],
     records: &mut Vec<u8>,
@@ -145,7 +145,10 @@ fn read_records<R: Read>(
     let Ok(buffer) = piece_buffer(alloc, wanted.min(PIECE_LEN)) else {
         return Err(SnapshotFault::Memory);
     };
-    read_by_pieces(reader, wanted, buffer, Vec::new(alloc))
+    let mut records = read_by_pieces(reader, wanted, buffer, Vec::new(alloc))?;
+    // The records stay as they are from here on: what they grew by beyond their length is given back.
+    records.shrink_to_fit();
+    Ok(records)
 }
 
 // The same, with room for a piece and, to begin with, none for the records: it grows with what comes.
@@ -166,7 +169,7 @@ fn read_by_pieces<R: Read>(
 {
     while records.len() < wanted {
         let room = buffer.len().min(wanted - records.len());
-        read_piece(reader, &mut buffer[..room], &mut records)?;
+        keep_piece(reader, &mut buffer[..room], &mut records)?;
     }
     Ok(records)
 }

@@ -3,8 +3,8 @@
 ghost use Rattle.std.specs.Prelude.{◌≡◌, ◌↔◌, IsTrue};
 ghost use Rattle.snapshot_file.specs.Snapshots.{header_of, records_len, IsAccepted};
 
+use connection_io::WriteFailed;
 use digit_pack::Layout;
-use engine_io::WriteFailed;
 use thiserror::Error;
 
 /// The greatest dimension: how many words a secret has.

@@ -6,7 +6,7 @@ ghost use Rattle.snapshot_file.specs.Snapshots.{snapshot_bytes};
 
 use crate::header::{digest_of, header_bytes};
 use crate::snapshot::{Header, WriteFault};
-use engine_io::write_out;
+use connection_io::write_out;
 use std::alloc::Global;
 use std::io::Write;
 
