@@ -44,27 +44,27 @@ moved_by remaining contents a b c read out bytes (Err fault.Memory) i s = moved_
 moved_by remaining contents a b c read out bytes (Err fault.TurnsUsedUp) i s = moved_sent remaining contents a b c read out bytes i s
 
 moved_turn : {R W : Type 0} (remaining : R → Option (List ℕ)) (contents : W → Option (List ℕ)) (a b c : Pair R W) (read out : List ℕ) (old : Work)
-    (answer : Result (Unit {0}) OnceFault) (serve_chunk : CallTurn) (new : Stage) (codec : Option (List ℕ)) → Moved remaining contents a read out b
-    → TakesWorkPiece (PairDoes remaining contents) old b answer serve_chunk new codec c →
-    Moved remaining contents a (read ++ serve_chunk.piece) (out ++ serve_chunk.output) c
-moved_turn remaining contents a b c read out old answer serve_chunk new codec i t =
-    moved_by remaining contents a t.middle c (read ++ serve_chunk.piece) out serve_chunk.output answer
-    (moved_read remaining contents a b t.middle read out serve_chunk.piece 65536 i t.reads.read) t.writes
+    (answer : Result (Unit {0}) OnceFault) (turn : CallTurn) (new : Stage) (codec : Option (List ℕ)) → Moved remaining contents a read out b
+    → TakesWorkPiece (PairDoes remaining contents) old b answer turn new codec c →
+    Moved remaining contents a (read ++ turn.piece) (out ++ turn.output) c
+moved_turn remaining contents a b c read out old answer turn new codec i t =
+    moved_by remaining contents a t.middle c (read ++ turn.piece) out turn.output answer
+    (moved_read remaining contents a b t.middle read out turn.piece 65536 i t.reads.read) t.writes
 
 one_more : {R W : Type 0} (remaining : R → Option (List ℕ)) (contents : W → Option (List ℕ)) (a : Pair R W) (count : ℕ) (mid : Work) (b : Pair R W)
-    (serve_chunk : CallTurn) (new : Work) (c : Pair R W)
-    → SoFar remaining contents a count mid b → LeavesOpen (PairDoes remaining contents) mid b serve_chunk new c → SoFar remaining contents a (count + 1) new c
-one_more remaining contents a count mid b serve_chunk new c i t =
-    let turned = subst (λ (r : List ℕ). Turns (Ok tt) mid.stage (r ++ serve_chunk.piece) new.stage (Some new.unfinished) serve_chunk.output)
+    (turn : CallTurn) (new : Work) (c : Pair R W)
+    → SoFar remaining contents a count mid b → LeavesOpen (PairDoes remaining contents) mid b turn new c → SoFar remaining contents a (count + 1) new c
+one_more remaining contents a count mid b turn new c i t =
+    let turned = subst (λ (r : List ℕ). Turns (Ok tt) mid.stage (r ++ turn.piece) new.stage (Some new.unfinished) turn.output)
     (rest_is i.read i.out mid i.waits) t.takes.turned in
     record {
-      read = i.read ++ serve_chunk.piece;
-      out = i.out ++ serve_chunk.output;
-      moved = moved_turn remaining contents a b c i.read i.out mid (Ok tt) serve_chunk new.stage (Some new.unfinished) i.moved t.takes;
-      most = most_more i.read serve_chunk.piece count i.most t.takes.reads.most;
-      least = least_more i.read serve_chunk.piece count i.least t.takes.reads.some;
-      waits = waits_on i.read i.out serve_chunk.piece serve_chunk.output mid.stage new.stage (Some mid.unfinished) (Some new.unfinished) i.waits
-          (turned_on mid.stage new.stage (i.waits.rest ++ serve_chunk.piece) serve_chunk.output (Some new.unfinished) t.going turned);
+      read = i.read ++ turn.piece;
+      out = i.out ++ turn.output;
+      moved = moved_turn remaining contents a b c i.read i.out mid (Ok tt) turn new.stage (Some new.unfinished) i.moved t.takes;
+      most = most_more i.read turn.piece count i.most t.takes.reads.most;
+      least = least_more i.read turn.piece count i.least t.takes.reads.some;
+      waits = waits_on i.read i.out turn.piece turn.output mid.stage new.stage (Some mid.unfinished) (Some new.unfinished) i.waits
+          (turned_on mid.stage new.stage (i.waits.rest ++ turn.piece) turn.output (Some new.unfinished) t.going turned);
       going = t.going;
     }
 
@@ -91,15 +91,15 @@ record Whole {R W : Type 0} (remaining : R → Option (List ℕ)) (contents : W 
 
 -- the last turn had a piece
 by_piece : {R W : Type 0} (remaining : R → Option (List ℕ)) (contents : W → Option (List ℕ)) (turns : ℕ) (a : Pair R W) (count : ℕ) (mid : Work)
-    (b : Pair R W) (answer given : Result (Unit {0}) OnceFault) (serve_chunk : CallTurn) (new : Stage) (codec : Option (List ℕ)) (c : Pair R W)
-    → count < turns → (i : SoFar remaining contents a count mid b) → TakesWorkPiece (PairDoes remaining contents) mid b answer serve_chunk new codec c
-    → ServesOneStream turns given (i.read ++ serve_chunk.piece) (i.out ++ serve_chunk.output) (remaining c.reader.now)
+    (b : Pair R W) (answer given : Result (Unit {0}) OnceFault) (turn : CallTurn) (new : Stage) (codec : Option (List ℕ)) (c : Pair R W)
+    → count < turns → (i : SoFar remaining contents a count mid b) → TakesWorkPiece (PairDoes remaining contents) mid b answer turn new codec c
+    → ServesOneStream turns given (i.read ++ turn.piece) (i.out ++ turn.output) (remaining c.reader.now)
     → Whole remaining contents turns a given c
-by_piece remaining contents turns a count mid b answer given serve_chunk new codec c lt i t s = record {
-  read = i.read ++ serve_chunk.piece;
-  out = i.out ++ serve_chunk.output;
-  moved = moved_turn remaining contents a b c i.read i.out mid answer serve_chunk new codec i.moved t;
-  most = within (i.read ++ serve_chunk.piece) (count + 1) turns (most_more i.read serve_chunk.piece count i.most t.reads.most) (omega (arith, lt));
+by_piece remaining contents turns a count mid b answer given turn new codec c lt i t s = record {
+  read = i.read ++ turn.piece;
+  out = i.out ++ turn.output;
+  moved = moved_turn remaining contents a b c i.read i.out mid answer turn new codec i.moved t;
+  most = within (i.read ++ turn.piece) (count + 1) turns (most_more i.read turn.piece count i.most t.reads.most) (omega (arith, lt));
   serves = s;
 }
 
@@ -107,12 +107,12 @@ by_piece remaining contents turns a count mid b answer given serve_chunk new cod
 over_by : {R W : Type 0} (remaining : R → Option (List ℕ)) (contents : W → Option (List ℕ)) (a : Pair R W) (count : ℕ) (mid : Work) (b : Pair R W)
     (well : Bool) (c : Pair R W) (i : SoFar remaining contents a count mid b)
     → (e : EndsByPiece (PairDoes remaining contents) mid b well c) →
-    IsOutput (i.read ++ e.serve_chunk.piece) (i.out ++ e.serve_chunk.output) (remaining c.reader.now) well
+    IsOutput (i.read ++ e.turn.piece) (i.out ++ e.turn.output) (remaining c.reader.now) well
 over_by remaining contents a count mid b well c i e =
-    let turned = subst (λ (r : List ℕ). Turns (Ok tt) mid.stage (r ++ e.serve_chunk.piece) e.stage e.codec e.serve_chunk.output)
+    let turned = subst (λ (r : List ℕ). Turns (Ok tt) mid.stage (r ++ e.turn.piece) e.stage e.codec e.turn.output)
     (rest_is i.read i.out mid i.waits) e.takes.turned in
-    ends_on i.read i.out e.serve_chunk.piece e.serve_chunk.output mid.stage e.stage (Some mid.unfinished) (remaining c.reader.now) well i.waits
-    (turned_off mid.stage e.stage (i.waits.rest ++ e.serve_chunk.piece) e.serve_chunk.output e.codec e.over turned) e.well_is
+    ends_on i.read i.out e.turn.piece e.turn.output mid.stage e.stage (Some mid.unfinished) (remaining c.reader.now) well i.waits
+    (turned_off mid.stage e.stage (i.waits.rest ++ e.turn.piece) e.turn.output e.codec e.over turned) e.well_is
 
 -- where the end was found, it stays
 end_stays : {R W : Type 0} (remaining : R → Option (List ℕ)) (contents : W → Option (List ℕ)) (b c : Pair R W) (bytes : List ℕ)
@@ -149,11 +149,11 @@ by_fault : {R W : Type 0} (remaining : R → Option (List ℕ)) (contents : W �
     → IsServeFault e → count < turns → SoFar remaining contents a count mid b → BreaksOffWork (PairDoes remaining contents) mid b e c →
     Whole remaining contents turns a (Err e) c
 by_fault remaining contents turns a count mid b e c is lt i (inl p) =
-    let serve_chunk : CallTurn = p.0 in
-    let turned = subst (λ (r : List ℕ). Turns (Err e) mid.stage (r ++ serve_chunk.piece) p.1 p.2 serve_chunk.output)
+    let turn : CallTurn = p.0 in
+    let turned = subst (λ (r : List ℕ). Turns (Err e) mid.stage (r ++ turn.piece) p.1 p.2 turn.output)
     (rest_is i.read i.out mid i.waits) p.3.turned in
-    by_piece remaining contents turns a count mid b (Err e) (Err e) serve_chunk p.1 p.2 c lt i p.3
-    (turn_served turns e i.read i.out serve_chunk.piece serve_chunk.output mid.stage p.1 (Some mid.unfinished) p.2 (remaining c.reader.now) i.waits is turned)
+    by_piece remaining contents turns a count mid b (Err e) (Err e) turn p.1 p.2 c lt i p.3
+    (turn_served turns e i.read i.out turn.piece turn.output mid.stage p.1 (Some mid.unfinished) p.2 (remaining c.reader.now) i.waits is turned)
 by_fault remaining contents turns a count mid b e c is lt i (inr p) = by_end remaining contents turns a count mid b (Err e) c lt i p
 
 ended : {R W : Type 0} (remaining : R → Option (List ℕ)) (contents : W → Option (List ℕ)) (turns : ℕ) (a : Pair R W) (count : ℕ) (mid : Work) (b : Pair R W)
@@ -161,11 +161,11 @@ ended : {R W : Type 0} (remaining : R → Option (List ℕ)) (contents : W → O
     → SoFar remaining contents a count mid b → EndsWorkTurns (PairDoes remaining contents) turns count mid b answer c →
     Whole remaining contents turns a answer c
 ended remaining contents turns a count mid b (Ok d) c i (lt, inl e) =
-    by_piece remaining contents turns a count mid b (Ok tt) (Ok d) e.serve_chunk e.stage e.codec c lt i e.takes
+    by_piece remaining contents turns a count mid b (Ok tt) (Ok d) e.turn e.stage e.codec c lt i e.takes
     (over_by remaining contents a count mid b true c i e)
 ended remaining contents turns a count mid b (Ok d) c i (lt, inr e) = by_end remaining contents turns a count mid b (Ok d) c lt i e
 ended remaining contents turns a count mid b (Err fault.BadInput) c i (lt, inl e) =
-    by_piece remaining contents turns a count mid b (Ok tt) (Err fault.BadInput) e.serve_chunk e.stage e.codec c lt i e.takes
+    by_piece remaining contents turns a count mid b (Ok tt) (Err fault.BadInput) e.turn e.stage e.codec c lt i e.takes
     (over_by remaining contents a count mid b false c i e)
 ended remaining contents turns a count mid b (Err fault.BadInput) c i (lt, inr e) = by_end remaining contents turns a count mid b (Err fault.BadInput) c lt i e
 ended remaining contents turns a count mid b (Err fault.Read) c i e = record {

@@ -184,7 +184,7 @@ finish_served turns (Err fault.BadInput) read out more st codec left w going end
 finish_served turns (Err fault.Read) read out more st codec left w going end f = absurd f
 finish_served turns (Err fault.TurnsUsedUp) read out more st codec left w going end f = absurd f
 finish_served turns (Err fault.Write) read out more st codec left w going end f = shut_cut read out more st codec left w going end f
-finish_served turns (Err fault.Memory) read out more st codec left w going end f = shut_cut read out more st codec left w going end f
+finish_served turns (Err fault.Memory) read out more st codec left w going end f = absurd f
 
 -- a turn broke off, by a fault of one reply
 pub turn_served : (turns : ℕ) (e : OnceFault) (read out piece more : List ℕ) (st new : Stage) (codec later left : Option (List ℕ))
@@ -209,10 +209,7 @@ pub nothing_served : (turns : ℕ) (left : Option (List ℕ)) → ServesOneStrea
 nothing_served turns left = record { frames = []; rest = []; begins = begins_none []; prefix = inl ([], refl) }
 
 -- the refusal of a frame that is cut was written in part
-pub finish_cut : (e : OnceFault) (rest : List ℕ) (n : ℕ) → (rest ≡ [] → ⊥) → IsServeFault e → Finishes (Err e) rest (take n (encoding (Refused 1)))
-finish_cut e rest n some (inl is) =
-    subst (λ x. Finishes (Err x) rest (take n (encoding (Refused 1)))) (sym is)
-    (subst (IsPrefixOf (take n (encoding (Refused 1)))) (some_reply rest some) (prefix_taken n (encoding (Refused 1))))
-finish_cut e rest n some (inr is) =
+pub finish_cut : (e : OnceFault) (rest : List ℕ) (n : ℕ) → (rest ≡ [] → ⊥) → e ≡ fault.Write → Finishes (Err e) rest (take n (encoding (Refused 1)))
+finish_cut e rest n some is =
     subst (λ x. Finishes (Err x) rest (take n (encoding (Refused 1)))) (sym is)
     (subst (IsPrefixOf (take n (encoding (Refused 1)))) (some_reply rest some) (prefix_taken n (encoding (Refused 1))))

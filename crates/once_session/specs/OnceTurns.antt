@@ -29,28 +29,28 @@ abbrev pub fresh_work : Work
 fresh_work = record { stage = Fresh; unfinished = [] }
 
 -- A piece came, in one read: it was served, and the replies went out before any other call.
-pub record TakesWorkPiece {C : Type 0} (does : C → Call → C → Type 0) (old : Work) (a : C) (answer : Result (Unit {0}) OnceFault) (serve_chunk : CallTurn)
+pub record TakesWorkPiece {C : Type 0} (does : C → Call → C → Type 0) (old : Work) (a : C) (answer : Result (Unit {0}) OnceFault) (turn : CallTurn)
     (new : Stage) (codec : Option (List ℕ)) (b : C) : Type 0 where
   pub middle : C
-  pub reads : ReadsPiece does a serve_chunk.piece middle
-  pub writes : WritesWorkReplies does answer middle serve_chunk.output b
-  pub turned : Turns answer old.stage (old.unfinished ++ serve_chunk.piece) new codec serve_chunk.output
+  pub reads : ReadsPiece does a turn.piece middle
+  pub writes : WritesWorkReplies does answer middle turn.output b
+  pub turned : Turns answer old.stage (old.unfinished ++ turn.piece) new codec turn.output
 
 -- a turn after which the work goes on
-pub record LeavesOpen {C : Type 0} (does : C → Call → C → Type 0) (old : Work) (a : C) (serve_chunk : CallTurn) (new : Work) (b : C) : Type 0 where
-  pub takes : TakesWorkPiece does old a (Ok tt) serve_chunk new.stage (Some new.unfinished) b
+pub record LeavesOpen {C : Type 0} (does : C → Call → C → Type 0) (old : Work) (a : C) (turn : CallTurn) (new : Work) (b : C) : Type 0 where
+  pub takes : TakesWorkPiece does old a (Ok tt) turn new.stage (Some new.unfinished) b
   pub going : goes_on new.stage ≡ true
 
 -- such turns, one after another
 abbrev pub WorkGoesOn : {C : Type 0} → (C → Call → C → Type 0) → Work → C → List CallTurn → Work → C → Type 0
-WorkGoesOn {C = C} does old a turns new b = FoldsTo {P = Work × C} (λ p serve_chunk q. LeavesOpen does p.0 p.1 serve_chunk q.0 q.1) (old, a) turns (new, b)
+WorkGoesOn {C = C} does old a turns new b = FoldsTo {P = Work × C} (λ p turn q. LeavesOpen does p.0 p.1 turn q.0 q.1) (old, a) turns (new, b)
 
 -- the work ended with a piece: well, by a Bye, or not
 pub record EndsByPiece {C : Type 0} (does : C → Call → C → Type 0) (old : Work) (a : C) (well : Bool) (b : C) : Type 0 where
-  pub serve_chunk : CallTurn
+  pub turn : CallTurn
   pub stage : Stage
   pub codec : Option (List ℕ)
-  pub takes : TakesWorkPiece does old a (Ok tt) serve_chunk stage codec b
+  pub takes : TakesWorkPiece does old a (Ok tt) turn stage codec b
   pub over : goes_on stage ≡ false
   pub well_is : is_done stage ≡ well
 
@@ -65,7 +65,7 @@ pub record EndsByEnd {C : Type 0} (does : C → Call → C → Type 0) (old : Wo
 -- a fault at a piece or at the end
 abbrev pub BreaksOffWork : {C : Type 0} → (C → Call → C → Type 0) → Work → C → OnceFault → C → Type 0
 BreaksOffWork does old a e b =
-    ((serve_chunk : CallTurn) × (stage : Stage) × (codec : Option (List ℕ)) × TakesWorkPiece does old a (Err e) serve_chunk stage codec b)
+    ((turn : CallTurn) × (stage : Stage) × (codec : Option (List ℕ)) × TakesWorkPiece does old a (Err e) turn stage codec b)
     ⊎ EndsByEnd does old a (Err e) b
 
 -- the last turn after so many, of which there may be `turns`

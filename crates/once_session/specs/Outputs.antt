@@ -139,4 +139,4 @@ Finishes (Err BadInput) rest out = (rest ≡ [] → ⊥) × (out ≡ encoding (R
 Finishes (Err Read) rest out = ⊥
 Finishes (Err TurnsUsedUp) rest out = ⊥
 Finishes (Err Write) rest out = IsPrefixOf out (rest_reply rest)
-Finishes (Err Memory) rest out = IsPrefixOf out (rest_reply rest)
+Finishes (Err Memory) rest out = ⊥

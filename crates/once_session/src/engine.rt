@@ -12,7 +12,7 @@ use crate::stage::{Stage, Step, step_of};
 use connection_io::{Connection, send as send_bytes};
 use frame_codec::{Frame, ReadFault, Reader, write_frame};
 use matrix_u32::Kernel;
-use std::alloc::Global;
+use std::alloc::{AllocError, Global};
 use thiserror::Error;
 
 /// Why a stream was not served to its end.
@@ -36,11 +36,7 @@ pub enum OnceFault {
 }
 
 // Writes a reply, made in a buffer of its own.
-pub(crate) fn send<C: Connection>(
-    alloc: Global,
-    reply: &Frame,
-    connection: &mut C,
-) -> Result<(), OnceFault>
+fn send<C: Connection>(alloc: Global, reply: &Frame, connection: &mut C) -> Result<(), OnceFault>
     requires { payload_size reply.now ≤ payload_limit }
     ensures all { OnOk result (Sends C.does connection.old (encoding reply.now) connection.new) }
     ensures prefix { IfErr result (λ e. (n : ℕ)
@@ -143,23 +139,50 @@ pub(crate) fn goes_on(stage: &Stage) -> bool
     matches!(stage, Stage::Fresh | Stage::Loaded(_))
 }
 
-// Ends the work where the stream can't be read on: what stands there is refused, or memory was.
+/// The bytes of a refusal with code 1. They are made before anything is read, so that a frame that was judged bad
+/// can be refused without further memory.
+pub(crate) fn refusal_bytes(alloc: Global) -> Result<Vec<u8>, AllocError>
+    ensures { IfOk result (λ bytes. bytes.items ≡ encoding (Refused 1)) }
+{
+    let mut bytes = Vec::new(alloc);
+    write_frame(&Frame::Refused { code: 1 }, &mut bytes)?;
+    Ok(bytes)
+}
+
+// Writes the refusal, by no more memory: a write that failed is the only fault.
+pub(crate) fn refuse<C: Connection>(refusal: &[u8], connection: &mut C) -> Result<(), OnceFault>
+    ensures all { OnOk result (Sends C.does connection.old refusal.now connection.new) }
+    ensures prefix { IfErr result (λ e. (n : ℕ)
+        × SendsBefore C.does e connection.old (take n refusal.now) connection.new) }
+    ensures fault { IfErr result (λ e. e ≡ OnceFault.Write) }
+{
+    match send_bytes(connection, refusal) {
+        Ok(()) => Ok(()),
+        Err(_) => Err(OnceFault::Write),
+    }
+}
+
+// Ends the work where the stream can't be read on: what stands there is refused, or memory was. A frame that was
+// judged bad is never answered as memory.
 fn stop<C: Connection>(
-    alloc: Global,
+    refusal: &[u8],
     fault: ReadFault,
     stage: &mut Stage,
     connection: &mut C,
 ) -> Result<(), OnceFault>
+    requires { refusal.now ≡ encoding (Refused 1) }
     ensures refused { OnOk result (IsJudged fault × (stage.new ≡ Stage.Bad)) }
     ensures all { OnOk result (Sends C.does connection.old (encoding (Refused 1)) connection.new) }
     ensures prefix { IfErr result (λ e. (n : ℕ)
         × SendsBefore C.does e connection.old (take n (encoding (Refused 1))) connection.new
         × ((n ≡ 0) ⊎ IsJudged fault)) }
     ensures fault { IfErr result IsServeFault }
+    ensures judged { IfErr result (λ e. IsJudged fault → e ≡ OnceFault.Write) }
+    ensures memory { IfErr result (λ e. e ≡ OnceFault.Memory → connection.new ≡ connection.old) }
 {
     match fault {
         ReadFault::TooLong | ReadFault::UnknownKind | ReadFault::BadPayload => {
-            if let Err(broken) = send(alloc, &Frame::Refused { code: 1 }, connection) {
+            if let Err(broken) = refuse(refusal, connection) {
                 return Err(broken);
             }
             *stage = Stage::Bad;
@@ -173,11 +196,13 @@ fn stop<C: Connection>(
 pub(crate) fn serve_chunk<K: Kernel, C: Connection>(
     alloc: Global,
     kernel: K,
+    refusal: &[u8],
     codec: &mut Reader,
     stage: &mut Stage,
     piece: &[u8],
     connection: &mut C,
 ) -> Result<(), OnceFault>
+    requires refusal { refusal.now ≡ encoding (Refused 1) }
     requires table { HasTable stage.old }
     requires open { goes_on stage.old ≡ true }
     ensures table { OnOk result (HasTable stage.new) }
@@ -196,7 +221,7 @@ pub(crate) fn serve_chunk<K: Kernel, C: Connection>(
     }
     match read {
         Ok(()) => Ok(()),
-        Err(fault) => match stop(alloc, fault, stage, connection) {
+        Err(fault) => match stop(refusal, fault, stage, connection) {
             Ok(()) => Ok(()),
             Err(broken) => Err(broken),
         },

@@ -2,22 +2,28 @@
 
 ghost use Rattle.std.specs.Prelude.{◌≡◌, ◌≤◌, ◌*◌, ℕ, List, [], length, Some, OnOk, OnErr, IfErr, true, false};
 ghost use Rattle.std.specs.Io.KnownBytes.{Appends, Consumes};
+ghost use Rattle.frame_codec.specs.declared.frame.Frame.TheVariants.{Refused};
+ghost use Rattle.frame_codec.specs.Frames.{encoding};
 ghost use Rattle.frame_codec.specs.Streams.{IsPartial};
 ghost use Rattle.once_session.specs.Outputs.{Finishes, ServesOneStream, is_done};
 ghost use Rattle.once_session.specs.OnceTurns.{WritesWorkReplies, ServesWorkOver};
 
-use crate::engine::{OnceFault, goes_on, send, serve_chunk};
+use crate::engine::{OnceFault, goes_on, refusal_bytes, refuse, serve_chunk};
 use crate::stage::Stage;
-use connection_io::{Connection, Pair, receive};
-use engine_io::piece_buffer;
-use frame_codec::{Frame, Reader};
+use connection_io::{Connection, Pair, piece_buffer, receive};
+use frame_codec::Reader;
 use lane_kernels::Lanes;
 use matrix_u32::Kernel;
 use std::alloc::Global;
 use std::io::{Read, Write};
 
 // Ends the work where the stream ends: a frame that is cut is refused.
-fn finish<C: Connection>(alloc: Global, codec: &Reader, connection: &mut C) -> Result<(), OnceFault>
+fn finish<C: Connection>(
+    refusal: &[u8],
+    codec: &Reader,
+    connection: &mut C,
+) -> Result<(), OnceFault>
+    requires { refusal.now ≡ encoding (Refused 1) }
     ensures { (rest : List ℕ) → codec.now ≡ Some rest → (out : List ℕ)
         × WritesWorkReplies C.does result connection.old out connection.new ×
         Finishes result rest out }
@@ -25,7 +31,7 @@ fn finish<C: Connection>(alloc: Global, codec: &Reader, connection: &mut C) -> R
     if codec.is_between_frames() {
         return Ok(());
     }
-    if let Err(fault) = send(alloc, &Frame::Refused { code: 1 }, connection) {
+    if let Err(fault) = refuse(refusal, connection) {
         return Err(fault);
     }
     Err(OnceFault::BadInput)
@@ -61,6 +67,9 @@ pub fn once_over<K: Kernel, C: Connection>(
     let Ok(mut buffer) = piece_buffer(alloc) else {
         return Err(OnceFault::Memory);
     };
+    let Ok(refusal) = refusal_bytes(alloc) else {
+        return Err(OnceFault::Memory);
+    };
     let mut codec = Reader::new(alloc);
     let mut stage = Stage::Fresh;
     'turns: for _ in 0..turns {
@@ -68,11 +77,12 @@ pub fn once_over<K: Kernel, C: Connection>(
             return Err(OnceFault::Read);
         };
         if n == 0 {
-            return finish(alloc, &codec, connection);
+            return finish(&refusal, &codec, connection);
         }
         if let Err(fault) = serve_chunk(
             alloc,
             kernel,
+            &refusal,
             &mut codec,
             &mut stage,
             &buffer[..n],

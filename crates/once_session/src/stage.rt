@@ -44,7 +44,7 @@ ghost use Rattle.once_session.specs.Courses.{
 };
 
 use digit_pack::{DigitStore, Flat, Layout, digits_of_records};
-use engine_io::write_out;
+use connection_io::write_out;
 use frame_codec::{Bytes, Frame, Words, write_frame};
 use matrix_u32::Kernel;
 use simple_scheme::answer;

@@ -71,10 +71,10 @@ pub returns-in-Err : goal.returns-in-Err
 returns-in-Err g c =
     let i = c.turns.invariant in
     let t = c.in-Err.ensures.turned i.unfinished i.codec_is in
-    let buffer : List ℕ = c.deref.result.now in
+    let buffer : List ℕ = c.deref-in-turns-2.result.now in
     let did = subst (λ (x : List ℕ). g.C.Connection.does c.turns.connection (Read (length x) (take c.in-Ok-receive.n x)) c.receive.new.connection)
-    (sym c.deref.ensures.value) c.in-Ok-receive.ensures.did in
-    let within = subst (λ (x : List ℕ). c.in-Ok-receive.n ≤ length x) (sym c.deref.ensures.value) c.in-Ok-receive.ensures.within in
+    (sym c.deref-in-turns-2.ensures.value) c.in-Ok-receive.ensures.did in
+    let within = subst (λ (x : List ℕ). c.in-Ok-receive.n ≤ length x) (sym c.deref-in-turns-2.ensures.value) c.in-Ok-receive.ensures.within in
     inr (record {
       before = i.before;
       work = record { stage = c.turns.stage; unfinished = i.unfinished };
@@ -85,7 +85,7 @@ returns-in-Err g c =
           (record { piece = take c.in-Ok-receive.n buffer; output = t.0 }) c.serve_chunk.new.stage c.serve_chunk.new.codec c.in-Err.ensures.fault
           (record {
             middle = c.receive.new.connection;
-            reads = reads_piece g.C.Connection.does c.turns.connection c.receive.new.connection buffer c.in-Ok-receive.n did (ap length c.deref.ensures.value
+            reads = reads_piece g.C.Connection.does c.turns.connection c.receive.new.connection buffer c.in-Ok-receive.n did (ap length c.deref-in-turns-2.ensures.value
                 ∙ c.receive.ensures.room ∙ i.room) c.if-n-eq0.false within;
             writes = t.1;
             turned = t.2;
@@ -96,10 +96,10 @@ pub returns-then-not-goes_on : goal.returns-then-not-goes_on
 returns-then-not-goes_on g c =
     let i = c.turns.invariant in
     let t = c.in_default-serve_chunk.ensures.turned i.unfinished i.codec_is in
-    let buffer : List ℕ = c.deref.result.now in
+    let buffer : List ℕ = c.deref-in-turns-2.result.now in
     let did = subst (λ (x : List ℕ). g.C.Connection.does c.turns.connection (Read (length x) (take c.in-Ok-receive.n x)) c.receive.new.connection)
-    (sym c.deref.ensures.value) c.in-Ok-receive.ensures.did in
-    let within = subst (λ (x : List ℕ). c.in-Ok-receive.n ≤ length x) (sym c.deref.ensures.value) c.in-Ok-receive.ensures.within in
+    (sym c.deref-in-turns-2.ensures.value) c.in-Ok-receive.ensures.did in
+    let within = subst (λ (x : List ℕ). c.in-Ok-receive.n ≤ length x) (sym c.deref-in-turns-2.ensures.value) c.in-Ok-receive.ensures.within in
     inr (record {
       before = i.before;
       work = record { stage = c.turns.stage; unfinished = i.unfinished };
@@ -111,7 +111,7 @@ returns-then-not-goes_on g c =
           c.ended.ensures.ill (sym c.goes_on.ensures ∙ c.if-not-goes_on.true)
           (record {
             middle = c.receive.new.connection;
-            reads = reads_piece g.C.Connection.does c.turns.connection c.receive.new.connection buffer c.in-Ok-receive.n did (ap length c.deref.ensures.value
+            reads = reads_piece g.C.Connection.does c.turns.connection c.receive.new.connection buffer c.in-Ok-receive.n did (ap length c.deref-in-turns-2.ensures.value
                 ∙ c.receive.ensures.room ∙ i.room) c.if-n-eq0.false within;
             writes = t.1;
             turned = t.2;
@@ -122,31 +122,31 @@ pub turns-preserved : goal.turns-preserved
 turns-preserved g c =
     let i = c.turns.invariant in
     let t = c.in_default-serve_chunk.ensures.turned i.unfinished i.codec_is in
-    let buffer : List ℕ = c.deref.result.now in
+    let buffer : List ℕ = c.deref-in-turns-2.result.now in
     let did = subst (λ (x : List ℕ). g.C.Connection.does c.turns.connection (Read (length x) (take c.in-Ok-receive.n x)) c.receive.new.connection)
-    (sym c.deref.ensures.value) c.in-Ok-receive.ensures.did in
-    let within = subst (λ (x : List ℕ). c.in-Ok-receive.n ≤ length x) (sym c.deref.ensures.value) c.in-Ok-receive.ensures.within in
+    (sym c.deref-in-turns-2.ensures.value) c.in-Ok-receive.ensures.did in
+    let within = subst (λ (x : List ℕ). c.in-Ok-receive.n ≤ length x) (sym c.deref-in-turns-2.ensures.value) c.in-Ok-receive.ensures.within in
     let piece : List ℕ = take c.in-Ok-receive.n buffer in
     let going : goes_on c.serve_chunk.new.stage ≡ true = sym c.goes_on.ensures ∙ c.if-not-goes_on.false in
     let w = turned_on c.turns.stage c.serve_chunk.new.stage (i.unfinished ++ piece) t.0 c.serve_chunk.new.codec going t.2 in
-    let serve_chunk : CallTurn = record { piece = piece; output = t.0 } in
+    let turn : CallTurn = record { piece = piece; output = t.0 } in
     record {
-      before = i.before ++ serve_chunk ∷ [];
+      before = i.before ++ turn ∷ [];
       unfinished = w.rest;
       codec_is = w.codec_is;
       go_on = one_more g.C.Connection.does c.args.connection.now i.before (record { stage = c.turns.stage; unfinished = i.unfinished }) c.turns.connection
-          serve_chunk (record { stage = c.serve_chunk.new.stage; unfinished = w.rest }) c.serve_chunk.new.connection i.go_on
+          turn (record { stage = c.serve_chunk.new.stage; unfinished = w.rest }) c.serve_chunk.new.connection i.go_on
           (record {
             takes = record {
               middle = c.receive.new.connection;
               reads = reads_piece g.C.Connection.does c.turns.connection c.receive.new.connection buffer c.in-Ok-receive.n did
-                  (ap length c.deref.ensures.value ∙ c.receive.ensures.room ∙ i.room) c.if-n-eq0.false within;
+                  (ap length c.deref-in-turns-2.ensures.value ∙ c.receive.ensures.room ∙ i.room) c.if-n-eq0.false within;
               writes = t.1;
               turned = subst (λ (o : Option (List ℕ)). Turns (Ok tt) c.turns.stage (i.unfinished ++ piece) c.serve_chunk.new.stage o t.0) w.codec_is t.2;
             };
             going = going;
           });
-      count = omega (arith, length-append i.before (serve_chunk ∷ []), i.count);
+      count = omega (arith, length-append i.before (turn ∷ []), i.count);
       within = omega (arith, c.turns-test.true);
       going = going;
       table = c.in_default-serve_chunk.ensures.table;
