@@ -3,7 +3,7 @@
 ghost use Rattle.std.specs.Prelude.{◌≡◌, ◌≤◌, ◌<◌, ℕ, length, take, IfOk, OnOk, OnErr, ⊤};
 ghost use Rattle.connection_io.specs.Calls.{Call, read_call, write_call, Sends, SendsUntilFault};
 
-use engine_io::{ReadFailed, WriteFailed};
+use crate::pieces::{ReadFailed, WriteFailed};
 
 /// A reader and a writer in one, whose calls stand in the order in which they were made.
 ///

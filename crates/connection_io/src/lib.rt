@@ -1,12 +1,14 @@
-//! Connections: a reader and a writer whose calls stand in one order, so that a contract can say that a reply
-//! was written before the next request was read, and that a fault came of a read or a write that failed.
+//! Reading in pieces and writing whole, for all that runs over a reader and a writer; and connections: a reader and
+//! a writer whose calls stand in one order, so that a contract can say that a reply was written before the next
+//! request was read, and that a fault came of a read or a write that failed.
+//!
+//! Its tests stand in `frame_tests`.
 #![tactic(auto)]
 
 mod connection;
 mod pair;
+mod pieces;
 
 pub use connection::{Connection, receive, send};
 pub use pair::Pair;
-
-#[cfg(test)]
-mod tests;
+pub use pieces::{PIECE_LEN, ReadFailed, WriteFailed, piece_buffer, read_piece, write_out};

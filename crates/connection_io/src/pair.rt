@@ -4,7 +4,7 @@ ghost use Rattle.std.specs.Prelude.{◌≡◌};
 ghost use Rattle.connection_io.specs.Pairs.{PairDoes};
 
 use crate::connection::Connection;
-use engine_io::{ReadFailed, WriteFailed};
+use crate::pieces::{ReadFailed, WriteFailed};
 use std::io::{Read, Write};
 
 /// A reader and a writer as one connection. Where they report their bytes, its calls are known by what each

@@ -341,6 +341,27 @@ fn reads_byte_by_byte(rt: HostRuntime) -> Result<(), Fail> {
     Ok(())
 }
 
+/// Of frames of five bytes among longer ones, all in one piece, none is held back or answered as refused memory.
+#[test]
+fn many_small_frames_in_one_piece(rt: HostRuntime) -> Result<(), Fail> {
+    let mut stream = Vec::new(rt.alloc());
+    for round in 0..200 {
+        stream.extend_from_slice(&PUBLISH)?;
+        stream.extend_from_slice(&REFUSED)?;
+        stream.extend_from_slice(&BYE)?;
+        let mut reader = Reader::new(rt.alloc());
+        let mut frames = Vec::new(rt.alloc());
+        assert_eq!(rt; reader.feed(&stream, &mut frames), Ok(()), "{round}");
+        assert!(rt; reader.is_between_frames());
+        assert_eq!(rt;
+            encoded(&rt, rt.alloc(), &frames)?.as_slice(),
+            stream.as_slice(),
+            "{round}"
+        );
+    }
+    Ok(())
+}
+
 /// After one good frame, each byte but the last must be taken, and the last must give the fault, in
 /// single bytes and in one piece. Every later feed must answer `Failed`.
 fn must_fail_at_last(

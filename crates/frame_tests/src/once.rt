@@ -1,5 +1,5 @@
-use crate::memory::{Input, Output};
 use matrix_u32::Plain;
+use memory_io::{FailsOnce, Input, Output};
 use once_session::{OnceFault, once, once_with};
 use std::alloc::{AllocError, Global};
 use std::cell::Cell;
@@ -307,6 +307,34 @@ fn a_reader_that_fails(rt: HostRuntime) -> Result<(), Fail> {
             &ANSWER[..0]
         };
         assert_eq!(rt; writer.bytes.as_slice(), said, "{len}");
+    }
+    Ok(())
+}
+
+#[test]
+fn a_call_that_fails_once_is_not_made_again(rt: HostRuntime) -> Result<(), Fail> {
+    let bytes = joined(rt.alloc(), &[LOAD, QUERY])?;
+    for calls in 0..7 {
+        let input = Input {
+            bytes: &bytes,
+            most: 5,
+            fails: false,
+        };
+        let mut reader = FailsOnce::after(calls, input);
+        let mut writer = make_output(rt.alloc(), PIECE, false)?;
+        let result = once(rt.alloc(), &mut reader, &mut writer, TURNS);
+        assert_eq!(rt; result, Err(OnceFault::Read), "{calls}");
+        let mut reader = bytes.as_slice();
+        let mut output = make_output(rt.alloc(), PIECE, false)?;
+        output.most = 2;
+        let mut writer = FailsOnce::after(calls, output);
+        let result = once(rt.alloc(), &mut reader, &mut writer, TURNS);
+        assert_eq!(rt; result, Err(OnceFault::Write), "{calls}");
+        assert_eq!(rt;
+            Some(writer.inner.bytes.as_slice()),
+            ANSWER.get(..2 * calls),
+            "{calls}"
+        );
     }
     Ok(())
 }

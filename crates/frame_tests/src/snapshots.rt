@@ -1,7 +1,7 @@
 //! The snapshot of two records of one byte, written, read and damaged; readers and writers over memory that
 //! take their time or fail.
 
-use crate::memory::{Input, Output};
+use memory_io::{Input, Output};
 use snapshot_file::{
     Header, Snapshot, SnapshotFault, WriteFault, read_snapshot, write_snapshot_bytes,
 };

@@ -6,7 +6,7 @@ ghost use Rattle.std.specs.Io.KnownBytes.{Consumes, IsAtEnd};
 use crate::command_line::Making;
 use crate::files::{Content, write_file};
 use command_words::Failure;
-use engine_io::{piece_buffer, read_piece};
+use connection_io::{piece_buffer, read_piece};
 use sha2::{Digest, Sha256};
 use std::alloc::Global;
 use std::io::Read;

@@ -3,7 +3,7 @@
 use crate::command_line::Serving;
 use crate::files::{Content, store_of, write_file};
 use command_words::Failure;
-use engine_io::{piece_buffer, read_piece};
+use connection_io::{piece_buffer, read_piece};
 use lane_kernels::Lanes;
 use server_core::ServerCore;
 use session_engines::{ServeFault, serve};

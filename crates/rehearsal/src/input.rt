@@ -5,7 +5,7 @@ ghost use Rattle.std.specs.Io.KnownBytes.{Consumes, IsAtEnd};
 ghost use Rattle.rehearsal.specs.Stages.{StopsReading};
 
 use crate::stop::Stop;
-use engine_io::{piece_buffer, read_piece};
+use connection_io::{piece_buffer, read_piece};
 use std::alloc::Global;
 use std::io::Read;
 

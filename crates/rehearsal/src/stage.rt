@@ -10,7 +10,7 @@ ghost use Rattle.rehearsal.specs.Stages.{EndsAs, IsAt, MovesQuietly, MovesTo, Op
 use crate::line::{Line, Sizes};
 use crate::outcome::outcome_line;
 use crate::stop::Stop;
-use engine_io::write_out;
+use connection_io::write_out;
 use frame_codec::Bytes;
 use lane_kernels::Lanes;
 use pir_world::{Outcome, Step, StepFault, World};

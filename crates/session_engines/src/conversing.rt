@@ -6,8 +6,7 @@ ghost use Rattle.session_engines.specs.Conversing.{converse_fault, ReceivesPiece
 ghost use Rattle.session_engines.specs.ConversingTurns.{WritesSayings, ReceivesTurn, ReceivesTurns, ConversesOver};
 
 use client_core::{ClientCore, ClientFault, Event};
-use connection_io::{Connection, Pair, receive, send};
-use engine_io::piece_buffer;
+use connection_io::{Connection, Pair, piece_buffer, receive, send};
 use matrix_u32::Kernel;
 use std::alloc::Global;
 use std::io::{Read, Write};
@@ -79,7 +78,7 @@ fn take_piece<K: Kernel, C: Connection>(
 /// Makes one turn of a client: reads a piece of at most 65,536 bytes, gives it to the client, and writes all that
 /// the client says to it. Answers the first event that came of it, or `None` where none did.
 ///
-/// `buffer` has room for a piece, as `engine_io::piece_buffer` makes it: what it held is lost.
+/// `buffer` has room for a piece, as `connection_io::piece_buffer` makes it: what it held is lost.
 ///
 /// # Errors
 ///

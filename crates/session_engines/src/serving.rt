@@ -9,8 +9,7 @@ ghost use Rattle.server_core.specs.Sessions.{Session, new_session};
 ghost use Rattle.session_engines.specs.Serving.{ServesStreamPiece, ServesStream};
 ghost use Rattle.session_engines.specs.ServingTurns.{WritesReplies, ServesTurn, ServesTurns, NeverServes, ServesOver};
 
-use connection_io::{Connection, Pair, receive, send};
-use engine_io::piece_buffer;
+use connection_io::{Connection, Pair, piece_buffer, receive, send};
 use matrix_u32::Kernel;
 use server_core::{FeedError, OpenError, ServerCore};
 use std::alloc::Global;
@@ -78,7 +77,7 @@ fn serve_piece<K: Kernel, C: Connection>(
 /// Makes one turn of session `id`: reads a piece of at most 65,536 bytes, serves it, and writes all the replies
 /// to it. Answers how the session came to its end, or `None` where it is open still.
 ///
-/// `buffer` has room for a piece, as `engine_io::piece_buffer` makes it, and `out` is for the replies: what they
+/// `buffer` has room for a piece, as `connection_io::piece_buffer` makes it, and `out` is for the replies: what they
 /// held is lost.
 ///
 /// # Errors

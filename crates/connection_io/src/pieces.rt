@@ -1,6 +1,5 @@
-//! One read of a piece, and a write of all of some bytes, for the engines that run a core over a reader and
-//! a writer. Every read error, every write error and every write of 0 bytes is a fault.
-#![tactic(auto)]
+//! One read of a piece, and a write of all of some bytes. Every read error, every write error and every write of
+//! 0 bytes is a fault.
 
 ghost use Rattle.std.specs.Prelude.{◌≡◌, ◌≤◌, ◌<◌, ℕ, IsErrOf, length, take, IfOk, OnOk, OnErr};
 ghost use Rattle.std.specs.Io.KnownBytes.{Appends, Consumes, IsAtEnd, Keeps};
@@ -62,6 +61,3 @@ pub fn read_piece<R: Read>(reader: &mut R, buffer: &mut Vec<u8>) -> Result<usize
         Err(_) => Err(ReadFailed),
     }
 }
-
-#[cfg(test)]
-mod tests;
