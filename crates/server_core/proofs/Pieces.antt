@@ -17,7 +17,7 @@ use Rattle.version_store.specs.Histories.{StoreState, History, StandsFor}
 use Rattle.server_core.specs.declared.standing.Standing.{Standing}
 use Rattle.server_core.specs.declared.standing.Standing.TheVariants.{Closed}
 use Rattle.server_core.specs.Serving.{Setting, setting_of, ServedAll, is_closed, BrokenOff}
-use Rattle.server_core.specs.Sessions.{Session, IsLive, AfterReading, EndsPiece, ServesPiece, Fed, Ended, ServedFrames, StoppedFrames}
+use Rattle.server_core.specs.Sessions.{Session, IsLive, AfterReading, EndsPiece, ServesPiece, Fed, Ended, ServedFrames, StoppedFrames, IsUnjudged, IsUnread}
 
 each_append : (rs more : List Frame) → AllByRecursion IsFrame rs → AllByRecursion IsFrame more → AllByRecursion IsFrame (rs ++ more)
 each_append [] more all others = others
@@ -149,6 +149,17 @@ pub stays_live : (old : Option (List ℕ)) (piece : List ℕ) (answer : Result (
     Feeds old piece answer frames u → (is_closed after ≡ false → IsOk answer) → IsLive after u
 stays_live old piece (Ok d) frames u after f live open_ = reads_on old piece d frames u f
 stays_live old piece (Err e) frames u after f live open_ = let bad : false ≡ true = live open_ in absurd cc
+
+-- an open session's reading that stopped without a fault was refused memory
+pub unread : (old : Option (List ℕ)) (piece : List ℕ) (answer : Result (Unit {0}) ReadFault) (frames : List Frame) (new : Option (List ℕ)) → old ≢ None →
+    Feeds old piece answer frames new → IsUnjudged answer → IsUnread old piece new
+unread None piece answer frames new live f u = absurd (live refl)
+unread (Some bytes) piece (Ok d) frames new live f u = absurd u
+unread (Some bytes) piece (Err TooLong) frames new live f u = absurd u
+unread (Some bytes) piece (Err UnknownKind) frames new live f u = absurd u
+unread (Some bytes) piece (Err BadPayload) frames new live f u = absurd u
+unread (Some bytes) piece (Err Memory) frames new live f u = (frames, f)
+unread (Some bytes) piece (Err Failed) frames new live f u = absurd f.0.2
 
 pub on_err : {T E P Q : Type 0} (r : Result T E) → OnErr r P → (P → Q) → OnErr r Q
 on_err (Ok x) p f = tt

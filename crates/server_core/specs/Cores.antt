@@ -6,7 +6,7 @@ use Rattle.std.specs.Ordering.{nat_cmp}
 use Rattle.std.specs.declared.alloc.AllocError.{AllocError}
 use Rattle.version_store.specs.Histories.{StoreState, History}
 use Rattle.server_core.specs.Serving.{Setting, is_closed}
-use Rattle.server_core.specs.Sessions.{Session, Fed}
+use Rattle.server_core.specs.Sessions.{Session, Fed, IsUnread}
 use Rattle.server_core.specs.declared.server.FeedError.{FeedError}
 use Rattle.server_core.specs.declared.server.FeedError.TheVariants.{NoSession, Memory}
 
@@ -24,10 +24,11 @@ abbrev pub is_open : Option Session → Bool
 is_open None = false
 is_open (Some s) = not (is_closed s.standing)
 
--- a session's stream has failed: no later byte of it is read
-abbrev pub HasFailed : Option Session → Type 0
-HasFailed None = ⊥
-HasFailed (Some s) = s.unfinished ≡ None
+-- memory was refused to the reading of a session's piece, and its stream has failed
+abbrev pub IsUnreadBy : Option Session → List ℕ → Option Session → Type 0
+IsUnreadBy None piece new = ⊥
+IsUnreadBy (Some old) piece None = ⊥
+IsUnreadBy (Some old) piece (Some new) = IsUnread old.unfinished piece new.unfinished
 
 -- What a piece did, as the answer says: all of it was served, or memory was refused. Without a session nothing is served.
 abbrev pub FeedsCore : Setting → History → Session → List ℕ → Result (Unit {0}) FeedError → StoreState → Session → List ℕ → List ℕ → Type 0

@@ -44,6 +44,19 @@ EndsPiece answer middle after more = MatchBool (is_closed middle) ((after ≡ mi
 abbrev pub IsStop : Result (Unit {0}) ReadFault → List Frame → ℕ → Type 0
 IsStop answer frames count = (count < length frames) ⊎ ((count ≡ length frames) × IsErr answer)
 
+-- the reading stopped without a fault that could be reported: memory was refused to it, or it had stopped before
+abbrev pub IsUnjudged : Result (Unit {0}) ReadFault → Type 0
+IsUnjudged (Ok done) = ⊥
+IsUnjudged (Err TooLong) = ⊥
+IsUnjudged (Err UnknownKind) = ⊥
+IsUnjudged (Err BadPayload) = ⊥
+IsUnjudged (Err Memory) = Unit {0}
+IsUnjudged (Err Failed) = Unit {0}
+
+-- memory was refused to the reading of a piece, after which the stream has failed
+abbrev pub IsUnread : Option (List ℕ) → List ℕ → Option (List ℕ) → Type 0
+IsUnread old piece new = (frames : List Frame) × Feeds old piece (Err Memory) frames new
+
 -- the frames that the piece completes are served in order, and then a fault is reported
 pub record ServesPiece (x : Setting) (h : History) (old : Session) (piece : List ℕ) (h2 : History) (new : Session) (replies : List Frame) : Type 0 where
   pub answer : Result (Unit {0}) ReadFault

@@ -3,7 +3,7 @@
 ghost use Rattle.std.specs.Prelude.{◌≡◌, ◌≢◌, ◌⊎◌, ◌≤◌, ◌<◌, ◌^◌, ◌+◌, ◌↔◌, ℕ, length, OnOk, OnErr, IfOk, IsSome, Some, None, IsErrOf, is_some, slice_set, true, false};
 ghost use Rattle.pir_schemes.specs.Plans.{fits};
 ghost use Rattle.version_store.specs.Histories.{History, StandsFor, after_edit, published, held_published};
-ghost use Rattle.server_core.specs.Cores.{session_of, is_open, FeedsCore, HasFailed, OnNoSession};
+ghost use Rattle.server_core.specs.Cores.{session_of, is_open, FeedsCore, IsUnreadBy, OnNoSession};
 ghost use Rattle.server_core.specs.Serving.{setting_of, IsFull};
 ghost use Rattle.server_core.specs.Sessions as sessions;
 
@@ -175,8 +175,8 @@ impl<K: Kernel> ServerCore<K> {
             out.old.items out.new.items }
         ensures no_session { IsErrOf result FeedError.NoSession ↔
             (session_of self.old.sessions id ≡ None) }
-        ensures full { IsErrOf result FeedError.Memory → IsFull out.new ⊎
-            HasFailed (session_of self.new.sessions id) }
+        ensures full { IsErrOf result FeedError.Memory → IsFull out.new ⊎ IsUnreadBy
+            (session_of self.old.sessions id) piece.now (session_of self.new.sessions id) }
         ensures unchanged { OnNoSession result ((self.new ≡ self.old) ×
             (out.new.items ≡ out.old.items)) }
         ensures others { (other : ℕ) → other ≢ id →

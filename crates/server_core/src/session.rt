@@ -1,11 +1,11 @@
 //! One session.
 
-ghost use Rattle.std.specs.Prelude.{◌≡◌, ◌⊎◌, ◌++◌, IfOk, IsErr, IsOk, None, OnErr, OnOk, false};
+ghost use Rattle.std.specs.Prelude.{◌≡◌, ◌⊎◌, ◌++◌, IfOk, IsErr, IsOk, OnErr, OnOk, false};
 ghost use Rattle.frame_codec.specs.Refusals.{refused};
 ghost use Rattle.frame_codec.specs.Frames.{IsFrame, encoding};
 ghost use Rattle.version_store.specs.Histories.{History, StandsFor};
 ghost use Rattle.server_core.specs.Serving.{setting_of, is_closed, IsFull};
-ghost use Rattle.server_core.specs.Sessions.{new_session, Ended, Fed, ServedFrames, StoppedFrames};
+ghost use Rattle.server_core.specs.Sessions.{new_session, Ended, Fed, ServedFrames, StoppedFrames, IsUnjudged, IsUnread};
 
 use crate::replies::{SHORT_REPLY, put_refused};
 use crate::serve::serve_frames;
@@ -64,7 +64,8 @@ impl Session {
         ensures fed { (h : History) → StandsFor store.old h →
             Fed (setting_of store.old) h self.old piece.now result store.new self.new out.old.items
             out.new.items }
-        ensures full { OnErr result (IsFull out.new ⊎ (self.new.unfinished ≡ None)) }
+        ensures full { OnErr result (IsFull out.new ⊎
+            IsUnread self.old.unfinished piece.now self.new.unfinished) }
     {
         if self.standing.is_closed() {
             return Ok(());
@@ -101,7 +102,7 @@ fn serve_piece<K: Kernel>(
         StoppedFrames (setting_of store.old) h standing frames.now read store.new out.old.items
         out.new.items) }
     ensures live { IfOk result (λ after. (is_closed after ≡ false) → IsOk read) }
-    ensures full { OnErr result (IsFull out.new ⊎ IsErr read) }
+    ensures full { OnErr result (IsFull out.new ⊎ IsUnjudged read) }
 {
     let middle = match serve_frames(alloc, store, standing, frames, out) {
         Ok(middle) => middle,
@@ -123,7 +124,7 @@ fn end_piece(
     ensures ok { IfOk result (λ after. Ended read middle after out.old.items out.new.items) }
     ensures err { OnErr result (IsErr read × (out.new.items ≡ out.old.items)) }
     ensures live { IfOk result (λ after. (is_closed after ≡ false) → IsOk read) }
-    ensures full { OnErr result (IsFull out.new ⊎ IsErr read) }
+    ensures full { OnErr result (IsFull out.new ⊎ IsUnjudged read) }
 {
     match read {
         Ok(()) => Ok(middle),

@@ -1,6 +1,6 @@
-use Rattle.std.proofs.Common.{arith, ap, sym, ◌∙◌, ◌≡◌, ◌≤◌, ℕ, List, length}
+use Rattle.std.proofs.Common.{arith, ap, ◌∙◌, ◌≤◌, ℕ, List, length}
 use Rattle.server_core.specs.Serving.{Setting, setting_of}
-use Rattle.server_core.proofs.Deltas.{words_sent, rows_are, whole_rows, few_words, all_sent}
+use Rattle.server_core.proofs.Deltas.{rows_are, whole_rows, few_words, all_sent}
 use Rattle.server_core.proofs.replies.rows_of_hint.Goals as goal
 
 pub new-requires-2 : goal.new-requires-2
