@@ -317,6 +317,13 @@ fn frames_that_are_no_replies_on<K: Kernel>(
     for kind in [7u8, 8] {
         is_bad(rt, Outstanding::Edit, &[0, 0, 0, 0, kind], kernel)?;
     }
+    // a query of two words
+    let query = [
+        0x11, 0, 0, 0, 0x05, 0, 1, 0, 0, 0, 0, 0, 0, 0, 0x16, 0, 0, 0, 0x21, 0, 0, 1,
+    ];
+    is_bad(rt, Outstanding::Sync, &query, kernel)?;
+    is_bad(rt, Outstanding::Ask, &query, kernel)?;
+    is_bad(rt, Outstanding::Edit, &query, kernel)?;
     // too long, an unknown kind, a bad payload
     is_bad(rt, Outstanding::Edit, &[1, 0, 0, 1], kernel)?;
     is_bad(rt, Outstanding::Edit, &[0, 0, 0, 0, 0x7f], kernel)?;

@@ -5,6 +5,7 @@ ghost use Rattle.std.specs.Prelude.{◌≤◌, length};
 use super::*;
 use client_core::Scheme;
 use connection_io::Connection;
+pub use memory_io::Input;
 use server_core::OpenError;
 use session_engines::{converse_over, serve_over};
 use std::io;
@@ -19,26 +20,6 @@ pub const DONE: &[u8] = &[8, 0, 0, 0, 0x87, 1, 0, 0, 0, 0, 0, 0, 0];
 pub const REFUSED: &[u8] = &[1, 0, 0, 0, 0x8f, 1];
 
 pub const PIECE: usize = 65_536;
-
-// Gives at most `most` bytes a read. Once they are all given, it fails or is at its end.
-#[derive(Drop)]
-pub struct Input<'a> {
-    pub bytes: &'a [u8],
-    pub most: usize,
-    pub fails: bool,
-}
-
-impl Read for Input<'_> {
-    fn read(&mut self, buf: &mut [u8]) -> io::Result<usize> {
-        if self.fails && self.bytes.is_empty() {
-            return Err(io::ErrorKind::Other.into());
-        }
-        let n = self.most.min(buf.len()).min(self.bytes.len());
-        buf[..n].copy_from_slice(&self.bytes[..n]);
-        self.bytes = &self.bytes[n..];
-        Ok(n)
-    }
-}
 
 // Takes at most `room` bytes in all. Then it takes 0 bytes, or fails.
 #[derive(Drop)]
@@ -57,6 +38,44 @@ impl Write for Output {
         self.bytes.extend_from_slice(&buf[..n])?;
         self.room -= n;
         Ok(n)
+    }
+
+    fn flush(&mut self) -> io::Result<()> {
+        Ok(())
+    }
+}
+
+// Fails at one call, the `fails_at`th counted from 0, and goes on at the next as if nothing had happened.
+#[derive(Drop)]
+pub struct FailsOnce<T> {
+    pub inner: T,
+    pub fails_at: usize,
+    pub calls: usize,
+}
+
+impl<T> FailsOnce<T> {
+    fn fails_now(&mut self) -> bool {
+        let now = self.calls == self.fails_at;
+        self.calls = self.calls.saturating_add(1);
+        now
+    }
+}
+
+impl<T: Read> Read for FailsOnce<T> {
+    fn read(&mut self, buf: &mut [u8]) -> io::Result<usize> {
+        if self.fails_now() {
+            return Err(io::ErrorKind::Other.into());
+        }
+        self.inner.read(buf)
+    }
+}
+
+impl<T: Write> Write for FailsOnce<T> {
+    fn write(&mut self, buf: &[u8]) -> io::Result<usize> {
+        if self.fails_now() {
+            return Err(io::ErrorKind::Other.into());
+        }
+        self.inner.write(buf)
     }
 
     fn flush(&mut self) -> io::Result<()> {

@@ -5,8 +5,7 @@ ghost use Rattle.std.specs.Prelude.{◌≤◌};
 use super::helpers::*;
 use super::*;
 use client_core::{Event, Scheme};
-use connection_io::Connection;
-use engine_io::{ReadFailed, WriteFailed};
+use connection_io::{Connection, ReadFailed, WriteFailed};
 use frame_codec::{Frame, Words, write_frame};
 
 // A server at the other end: it is fed what is written, and its replies are there to be read.

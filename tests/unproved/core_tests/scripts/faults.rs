@@ -1,54 +1,8 @@
 //! Readers and writers that take a byte at a time, or fail.
 
 use super::*;
+use memory_io::{Input, Output};
 use rehearsal::RehearseFault;
-use std::io;
-use std::io::{Read, Write};
-
-// Takes at most `most` bytes a write and `room` in all. Then it takes 0 bytes, or fails.
-#[derive(Drop)]
-struct Output {
-    bytes: Vec<u8>,
-    most: usize,
-    room: usize,
-    fails: bool,
-}
-
-impl Write for Output {
-    fn write(&mut self, buf: &[u8]) -> io::Result<usize> {
-        if self.room == 0 && self.fails {
-            return Err(io::ErrorKind::Other.into());
-        }
-        let n = buf.len().min(self.most).min(self.room);
-        self.bytes.extend_from_slice(&buf[..n])?;
-        self.room -= n;
-        Ok(n)
-    }
-
-    fn flush(&mut self) -> io::Result<()> {
-        Ok(())
-    }
-}
-
-// Gives at most `most` bytes a read. Once they are all given, it fails or is at its end.
-#[derive(Drop)]
-struct Input<'a> {
-    bytes: &'a [u8],
-    most: usize,
-    fails: bool,
-}
-
-impl Read for Input<'_> {
-    fn read(&mut self, buf: &mut [u8]) -> io::Result<usize> {
-        if self.fails && self.bytes.is_empty() {
-            return Err(io::ErrorKind::Other.into());
-        }
-        let n = self.most.min(buf.len()).min(self.bytes.len());
-        buf[..n].copy_from_slice(&self.bytes[..n]);
-        self.bytes = &self.bytes[n..];
-        Ok(n)
-    }
-}
 
 #[test]
 fn the_stored_run_byte_by_byte(rt: HostRuntime) -> Result<(), Fail> {

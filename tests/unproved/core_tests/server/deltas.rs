@@ -77,6 +77,32 @@ fn a_client_sends_no_no_delta_on<K: Kernel>(
     check(rt, alloc, &mut server, 0, &[NO_DELTA], &[REFUSED, &[1]])
 }
 
+// Record 1 becomes the byte c8, which it has already.
+const EDIT_TO_EQUAL: &[u8] = &[5, 0, 0, 0, 0x06, 1, 0, 0, 0, 0xc8];
+
+// No row since version 1 at version 2.
+const NO_ROWS_1_TO_2: &[u8] = &[
+    0x16, 0, 0, 0, 0x84, 1, 0, 0, 0, 0, 0, 0, 0, 2, 0, 0, 0, 0, 0, 0, 0, 2, 0, 0, 0, 1, 0,
+];
+
+#[test]
+fn equal_bytes_change_no_row(rt: HostRuntime) -> Result<(), Fail> {
+    equal_bytes_change_no_row_on(&rt, rt.alloc(), Plain)?;
+    equal_bytes_change_no_row_on(&rt, rt.alloc(), Lanes)
+}
+
+fn equal_bytes_change_no_row_on<K: Kernel>(
+    rt: &impl Abort,
+    alloc: Global,
+    kernel: K,
+) -> Result<(), Fail> {
+    let mut server = server(alloc, kernel, RECORDS, 1)?;
+    let asked = [GREETING, ONES, EDIT_TO_EQUAL, PUBLISH];
+    let said = [WELCOME, ZEROS, DONE_1, DONE_2];
+    check(rt, alloc, &mut server, 0, &asked, &said)?;
+    check(rt, alloc, &mut server, 0, &[ASK_1], &[NO_ROWS_1_TO_2])
+}
+
 // A server of 2000 rows of one digit each, of which the first ones changed in version 2.
 fn changed_server<K: Kernel>(
     rt: &impl Abort,

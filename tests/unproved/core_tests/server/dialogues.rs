@@ -11,6 +11,13 @@ pub const EDIT: &[u8] = &[5, 0, 0, 0, 0x06, 1, 0, 0, 0, 0x64];
 
 pub const PUBLISH: &[u8] = &[0, 0, 0, 0, 0x07];
 
+// The rows since version 1 are asked for, and at version 1 there is none.
+pub const DELTA_ASK: &[u8] = &[8, 0, 0, 0, 0x04, 1, 0, 0, 0, 0, 0, 0, 0];
+
+pub const NO_ROWS: &[u8] = &[
+    0x16, 0, 0, 0, 0x84, 1, 0, 0, 0, 0, 0, 0, 0, 1, 0, 0, 0, 0, 0, 0, 0, 2, 0, 0, 0, 1, 0,
+];
+
 pub const LOAD: &[u8] = &[7, 0, 0, 0, 0x01, 1, 0, 1, 0, 8, 0x0a, 0xc8];
 
 pub const STALE: &[u8] = &[0x0c, 0, 0, 0, 0x86, 2, 0, 0, 0, 0, 0, 0, 0, 2, 0, 0, 0];
@@ -53,8 +60,8 @@ fn a_stream_can_be_cut_anywhere_on<K: Kernel>(
     alloc: Global,
     kernel: K,
 ) -> Result<(), Fail> {
-    let stream = joined(alloc, &[GREETING, ZEROS, HINT_ASK, QUERY, BYE])?;
-    let wanted = joined(alloc, &[WELCOME, ZEROS, HINT_PART, ANSWER])?;
+    let stream = joined(alloc, &[GREETING, ZEROS, HINT_ASK, DELTA_ASK, QUERY, BYE])?;
+    let wanted = joined(alloc, &[WELCOME, ZEROS, HINT_PART, NO_ROWS, ANSWER])?;
     for cut in 0..=stream.len() {
         let (piece, later) = stream.split_at(cut);
         let mut server = server(alloc, kernel, RECORDS, 1)?;
@@ -77,8 +84,8 @@ fn a_stream_can_come_byte_by_byte_on<K: Kernel>(
     alloc: Global,
     kernel: K,
 ) -> Result<(), Fail> {
-    let stream = joined(alloc, &[GREETING, ZEROS, HINT_ASK, QUERY, BYE])?;
-    let wanted = joined(alloc, &[WELCOME, ZEROS, HINT_PART, ANSWER])?;
+    let stream = joined(alloc, &[GREETING, ZEROS, HINT_ASK, DELTA_ASK, QUERY, BYE])?;
+    let wanted = joined(alloc, &[WELCOME, ZEROS, HINT_PART, NO_ROWS, ANSWER])?;
     let mut server = server(alloc, kernel, RECORDS, 1)?;
     let mut out = Vec::new(alloc);
     for byte in stream.chunks(1) {
