@@ -1,2 +1,3 @@
+pub mod Secrets
 pub mod Statuses
 pub mod Values

@@ -4,16 +4,17 @@ use Rattle.clap.specs.declared.error.kind.ErrorKind.TheVariants.{DisplayHelp, Di
 use Rattle.clap.specs.declared.error.kind.ErrorKind.{ErrorKind}
 use Rattle.clap.specs.Values.{kind_of}
 use Rattle.command_words.specs.declared.failure.Failure.{Failure}
-use Rattle.command_words.specs.declared.failure.Failure.TheVariants.{Refused, Stale, Unreadable, Fault, Memory}
+use Rattle.command_words.specs.declared.failure.Failure.TheVariants.{Refused, Stale, Unreadable, Fault, Value, Memory}
 use Rattle.command_words.specs.declared.bad_line.BadLine.{BadLine}
 use Rattle.command_words.specs.declared.bad_line.BadLine.TheVariants as line
 
--- 1 for what the server said, 3 for a fault, 4 for lack of memory
+-- 1 for what the server said, 2 for a secret that its option doesn't take, 3 for a fault, 4 for refused memory
 abbrev pub status_of : Failure → ℕ
 status_of (Refused code) = 1
 status_of (Stale version) = 1
 status_of (Unreadable index version) = 1
 status_of (Fault name) = 3
+status_of (Value takes) = 2
 status_of Memory = 4
 
 -- the text is what was asked for, and reports no mistake

@@ -20,19 +20,24 @@ pub enum Failure {
     /// A store, a file, input or a connection was refused, or failed: the name of it.
     #[error("fault: {0}")]
     Fault(&'static str),
+    /// A secret's file has no value that its option takes: what that takes.
+    #[error("error: {0}\n\nFor more information, try '--help'.")]
+    Value(&'static str),
     /// There was no memory.
     #[error("fault: Memory")]
     Memory,
 }
 
 impl Failure {
-    /// The exit status that tells it: 1 for what the server said, 3 for a fault, 4 for lack of memory.
+    /// The exit status that tells it: 1 for what the server said, 2 for a secret that its option doesn't take, 3 for a
+    /// fault, 4 for refused memory.
     pub fn status(self) -> u8
         ensures { result ≡ status_of self }
     {
         match self {
             Failure::Refused(_) | Failure::Stale(_) | Failure::Unreadable { .. } => 1,
             Failure::Fault(_) => 3,
+            Failure::Value(_) => 2,
             Failure::Memory => 4,
         }
     }

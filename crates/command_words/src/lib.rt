@@ -5,12 +5,14 @@ mod arguments;
 mod bad_line;
 mod failure;
 mod options;
+mod secrets;
 mod words;
 
 pub use arguments::program_words;
 pub use bad_line::BadLine;
 pub use failure::Failure;
-pub use options::{bytes32_at, key_at, number_at, option, text_at, word};
+pub use options::{number_at, option, text_at, word};
+pub use secrets::{Secret, key_at, seed_at};
 pub use words::{bytes32_from_hex, decimal, publisher_key, record_bytes};
 
 #[cfg(test)]

@@ -1,15 +1,14 @@
 //! Options and words of a command, and their values.
 
-ghost use Rattle.std.specs.Prelude.{◌≡◌, ◌≢◌, ◌≤◌, true, None, Some, replicate, Ok, IfOk, IfErr, MatchOption};
+ghost use Rattle.std.specs.Prelude.{◌≡◌, ◌≤◌, true, None, Some, IfOk, IfErr, MatchOption};
 ghost use Rattle.std.specs.Str.Parse.{IsNumeral, digits_value};
 ghost use Rattle.clap.specs.declared.builder.action.ArgAction.{ArgAction};
 ghost use Rattle.clap.specs.Matches.{first_value, found_of};
-ghost use Rattle.hex.specs.Hex.{decode_of};
 ghost use Rattle.command_words.specs.Statuses.{Shows};
-ghost use Rattle.command_words.specs.Values.{IsNoNumber, IsNoBytes32, IsNoKey};
+ghost use Rattle.command_words.specs.Values.{IsNoNumber};
 
 use crate::bad_line::BadLine;
-use crate::words::{bytes32_from_hex, decimal, publisher_key};
+use crate::words::decimal;
 use clap::{Arg, ArgAction, ArgMatches};
 use std::alloc::Global;
 
@@ -85,49 +84,5 @@ pub fn number_at<'a>(
     match decimal(text) {
         Some(number) if number <= most => Ok(number),
         _ => Err(BadLine::Given(takes, text)),
-    }
-}
-
-/// The 32 bytes given for an option.
-///
-/// # Errors
-///
-/// `Value`, with what it takes, where none were given, and where they are not 64 hex digits.
-pub fn bytes32_at<'a>(
-    found: &ArgMatches<'a>,
-    name: &str,
-    takes: &'static str,
-) -> Result<[u8; 32], BadLine<'a>>
-    ensures value { IfOk result
-        (λ bytes. MatchOption (first_value (found_of found.now) name.now) ⊥
-        (λ text. decode_of text ≡ Ok bytes)) }
-    ensures refused { IfErr result (λ bad. (bad ≡ BadLine.Value takes.entry) ×
-        IsNoBytes32 (first_value (found_of found.now) name.now)) }
-{
-    match bytes32_from_hex(text_at(found, name, takes)?) {
-        Some(bytes) => Ok(bytes),
-        None => Err(BadLine::Value(takes)),
-    }
-}
-
-/// The publisher's key given for an option.
-///
-/// # Errors
-///
-/// As those of [`bytes32_at`], and where all bytes are zero.
-pub fn key_at<'a>(
-    found: &ArgMatches<'a>,
-    name: &str,
-    takes: &'static str,
-) -> Result<[u8; 32], BadLine<'a>>
-    ensures value { IfOk result (λ key. MatchOption (first_value (found_of found.now) name.now) ⊥
-        (λ text. decode_of text ≡ Ok key)) }
-    ensures not_zero { IfOk result (λ key. key ≢ replicate 32 0) }
-    ensures refused { IfErr result (λ bad. (bad ≡ BadLine.Value takes.entry) ×
-        IsNoKey (first_value (found_of found.now) name.now)) }
-{
-    match publisher_key(text_at(found, name, takes)?) {
-        Some(key) => Ok(key),
-        None => Err(BadLine::Value(takes)),
     }
 }

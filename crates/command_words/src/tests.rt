@@ -1,7 +1,7 @@
 //! Words that are taken and refused, and the lines of failures.
 
-use crate::arguments::{file_of, with_secret};
-use crate::{Failure, bytes32_from_hex, decimal, publisher_key, record_bytes};
+use crate::secrets::{file_in, line_of};
+use crate::{Failure, Secret, bytes32_from_hex, decimal, publisher_key, record_bytes};
 use std::alloc::Global;
 use std::process::Abort;
 use std::test::Fail;
@@ -99,7 +99,9 @@ fn each_failure_has_its_line_and_status(rt: HostRuntime) -> Result<(), Fail> {
         index: 3,
         version: 7,
     };
-    let failures: [(Failure, &str, u8); 5] = [
+    let value = "error: --seed takes 32 bytes\n\nFor more information, try '--help'.";
+    let failures: [(Failure, &str, u8); 6] = [
+        (Failure::Value("--seed takes 32 bytes"), value, 2),
         (Failure::Refused(4), "refused 4", 1),
         (Failure::Stale(2), "stale 2", 1),
         (unreadable, "unreadable 3 7", 1),
@@ -116,30 +118,32 @@ fn each_failure_has_its_line_and_status(rt: HostRuntime) -> Result<(), Fail> {
 
 #[test]
 fn secrets_may_stand_in_files(rt: HostRuntime) {
-    assert_eq!(rt; file_of("--seed", "@a"), Some(("", "a")));
-    assert_eq!(rt; file_of("--key", "@"), Some(("", "")));
-    assert_eq!(rt; file_of("get", "--seed=@a=@b"), Some(("--seed", "a=@b")));
-    assert_eq!(rt; file_of("", "--key=@a"), Some(("--key", "a")));
-    for (before, word) in [
-        ("--seed", "01"),
-        ("--seed", "--key=@a"),
-        ("--file", "@a"),
-        ("--port", "--file=@a"),
-        ("", "@a"),
-        ("get", "--seed=01"),
-    ] {
-        assert_eq!(rt; file_of(before, word), None, "{before} {word}");
+    assert_eq!(rt; file_in("@a"), Some("a"));
+    assert_eq!(rt; file_in("@"), Some(""));
+    assert_eq!(rt; file_in("@a=@b"), Some("a=@b"));
+    for value in ["", "01", "a@b", "--key=@a"] {
+        assert_eq!(rt; file_in(value), None, "{value}");
     }
 }
 
 #[test]
 fn the_end_of_a_secrets_line_is_dropped(rt: HostRuntime) {
-    for text in ["0a", "0a\n", "0a\r\n"] {
-        let word = with_secret(rt.alloc(), "", text);
-        assert_eq!(rt; word.as_ref().map(|word| word.as_str()), Some("0a"));
-        let word = with_secret(rt.alloc(), "--key", text);
-        assert_eq!(rt; word.as_ref().map(|word| word.as_str()), Some("--key=0a"));
+    for text in ["0a", "0a\n", "0a\r\n", "0a\r"] {
+        assert_eq!(rt; line_of(text), "0a");
     }
-    let word = with_secret(rt.alloc(), "", "0a\n\n");
-    assert_eq!(rt; word.as_ref().map(|word| word.as_str()), Some("0a\n"));
+    assert_eq!(rt; line_of("0a\n\n"), "0a\n");
+    assert_eq!(rt; line_of("\n0a"), "\n0a");
+    assert_eq!(rt; line_of(""), "");
+}
+
+#[test]
+fn a_secret_on_the_line_is_given_as_it_is(rt: HostRuntime) {
+    let zeros = Secret::Bytes([0; 32]);
+    assert_eq!(rt; zeros.seed(&rt, "SEED"), Ok([0; 32]));
+    assert_eq!(rt; zeros.key(&rt, "KEY"), Err(Failure::Value("KEY")));
+    let ones = Secret::Bytes([1; 32]);
+    assert_eq!(rt; ones.key(&rt, "KEY"), Ok([1; 32]));
+    let missing = Secret::File("/no/such/file");
+    assert_eq!(rt; missing.seed(&rt, "SEED"), Err(Failure::Fault("File")));
+    assert_eq!(rt; missing.key(&rt, "KEY"), Err(Failure::Fault("File")));
 }
