@@ -1,9 +1,11 @@
 -- What a command line asks for.
-use Rattle.std.specs.Prelude.{◌≡◌, ◌≢◌, ◌<◌, ◌≤◌, ◌^◌, ℕ, List, length, replicate, codes, Option, Some, None, Ok, MatchOption}
+use Rattle.std.specs.Prelude.{◌≡◌, ◌<◌, ◌≤◌, ◌^◌, ℕ, List, length, codes, Option, Some, None, Ok, MatchOption}
 use Rattle.std.specs.Str.Parse.{IsNumeral, digits_value}
 use Rattle.clap.specs.declared.parser.matches.Found.{Found}
 use Rattle.clap.specs.Matches.{first_value}
 use Rattle.hex.specs.Hex.{decode_of}
+use Rattle.command_words.specs.declared.secrets.Secret.{Secret}
+use Rattle.command_words.specs.Secrets.{IsSecretOf, IsKey}
 use Rattle.pir_schemes.specs.declared.scheme.Scheme.{Scheme}
 use Rattle.pir_schemes.specs.declared.scheme.Scheme.TheVariants.{Simple, Double}
 use Rattle.pir_client.specs.declared.command_line.Task.{Task}
@@ -17,8 +19,8 @@ IsDimension (Some n) = (1 ≤ n) × (n ≤ 1024)
 -- the number of a retrieval is one that there is, a key is a publisher's, and the bytes of a record fit a frame
 abbrev pub TaskFits : Task → Type 0
 TaskFits (Get port seed number least scheme index) = (number < 2 ^ 62) × IsDimension least
-TaskFits (Put port key index bytes) = (key ≢ replicate 32 0) × (1 ≤ length bytes.items) × (length bytes.items ≤ 65535)
-TaskFits (Publish port key) = key ≢ replicate 32 0
+TaskFits (Put port key index bytes) = IsKey key × (1 ≤ length bytes.items) × (length bytes.items ≤ 65535)
+TaskFits (Publish port key) = IsKey key
 TaskFits Rehearse = Unit {0}
 
 -- what was given for a name is this number in decimal digits
@@ -34,6 +36,10 @@ IsNumberIfGiven found name n =
 abbrev pub AreBytesGiven : Found → List ℕ → List ℕ → Type 0
 AreBytesGiven found name bytes = MatchOption (first_value found name) ⊥ (λ text. decode_of text ≡ Ok bytes)
 
+-- what was given for a name is this secret
+abbrev pub IsSecretGiven : Found → List ℕ → Secret → Type 0
+IsSecretGiven found name secret = MatchOption (first_value found name) ⊥ (λ text. IsSecretOf text secret)
+
 -- the name of a scheme on a command line
 unfoldable pub scheme_text : Scheme → List ℕ
 scheme_text Simple = codes "simple"
@@ -42,7 +48,7 @@ scheme_text Double = codes "double"
 -- a retrieval, as the options and the word of `get` ask for it
 abbrev pub ReadsGet : Found → Task → Type 0
 ReadsGet found (Get port seed number least scheme index) =
-    IsNumberGiven found (codes "port") port × AreBytesGiven found (codes "seed") seed × IsNumberGiven found (codes "number") number
+    IsNumberGiven found (codes "port") port × IsSecretGiven found (codes "seed") seed × IsNumberGiven found (codes "number") number
     × IsNumberIfGiven found (codes "least-dimension") least × (first_value found (codes "scheme") ≡ Some (scheme_text scheme))
     × IsNumberGiven found (codes "INDEX") index
 ReadsGet found (Put port key index bytes) = ⊥
@@ -53,7 +59,7 @@ ReadsGet found Rehearse = ⊥
 abbrev pub ReadsPut : Found → Task → Type 0
 ReadsPut found (Get port seed number least scheme index) = ⊥
 ReadsPut found (Put port key index bytes) =
-    IsNumberGiven found (codes "port") port × AreBytesGiven found (codes "key") key × IsNumberGiven found (codes "INDEX") index
+    IsNumberGiven found (codes "port") port × IsSecretGiven found (codes "key") key × IsNumberGiven found (codes "INDEX") index
     × AreBytesGiven found (codes "HEX") bytes.items
 ReadsPut found (Publish port key) = ⊥
 ReadsPut found Rehearse = ⊥
@@ -62,5 +68,5 @@ ReadsPut found Rehearse = ⊥
 abbrev pub ReadsPublish : Found → Task → Type 0
 ReadsPublish found (Get port seed number least scheme index) = ⊥
 ReadsPublish found (Put port key index bytes) = ⊥
-ReadsPublish found (Publish port key) = IsNumberGiven found (codes "port") port × AreBytesGiven found (codes "key") key
+ReadsPublish found (Publish port key) = IsNumberGiven found (codes "port") port × IsSecretGiven found (codes "key") key
 ReadsPublish found Rehearse = ⊥

@@ -6,7 +6,9 @@ ghost use Rattle.pir_client.specs.Tasks.{TaskFits, IsDimension, IsNumberIfGiven,
 
 use clap::{ArgMatches, Command};
 use client_core::Scheme;
-use command_words::{BadLine, bytes32_at, key_at, number_at, option, record_bytes, text_at, word};
+use command_words::{
+    BadLine, Secret, key_at, number_at, option, record_bytes, seed_at, text_at, word,
+};
 use std::alloc::{AllocError, Global};
 
 /// The numbers of retrievals are below this one.
@@ -14,9 +16,12 @@ const NUMBERS: u64 = 1 << 62;
 
 const PORT_TAKES: &str = "--port takes a number from 0 to 65535";
 
-const SEED_TAKES: &str = "--seed takes 32 bytes as 64 hex digits, or @FILE with them in the file";
+/// What `--seed` takes, as a bad one is reported.
+pub const SEED_TAKES: &str =
+    "--seed takes 32 bytes as 64 hex digits, or @FILE with them in the file";
 
-const KEY_TAKES: &str =
+/// What `--key` takes, as a bad one is reported.
+pub const KEY_TAKES: &str =
     "--key takes 32 bytes as 64 hex digits that are not all 0, or @FILE with them in the file";
 
 const NUMBER_TAKES: &str = "--number takes a number below 4611686018427387904";
@@ -34,11 +39,11 @@ const HEX_TAKES: &str = "HEX is 1 to 65535 bytes as two hex digits each";
 
 /// What the words ask for.
 #[derive(Drop)]
-pub enum Task {
+pub enum Task<'a> {
     /// One private retrieval.
     Get {
         port: u16,
-        seed: [u8; 32],
+        seed: Secret<'a>,
         number: u64,
         least: Option<usize>,
         scheme: Scheme,
@@ -47,14 +52,14 @@ pub enum Task {
     /// One edit by the publisher.
     Put {
         port: u16,
-        key: [u8; 32],
+        key: Secret<'a>,
         index: u32,
         bytes: Vec<u8>,
     },
     /// A publication.
     Publish {
         port: u16,
-        key: [u8; 32],
+        key: Secret<'a>,
     },
     /// A script of a world on standard input.
     Rehearse,
@@ -159,12 +164,12 @@ const EXIT_STATUSES: &str =
     "A value @FILE of --seed or --key is read from that file; one on the command line itself stands in the list of\nprocesses, for other users of this machine to see.\n\nExit status: 0 done, 1 refused by the server (or stale, or unreadable), 2 a bad command line, 3 a fault,\n4 out of memory. Whatever the status, a number that was given to get is never to be used again with its seed.\n\nThe server's refusals are one line on standard error, 'refused CODE':\n  1 BadFrame   2 NotWelcome   3 BadProfile   4 BadKey   5 NotPublisher   6 BadIndex   7 BadLength\n  8 NothingToPublish   9 VersionsUsedUp   10 BadPart   11 BadQueryLength   12 Memory   13 BadScheme\n\nA fault is one line on standard error, 'fault: NAME':\n  File           the file of a seed or key can't be read\n  Connect        the server's port can't be connected to\n  Read, Write    reading or writing failed\n  Ended          the server closed the connection\n  BadWelcome     the server's greeting is none that this client accepts\n  BadReply       a reply that doesn't fit what was asked\n  Failed         a reply came with more after it, and then a call was made\n  BadIndex       there is no such record\n  TurnsUsedUp    more reads than a call has\n  Memory         memory was refused (status 4)";
 
 // What the words of `get` ask for.
-fn get_task<'a>(found: &ArgMatches<'a>) -> Result<Task, BadLine<'a>>
+fn get_task<'a>(found: &ArgMatches<'a>) -> Result<Task<'a>, BadLine<'a>>
     ensures fits { IfOk result TaskFits }
     ensures read { IfOk result (ReadsGet (found_of found.now)) }
 {
     let port = number_at(found, "port", u64::from(u16::MAX), PORT_TAKES)? as u16;
-    let seed = bytes32_at(found, "seed", SEED_TAKES)?;
+    let seed = seed_at(found, "seed", SEED_TAKES)?;
     let number = number_at(found, "number", NUMBERS - 1, NUMBER_TAKES)?;
     let name = text_at(found, "scheme", SCHEME_TAKES)?;
     let scheme = match name {
@@ -199,7 +204,7 @@ fn least_dimension<'a>(found: &ArgMatches<'a>) -> Result<Option<usize>, BadLine<
 }
 
 // What the words of `put` ask for.
-fn put_task<'a>(alloc: Global, found: &ArgMatches<'a>) -> Result<Task, BadLine<'a>>
+fn put_task<'a>(alloc: Global, found: &ArgMatches<'a>) -> Result<Task<'a>, BadLine<'a>>
     ensures fits { IfOk result TaskFits }
     ensures read { IfOk result (ReadsPut (found_of found.now)) }
 {
@@ -218,7 +223,7 @@ fn put_task<'a>(alloc: Global, found: &ArgMatches<'a>) -> Result<Task, BadLine<'
 }
 
 // What the words of `publish` ask for.
-fn publish_task<'a>(found: &ArgMatches<'a>) -> Result<Task, BadLine<'a>>
+fn publish_task<'a>(found: &ArgMatches<'a>) -> Result<Task<'a>, BadLine<'a>>
     ensures fits { IfOk result TaskFits }
     ensures read { IfOk result (ReadsPublish (found_of found.now)) }
 {
@@ -228,7 +233,7 @@ fn publish_task<'a>(found: &ArgMatches<'a>) -> Result<Task, BadLine<'a>>
 }
 
 /// What the program's words ask for, its name first.
-pub fn task_of<'a>(alloc: Global, words: &'a [String]) -> Result<Task, BadLine<'a>>
+pub fn task_of<'a>(alloc: Global, words: &'a [String]) -> Result<Task<'a>, BadLine<'a>>
     ensures { IfOk result TaskFits }
 {
     let matches = whole_command(alloc)?.try_get_matches_from(words)?;

@@ -3,7 +3,7 @@
 ghost use Rattle.std.specs.Prelude.{◌≤◌, ◌<◌, ◌^◌, length};
 ghost use Rattle.pir_client.specs.Tasks.{TaskFits, IsDimension};
 
-use crate::command_line::{Task, task_of};
+use crate::command_line::{KEY_TAKES, SEED_TAKES, Task, task_of};
 use crate::failures::failure_of;
 use client_commands::{get, publish, put};
 use client_core::{ClientCore, Scheme};
@@ -33,7 +33,7 @@ pub fn run(rt: &HostRuntime) -> u8 {
 }
 
 // Does what was asked for, prints what came of it, and answers the exit status.
-fn done(rt: &HostRuntime, task: Task) -> Result<u8, Failure>
+fn done(rt: &HostRuntime, task: Task<'_>) -> Result<u8, Failure>
     requires { TaskFits task }
 {
     match task {
@@ -44,14 +44,23 @@ fn done(rt: &HostRuntime, task: Task) -> Result<u8, Failure>
             least,
             scheme,
             index,
-        } => get_record(rt, port, seed, number, least, scheme, index)?,
+        } => {
+            let seed = seed.seed(rt, SEED_TAKES)?;
+            get_record(rt, port, seed, number, least, scheme, index)?
+        }
         Task::Put {
             port,
             key,
             index,
             bytes,
-        } => put_record(rt, port, key, index, &bytes)?,
-        Task::Publish { port, key } => publish_draft(rt, port, key)?,
+        } => {
+            let key = key.key(rt, KEY_TAKES)?;
+            put_record(rt, port, key, index, &bytes)?
+        }
+        Task::Publish { port, key } => {
+            let key = key.key(rt, KEY_TAKES)?;
+            publish_draft(rt, port, key)?
+        }
         Task::Rehearse => return rehearsed(rt),
     }
     Ok(0)
@@ -120,17 +129,19 @@ fn get_record(
         least.unwrap_or(1),
         scheme,
         index,
-    );
-    if least.is_none() {
-        warn_of_short_secrets(rt, &client);
-    }
-    let got = got.map_err(failure_of)?;
+    )
+    .map_err(failure_of)?;
     let Ok(record) = hex::encode(rt.alloc(), got.bytes.as_slice()) else {
         return Err(Failure::Memory);
     };
     let index = got.index;
     let version = got.version;
-    printed(println!(rt; "retrieved {index} {version} {record}"))
+    printed(println!(rt; "retrieved {index} {version} {record}"))?;
+    // A command that fails says so alone, so the warning stands only beside a record.
+    if least.is_none() {
+        warn_of_short_secrets(rt, &client);
+    }
+    Ok(())
 }
 
 // Replaces a record of the draft, and prints the current version.

@@ -1,7 +1,7 @@
 //! The command line.
 
 use clap::{ArgMatches, Command};
-use command_words::{BadLine, bytes32_at, key_at, number_at, option, text_at};
+use command_words::{BadLine, Secret, key_at, number_at, option, seed_at, text_at};
 use std::alloc::{AllocError, Global};
 
 const OUT_TAKES: &str = "--out takes a file's name";
@@ -14,9 +14,12 @@ const RECORD_TAKES: &str = "--record takes a number from 0 to 65535";
 
 const GROUPS_TAKES: &str = "--groups takes a number from 0 to 65535";
 
-const SEED_TAKES: &str = "--seed takes 32 bytes as 64 hex digits, or @FILE with them in the file";
+/// What `--seed` takes, as a bad one is reported.
+pub const SEED_TAKES: &str =
+    "--seed takes 32 bytes as 64 hex digits, or @FILE with them in the file";
 
-const KEY_TAKES: &str =
+/// What `--key` takes, as a bad one is reported.
+pub const KEY_TAKES: &str =
     "--key takes 32 bytes as 64 hex digits that are not all 0, or @FILE with them in the file";
 
 const PORT_TAKES: &str = "--port takes a number from 0 to 65535";
@@ -35,9 +38,9 @@ pub struct Making<'a> {
     /// How many records stand in a column of the digit matrix.
     pub groups: u16,
     /// The key of the public matrix.
-    pub seed: [u8; 32],
+    pub seed: Secret<'a>,
     /// The publisher's key.
-    pub key: [u8; 32],
+    pub key: Secret<'a>,
 }
 
 /// What `serve` is to serve.
@@ -185,7 +188,7 @@ fn making_of<'a>(found: &ArgMatches<'a>) -> Result<Making<'a>, BadLine<'a>> {
         width: number_at(found, "width", u64::from(u8::MAX), WIDTH_TAKES)? as u8,
         record_len: number_at(found, "record", u64::from(u16::MAX), RECORD_TAKES)? as u16,
         groups: number_at(found, "groups", u64::from(u16::MAX), GROUPS_TAKES)? as u16,
-        seed: bytes32_at(found, "seed", SEED_TAKES)?,
+        seed: seed_at(found, "seed", SEED_TAKES)?,
         key: key_at(found, "key", KEY_TAKES)?,
     })
 }

@@ -3,7 +3,7 @@
 ghost use Rattle.std.specs.Prelude.{◌≡◌, ◌≤◌, ◌<◌, length, IfOk};
 ghost use Rattle.std.specs.Io.KnownBytes.{Consumes, IsAtEnd};
 
-use crate::command_line::Making;
+use crate::command_line::{KEY_TAKES, Making, SEED_TAKES};
 use crate::files::{Content, write_file};
 use command_words::Failure;
 use connection_io::{piece_buffer, read_piece};
@@ -21,17 +21,29 @@ const DIMENSION: u16 = 1024;
 /// The failure of record bytes that no store takes.
 const BAD_RECORDS: Failure = Failure::Fault("BadRecords");
 
+// The keys of a new store.
+struct Keys {
+    // The key of the public matrix.
+    seed: [u8; 32],
+    // The publisher's key.
+    publisher: [u8; 32],
+}
+
 /// Makes a snapshot file of version 1 of the record bytes on standard input, and answers how many records
 /// there are. No hint is made for it.
 ///
 /// # Errors
 ///
-/// In this order: those of the input (`Read`, `BadRecords` where there are more than 33,554,432 bytes), `BadLayout` where
+/// In this order: those of the files of the seed and of the key (`File`, `Value`), those of the input (`Read`, `BadRecords` where there are more than 33,554,432 bytes), `BadLayout` where
 /// no store has this layout, `BadRecords` where these are not whole records, those of the file (`File`, `Write`). `Memory`
 /// where there was none.
 pub fn make(rt: &HostRuntime, making: &Making<'_>) -> Result<u32, Failure> {
+    let keys = Keys {
+        seed: making.seed.seed(rt, SEED_TAKES)?,
+        publisher: making.key.key(rt, KEY_TAKES)?,
+    };
     let records = read_records(rt.alloc(), &mut rt.reader())?;
-    let header = header_of(making, records.len());
+    let header = header_of(making, &keys, records.len());
     if !header.is_accepted() {
         return Err(Failure::Fault("BadLayout"));
     }
@@ -75,7 +87,7 @@ fn read_records<R: Read>(alloc: Global, reader: &mut R) -> Result<Vec<u8>, Failu
 }
 
 // The header of version 1 of so many record bytes. Records of no bytes are none.
-fn header_of(making: &Making<'_>, bytes: usize) -> Header
+fn header_of(making: &Making<'_>, keys: &Keys, bytes: usize) -> Header
     requires { bytes ≤ 33554432 }
     ensures count { result.count ≤ 33554432 }
     ensures length { result.record_len ≡ making.now.record_len }
@@ -93,7 +105,7 @@ fn header_of(making: &Making<'_>, bytes: usize) -> Header
         count: count as u32,
         dimension: DIMENSION,
         version: 1,
-        seed: making.seed,
-        publisher: Sha256::digest(making.key.as_slice()),
+        seed: keys.seed,
+        publisher: Sha256::digest(keys.publisher.as_slice()),
     }
 }
