@@ -1,5 +1,7 @@
 //! What a client's commands do over a connection: each is let in, makes its calls one after another, and
 //! answers what the last one brought, or why it wasn't done.
+//!
+//! Its tests are in `session_tests::commands`.
 #![tactic(auto)]
 
 mod commands;

@@ -4,6 +4,8 @@
 //! that came, in any pieces, and gives the bytes to send next and the events. It holds at most one hint and
 //! one outstanding call, and answers `Failed` to everything once a reply was bad or memory was refused
 //! while it took one.
+//!
+//! Its tests are in `session_tests::client` and `tests/long/session_tests`.
 #![tactic(auto)]
 
 mod calls;

@@ -1,4 +1,6 @@
 //! Words of command lines as values, and how a command that was not done says so.
+//!
+//! Its tests are in `tests`, and those of the words themselves in `tests/command_line`.
 #![tactic(auto)]
 
 mod arguments;

@@ -2,7 +2,7 @@
 //! a writer whose calls stand in one order, so that a contract can say that a reply was written before the next
 //! request was read, and that a fault came of a read or a write that failed.
 //!
-//! Its tests stand in `frame_tests`.
+//! Its tests are in `frame_tests::connections`.
 #![tactic(auto)]
 
 mod connection;

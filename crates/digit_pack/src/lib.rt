@@ -5,6 +5,8 @@
 //! written in digits of w bits, least significant first; `groups` records stand below one another in a
 //! column. `specs/` defines all of it; the functions of [`laws`] have empty bodies, and their contracts
 //! are the laws of these definitions.
+//!
+//! Its tests are in `scheme_tests::digits`.
 #![tactic(auto)]
 
 mod filling;

@@ -15,6 +15,8 @@
 //! Retrieval `number` of a client takes from the client's seed the secret and the noise of c1 from streams
 //! 4 number and 4 number + 1, those of every c2_d from streams 4 number + 2, from place d n on, and
 //! 4 number + 3, from place d ℓ on.
+//!
+//! Its tests are in `scheme_tests::double` and `tests/long/scheme_tests`.
 #![tactic(auto)]
 
 mod answers;

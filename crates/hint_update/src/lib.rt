@@ -4,6 +4,8 @@
 //! hint changes, by the difference of the digits times a row of the public matrix: that is all that is
 //! multiplied, and the hint is then, word for word, the one made from scratch. The hints of DoublePIR follow
 //! a changed row of that hint, or a run of them, in the same way.
+//!
+//! Its tests are in `scheme_tests::updates` and `scheme_tests::logs`.
 #![tactic(auto)]
 
 ghost use Rattle.std.specs.Prelude.{◌≡◌, ◌↔◌, ℕ, ◌+◌, ◌-◌, ◌*◌, ◌%◌, ◌^◌, ◌<◌, ◌≤◌, length, slice_index, EachIndex, IsTrue};

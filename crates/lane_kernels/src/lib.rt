@@ -4,6 +4,8 @@
 //! Everything here gives the very words of the definitions, at every length and shape, and nothing takes
 //! memory. The loops go over vectors of 8 or 16 words by `std::simd`; what is left after the last whole
 //! vector is done word by word.
+//!
+//! Its tests are in `scheme_tests::lanes`.
 #![tactic(auto)]
 
 mod lanes;

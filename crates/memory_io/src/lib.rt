@@ -1,4 +1,6 @@
 //! Readers and writers over memory, for tests: they take their time, end, fail from some byte on, or fail once.
+//!
+//! The tests of `frame_tests`, `store_tests`, `session_tests` and `world_tests` use it.
 #![tactic(auto)]
 
 use std::io;

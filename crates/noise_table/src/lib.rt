@@ -1,4 +1,6 @@
 //! The noise that stands for a word, and the margin that sums of noise have to keep.
+//!
+//! Its tests are in `tests`.
 #![tactic(auto)]
 
 ghost use Rattle.std.specs.Prelude.{◌≡◌, ◌≤◌, ◌<◌, ◌^◌, ◌↔◌, pos, length, unsigned_abs, IsTrue};

@@ -5,6 +5,8 @@
 //! A plan and a count of records give a shape; a plan and the records of a version give its digit matrix, its
 //! hints and its answers. What a version's words are is said by these definitions alone (`specs/Plans`,
 //! `specs/Retrievals`), once for both schemes.
+//!
+//! The tests of both cores, `session_tests::client` and `session_tests::server`, call what it has for both schemes.
 #![tactic(auto)]
 
 mod certainty;

@@ -4,6 +4,8 @@
 //! direction. Each step is an edit, a publication, a client's call, or the delivery of some of the waiting
 //! bytes. What comes of the steps is the list of outcomes; the contract of [`World::outcomes`] says what
 //! they are, and that they are right, for every list of steps.
+//!
+//! Its tests are in `world_tests::world` and `tests/long/world_tests`.
 #![tactic(auto)]
 
 mod ends;

@@ -3,6 +3,8 @@
 //!
 //! A script says in its header what the world is opened with, and then the steps, one a line. Each line is
 //! read and played before the next one is looked at, and what comes of it is printed at once.
+//!
+//! Its tests are in `world_tests::scripts`, `tests/long/world_tests` and `tests/rehearse`.
 #![tactic(auto)]
 
 mod input;

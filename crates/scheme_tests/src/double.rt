@@ -1,5 +1,5 @@
 //! Both records of a store of two. A retrieval with chosen secrets, records of several digits and answers that give no
-//! record are in tests/unproved.
+//! record are in tests/long.
 
 use digit_pack::{DigitStore, Flat, Layout, Packed3, digits_of_records};
 use double_scheme::{answer, query, recover, setup};

@@ -3,6 +3,8 @@
 //! A seed of 32 bytes gives 2^64 streams of 2^68 words each, by ChaCha20 (RFC 8439, section 2.3)
 //! with a 64-bit block counter and a 64-bit nonce: the seed is the key, the stream's number is the
 //! nonce, and a place counts the 32-bit words of a stream from block 0 on, sixteen to a block.
+//!
+//! Its tests are in `tests`.
 #![tactic(auto)]
 
 ghost use Rattle.std.specs.Prelude.{◌≡◌, ℕ, ◌+◌, ◌%◌, ◌^◌, ◌<◌, ◌≤◌, IfOk, length};

@@ -3,6 +3,8 @@
 //! A session's stream comes in pieces of any size. Each frame is served when its last byte is fed, against
 //! the version that is current then. What a session gets depends on its own stream and on the versions
 //! alone, never on another session.
+//!
+//! Its tests are in `session_tests::server` and `tests/long/session_tests`.
 #![tactic(auto)]
 
 pub mod laws;

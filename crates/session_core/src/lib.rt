@@ -38,6 +38,8 @@
 //!     sent = fed.out;
 //! }
 //! ```
+//!
+//! Its test is in `tests`.
 #![tactic(auto)]
 
 pub use client_core::{CallFault, ClientCore, ClientFault, Event, Fed, Scheme};

@@ -2,6 +2,8 @@
 //!
 //! An engine reads pieces of at most 65,536 bytes, gives each to the core, and writes what the core says to it
 //! before it reads on. Every read error, every write error and every write of 0 bytes ends it.
+//!
+//! Its tests are in `session_tests::engines` and `tests/long/session_tests`.
 #![tactic(auto)]
 
 mod conversing;

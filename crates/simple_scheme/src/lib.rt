@@ -5,6 +5,8 @@
 //! column under A1; the answer is D times the query; digit d of the record is what the answer's word in
 //! its row rounds to, without the hint's row times the secret. Retrieval `number` of a client takes its
 //! secret from stream 4 number of the client's seed and its noise from stream 4 number + 1.
+//!
+//! Its tests are in `scheme_tests::simple`.
 #![tactic(auto)]
 
 mod hints;

@@ -3,6 +3,8 @@
 //! A snapshot is a header of 91 bytes, the records one after another, and the SHA-256 digest (FIPS 180-4)
 //! of all bytes before it. `specs/Snapshots.antt` defines these bytes, `specs/Verdicts.antt` what a reader
 //! makes of an input. Numbers stand with their lowest byte first.
+//!
+//! Its tests are in `frame_tests::snapshots`.
 #![tactic(auto)]
 
 mod header;

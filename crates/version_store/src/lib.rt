@@ -1,4 +1,6 @@
 //! Records in versions, with the hints of the current one kept in place.
+//!
+//! Its tests are in `store_tests::store` and `tests/long/store_tests`.
 #![tactic(auto)]
 
 mod columns;

@@ -1,4 +1,4 @@
-//! The stored run. Other scripts, and readers and writers that fail, are in tests/unproved.
+//! The stored run. Other scripts, and readers and writers that fail, are in tests/long.
 
 use rehearsal::rehearse;
 use std::alloc::Global;

@@ -1,5 +1,5 @@
 //! A reader's session byte by byte, and sessions that are opened and closed. Refusals, streams cut anywhere, deltas and
-//! sessions beside one another are in tests/unproved. No reply is Refused 12: memory is ample in all of them.
+//! sessions beside one another are in tests/long. No reply is Refused 12: memory is ample in all of them.
 
 use lane_kernels::Lanes;
 use matrix_u32::{Kernel, Plain};

@@ -1,5 +1,5 @@
 //! The store of two records of one byte, asked, edited, published, written and read back. More of it, and other
-//! stores, are in tests/unproved.
+//! stores, are in tests/long.
 
 mod counting;
 mod refused_memory;

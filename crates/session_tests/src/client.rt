@@ -1,4 +1,4 @@
-//! A client against replies that are made here, frame by frame. Most of them are in tests/unproved.
+//! A client against replies that are made here, frame by frame. Most of them are in tests/long.
 
 use client_core::{CallFault, ClientCore, ClientFault, Event, Fed, Scheme};
 use digit_pack::Layout;

@@ -1,4 +1,4 @@
-//! A session by each of both calls. Longer ones, and readers and writers that fail, are in tests/unproved.
+//! A session by each of both calls. Longer ones, and readers and writers that fail, are in tests/long.
 
 use client_core::{CallFault, ClientCore, Event};
 use lane_kernels::Lanes;

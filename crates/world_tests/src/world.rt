@@ -1,4 +1,4 @@
-//! A client that is let in, and worlds that are refused. Longer scripts of steps are in tests/unproved.
+//! A client that is let in, and worlds that are refused. Longer scripts of steps are in tests/long.
 
 use lane_kernels::Lanes;
 use matrix_u32::{Kernel, Plain};
