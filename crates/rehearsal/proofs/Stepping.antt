@@ -14,7 +14,7 @@ use Rattle.rehearsal.specs.declared.line.Line.TheVariants as line
 use Rattle.rehearsal.specs.declared.stage.Stage.TheVariants as stage
 use Rattle.rehearsal.specs.declared.stop.Stop.{Stop}
 use Rattle.rehearsal.specs.Texts.{outcome_text, no_client_text}
-use Rattle.rehearsal.specs.Scripts.{Filling, RunningWorld, Place, Running, Goes, Bad, MakesStep, LeadsRunning, named_client, added_outcomes, opened_course, header_of_filling}
+use Rattle.rehearsal.specs.Scripts.{Filling, RunningWorld, Place, Running, Goes, Bad, MakesStep, LeadsRunning, named_client, added_outcomes, opened_world, header_of_filling}
 use Rattle.rehearsal.specs.Stages.{IsAt, IsOpened, MovesTo, StopsAtMove, SaysAll, SaysText, running_world}
 use Rattle.rehearsal.proofs.Moves.{joined-map, joined_one, StopsAt-from_all, StopsAt-from_text}
 
@@ -107,7 +107,7 @@ opening_of f w h =
     (subst (λ (x : Header). IsOpening x w.records) h.header h.run.opens)
 
 -- it is at its first place
-pub opened_is : (f : Filling) (w : Kept) → IsOpened f w → opened_course f ≡ running_world w (opened_course f).state
+pub opened_is : (f : Filling) (w : Kept) → IsOpened f w → opened_world f ≡ running_world w (opened_world f).state
 opened_is f w h =
-    let at : Header → ℕ → RunningWorld = λ x k. record { header = x; clients = k; state = (opened_course f).state } in
+    let at : Header → ℕ → RunningWorld = λ x k. record { header = x; clients = k; state = (opened_world f).state } in
     ap (λ (x : Header). at x (length f.clients)) (sym h.header) ∙ ap (λ (k : ℕ). at w.header k) (sym h.clients)

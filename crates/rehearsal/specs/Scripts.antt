@@ -39,7 +39,7 @@ pub data Place : Type 0 where
   Start : Place
   Sized : (sizes : Sizes) → Place
   Filled : (filling : Filling) → Place
-  Running : (course : RunningWorld) → Place
+  Running : (world : RunningWorld) → Place
 
 -- what a line leads to: the next place and the texts that are printed on the way, or an end of the script
 pub data Move : Type 0 where
@@ -92,8 +92,8 @@ header_of_filling f = record {
 }
 
 -- the world as it is opened
-abbrev pub opened_course : Filling → RunningWorld
-opened_course f = record {
+abbrev pub opened_world : Filling → RunningWorld
+opened_world f = record {
   header = header_of_filling f;
   clients = length f.clients;
   state = opening (header_of_filling f) f.records f.clients;
@@ -102,7 +102,7 @@ opened_course f = record {
 -- it is opened and goes on, or it is refused for a fault of what it is opened with
 abbrev pub Opens : Filling → (RunningWorld → Move → Type 0) → Move → Type 0
 Opens f goes move =
-    (IsOpening (header_of_filling f) f.records × goes (opened_course f) move)
+    (IsOpening (header_of_filling f) f.records × goes (opened_world f) move)
     ⊎ ((fault : OpenError) × (fault ≢ opening_error.Memory) × IsOpenFault (header_of_filling f) f.records fault × (move ≡ Refused fault))
 
 -- the client that a step names; of the others none is asked

@@ -3,7 +3,7 @@ use Rattle.std.specs.Vec.{vec_len}
 use Rattle.std.proofs.lemmas.Bool.{eqb-false}
 use Rattle.rehearsal.specs.declared.stage.Stage.{Stage}
 use Rattle.rehearsal.specs.declared.stage.Stage.TheVariants as stage
-use Rattle.rehearsal.specs.Scripts.{Place, Running, Filled, Goes, LeadsAtEnd, opened_course}
+use Rattle.rehearsal.specs.Scripts.{Place, Running, Filled, Goes, LeadsAtEnd, opened_world}
 use Rattle.rehearsal.specs.Stages.{IsAt, IsOpened, filling_of}
 use Rattle.rehearsal.proofs.Stepping.{opening_of}
 use Rattle.rehearsal.proofs.stage.Stage.end.Goals as goal
@@ -15,8 +15,8 @@ returns-in-Ok c = λ place at.
     (let some : vec_len c.in-Filling.opening.clients ≢ 0 =
     eqb-false (vec_len c.in-Filling.opening.clients) 0 (sym c.if-is_empty.ensures) in omega (arith, some)) in
     let w : IsOpened (filling_of c.in-Filling.opening) c.in-Ok.field-0 = c.in-Ok.ensures in (
-      Running (opened_course (filling_of c.in-Filling.opening)),
-      subst (λ (p : Place). LeadsAtEnd p (Goes (Running (opened_course (filling_of c.in-Filling.opening))) [])) (sym a)
+      Running (opened_world (filling_of c.in-Filling.opening)),
+      subst (λ (p : Place). LeadsAtEnd p (Goes (Running (opened_world (filling_of c.in-Filling.opening))) [])) (sym a)
           (inr (positive, inl (opening_of (filling_of c.in-Filling.opening) c.in-Ok.field-0 w, refl))),
     )
 
