@@ -22,6 +22,7 @@ const DIMENSION: u16 = 1024;
 const BAD_RECORDS: Failure = Failure::Fault("BadRecords");
 
 // The keys of a new store.
+#[derive(Clone, Copy)]
 struct Keys {
     // The key of the public matrix.
     seed: [u8; 32],
