@@ -5,7 +5,7 @@ ghost use Rattle.command_words.specs.Statuses.{status_of};
 
 use thiserror::Error;
 
-/// How a command failed. It prints as the line that tells it.
+/// How a command failed. Printed, it is the line that says so.
 #[derive(Clone, Copy, Debug, PartialEq, Eq, Error)]
 pub enum Failure {
     /// The server refused a call, with this code.
@@ -26,7 +26,7 @@ pub enum Failure {
 }
 
 impl Failure {
-    /// The exit status that tells it: 1 for what the server said, 3 for a fault, 4 for lack of memory.
+    /// Its exit status: 1 for what the server said, 3 for a fault, 4 for lack of memory.
     pub fn status(self) -> u8
         ensures { result ≡ status_of self }
     {

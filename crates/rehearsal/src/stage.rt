@@ -304,7 +304,7 @@ fn client_of(step: &Step) -> usize
     }
 }
 
-/// Prints.
+/// Writes a text whole.
 pub fn say<W: Write>(writer: &mut W, text: &str) -> Result<(), Stop>
     ensures { SaysText text.now (W.contents writer.old) result (W.contents writer.new) }
 {
