@@ -76,7 +76,7 @@ fn take_frame<K: Kernel>(
     }
 }
 
-// Sends what a reaction sends, and tells what it tells. Where memory is refused nothing is added.
+// Adds what a reaction sends and what it reports, and answers its fault. Where memory is refused nothing is added.
 fn react(
     reaction: Reaction,
     out: &mut Vec<u8>,

@@ -5,7 +5,7 @@ ghost use Rattle.command_words.specs.Statuses.{status_of};
 
 use thiserror::Error;
 
-/// How a command failed. It prints as the line that tells it.
+/// How a command failed. Printed, it is the line that says so.
 #[derive(Clone, Copy, Debug, PartialEq, Eq, Error)]
 pub enum Failure {
     /// The server refused a call, with this code.
@@ -29,8 +29,8 @@ pub enum Failure {
 }
 
 impl Failure {
-    /// The exit status that tells it: 1 for what the server said, 2 for a secret that its option doesn't take, 3 for a
-    /// fault, 4 for refused memory.
+    /// Its exit status: 1 for what the server said, 2 for a secret that its option doesn't take, 3 for a fault, 4 for
+    /// refused memory.
     pub fn status(self) -> u8
         ensures { result ≡ status_of self }
     {

@@ -1,4 +1,4 @@
-//! Answers.
+//! The server's answer to a query: the first layer's answer in digits, times the second layer's query.
 
 ghost use Rattle.std.specs.Prelude.{◌≡◌, ◌+◌, ◌*◌, ◌≤◌, ◌++◌, IfOk, OnOk, length, take, drop};
 ghost use Rattle.matrix_u32.specs.Matrix.{product, transpose};

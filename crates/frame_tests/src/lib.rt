@@ -11,4 +11,6 @@ mod frames;
 #[cfg(test)]
 mod once;
 #[cfg(test)]
+mod room;
+#[cfg(test)]
 mod snapshots;

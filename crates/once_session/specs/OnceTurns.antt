@@ -1,13 +1,16 @@
 -- What is done over a connection, turn by turn.
-use Rattle.std.specs.Prelude.{◌≡◌, ◌<◌, ◌⊎◌, ℕ, List, [], ◌++◌, length, Bool, true, false, Option, Some, Result, Ok, Err}
+use Rattle.std.specs.Prelude.{◌≡◌, ◌<◌, ◌⊎◌, ℕ, List, [], ◌++◌, length, take, Bool, true, false, Option, Some, Result, Ok, Err}
 use Rattle.std.specs.List.{FoldsTo}
 use Rattle.connection_io.specs.Calls.{Call, Read, ReadFails, Sends, SendsUntilFault}
 use Rattle.connection_io.specs.Turns.{CallTurn, ReadsPiece}
+use Rattle.frame_codec.specs.declared.frame.Frame.{Frame}
+use Rattle.frame_codec.specs.declared.reader.ReadFault.{ReadFault}
+use Rattle.once_session.specs.Courses.{replies_to, stage_after, encodings}
 use Rattle.once_session.specs.declared.stage.Stage.{Stage}
 use Rattle.once_session.specs.declared.stage.Stage.TheVariants.{Fresh}
 use Rattle.once_session.specs.declared.engine.OnceFault.{OnceFault}
 use Rattle.once_session.specs.declared.engine.OnceFault.TheVariants as fault
-use Rattle.once_session.specs.Outputs.{goes_on, is_done, Turns, Finishes}
+use Rattle.once_session.specs.Outputs.{goes_on, is_done, IsUnjudged, Turns, Finishes}
 
 -- bytes that went out before a fault: a write failed after them, or another fault came
 abbrev pub SendsBefore : {C : Type 0} → (C → Call → C → Type 0) → OnceFault → C → List ℕ → C → Type 0
@@ -18,6 +21,17 @@ SendsBefore does _ a bytes b = Sends does a bytes b
 abbrev pub WritesWorkReplies : {C : Type 0} → (C → Call → C → Type 0) → Result (Unit {0}) OnceFault → C → List ℕ → C → Type 0
 WritesWorkReplies does (Ok done) a bytes b = Sends does a bytes b
 WritesWorkReplies does (Err e) a bytes b = SendsBefore does e a bytes b
+
+-- memory was refused for one of some frames: the replies to those before it went out, and no more
+abbrev pub LacksMemoryForFrame : {C : Type 0} → (C → Call → C → Type 0) → List Frame → Stage → C → Stage → C → Type 0
+LacksMemoryForFrame does frames old a new b =
+    (count : ℕ) × (count < length frames) × Sends does a (encodings (replies_to old (take count frames))) b
+    × (new ≡ stage_after old (take count frames))
+
+-- memory was refused for one of the frames that were read, or for the reading after them, of which no fault was found
+abbrev pub LacksMemory : {C : Type 0} → (C → Call → C → Type 0) → Result (Unit {0}) ReadFault → List Frame → Stage → C → Stage → C → Type 0
+LacksMemory does read frames old a new b =
+    LacksMemoryForFrame does frames old a new b ⊎ (Sends does a (encodings (replies_to old frames)) b × IsUnjudged read)
 
 -- how far the work has come: its stage, and the bytes of an unfinished frame
 pub record Work : Type 0 where

@@ -92,6 +92,11 @@ IsJudged BadPayload = Unit {0}
 IsJudged no_memory = ⊥
 IsJudged Failed = ⊥
 
+-- the reading stopped, and no fault was found: memory was refused to it
+abbrev pub IsUnjudged : Result (Unit {0}) ReadFault → Type 0
+IsUnjudged (Ok done) = ⊥
+IsUnjudged (Err fault) = IsJudged fault → ⊥
+
 -- whether the work is done well
 abbrev pub is_done : Stage → Bool
 is_done Fresh = false

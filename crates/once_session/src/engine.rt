@@ -1,11 +1,14 @@
 //! The stream: pieces in, replies out.
 
-ghost use Rattle.std.specs.Prelude.{◌≡◌, ◌≤◌, ◌<◌, ◌++◌, ◌⊎◌, ℕ, List, [], ◌∷◌, length, take, true, false, IsTrue, ◌↔◌, Some, None, Ok, Err, OnOk, OnErr, IfOk, IfErr, unwrap_or};
+ghost use Rattle.std.specs.Prelude.{◌≡◌, ◌≤◌, ◌<◌, ◌++◌, ◌⊎◌, ℕ, List, [], ◌∷◌, length, take, true, false, IsTrue, ◌↔◌, Option, Some, None, Result, Ok, Err, OnOk, OnErr, IfOk, IfErr, unwrap_or};
 ghost use Rattle.connection_io.specs.Calls.{Sends};
 ghost use Rattle.frame_codec.specs.Frames.{encoding, payload_size, payload_limit};
 ghost use Rattle.once_session.specs.Courses.{next, HasTable, FitsWorkReply, replies_to, stage_after, work_reply_bytes, reply, encodings};
 ghost use Rattle.once_session.specs.Outputs.{IsServeFault, IsPrefixOf, IsJudged, goes_on, Turns};
-ghost use Rattle.once_session.specs.OnceTurns.{SendsBefore, WritesWorkReplies};
+ghost use Rattle.once_session.specs.OnceTurns.{SendsBefore, WritesWorkReplies, LacksMemory, LacksMemoryForFrame};
+ghost use Rattle.frame_codec.specs.Streams.{Feeds};
+ghost use Rattle.frame_codec.specs.declared.frame.Frame.{Frame};
+ghost use Rattle.frame_codec.specs.declared.reader.ReadFault.{ReadFault};
 ghost use Rattle.frame_codec.specs.declared.frame.Frame.TheVariants.{Refused};
 
 use crate::stage::{Stage, Step, step_of};
@@ -42,6 +45,7 @@ fn send<C: Connection>(alloc: Global, reply: &Frame, connection: &mut C) -> Resu
     ensures prefix { IfErr result (λ e. (n : ℕ)
         × SendsBefore C.does e connection.old (take n (encoding reply.now)) connection.new) }
     ensures fault { IfErr result (λ e. IsServeFault e) }
+    ensures memory { IfErr result (λ e. e ≡ OnceFault.Memory → connection.new ≡ connection.old) }
 {
     let mut bytes = Vec::new(alloc);
     if write_frame(reply, &mut bytes).is_err() {
@@ -69,6 +73,8 @@ fn serve_frame<K: Kernel, C: Connection>(
         × SendsBefore C.does e connection.old
         (take n (work_reply_bytes (reply stage.old frame.now))) connection.new) }
     ensures fault { IfErr result IsServeFault }
+    ensures memory { IfErr result (λ e. e ≡ OnceFault.Memory →
+        (connection.new ≡ connection.old) × (stage.new ≡ stage.old)) }
 {
     let Ok(Step { reply, moves }) = step_of(alloc, kernel, stage, frame) else {
         return Err(OnceFault::Memory);
@@ -90,6 +96,7 @@ fn send_reply<C: Connection>(
     ensures prefix { IfErr result (λ e. (n : ℕ)
         × SendsBefore C.does e connection.old (take n (work_reply_bytes reply.now)) connection.new) }
     ensures fault { IfErr result IsServeFault }
+    ensures memory { IfErr result (λ e. e ≡ OnceFault.Memory → connection.new ≡ connection.old) }
 {
     match reply {
         Some(frame) => send(alloc, frame, connection),
@@ -123,6 +130,8 @@ fn serve_frames<K: Kernel, C: Connection>(
         × SendsBefore C.does e connection.old out connection.new
         × IsPrefixOf out (encodings (replies_to stage.old frames.now))) }
     ensures fault { IfErr result IsServeFault }
+    ensures memory { IfErr result (λ e. e ≡ OnceFault.Memory →
+        LacksMemoryForFrame C.does frames.now stage.old connection.old stage.new connection.new) }
 {
     for frame in frames {
         if let Err(fault) = serve_frame(alloc, kernel, stage, frame, connection) {
@@ -192,6 +201,44 @@ fn stop<C: Connection>(
     }
 }
 
+// Serves the frames that a piece brought, and then what stopped the reading. Memory is answered only where it was refused:
+// for a frame, or to the reading.
+fn serve_read<K: Kernel, C: Connection>(
+    alloc: Global,
+    kernel: K,
+    refusal: &[u8],
+    frames: &[Frame],
+    read: Result<(), ReadFault>,
+    stage: &mut Stage,
+    connection: &mut C,
+) -> Result<(), OnceFault>
+    requires refusal { refusal.now ≡ encoding (Refused 1) }
+    requires table { HasTable stage.old }
+    requires open { goes_on stage.old ≡ true }
+    ensures table { OnOk result (HasTable stage.new) }
+    ensures turned { (rest piece : List ℕ) (codec : Option (List ℕ)) →
+        Feeds (Some rest) piece read frames.now codec → (out : List ℕ)
+        × WritesWorkReplies C.does result connection.old out connection.new
+        × Turns result stage.old (rest ++ piece) stage.new codec out }
+    ensures fault { IfErr result IsServeFault }
+    ensures memory { IfErr result (λ e. e ≡ OnceFault.Memory →
+        LacksMemory C.does read frames.now stage.old connection.old stage.new connection.new) }
+{
+    if let Err(fault) = serve_frames(alloc, kernel, stage, frames, connection) {
+        return Err(fault);
+    }
+    if !goes_on(stage) {
+        return Ok(());
+    }
+    match read {
+        Ok(()) => Ok(()),
+        Err(fault) => match stop(refusal, fault, stage, connection) {
+            Ok(()) => Ok(()),
+            Err(broken) => Err(broken),
+        },
+    }
+}
+
 // Serves what a piece brings.
 pub(crate) fn serve_chunk<K: Kernel, C: Connection>(
     alloc: Global,
@@ -210,20 +257,15 @@ pub(crate) fn serve_chunk<K: Kernel, C: Connection>(
         × WritesWorkReplies C.does result connection.old out connection.new
         × Turns result stage.old (rest ++ piece.now) stage.new codec.new out }
     ensures fault { IfErr result IsServeFault }
+    ensures memory { IfErr result (λ e. e ≡ OnceFault.Memory →
+        (read : Result (Unit {0}) ReadFault) × (frames : List Frame)
+        × Feeds codec.old piece.now read frames codec.new
+        × LacksMemory C.does read frames stage.old connection.old stage.new connection.new) }
 {
     let mut frames = Vec::new(alloc);
     let read = codec.feed(piece, &mut frames);
-    if let Err(fault) = serve_frames(alloc, kernel, stage, &frames, connection) {
-        return Err(fault);
-    }
-    if !goes_on(stage) {
-        return Ok(());
-    }
-    match read {
+    match serve_read(alloc, kernel, refusal, &frames, read, stage, connection) {
         Ok(()) => Ok(()),
-        Err(fault) => match stop(refusal, fault, stage, connection) {
-            Ok(()) => Ok(()),
-            Err(broken) => Err(broken),
-        },
+        Err(fault) => Err(fault),
     }
 }

@@ -43,8 +43,8 @@ ghost use Rattle.once_session.specs.Courses.{
   HasTable,
 };
 
-use digit_pack::{DigitStore, Flat, Layout, digits_of_records};
 use connection_io::write_out;
+use digit_pack::{DigitStore, Flat, Layout, digits_of_records};
 use frame_codec::{Bytes, Frame, Words, write_frame};
 use matrix_u32::Kernel;
 use simple_scheme::answer;

@@ -114,7 +114,7 @@ impl<K: Kernel> ClientEndpoint<K> {
         }
     }
 
-    /// The call alone.
+    /// Makes a call of the client: its frame as bytes, or why it is refused.
     fn request(&mut self, request: Request) -> Result<Vec<u8>, CallFault>
         ensures accepted { IfOk result (λ bytes. Accepts self.old.client.state
             (want_of request) self.new.client.state bytes.items) }

@@ -11,6 +11,7 @@ use std::process::Abort;
 use std::test::Fail;
 use version_store::{Header, Store};
 
+mod refused_memory;
 mod texts;
 
 // The SHA-256 digest of 32 bytes 01.
@@ -46,19 +47,21 @@ fn joined(alloc: Global, parts: &[&[u8]]) -> Result<Vec<u8>, AllocError> {
     Ok(bytes)
 }
 
-// A server of the records 0a and c8 at version 1, without a session.
+// The sizes of the store of the records 0a and c8 at version 1.
+const STORE: Header = Header {
+    width: 8,
+    record_len: 1,
+    groups: 1,
+    count: 2,
+    dimension: 1,
+    version: 1,
+    seed: [0; 32],
+    publisher: PUBLISHER,
+};
+
+// A server of it, without a session.
 fn server<K: Kernel>(alloc: Global, kernel: K) -> Result<ServerCore<K>, Fail> {
-    let header = Header {
-        width: 8,
-        record_len: 1,
-        groups: 1,
-        count: 2,
-        dimension: 1,
-        version: 1,
-        seed: [0; 32],
-        publisher: PUBLISHER,
-    };
-    let snapshot = header.with_records([10u8, 200].to_vec(alloc)?);
+    let snapshot = STORE.with_records([10u8, 200].to_vec(alloc)?);
     Ok(ServerCore::new(alloc, Store::open(alloc, kernel, snapshot)?))
 }
 

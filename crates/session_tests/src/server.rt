@@ -9,6 +9,7 @@ use std::process::Abort;
 use std::test::Fail;
 use version_store::{Header, Store};
 
+mod refused_memory;
 mod texts;
 
 /// The SHA-256 digest of 32 bytes 01.
@@ -69,6 +70,20 @@ fn has_session<K: Kernel>(server: &ServerCore<K>, id: u64) -> bool {
     server.has_session(id)
 }
 
+// The sizes of a store of so many records of one byte, each a column of its own.
+fn header(count: u32, version: u64) -> Header {
+    Header {
+        width: 8,
+        record_len: 1,
+        groups: 1,
+        count,
+        dimension: 1,
+        version,
+        seed: [0; 32],
+        publisher: PUBLISHER,
+    }
+}
+
 // A server of records of one byte, each a column of its own, with a session 0.
 fn server<K: Kernel>(
     alloc: Global,
@@ -76,16 +91,7 @@ fn server<K: Kernel>(
     records: &[u8],
     version: u64,
 ) -> Result<ServerCore<K>, Fail> {
-    let header = Header {
-        width: 8,
-        record_len: 1,
-        groups: 1,
-        count: u32::try_from(records.len()).unwrap_or(0),
-        dimension: 1,
-        version,
-        seed: [0; 32],
-        publisher: PUBLISHER,
-    };
+    let header = header(u32::try_from(records.len()).unwrap_or(0), version);
     let snapshot = header.with_records(records.to_vec(alloc)?);
     let mut server = ServerCore::new(alloc, Store::open(alloc, kernel, snapshot)?);
     open_session(&mut server, 0)?;

@@ -3,10 +3,12 @@
 use lane_kernels::Lanes;
 use matrix_u32::{Kernel, Plain};
 use pir_world::{Step, StepFault, World};
+use std::alloc::AllocError;
 use std::process::Abort;
 use std::test::Fail;
 use version_store::{OpenError, Snapshot};
 
+mod refused_memory;
 mod texts;
 
 /// A store of records of one byte.
@@ -30,7 +32,7 @@ const TWO: Sizes = Sizes {
 };
 
 /// The store of these sizes, whose records are 0a and c8 in turn.
-fn snapshot(rt: &impl AllocGlobal, sizes: Sizes) -> Result<Snapshot, Fail> {
+fn snapshot(rt: &impl AllocGlobal, sizes: Sizes) -> Result<Snapshot, AllocError> {
     let mut records = Vec::new(rt.alloc());
     for i in 0..sizes.count {
         records.push(if i % 2 == 0 { 0x0a } else { 0xc8 })?;
