@@ -7,12 +7,7 @@ use Rattle.digit_pack.specs.Layout.{Shape, IsLayout, shape, digit_rows, digit_co
 
 -- digits of `width` bits; records of `record_len` bytes, `groups` of them to a column; the dimension n of
 -- the public matrices, and the public seed that their words come from
-pub record Plan : Type 0 where
-  pub width : ℕ
-  pub record_len : ℕ
-  pub groups : ℕ
-  pub dimension : ℕ
-  pub seed : List ℕ
+pub use Rattle.pir_schemes.specs.declared.plan.Plan.{Plan}
 
 -- the shape of a version with so many records
 abbrev pub shape_at : Plan → ℕ → Shape
