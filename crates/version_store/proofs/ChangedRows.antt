@@ -1,5 +1,5 @@
 -- The rows that changed, as they are marked.
-use Rattle.std.proofs.Common.{◌≡◌, ℕ, ◌+◌, ◌*◌, ◌/◌, ◌%◌, ◌<◌, ◌≤◌, zero, suc, arith, ap, ◌∙◌, sym, refl, subst, inl, inr, List, [], ◌∷◌, ◌++◌, length, filter, Bool, true, false, not, cond, get_or-set_other, append-nil}
+use Rattle.std.proofs.Common.{◌≡◌, ℕ, ◌+◌, ◌*◌, ◌/◌, ◌%◌, ◌<◌, ◌≤◌, zero, suc, arith, ap, ◌∙◌, sym, refl, inl, inr, List, [], ◌∷◌, ◌++◌, length, filter, Bool, true, false, not, cond, get_or-set_other, append-nil}
 use Rattle.std.proofs.lemmas.Bool.{cases_eq, cases_lt}
 use Rattle.std.proofs.lemmas.List.{length-set, length-replicate, get_or-replicate, get_or_past}
 use Rattle.std.proofs.lemmas.List.FromFn.{get_or-range_with_len, length-range_with_len}
