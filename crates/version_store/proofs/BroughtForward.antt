@@ -11,7 +11,8 @@ use Rattle.matrix_u32.proofs.Products.{row-product, length-list_of}
 use Rattle.seed_expand.specs.Words.{public_rows}
 use Rattle.digit_pack.specs.Layout.{digit_rows, digit_cols}
 use Rattle.pir_schemes.specs.declared.scheme.Scheme.TheVariants.{Simple}
-use Rattle.pir_schemes.specs.Plans.{Plan, shape_at, digits_at, first_public}
+use Rattle.pir_schemes.specs.declared.plan.Plan.{Plan}
+use Rattle.pir_schemes.specs.Plans.{shape_at, digits_at, first_public}
 use Rattle.pir_schemes.specs.Retrievals.{hint_matrix}
 use Rattle.hint_update.specs.Logs.{Log, lists_since}
 use Rattle.version_store.specs.Deltas.{differs_at, changed_rows, changes_of, union_below, reaches_back, rows_logged}

@@ -13,7 +13,8 @@ use Rattle.matrix_u32.proofs.Rows.{row_index}
 use Rattle.lane_kernels.specs.Digit.{digit}
 use Rattle.digit_pack.specs.Digits.{number_of}
 use Rattle.digit_pack.specs.Layout.{Shape, digit_matrix, digit_at, digit_rows, digit_cols, digits_per_record, record_at}
-use Rattle.pir_schemes.specs.Plans.{Plan, shape_at, digits_at}
+use Rattle.pir_schemes.specs.declared.plan.Plan.{Plan}
+use Rattle.pir_schemes.specs.Plans.{shape_at, digits_at}
 use Rattle.version_store.specs.Deltas.{differs_at, changed_rows}
 use Rattle.version_store.specs.Editions.{Records, MarksChanges, is_marked, marked_rows}
 

@@ -10,7 +10,8 @@ use Rattle.matrix_u32.specs.Matrix.{WordMatrix, row, vector_times}
 use Rattle.matrix_u32.proofs.Products.{row-product}
 use Rattle.digit_pack.specs.Layout.{digit_rows}
 use Rattle.pir_schemes.specs.declared.scheme.Scheme.TheVariants.{Simple}
-use Rattle.pir_schemes.specs.Plans.{Plan, shape_at, digits_at, first_public}
+use Rattle.pir_schemes.specs.declared.plan.Plan.{Plan}
+use Rattle.pir_schemes.specs.Plans.{shape_at, digits_at, first_public}
 use Rattle.pir_schemes.specs.Retrievals.{hint_matrix}
 use Rattle.simple_scheme.specs.Simple.{hint_of}
 use Rattle.hint_update.specs.Logs.{Log, lists_since}
