@@ -10,7 +10,7 @@ ghost use Rattle.client_core.specs.Calls.{Want, refusal, hello_refusal, change_r
 use crate::state::{Call, CallFault, ClientState, Hint, ServerInfo};
 use frame_codec::{Bytes, Frame, Words, write_frame};
 use matrix_u32::Kernel;
-use pir_schemes::{Scheme, query};
+use pir_schemes::{Plan, Scheme, SecretSeed, query};
 use std::alloc::Global;
 
 // The number after the last retrieval of a seed.
@@ -186,18 +186,16 @@ pub(crate) fn query_bytes<K: Kernel>(
         index))) }
     ensures memory { IfErr result (λ e. e ≡ CallFault.Memory) }
 {
-    let n = known.dimension;
-    let i = index as usize;
+    let plan = Plan::of(&known.layout, known.dimension, &known.seed);
     let words = query(
         alloc,
         kernel,
         scheme,
-        &known.layout,
-        n,
-        &known.seed,
-        seed,
+        &plan,
+        known.layout.count(),
+        &SecretSeed::new(*seed),
         number,
-        i,
+        index as usize,
     );
     let Ok(words) = words else {
         return Err(CallFault::Memory);

@@ -29,7 +29,7 @@ use digit_pack::Layout;
 use frame_codec::{Bytes, Bytes32, Words};
 use matrix_u32::{Kernel, Matrix};
 use pir_schemes::{
-    PROFILE, RecoverError, Scheme, answer_count, hint_len, hint_rows, part_len, recover,
+    PROFILE, RecoverError, Scheme, SecretSeed, answer_count, hint_len, hint_rows, part_len, recover,
 };
 use std::alloc::{AllocError, Global};
 use std::mem;
@@ -225,7 +225,7 @@ fn read_answer<K: Kernel>(
         hint.scheme,
         &known.layout,
         &hint.matrix,
-        seed,
+        &SecretSeed::new(*seed),
         number,
         index as usize,
         words,

@@ -6,7 +6,8 @@ use Rattle.simple_scheme.specs.Simple.{hint_of, simple_query, simple_answer}
 use Rattle.double_scheme.proofs.Lengths.{length-query_of, length-answer_of}
 use Rattle.pir_schemes.specs.declared.scheme.Scheme.{Scheme}
 use Rattle.pir_schemes.specs.declared.scheme.Scheme.TheVariants.{Simple, Double}
-use Rattle.pir_schemes.specs.Plans.{Plan, shape_at, digits_at, first_public, second_public}
+use Rattle.pir_schemes.specs.declared.plan.Plan.{Plan}
+use Rattle.pir_schemes.specs.Plans.{shape_at, digits_at, first_public, second_public}
 use Rattle.pir_schemes.specs.Retrievals.{server_hint, hint_matrix, query_count, query_words, answer_count, answer_words}
 use Rattle.pir_schemes.specs.Laws.{HasHintSizes}
 

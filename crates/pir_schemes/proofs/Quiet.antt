@@ -9,7 +9,8 @@ use Rattle.simple_scheme.specs.Laws.{QuietSimpleRetrievalReadsTheRecord as Simpl
 use Rattle.double_scheme.specs.Laws.{QuietDoubleRetrievalReadsTheRecord as DoubleReads}
 use Rattle.pir_schemes.specs.declared.scheme.Scheme.{Scheme}
 use Rattle.pir_schemes.specs.declared.scheme.Scheme.TheVariants.{Simple, Double}
-use Rattle.pir_schemes.specs.Plans.{Plan, shape_at, first_public, second_public, record_of}
+use Rattle.pir_schemes.specs.declared.plan.Plan.{Plan}
+use Rattle.pir_schemes.specs.Plans.{shape_at, first_public, second_public, record_of}
 use Rattle.pir_schemes.specs.Retrievals.{server_hint, hint_matrix, query_words, answer_words, reading, IsQuietOf}
 use Rattle.pir_schemes.specs.Laws.{RetrievalGivesTheRecord, CertainShapeIsQuiet}
 

@@ -9,7 +9,8 @@ use Rattle.noise_table.specs.Margin.{delta, IsCertain}
 use Rattle.digit_pack.specs.Layout.{Shape, IsShape, IsRecord, digit_rows, digit_cols, column_of, first_row, record_at}
 use Rattle.pir_schemes.specs.declared.scheme.Scheme.{Scheme}
 use Rattle.pir_schemes.specs.declared.scheme.Scheme.TheVariants.{Simple, Double}
-use Rattle.pir_schemes.specs.Plans.{Plan, shape_at, record_of}
+use Rattle.pir_schemes.specs.declared.plan.Plan.{Plan}
+use Rattle.pir_schemes.specs.Plans.{shape_at, record_of}
 use Rattle.pir_schemes.specs.Retrievals.{
   hint_rows,
   hint_matrix,

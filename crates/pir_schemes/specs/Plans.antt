@@ -3,16 +3,8 @@ use Rattle.std.specs.Prelude.{◌≤◌, ◌^◌, ◌*◌, ℕ, List, length, Bo
 use Rattle.matrix_u32.specs.Matrix.{WordMatrix}
 use Rattle.seed_expand.specs.Words.{public_rows}
 use Rattle.digit_pack.specs.Digits.{number_of}
+use Rattle.pir_schemes.specs.declared.plan.Plan.{Plan}
 use Rattle.digit_pack.specs.Layout.{Shape, IsLayout, shape, digit_rows, digit_cols, digit_matrix, record_bytes}
-
--- digits of `width` bits; records of `record_len` bytes, `groups` of them to a column; the dimension n of
--- the public matrices, and the public seed that their words come from
-pub record Plan : Type 0 where
-  pub width : ℕ
-  pub record_len : ℕ
-  pub groups : ℕ
-  pub dimension : ℕ
-  pub seed : List ℕ
 
 -- the shape of a version with so many records
 abbrev pub shape_at : Plan → ℕ → Shape

@@ -16,7 +16,8 @@ use Rattle.double_scheme.specs.Double.{
 }
 use Rattle.pir_schemes.specs.declared.scheme.Scheme.{Scheme}
 use Rattle.pir_schemes.specs.declared.scheme.Scheme.TheVariants.{Simple, Double}
-use Rattle.pir_schemes.specs.Plans.{Plan, shape_at, digits_at, slots, first_public, second_public}
+use Rattle.pir_schemes.specs.declared.plan.Plan.{Plan}
+use Rattle.pir_schemes.specs.Plans.{shape_at, digits_at, slots, first_public, second_public}
 
 -- ---- counts, where the public matrices have n columns
 

@@ -13,12 +13,14 @@ mod certainty;
 mod counts;
 pub mod laws;
 mod parts;
+mod plan;
 mod retrievals;
 mod scheme;
 
 pub use certainty::is_certain;
 pub use counts::{answer_count, hint_len, hint_rows, query_count};
 pub use parts::{PART_WORDS, part_len, part_words};
+pub use plan::{Plan, SecretSeed};
 pub use retrievals::{query, recover};
 pub use scheme::{PROFILE, Scheme};
 pub use simple_scheme::RecoverError;

@@ -1,9 +1,11 @@
 //! Queries and the reading of their answers, by scheme.
 
 ghost use Rattle.std.specs.Prelude.{◌≡◌, ◌^◌, ◌<◌, ◌≤◌, IfOk};
+ghost use Rattle.pir_schemes.specs.Plans.{IsPlan, shape_at};
 ghost use Rattle.pir_schemes.specs.Retrievals.{hint_rows, query_words};
 ghost use Rattle.pir_schemes.specs.Laws.{ReadsRecordOf};
 
+use crate::plan::{Plan, SecretSeed};
 use crate::scheme::Scheme;
 use digit_pack::Layout;
 use matrix_u32::{Kernel, Matrix};
@@ -11,33 +13,36 @@ use seed_expand::expand;
 use simple_scheme::RecoverError;
 use std::alloc::{AllocError, Global};
 
-/// The query for record i under the public matrices of `public` with n columns. `number` tells which retrieval
+/// The query for record i of `count` records, under the public matrices of the plan. `number` tells which retrieval
 /// of the client's seed it is. Only refused memory gives an `Err`.
 #[tactic(auto, unfolding(crate::specs::Retrievals::query_words))]
 pub fn query<K: Kernel>(
     alloc: Global,
     kernel: K,
     scheme: Scheme,
-    layout: &Layout,
-    n: usize,
-    public: &[u8; 32],
-    seed: &[u8; 32],
+    plan: &Plan,
+    count: usize,
+    seed: &SecretSeed,
     number: u64,
     i: usize,
 ) -> Result<Vec<u32>, AllocError>
-    requires low { 1 ≤ n }
-    requires high { n ≤ 1024 }
+    requires plan { IsPlan plan.now count }
     requires number { number < 2 ^ 62 }
-    requires record { i < layout.now.count }
+    requires record { i < count }
     ensures { IfOk result (λ v.
-        v.items ≡ query_words scheme layout.now n public.now seed.now number i) }
+        v.items ≡ query_words scheme (shape_at plan.now count) plan.now.dimension plan.now.seed
+        seed.now number i) }
 {
-    let a1 = expand(alloc, public, 0, 0, layout.cols(), n)?;
+    let n = usize::from(plan.dimension);
+    // The sizes are within the limits: no refusal is left.
+    let layout = plan.layout(count).unwrap();
+    let seed = seed.bytes();
+    let a1 = expand(alloc, &plan.seed, 0, 0, layout.cols(), n)?;
     match scheme {
-        Scheme::Simple => simple_scheme::query(alloc, kernel, seed, number, &a1, layout, i),
+        Scheme::Simple => simple_scheme::query(alloc, kernel, seed, number, &a1, &layout, i),
         Scheme::Double => {
-            let a2 = expand(alloc, public, 1, 0, layout.rows(), n)?;
-            double_scheme::query(alloc, kernel, seed, number, &a1, &a2, layout, i)
+            let a2 = expand(alloc, &plan.seed, 1, 0, layout.rows(), n)?;
+            double_scheme::query(alloc, kernel, seed, number, &a1, &a2, &layout, i)
         }
     }
 }
@@ -53,7 +58,7 @@ pub fn recover<K: Kernel>(
     scheme: Scheme,
     layout: &Layout,
     hint: &Matrix,
-    seed: &[u8; 32],
+    seed: &SecretSeed,
     number: u64,
     i: usize,
     answer: &[u32],
@@ -64,6 +69,7 @@ pub fn recover<K: Kernel>(
     requires record { i < layout.now.count }
     ensures { ReadsRecordOf scheme layout.now hint.now seed.now number i answer.now result }
 {
+    let seed = seed.bytes();
     match scheme {
         Scheme::Simple => {
             simple_scheme::recover(alloc, kernel, seed, number, hint, layout, i, answer)

@@ -7,7 +7,8 @@ use Rattle.std.proofs.lemmas.Map.Views.{Contains-from_any}
 use Rattle.matrix_u32.specs.Matrix.{row}
 use Rattle.digit_pack.specs.Layout.{digit_rows}
 use Rattle.pir_schemes.specs.declared.scheme.Scheme.TheVariants.{Simple}
-use Rattle.pir_schemes.specs.Plans.{Plan, shape_at}
+use Rattle.pir_schemes.specs.declared.plan.Plan.{Plan}
+use Rattle.pir_schemes.specs.Plans.{shape_at}
 use Rattle.pir_schemes.specs.Retrievals.{hint_matrix}
 use Rattle.version_store.specs.Histories.{History, delta_rows}
 use Rattle.version_store.specs.Deltas.{union_below}

@@ -16,7 +16,8 @@ use Rattle.pir_schemes.specs.declared.scheme.Scheme.{Scheme}
 use Rattle.pir_schemes.specs.declared.scheme.Scheme.TheVariants.{Simple, Double}
 use Rattle.pir_schemes.specs.Schemes.{scheme_byte}
 use Rattle.pir_schemes.specs.Parts.{part_len}
-use Rattle.pir_schemes.specs.Plans.{Plan, IsPlan, shape_at, profile_of, record_of}
+use Rattle.pir_schemes.specs.declared.plan.Plan.{Plan}
+use Rattle.pir_schemes.specs.Plans.{IsPlan, shape_at, profile_of, record_of}
 use Rattle.pir_schemes.specs.Retrievals.{hint_rows as rows_of_hint, hint_len, hint_matrix, reading}
 use Rattle.pir_schemes.specs.Laws.{RetrievalGivesTheRecord}
 use Rattle.pir_schemes.proofs.Lengths.{hint_sizes, length-answer}

@@ -1,7 +1,8 @@
 -- What the versions of a store give a client.
 use Rattle.std.specs.Prelude.{◌≡◌, ◌≤◌, ℕ, List, [], length, Option, Some, None, slice_index_or}
 use Rattle.pir_schemes.specs.declared.scheme.Scheme.{Scheme}
-use Rattle.pir_schemes.specs.Plans.{Plan, shape_at, record_of}
+use Rattle.pir_schemes.specs.declared.plan.Plan.{Plan}
+use Rattle.pir_schemes.specs.Plans.{shape_at, record_of}
 use Rattle.pir_schemes.specs.Retrievals.{hint_matrix, query_words, answer_words, reading, IsQuietOf}
 use Rattle.version_store.specs.Histories.{History, current_version, records_of}
 use Rattle.server_core.specs.Serving.{Setting}

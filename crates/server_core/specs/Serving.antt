@@ -10,7 +10,8 @@ use Rattle.pir_schemes.specs.declared.scheme.Scheme.{Scheme}
 use Rattle.pir_schemes.specs.declared.scheme.Scheme.TheVariants.{Simple}
 use Rattle.pir_schemes.specs.Schemes.{scheme_byte, scheme_of_byte}
 use Rattle.pir_schemes.specs.Parts.{part_of, is_part_of}
-use Rattle.pir_schemes.specs.Plans.{Plan, shape_at, profile_of, fits}
+use Rattle.pir_schemes.specs.declared.plan.Plan.{Plan}
+use Rattle.pir_schemes.specs.Plans.{shape_at, profile_of, fits}
 use Rattle.pir_schemes.specs.Retrievals.{hint_matrix, query_count, answer_words}
 use Rattle.version_store.specs.Histories.{StoreState, History, StandsFor, current_version, after_edit, published, delta_rows}
 use Rattle.frame_codec.specs.declared.frame.Frame.{Frame}

@@ -1,10 +1,11 @@
 //! What a snapshot holds, and why one can't be read or written.
 
-ghost use Rattle.std.specs.Prelude.{◌≡◌, ◌↔◌, IsTrue};
-ghost use Rattle.snapshot_file.specs.Snapshots.{header_of, records_len, IsAccepted};
+ghost use Rattle.std.specs.Prelude.{◌≡◌, ◌↔◌, IsTrue, IfOk, IfErr};
+ghost use Rattle.digit_pack.specs.Layout.{IsLayout, IsLayoutFault};
+ghost use Rattle.snapshot_file.specs.Snapshots.{header_of, shape_of, records_len, IsAccepted};
 
 use connection_io::WriteFailed;
-use digit_pack::Layout;
+use digit_pack::{Layout, LayoutError};
 use thiserror::Error;
 
 /// The greatest dimension: how many words a secret has.
@@ -130,18 +131,26 @@ impl Header {
         self.count as usize * self.record_len as usize
     }
 
+    /// The sizes of its records. They are accepted exactly within the limits; else the first cause is named, in the
+    /// order of [`LayoutError`].
+    pub fn layout(&self) -> Result<Layout, LayoutError>
+        ensures accepted { IfOk result (λ l. (l ≡ shape_of self.now) × IsLayout l) }
+        ensures refused { IfErr result (IsLayoutFault (shape_of self.now)) }
+    {
+        Layout::new(
+            u32::from(self.width),
+            usize::from(self.record_len),
+            usize::from(self.groups),
+            self.count as usize,
+        )
+    }
+
     /// Whether a reader takes it: a layout within its limits, a dimension in 1 to [`MAX_DIMENSION`], and
     /// a version that is not 0.
     pub fn is_accepted(&self) -> bool
         ensures { IsTrue result ↔ IsAccepted self.now }
     {
-        let layout = Layout::new(
-            self.width as u32,
-            self.record_len as usize,
-            self.groups as usize,
-            self.count as usize,
-        );
-        layout.is_ok()
+        self.layout().is_ok()
             && self.dimension >= 1
             && self.dimension <= MAX_DIMENSION
             && self.version != 0

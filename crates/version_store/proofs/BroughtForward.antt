@@ -1,22 +1,23 @@
 -- Rows of a SimplePIR hint that publications left as they were.
-use Rattle.std.proofs.Common.{◌≡◌, ℕ, ◌+◌, ◌-◌, ◌<◌, ◌≤◌, zero, suc, arith, ap, ◌∙◌, sym, refl, subst, List, [], ◌∷◌, ◌++◌, length, take, filter, Bool, true, false, not, Some, None, Option}
-use Rattle.std.proofs.lemmas.Bool.{and_parts, and_cases, leb-true, lt-ltb, le-ltb, or_parts, true_from_ne_false}
+use Rattle.std.proofs.Common.{◌≡◌, ℕ, ◌-◌, ◌<◌, ◌≤◌, zero, suc, arith, ap, ◌∙◌, sym, refl, List, [], ◌∷◌, length, take, Bool, true, false, not, Some, None}
+use Rattle.std.proofs.lemmas.Bool.{and_parts, leb-true, le-ltb, or_parts}
 use Rattle.std.proofs.lemmas.List.{take-take, length-take}
 use Rattle.std.proofs.lemmas.List.Folds.{list_any-append}
-use Rattle.std.specs.Prelude.{◌||◌, ◌&&◌, nat_eq, nat_le, nat_lt, slice_get, cond}
+use Rattle.std.specs.Prelude.{◌&&◌, nat_eq, nat_le, slice_get, cond}
 use Rattle.std.specs.Cmp.Lexicographic.{pointwise, bytes_decides}
-use Rattle.std.specs.List.{range_with_len, flat_map, list_any}
+use Rattle.std.specs.List.{range_with_len, flat_map}
 use Rattle.matrix_u32.specs.Matrix.{WordMatrix, row, product, vector_times}
 use Rattle.matrix_u32.proofs.Products.{row-product, length-list_of}
 use Rattle.seed_expand.specs.Words.{public_rows}
 use Rattle.digit_pack.specs.Layout.{digit_rows, digit_cols}
 use Rattle.pir_schemes.specs.declared.scheme.Scheme.TheVariants.{Simple}
-use Rattle.pir_schemes.specs.Plans.{Plan, shape_at, digits_at, first_public}
+use Rattle.pir_schemes.specs.declared.plan.Plan.{Plan}
+use Rattle.pir_schemes.specs.Plans.{shape_at, digits_at, first_public}
 use Rattle.pir_schemes.specs.Retrievals.{hint_matrix}
 use Rattle.hint_update.specs.Logs.{Log, lists_since}
 use Rattle.version_store.specs.Deltas.{differs_at, changed_rows, changes_of, union_below, reaches_back, rows_logged}
 use Rattle.version_store.specs.Editions.{Records}
-use Rattle.version_store.specs.Histories.{History, current_version, records_of, delta_rows}
+use Rattle.version_store.specs.Histories.{current_version, delta_rows}
 use Rattle.version_store.specs.Laws.{UnchangedRowsStay}
 use Rattle.version_store.proofs.DoubleLemmas.{simple_hint}
 use Rattle.version_store.proofs.RowUnions.{is_in, in_range, in_filter}

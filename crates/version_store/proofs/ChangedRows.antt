@@ -1,5 +1,5 @@
 -- The rows that changed, as they are marked.
-use Rattle.std.proofs.Common.{◌≡◌, ℕ, ◌+◌, ◌*◌, ◌/◌, ◌%◌, ◌<◌, ◌≤◌, zero, suc, arith, ap, ◌∙◌, sym, refl, subst, inl, inr, List, [], ◌∷◌, ◌++◌, length, filter, Bool, true, false, not, cond, get_or-set_other, append-nil}
+use Rattle.std.proofs.Common.{◌≡◌, ℕ, ◌+◌, ◌*◌, ◌/◌, ◌%◌, ◌<◌, ◌≤◌, zero, suc, arith, ap, ◌∙◌, sym, refl, inl, inr, List, [], ◌∷◌, ◌++◌, length, filter, Bool, true, false, not, cond, get_or-set_other, append-nil}
 use Rattle.std.proofs.lemmas.Bool.{cases_eq, cases_lt}
 use Rattle.std.proofs.lemmas.List.{length-set, length-replicate, get_or-replicate, get_or_past}
 use Rattle.std.proofs.lemmas.List.FromFn.{get_or-range_with_len, length-range_with_len}
@@ -13,7 +13,8 @@ use Rattle.matrix_u32.proofs.Rows.{row_index}
 use Rattle.lane_kernels.specs.Digit.{digit}
 use Rattle.digit_pack.specs.Digits.{number_of}
 use Rattle.digit_pack.specs.Layout.{Shape, digit_matrix, digit_at, digit_rows, digit_cols, digits_per_record, record_at}
-use Rattle.pir_schemes.specs.Plans.{Plan, shape_at, digits_at}
+use Rattle.pir_schemes.specs.declared.plan.Plan.{Plan}
+use Rattle.pir_schemes.specs.Plans.{shape_at, digits_at}
 use Rattle.version_store.specs.Deltas.{differs_at, changed_rows}
 use Rattle.version_store.specs.Editions.{Records, MarksChanges, is_marked, marked_rows}
 

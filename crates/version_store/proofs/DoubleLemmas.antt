@@ -6,7 +6,8 @@ use Rattle.lane_kernels.specs.Digit.{split_count}
 use Rattle.digit_pack.specs.Layout.{digit_rows, digit_cols}
 use Rattle.simple_scheme.specs.Simple.{hint_of}
 use Rattle.pir_schemes.specs.declared.scheme.Scheme.TheVariants.{Simple, Double}
-use Rattle.pir_schemes.specs.Plans.{Plan, shape_at, digits_at, first_public, second_public}
+use Rattle.pir_schemes.specs.declared.plan.Plan.{Plan}
+use Rattle.pir_schemes.specs.Plans.{shape_at, digits_at, first_public, second_public}
 use Rattle.pir_schemes.specs.Retrievals.{hint_matrix, server_hint}
 use Rattle.hint_update.specs.Updates.{AreHintsOf}
 use Rattle.version_store.specs.Editions.{Records, version_shape, IsMadeTwice, MarksChanges, FollowsRows}

@@ -6,7 +6,8 @@ use Rattle.digit_pack.specs.Layout.{records_in}
 use Rattle.snapshot_file.specs.declared.snapshot.Header.{Header}
 use Rattle.snapshot_file.specs.Snapshots.{shape_of}
 use Rattle.digit_pack.specs.Layout.{digit_rows}
-use Rattle.pir_schemes.specs.Plans.{Plan, shape_at, digits_at}
+use Rattle.pir_schemes.specs.declared.plan.Plan.{Plan}
+use Rattle.pir_schemes.specs.Plans.{shape_at, digits_at}
 use Rattle.version_store.specs.Deltas.{changed_rows, changes_of, rows_logged}
 use Rattle.version_store.specs.Openings.{held_of}
 use Rattle.version_store.specs.Histories.{StoreState, History, StandsFor, current_version, delta_rows, held_rows, opened, after_edit, published, held_edited, held_published, Change, history_after, held_after}

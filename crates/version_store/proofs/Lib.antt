@@ -10,3 +10,4 @@ pub mod RowLemmas
 pub mod DoubleLemmas
 pub mod BroughtForward
 pub mod NamedRows
+pub mod OneRow

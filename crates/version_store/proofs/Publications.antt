@@ -1,5 +1,5 @@
 -- The rows that a publication logs.
-use Rattle.std.proofs.Common.{◌≡◌, ℕ, ◌+◌, ◌<◌, arith, ap, ◌∙◌, sym, refl, subst, List, [], ◌∷◌, ◌++◌, length, take, Bool, false}
+use Rattle.std.proofs.Common.{◌≡◌, ℕ, ◌<◌, ap, ◌∙◌, sym, refl, subst, List, [], ◌∷◌, ◌++◌, length, Bool, false}
 use Rattle.std.proofs.lemmas.List.{with_items_is}
 use Rattle.std.proofs.lemmas.List.Elements.{All-cons, All-take}
 use Rattle.std.specs.Prelude.{All}
@@ -8,7 +8,7 @@ use Rattle.std.specs.declared.vec.Vec.{Vec}
 use Rattle.std.specs.declared.alloc.Global.{Global}
 use Rattle.matrix_u32.specs.Matrix.{WordMatrix}
 use Rattle.digit_pack.specs.Layout.{Shape, digit_rows}
-use Rattle.pir_schemes.specs.Plans.{Plan, digits_at}
+use Rattle.pir_schemes.specs.Plans.{digits_at}
 use Rattle.hint_update.specs.Logs.{Log, with_publication}
 use Rattle.version_store.specs.Deltas.{changed_rows}
 use Rattle.version_store.specs.Drafts.{Changes, FitRecords, IsHeld}

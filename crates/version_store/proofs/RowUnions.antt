@@ -1,5 +1,5 @@
 -- Ascending rows that are in some lists, and a log's answer.
-use Rattle.std.proofs.Common.{◌≡◌, ◌≢◌, ℕ, ◌+◌, ◌-◌, ◌<◌, ◌≤◌, zero, suc, arith, ap, ◌∙◌, sym, refl, subst, inl, inr, List, [], ◌∷◌, length, filter, Bool, true, false, cond, Option, Some, None, Result, Ok, Err}
+use Rattle.std.proofs.Common.{◌≡◌, ℕ, ◌+◌, ◌-◌, ◌<◌, ◌≤◌, zero, suc, arith, ap, ◌∙◌, sym, refl, subst, inl, inr, List, [], ◌∷◌, length, filter, Bool, true, false, cond, Option, Some, None, Result, Ok, Err}
 use Rattle.std.proofs.lemmas.Bool.{cases_eq, cases_lt, eq-eqb, ne_eqb, eqb-true, le-leb, leb-true, and_parts, and_from, false_from_ne_true, true_from_ne_false}
 use Rattle.std.proofs.lemmas.List.Elements.{All-contains, All-nil, All-append, All-head, All-tail, All-take, All-weaker, All-contains_itself}
 use Rattle.std.proofs.lemmas.List.FromFn.{get_or-range_with_len, length-range_with_len}

@@ -1,24 +1,26 @@
 -- The shape of a version, whose records stand one after another in bytes, and what is made from it.
-use Rattle.std.proofs.Common.{◌≡◌, ℕ, ap, List, length, ◌*◌, take, drop}
+use Rattle.std.proofs.Common.{◌≡◌, ◌∙◌, ℕ, ap, List, length, ◌*◌, take, drop}
 use Rattle.matrix_u32.specs.Matrix.{product}
 use Rattle.matrix_u32.proofs.Products.{length-list_of}
-use Rattle.digit_pack.specs.Layout.{Shape, shape, records_in, digit_matrix}
+use Rattle.digit_pack.specs.Layout.{Shape, records_in, digit_matrix}
 use Rattle.simple_scheme.specs.Simple.{hint_of}
 use Rattle.pir_schemes.specs.declared.scheme.Scheme.TheVariants.{Simple}
-use Rattle.pir_schemes.specs.Plans.{shape_at, plan_of, digits_at, first_public}
+use Rattle.pir_schemes.specs.declared.plan.Plan.{Plan}
+use Rattle.pir_schemes.specs.Plans.{shape_at, digits_at, first_public}
 use Rattle.pir_schemes.specs.Retrievals.{hint_matrix}
 
 pub long_records : (l : Shape) (bytes : List ℕ) → length (records_in l bytes) ≡ l.count
 long_records l bytes = length-list_of l.count (λ i. take l.record_len (drop (i * l.record_len) bytes))
 
-pub shape_again : (l : Shape) (n : ℕ) (seed bytes : List ℕ) → shape_at (plan_of l n seed) (length (records_in l bytes)) ≡ l
-shape_again l n seed bytes = ap (λ c. shape l.width l.record_len l.groups c) (long_records l bytes)
+pub shape_again : (p : Plan) (l : Shape) (bytes : List ℕ) → shape_at p l.count ≡ l → shape_at p (length (records_in l bytes)) ≡ l
+shape_again p l bytes sizes = ap (shape_at p) (long_records l bytes) ∙ sizes
 
-pub digits_again : (l : Shape) (n : ℕ) (seed bytes : List ℕ) → digits_at (plan_of l n seed) (records_in l bytes) ≡ digit_matrix l (records_in l bytes)
-digits_again l n seed bytes = ap (λ s. digit_matrix s (records_in l bytes)) (shape_again l n seed bytes)
+pub digits_again : (p : Plan) (l : Shape) (bytes : List ℕ) → shape_at p l.count ≡ l →
+    digits_at p (records_in l bytes) ≡ digit_matrix l (records_in l bytes)
+digits_again p l bytes sizes = ap (λ s. digit_matrix s (records_in l bytes)) (shape_again p l bytes sizes)
 
 -- the SimplePIR hint of those bytes is the product of the digits and the public matrix
-pub hint_again : (l : Shape) (n : ℕ) (seed bytes : List ℕ) →
-    hint_matrix Simple (plan_of l n seed) (records_in l bytes) ≡ product (digits_at (plan_of l n seed) (records_in l bytes)) (first_public l n seed)
+pub hint_again : (p : Plan) (l : Shape) (bytes : List ℕ) → shape_at p l.count ≡ l →
+    hint_matrix Simple p (records_in l bytes) ≡ product (digits_at p (records_in l bytes)) (first_public l p.dimension p.seed)
 unfolding hint_matrix hint_of
-hint_again l n seed bytes = ap (λ s. product (digits_at (plan_of l n seed) (records_in l bytes)) (first_public s n seed)) (shape_again l n seed bytes)
+hint_again p l bytes sizes = ap (λ s. product (digits_at p (records_in l bytes)) (first_public s p.dimension p.seed)) (shape_again p l bytes sizes)

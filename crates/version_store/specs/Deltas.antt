@@ -3,7 +3,8 @@ use Rattle.std.specs.Prelude.{ℕ, ◌-◌, List, [], ◌∷◌, length, filter,
 use Rattle.std.specs.List.{flat_map, list_any, range_with_len}
 use Rattle.std.specs.Cmp.Lexicographic.{pointwise}
 use Rattle.matrix_u32.specs.Matrix.{WordMatrix, row}
-use Rattle.pir_schemes.specs.Plans.{Plan, digits_at}
+use Rattle.pir_schemes.specs.declared.plan.Plan.{Plan}
+use Rattle.pir_schemes.specs.Plans.{digits_at}
 use Rattle.hint_update.specs.Logs.{Log, lists_since}
 
 -- whether row r of two matrices differs

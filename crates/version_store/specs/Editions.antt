@@ -4,7 +4,8 @@ use Rattle.std.specs.List.{range_with_len}
 use Rattle.matrix_u32.specs.Matrix.{WordMatrix, IsWhole, row, product}
 use Rattle.digit_pack.specs.Layout.{Shape, IsLayout, records_in}
 use Rattle.pir_schemes.specs.declared.scheme.Scheme.TheVariants.{Simple, Double}
-use Rattle.pir_schemes.specs.Plans.{Plan, shape_at, plan_of, digits_at, first_public, second_public}
+use Rattle.pir_schemes.specs.declared.plan.Plan.{Plan}
+use Rattle.pir_schemes.specs.Plans.{shape_at, digits_at, first_public, second_public}
 use Rattle.pir_schemes.specs.Retrievals.{hint_matrix, server_hint}
 use Rattle.hint_update.specs.Updates.{AreHintsOf}
 
@@ -18,14 +19,15 @@ abbrev pub version_shape : Records → Shape
 version_shape e = shape_at e.plan (length e.records)
 
 -- bytes of records, with the first public matrix, the digits and the SimplePIR hint that are made from them
-pub record IsMade (l : Shape) (n : ℕ) (seed bytes : List ℕ) (a1 digits hint : WordMatrix) : Type 0 where
+pub record IsMade (p : Plan) (l : Shape) (bytes : List ℕ) (a1 digits hint : WordMatrix) : Type 0 where
   pub layout : IsLayout l
-  pub low : 1 ≤ n
-  pub high : n ≤ 1024
+  pub sizes : shape_at p l.count ≡ l
+  pub low : 1 ≤ p.dimension
+  pub high : p.dimension ≤ 1024
   pub count : length bytes ≡ l.count * l.record_len
-  pub public_is : a1 ≡ first_public l n seed
-  pub digits_are : digits ≡ digits_at (plan_of l n seed) (records_in l bytes)
-  pub hint_is : hint ≡ hint_matrix Simple (plan_of l n seed) (records_in l bytes)
+  pub public_is : a1 ≡ first_public l p.dimension p.seed
+  pub digits_are : digits ≡ digits_at p (records_in l bytes)
+  pub hint_is : hint ≡ hint_matrix Simple p (records_in l bytes)
 
 -- a version's second public matrix, and both hints of DoublePIR that are made from its records
 pub record IsMadeTwice (e : Records) (a2 server client : WordMatrix) : Type 0 where

@@ -1,8 +1,8 @@
 -- All versions of the records, a draft, and a mark.
 use Rattle.std.specs.Prelude.{◌≡◌, ℕ, ◌+◌, ◌-◌, List, [], ◌∷◌, length, Bool, true, false, Option, Some, None, nat_lt, if◌then◌else◌, slice_set, slice_get, take}
 use Rattle.digit_pack.specs.Layout.{digit_rows}
-use Rattle.pir_schemes.specs.Plans.{Plan, shape_at, digits_at}
-use Rattle.hint_update.specs.Logs.{Log}
+use Rattle.pir_schemes.specs.declared.plan.Plan.{Plan}
+use Rattle.pir_schemes.specs.Plans.{shape_at, digits_at}
 use Rattle.version_store.specs.Deltas.{changed_rows, changes_of, rows_logged}
 use Rattle.version_store.specs.Editions.{Records, version_shape}
 

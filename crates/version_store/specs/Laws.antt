@@ -4,7 +4,8 @@ use Rattle.std.specs.List.{list_any}
 use Rattle.matrix_u32.specs.Matrix.{row}
 use Rattle.digit_pack.specs.Layout.{digit_rows}
 use Rattle.pir_schemes.specs.declared.scheme.Scheme.TheVariants.{Simple}
-use Rattle.pir_schemes.specs.Plans.{Plan, shape_at}
+use Rattle.pir_schemes.specs.declared.plan.Plan.{Plan}
+use Rattle.pir_schemes.specs.Plans.{shape_at}
 use Rattle.pir_schemes.specs.Retrievals.{hint_matrix}
 use Rattle.version_store.specs.Histories.{StoreState, History, StandsFor, Change, history_after, held_after, records_of, delta_rows}
 

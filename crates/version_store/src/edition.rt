@@ -3,7 +3,7 @@
 ghost use Rattle.std.specs.Prelude.{◌≡◌, [], ◌*◌, ◌<◌, ◌≤◌, IfOk, length};
 ghost use Rattle.digit_pack.specs.Layout.{digit_rows, digit_cols, digits_per_record, record_at, records_in};
 ghost use Rattle.digit_pack.specs.Packed.{packed};
-ghost use Rattle.pir_schemes.specs.Plans.{IsPlan, plan_of, digits_at};
+ghost use Rattle.pir_schemes.specs.Plans.{IsPlan, shape_at, digits_at};
 ghost use Rattle.pir_schemes.specs.Retrievals.{hint_matrix, server_hint, query_count, answer_words};
 ghost use Rattle.version_store.specs.Drafts.{draft_of, FitRecords};
 ghost use Rattle.version_store.specs.Editions.{Records, version_shape, MarksChanges};
@@ -14,7 +14,7 @@ use crate::first_layer::{Digits, FirstLayer};
 use crate::rows::follow_rows;
 use digit_pack::Layout;
 use matrix_u32::{Kernel, Matrix};
-use pir_schemes::Scheme;
+use pir_schemes::{Plan, Scheme};
 use seed_expand::expand;
 use std::alloc::{AllocError, Global};
 use std::marker::Model;
@@ -42,27 +42,25 @@ impl<K: Kernel> Model for Edition<K> {
 
 impl<K: Kernel> Edition<K> {
     /// The edition of the records that stand one after another in `bytes`: their digits, the public matrices
-    /// of `dimension` columns, and the hints by the schemes' `setup`. Only refused memory gives an `Err`.
+    /// of the plan, and the hints by the schemes' `setup`. `layout` has the plan's sizes. Only refused memory gives
+    /// an `Err`.
     pub fn open(
         alloc: Global,
         kernel: K,
+        plan: Plan,
         layout: Layout,
-        dimension: usize,
-        seed: [u8; 32],
         bytes: Vec<u8>,
     ) -> Result<Edition<K>, AllocError>
-        requires dimension { (1 ≤ dimension) × (dimension ≤ 1024) }
+        requires sizes { shape_at plan layout.count ≡ layout }
+        requires dimension { (1 ≤ plan.dimension) × (plan.dimension ≤ 1024) }
         requires count { length bytes.items ≡ layout.count * layout.record_len }
         ensures { IfOk result (λ e.
-            e ≡ record {
-              plan = plan_of layout dimension seed;
-              records = records_in layout
-                  bytes.items;
-            }) }
+            e ≡ record { plan = plan; records = records_in layout bytes.items }) }
     {
-        let layer = FirstLayer::open(alloc, kernel, layout, dimension, seed, bytes)?;
+        let layer = FirstLayer::open(alloc, kernel, plan, layout, bytes)?;
         let layout = layer.layout();
-        let a2 = expand(alloc, &seed, 1, 0, layout.rows(), dimension)?;
+        let dimension = usize::from(plan.dimension);
+        let a2 = expand(alloc, &plan.seed, 1, 0, layout.rows(), dimension)?;
         let (server, client) = double_scheme::setup(
             alloc,
             kernel,
@@ -87,18 +85,11 @@ impl<K: Kernel> Edition<K> {
         self.layer.layout()
     }
 
-    /// The dimension n of the public matrices.
-    pub fn dimension(&self) -> usize
-        ensures { result ≡ self.now.plan.dimension }
+    /// What stays the same in every version.
+    pub fn plan(&self) -> &Plan
+        ensures { result.now ≡ self.now.plan }
     {
-        self.layer.dimension()
-    }
-
-    /// The public seed.
-    pub fn seed(&self) -> &[u8; 32]
-        ensures { result.now ≡ self.now.plan.seed }
-    {
-        self.layer.seed()
+        self.layer.plan()
     }
 
     /// The bytes of record i.

@@ -2,7 +2,7 @@
 
 ghost use Rattle.std.specs.Prelude.{◌≡◌, ◌*◌, ◌<◌, ◌≤◌, IfOk, length, slice_set};
 ghost use Rattle.digit_pack.specs.Layout.{IsLayout, digit_rows, digit_cols, digits_per_record, record_at, records_in};
-ghost use Rattle.pir_schemes.specs.Plans.{IsPlan, plan_of, digits_at};
+ghost use Rattle.pir_schemes.specs.Plans.{IsPlan, shape_at, digits_at};
 ghost use Rattle.pir_schemes.specs.Retrievals.{hint_matrix, answer_words};
 ghost use Rattle.version_store.specs.Editions.{Records, version_shape, MarksChanges};
 ghost use Rattle.version_store.specs.Openings.{bytes_of_records};
@@ -10,7 +10,7 @@ ghost use Rattle.version_store.specs.Openings.{bytes_of_records};
 use crate::columns::replace_digits;
 use digit_pack::{DigitStore, Layout, Packed3, digits_of_records, pack, record_of, write_record};
 use matrix_u32::{Kernel, Matrix};
-use pir_schemes::Scheme;
+use pir_schemes::{Plan, Scheme};
 use seed_expand::expand;
 use std::alloc::{AllocError, Global};
 use std::marker::Model;
@@ -22,8 +22,8 @@ pub type Digits = Packed3;
 /// contract sees it as `Records`: the hint is always the one that is made from scratch.
 #[derive(Drop)]
 pub struct FirstLayer {
+    plan: Plan,
     layout: Layout,
-    seed: [u8; 32],
     a1: Matrix,
     digits: Digits,
     hint: Matrix,
@@ -32,47 +32,43 @@ pub struct FirstLayer {
 
 impl Model for FirstLayer {
     ghost use Rattle.digit_pack.specs.Layout.{records_in};
-    ghost use Rattle.pir_schemes.specs.Plans.{plan_of};
     ghost use Rattle.version_store.specs.Editions.{Records, IsMade};
 
     ghost Value = { Records };
 
     ghost view = { λ e. record {
-      plan = plan_of e.layout e.a1.cols e.seed;
+      plan = e.plan;
       records = records_in e.layout e.bytes.items;
     } };
 
-    ghost invariant = { λ e. IsMade e.layout e.a1.cols e.seed e.bytes.items e.a1 e.digits e.hint };
+    ghost invariant = { λ e. IsMade e.plan e.layout e.bytes.items e.a1 e.digits e.hint };
 }
 
 impl FirstLayer {
     /// What is made of the records that stand one after another in `bytes`: their digits, the first public
-    /// matrix of `dimension` columns, and the hint by `setup`. Only refused memory gives an `Err`.
+    /// matrix of the plan, and the hint by `setup`. `layout` has the plan's sizes. Only refused memory gives an `Err`.
     pub fn open<K: Kernel>(
         alloc: Global,
         kernel: K,
+        plan: Plan,
         layout: Layout,
-        dimension: usize,
-        seed: [u8; 32],
         bytes: Vec<u8>,
     ) -> Result<FirstLayer, AllocError>
-        requires dimension { (1 ≤ dimension) × (dimension ≤ 1024) }
+        requires sizes { shape_at plan layout.count ≡ layout }
+        requires dimension { (1 ≤ plan.dimension) × (plan.dimension ≤ 1024) }
         requires count { length bytes.items ≡ layout.count * layout.record_len }
         ensures { IfOk result (λ e.
-            e ≡ record {
-              plan = plan_of layout dimension seed;
-              records = records_in layout
-                  bytes.items;
-            }) }
+            e ≡ record { plan = plan; records = records_in layout bytes.items }) }
     {
         let digits: Digits = digits_of_records(alloc, &layout, &bytes)?;
-        let a1 = expand(alloc, &seed, 0, 0, layout.cols(), dimension)?;
+        let dimension = usize::from(plan.dimension);
+        let a1 = expand(alloc, &plan.seed, 0, 0, layout.cols(), dimension)?;
         layout.rows();
         digits.rows();
         let hint = simple_scheme::setup(alloc, kernel, &digits, &a1)?;
         Ok(FirstLayer {
+            plan,
             layout,
-            seed,
             a1,
             digits,
             hint,
@@ -88,18 +84,11 @@ impl FirstLayer {
         &self.layout
     }
 
-    /// The dimension n of the public matrices.
-    pub fn dimension(&self) -> usize
-        ensures { result ≡ self.now.plan.dimension }
+    /// What stays the same in every version.
+    pub fn plan(&self) -> &Plan
+        ensures { result.now ≡ self.now.plan }
     {
-        self.a1.cols()
-    }
-
-    /// The public seed.
-    pub fn seed(&self) -> &[u8; 32]
-        ensures { result.now ≡ self.now.plan.seed }
-    {
-        &self.seed
+        &self.plan
     }
 
     /// The bytes of record i.

@@ -14,6 +14,6 @@ mod rows;
 mod store;
 
 pub use opening::OpenError;
-pub use pir_schemes::Scheme;
+pub use pir_schemes::{Plan, Scheme};
 pub use snapshot_file::{Header, Snapshot, SnapshotFault, WriteFault, read_snapshot};
 pub use store::{EditError, PublishError, Store, write_snapshot};

@@ -2,10 +2,12 @@
 
 ghost use Rattle.std.specs.Prelude.{◌≡◌, ◌≤◌, ◌↔◌, IsTrue, length, IfOk, IfErr, OnOk};
 ghost use Rattle.digit_pack.specs.Layout.{IsLayout};
+ghost use Rattle.pir_schemes.specs.Plans.{plan_of};
 ghost use Rattle.snapshot_file.specs.Snapshots.{header_of, shape_of};
 ghost use Rattle.version_store.specs.Openings.{IsSound, IsOpenFault};
 
 use digit_pack::Layout;
+use pir_schemes::Plan;
 use snapshot_file::{MAX_DIMENSION, Snapshot};
 use thiserror::Error;
 
@@ -26,6 +28,20 @@ pub enum OpenError {
     Memory,
 }
 
+/// What a snapshot says of every version of its records.
+pub(crate) fn plan_in(snapshot: &Snapshot) -> Plan
+    ensures { result ≡ plan_of (shape_of (header_of snapshot.now)) snapshot.now.dimension
+        snapshot.now.seed }
+{
+    Plan {
+        width: snapshot.width,
+        record_len: snapshot.record_len,
+        groups: snapshot.groups,
+        dimension: snapshot.dimension,
+        seed: snapshot.seed,
+    }
+}
+
 /// The sizes of a snapshot's records, where a store can be opened with it.
 pub(crate) fn sizes_of(snapshot: &Snapshot) -> Result<Layout, OpenError>
     ensures sizes { IfOk result (λ l. (l ≡ shape_of (header_of snapshot.now)) × IsLayout l) }
@@ -33,13 +49,7 @@ pub(crate) fn sizes_of(snapshot: &Snapshot) -> Result<Layout, OpenError>
     ensures refused { IfErr result
         (IsOpenFault (header_of snapshot.now) snapshot.now.records.items) }
 {
-    let layout = Layout::new(
-        u32::from(snapshot.width),
-        usize::from(snapshot.record_len),
-        usize::from(snapshot.groups),
-        snapshot.count as usize,
-    );
-    let Ok(layout) = layout else {
+    let Ok(layout) = snapshot.header().layout() else {
         return Err(OpenError::BadLayout);
     };
     if snapshot.dimension < 1 || snapshot.dimension > MAX_DIMENSION {

@@ -2,10 +2,11 @@
 
 ghost use Rattle.std.specs.Prelude.{◌≡◌, ℕ, ◌+◌, ◌*◌, ◌<◌, ◌≤◌, length, true, false};
 ghost use Rattle.lane_kernels.specs.Digit.{split_count};
+ghost use Rattle.hint_update.specs.Updates.{FollowsRun};
 ghost use Rattle.version_store.specs.Editions.{FollowsRows, is_marked};
 
 use digit_pack::DigitStore;
-use hint_update::update_double_rows;
+use hint_update::{update_double, update_double_rows};
 use matrix_u32::{Kernel, Matrix};
 
 /// Changes both hints of DoublePIR by the rows that are marked, each once, where `hint` is the hint of the
@@ -40,9 +41,42 @@ pub fn follow_rows<K: Kernel, S: DigitStore>(
             r += 1;
         } else {
             let run = &mut factors[..count];
-            update_double_rows(kernel, server, client, a2, w, r, hint, run);
+            follow_run(kernel, hint, a2, w, server, client, r, run);
             r += count;
         }
+    }
+}
+
+// Changes both hints by the rows from `start` on, one for each factor. A single row needs no factors.
+fn follow_run<K: Kernel, S: DigitStore>(
+    kernel: K,
+    hint: &Matrix,
+    a2: &Matrix,
+    w: u32,
+    server: &mut S,
+    client: &mut Matrix,
+    start: usize,
+    factors: &mut [u32],
+)
+    requires width { (6 ≤ w) × (w ≤ 10) }
+    requires run { start + length factors.old ≤ hint.now.rows }
+    requires second_rows { a2.now.rows ≡ hint.now.rows }
+    requires second_cols { a2.now.cols ≡ hint.now.cols }
+    requires server_rows { (S.digits server.old).rows ≡ hint.now.cols * split_count w }
+    requires server_cols { (S.digits server.old).cols ≡ hint.now.rows }
+    requires client_rows { client.old.rows ≡ hint.now.cols * split_count w }
+    requires client_cols { client.old.cols ≡ hint.now.cols }
+    ensures follows { FollowsRun w hint.now a2.now (S.digits server.old) (S.digits server.new)
+        client.old client.new start (length factors.old) }
+    ensures server_rows { (S.digits server.new).rows ≡ (S.digits server.old).rows }
+    ensures server_cols { (S.digits server.new).cols ≡ (S.digits server.old).cols }
+    ensures client_rows { client.new.rows ≡ client.old.rows }
+    ensures client_cols { client.new.cols ≡ client.old.cols }
+{
+    if factors.len() == 1 {
+        update_double(kernel, server, client, a2, w, start, hint.row(start));
+    } else {
+        update_double_rows(kernel, server, client, a2, w, start, hint, factors);
     }
 }
 

@@ -15,12 +15,12 @@ ghost use Rattle.version_store.specs.Histories.{StoreState, History, StandsFor, 
 
 use crate::drafts::Changes;
 use crate::edition::Edition;
-use crate::opening::{OpenError, sizes_of};
+use crate::opening::{OpenError, plan_in, sizes_of};
 use crate::row_marks::{marks_for, push_marked};
 use digit_pack::Layout;
 use hint_update::DeltaLog;
 use matrix_u32::Kernel;
-use pir_schemes::{Scheme, part_words};
+use pir_schemes::{Plan, Scheme, part_words};
 use snapshot_file::{Header, Snapshot, WriteFault, write_snapshot_bytes};
 use std::alloc::{AllocError, Global};
 use std::collections::BTreeMap;
@@ -108,16 +108,14 @@ impl<K: Kernel> Store<K> {
             Ok(layout) => layout,
             Err(fault) => return Err(fault),
         };
+        let plan = plan_in(&snapshot);
         let Snapshot {
-            dimension,
             version,
-            seed,
             publisher,
             records,
             ..
         } = snapshot;
-        let dimension = usize::from(dimension);
-        let Ok(edition) = Edition::open(alloc, kernel, layout, dimension, seed, records) else {
+        let Ok(edition) = Edition::open(alloc, kernel, plan, layout, records) else {
             return Err(OpenError::Memory);
         };
         let Ok(log) = DeltaLog::new(alloc, version) else {
@@ -136,18 +134,16 @@ impl<K: Kernel> Store<K> {
     pub fn header(&self) -> Header
         ensures { result ≡ header_of_held self.now }
     {
-        let layout = self.edition.layout();
-        let seed = *self.edition.seed();
-        let publisher = self.publisher;
+        let plan = self.edition.plan();
         Header {
-            width: layout.width() as u8,
-            record_len: layout.record_len() as u16,
-            groups: layout.groups() as u16,
-            count: layout.count() as u32,
-            dimension: self.edition.dimension() as u16,
+            width: plan.width,
+            record_len: plan.record_len,
+            groups: plan.groups,
+            count: self.edition.layout().count() as u32,
+            dimension: plan.dimension,
             version: self.version(),
-            seed,
-            publisher,
+            seed: plan.seed,
+            publisher: self.publisher,
         }
     }
 
@@ -173,6 +169,13 @@ impl<K: Kernel> Store<K> {
         self.edition.layout()
     }
 
+    /// What stays the same in every version.
+    pub fn plan(&self) -> &Plan
+        ensures { result.now ≡ self.now.edition.plan }
+    {
+        self.edition.plan()
+    }
+
     /// The dimension n of the public matrices, 1 to 1024.
     pub fn dimension(&self) -> usize
         ensures value { result ≡ self.now.edition.plan.dimension }
@@ -180,14 +183,14 @@ impl<K: Kernel> Store<K> {
         ensures high { self.now.edition.plan.dimension ≤ 1024 }
     {
         self.edition.layout();
-        self.edition.dimension()
+        usize::from(self.edition.plan().dimension)
     }
 
     /// The public seed.
     pub fn seed(&self) -> &[u8; 32]
         ensures { result.now ≡ self.now.edition.plan.seed }
     {
-        self.edition.seed()
+        &self.edition.plan().seed
     }
 
     /// The SHA-256 of the publisher's key.

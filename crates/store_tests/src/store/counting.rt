@@ -1,9 +1,10 @@
 //! How many words a publication multiplies.
 
 use matrix_u32::{Kernel, Matrix, Plain};
+use std::alloc::Global;
 use std::cell::Cell;
 use std::test::Fail;
-use version_store::Header;
+use version_store::{Header, Store};
 
 // Works as the plain kernel, and counts the products of words that it is asked for.
 #[derive(Clone, Copy)]
@@ -40,26 +41,66 @@ impl Kernel for Counting<'_> {
     }
 }
 
-// 64 records of one byte, 8 to a column: one changed digit is one word of the first hint, and at most four
-// digits of it change in the hints of DoublePIR.
-#[test]
-fn one_edit_multiplies_a_few_words(rt: HostRuntime) -> Result<(), Fail> {
+// 64 records of one byte, 8 to a column, and secrets of one word: each digit is a row's, and each word of the first
+// hint has four digits in the hints of DoublePIR.
+fn neighbours<'a>(alloc: Global, kernel: Counting<'a>) -> Result<Store<Counting<'a>>, Fail> {
     let header = Header {
         groups: 8,
         count: 64,
         ..super::STORE
     };
+    let snapshot = header.with_records([7u8; 64].to_vec(alloc)?);
+    let store = super::open(alloc, kernel, snapshot)?;
+    Ok(store)
+}
+
+// One digit changes: one word of the first hint, and the four digits of this word, of which none stays. A
+// publication that makes a hint by `setup` multiplies 64 words for the first or 32 for the client's, and fails here.
+#[test]
+fn one_edit_multiplies_five_words(rt: HostRuntime) -> Result<(), Fail> {
     let products = Cell::new(0);
     let kernel = Counting {
         products: &products,
     };
-    let snapshot = header.with_records([7u8; 64].to_vec(rt.alloc())?);
-    let mut store = super::open(rt.alloc(), kernel, snapshot)?;
-    assert!(rt; products.get() > 16);
+    let mut store = neighbours(rt.alloc(), kernel)?;
+    assert!(rt; products.get() == 64 + 32);
     products.set(0);
     assert_eq!(rt; super::edit(&mut store, 19, &[200]), Ok(()));
     assert_eq!(rt; super::publish(&mut store), Ok(2));
-    let count = products.get();
-    assert!(rt; count >= 1 && count <= 16);
+    assert_eq!(rt; products.get(), 5);
+    Ok(())
+}
+
+// Two digits of neighbouring rows: each of their four digits is taken for both rows at once. The record between that is
+// edited to the byte it has belongs to no run.
+#[test]
+fn rows_that_stay_are_not_multiplied(rt: HostRuntime) -> Result<(), Fail> {
+    let products = Cell::new(0);
+    let kernel = Counting {
+        products: &products,
+    };
+    let mut store = neighbours(rt.alloc(), kernel)?;
+    products.set(0);
+    assert_eq!(rt; super::edit(&mut store, 16, &[1]), Ok(()));
+    assert_eq!(rt; super::edit(&mut store, 17, &[2]), Ok(()));
+    assert_eq!(rt; super::edit(&mut store, 18, &[7]), Ok(()));
+    assert_eq!(rt; super::edit(&mut store, 19, &[200]), Ok(()));
+    assert_eq!(rt; super::publish(&mut store), Ok(2));
+    assert_eq!(rt; products.get(), 3 + 2 * 4 + 4);
+    Ok(())
+}
+
+#[test]
+fn equal_bytes_multiply_nothing(rt: HostRuntime) -> Result<(), Fail> {
+    let products = Cell::new(0);
+    let kernel = Counting {
+        products: &products,
+    };
+    let mut store = neighbours(rt.alloc(), kernel)?;
+    products.set(0);
+    assert_eq!(rt; super::edit(&mut store, 19, &[7]), Ok(()));
+    assert_eq!(rt; super::edit(&mut store, 20, &[7]), Ok(()));
+    assert_eq!(rt; super::publish(&mut store), Ok(2));
+    assert_eq!(rt; products.get(), 0);
     Ok(())
 }

@@ -4,7 +4,8 @@ use Rattle.simple_scheme.specs.Laws.{SimpleCertainShapeIsQuiet as SimpleLaw}
 use Rattle.double_scheme.specs.Laws.{DoubleCertainShapeIsQuiet as DoubleLaw}
 use Rattle.pir_schemes.specs.declared.scheme.Scheme.{Scheme}
 use Rattle.pir_schemes.specs.declared.scheme.Scheme.TheVariants.{Simple, Double}
-use Rattle.pir_schemes.specs.Plans.{Plan, shape_at, first_public}
+use Rattle.pir_schemes.specs.declared.plan.Plan.{Plan}
+use Rattle.pir_schemes.specs.Plans.{shape_at, first_public}
 use Rattle.pir_schemes.specs.Retrievals.{IsQuietOf}
 use Rattle.pir_schemes.specs.Laws.{IsCertainOf}
 use Rattle.pir_schemes.proofs.laws.certain_shape_is_quiet.Goals as goal

@@ -1,4 +1,4 @@
-use Rattle.std.proofs.Common.{◌≡◌, ◌++◌, ◌∷◌, [], ℕ, List, arith, ap, sym, ◌∙◌, append_assoc, filter, Bool, true, false}
+use Rattle.std.proofs.Common.{◌++◌, ◌∷◌, [], ℕ, List, arith, ap, sym, ◌∙◌, append_assoc, filter, Bool}
 use Rattle.std.specs.List.{range_with_len}
 use Rattle.version_store.specs.Editions.{is_marked}
 use Rattle.version_store.proofs.ChangedRows.{marked_more, marked_kept}

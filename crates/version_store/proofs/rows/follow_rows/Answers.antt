@@ -1,4 +1,4 @@
-use Rattle.std.proofs.Common.{◌≡◌, ◌+◌, ◌≤◌, arith, ap, subst, false, ℕ, length, take}
+use Rattle.std.proofs.Common.{◌≡◌, ◌+◌, ◌≤◌, arith, subst, false, ℕ, length, take}
 use Rattle.std.proofs.lemmas.List.{length-take-le}
 use Rattle.matrix_u32.specs.Matrix.{WordMatrix}
 use Rattle.hint_update.specs.Updates.{FollowsRun}
@@ -31,8 +31,8 @@ loop-r-preserved g c =
     let n : ℕ = c.marked_run-count.result in
     let a2 : WordMatrix = c.args.a2.now in
     let s : WordMatrix = g.S.DigitStore.digits c.loop-r.server in
-    let s' : WordMatrix = g.S.DigitStore.digits c.update_double_rows.new.server_hint in
-    let c' : WordMatrix = c.update_double_rows.new.client_hint in
+    let s' : WordMatrix = g.S.DigitStore.digits c.follow_run.new.server in
+    let c' : WordMatrix = c.follow_run.new.client in
     let room : n ≤ length c.loop-r.factors =
     omega (arith, c.marked_run-count.ensures.inside, c.requires.marks, c.requires.room, c.loop-r.auto.factors) in
     let long : length (take n c.loop-r.factors) ≡ n = length-take-le n c.loop-r.factors room in
@@ -41,9 +41,9 @@ loop-r-preserved g c =
       within = c.marked_run-count.ensures.inside;
       follows = run_followed r n c.args.w c.args.hint.now a2 (g.S.DigitStore.digits c.args.server.now) s s' c.args.client.now c.loop-r.client c'
           c.args.marks.now c.marked_run-count.ensures.inside
-          (ap (λ (m : WordMatrix). m.rows) c.update_double_rows.ensures.server) (ap (λ (m : WordMatrix). m.cols) c.update_double_rows.ensures.server)
-          (ap (λ (m : WordMatrix). m.rows) c.update_double_rows.ensures.client) (ap (λ (m : WordMatrix). m.cols) c.update_double_rows.ensures.client)
-          (subst follows long c.update_double_rows.ensures.follows) c.loop-r.invariant.follows;
+          c.follow_run.ensures.server_rows c.follow_run.ensures.server_cols
+          c.follow_run.ensures.client_rows c.follow_run.ensures.client_cols
+          (subst follows long c.follow_run.ensures.follows) c.loop-r.invariant.follows;
     }
 
 pub returns : goal.returns

@@ -16,9 +16,9 @@ invariant_of-result g c =
     let a2 : WordMatrix = c.in_ok-a2.a2 in
     let rows : c.rows.result ≡ digit_rows (version_shape e) = c.rows.ensures.value ∙ ap digit_rows c.layout-layout.ensures.value in
     let public : a2 ≡ second_public (version_shape e) e.plan.dimension e.plan.seed =
-    c.in_ok-a2.ensures ∙ ap (λ r. public_rows c.args.seed 1 0 r c.args.dimension) rows
-    ∙ ap (λ s. public_rows s 1 0 (digit_rows (version_shape e)) c.args.dimension) (sym (ap (λ e. e.plan.seed) c.in_ok-layer.ensures))
-    ∙ ap (λ n. public_rows e.plan.seed 1 0 (digit_rows (version_shape e)) n) (sym (ap (λ e. e.plan.dimension) c.in_ok-layer.ensures)) in
+    c.in_ok-a2.ensures ∙ ap (λ r. public_rows c.args.plan.seed 1 0 r c.from-dimension.result) rows
+    ∙ ap (λ n. public_rows c.args.plan.seed 1 0 (digit_rows (version_shape e)) n) c.from-dimension.ensures
+    ∙ ap (λ p. public_rows p.seed 1 0 (digit_rows (version_shape e)) p.dimension) (sym (ap (λ e. e.plan) c.in_ok-layer.ensures)) in
     let width : c.width.result ≡ e.plan.width = c.width.ensures.value ∙ ap (λ l. l.width) c.layout-layout.ensures.value in
     let digits : WordMatrix = digits_at e.plan e.records in
     let a1 : WordMatrix = first_public (version_shape e) e.plan.dimension e.plan.seed in

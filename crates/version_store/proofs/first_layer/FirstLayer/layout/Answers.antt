@@ -7,12 +7,12 @@ use Rattle.version_store.proofs.first_layer.FirstLayer.layout.Goals as goal
 
 pub returns-clause-value : goal.returns-clause-value
 returns-clause-value c =
-    sym (shape_again c.self.inside.layout c.self.inside.a1.cols c.self.inside.seed c.self.inside.bytes.items) ∙ ap version_shape c.self.view_is
+    sym (shape_again c.self.inside.plan c.self.inside.layout c.self.inside.bytes.items c.self.invariant.sizes) ∙ ap version_shape c.self.view_is
 
 pub returns-clause-plan : goal.returns-clause-plan
 returns-clause-plan c =
     subst (λ e. IsPlan e.plan (length e.records)) c.self.view_is (record {
-      layout = subst IsLayout (sym (shape_again c.self.inside.layout c.self.inside.a1.cols c.self.inside.seed c.self.inside.bytes.items))
+      layout = subst IsLayout (sym (shape_again c.self.inside.plan c.self.inside.layout c.self.inside.bytes.items c.self.invariant.sizes))
           c.self.invariant.layout;
       low = c.self.invariant.low;
       high = c.self.invariant.high;

@@ -2,11 +2,13 @@ use Rattle.std.proofs.Common.{ap, ◌∙◌, sym, arith, ◌≡◌, ◌++◌, �
 use Rattle.std.specs.Prelude.{slice_set}
 use Rattle.std.proofs.lemmas.List.{with_items_is}
 use Rattle.matrix_u32.specs.Matrix.{WordMatrix, product}
-use Rattle.digit_pack.specs.Layout.{Shape, digit_matrix, digit_cols, first_row, column_of, record_digits, records_in}
+use Rattle.digit_pack.specs.Layout.{Shape, IsShape, digit_matrix, digit_cols, first_row, column_of, record_digits, records_in}
 use Rattle.digit_pack.specs.Columns.{WritesColumn}
 use Rattle.digit_pack.proofs.ColumnLemmas.{written_as}
+use Rattle.digit_pack.proofs.Records.{column_inside}
 use Rattle.digit_pack.proofs.RecordLemmas.{shape_of_layout, record_replaced}
-use Rattle.pir_schemes.specs.Plans.{plan_of, digits_at, first_public}
+use Rattle.pir_schemes.specs.declared.plan.Plan.{Plan}
+use Rattle.pir_schemes.specs.Plans.{shape_at, digits_at, first_public}
 use Rattle.version_store.specs.Editions.{Records, MarksChanges}
 use Rattle.version_store.proofs.Versions.{long_records, shape_again, digits_again, hint_again}
 use Rattle.version_store.proofs.first_layer.FirstLayer.replace.Goals as goal
@@ -18,18 +20,30 @@ place-first-requires g c =
 pub replace_digits-requires-clause-made : goal.replace_digits-requires-clause-made
 replace_digits-requires-clause-made g c =
     let l : Shape = c.self.inside.layout in
-    let n : ℕ = c.self.inside.a1.cols in
-    let seed : List ℕ = c.self.inside.seed in
-    c.self.invariant.hint_is ∙ hint_again l n seed c.self.inside.bytes.items
-    ∙ ap (λ d. product d (first_public l n seed)) (sym c.self.invariant.digits_are)
+    let p : Plan = c.self.inside.plan in
+    let sizes : shape_at p l.count ≡ l = c.self.invariant.sizes in
+    c.self.invariant.hint_is ∙ hint_again p l c.self.inside.bytes.items sizes
+    ∙ ap (λ d. product d (first_public l p.dimension p.seed)) (sym c.self.invariant.digits_are)
     ∙ ap (product c.self.inside.digits) (sym c.self.invariant.public_is)
 
 pub replace_digits-requires-clause-inner : goal.replace_digits-requires-clause-inner
 replace_digits-requires-clause-inner g c =
     let l : Shape = c.self.inside.layout in
     ap (λ m. m.cols) c.self.invariant.digits_are
-    ∙ ap digit_cols (shape_again l c.self.inside.a1.cols c.self.inside.seed c.self.inside.bytes.items)
+    ∙ ap digit_cols (shape_again c.self.inside.plan l c.self.inside.bytes.items c.self.invariant.sizes)
     ∙ sym (ap (λ m. m.rows) c.self.invariant.public_is)
+
+pub replace_digits-requires-clause-col : goal.replace_digits-requires-clause-col
+replace_digits-requires-clause-col g c =
+    let l : Shape = c.self.inside.layout in
+    let shape : IsShape l = shape_of_layout l c.self.invariant.layout in
+    let inside : c.args.i < l.count =
+    omega (arith, c.requires.index, ap (λ e. length e.records) c.self.view_is, long_records l c.self.inside.bytes.items) in
+    let low : column_of l c.args.i < digit_cols l = column_inside l c.args.i shape.groups inside in
+    let col : c.place-first.result.1 ≡ column_of l c.args.i = ap (λ p. p.1) c.place-first.ensures.value in
+    let cols : c.self.inside.digits.cols ≡ digit_cols l =
+    ap (λ m. m.cols) c.self.invariant.digits_are ∙ ap digit_cols (shape_again c.self.inside.plan l c.self.inside.bytes.items c.self.invariant.sizes) in
+    omega (arith, low, col, cols)
 
 pub write_record-requires-clause-index : goal.write_record-requires-clause-index
 write_record-requires-clause-index g c =
@@ -38,8 +52,8 @@ write_record-requires-clause-index g c =
 pub invariant_of-self : goal.invariant_of-self
 invariant_of-self g c =
     let l : Shape = c.self.inside.layout in
-    let n : ℕ = c.self.inside.a1.cols in
-    let seed : List ℕ = c.self.inside.seed in
+    let p : Plan = c.self.inside.plan in
+    let sizes : shape_at p l.count ≡ l = c.self.invariant.sizes in
     let old : List ℕ = c.self.inside.bytes.items in
     let new : List ℕ = c.write_record.new.bytes in
     let xs : List (List ℕ) = records_in l old in
@@ -50,23 +64,24 @@ invariant_of-self g c =
     let inside : c.args.i < l.count = omega (arith, c.requires.index, ap (λ e. length e.records) c.self.view_is, many) in
     let w : WritesColumn (digit_matrix l xs) c.replace_digits.new.digits (first_row l c.args.i) (column_of l c.args.i) (record_digits l c.args.bytes.now) =
     written_as c.self.inside.digits _ c.replace_digits.new.digits c.place-first.result.0 _ c.place-first.result.1 _ c.pack.new.out _
-    (c.self.invariant.digits_are ∙ digits_again l n seed old)
+    (c.self.invariant.digits_are ∙ digits_again p l old sizes)
     (ap (λ p. p.0) c.place-first.ensures.value) (ap (λ p. p.1) c.place-first.ensures.value) c.pack.ensures.digits c.replace_digits.ensures.digits in
-    let digits : c.replace_digits.new.digits ≡ digits_at (plan_of l n seed) (records_in l bytes) =
+    let digits : c.replace_digits.new.digits ≡ digits_at p (records_in l bytes) =
     record_replaced l xs c.args.i c.args.bytes.now c.replace_digits.new.digits (shape_of_layout l c.self.invariant.layout) inside
     (omega (arith, inside, many)) w
     ∙ ap (digit_matrix l) (sym (ap (records_in l) kept ∙ c.write_record.ensures
     ∙ ap (λ (b : List ℕ). slice_set (records_in l b) c.args.i c.args.bytes.now) c.deref_mut.ensures.value))
-    ∙ sym (digits_again l n seed bytes) in
+    ∙ sym (digits_again p l bytes sizes) in
     record {
       layout = c.self.invariant.layout;
+      sizes = sizes;
       low = c.self.invariant.low;
       high = c.self.invariant.high;
       count = ap length kept ∙ long ∙ c.self.inside.bytes.ok.0 ∙ c.self.invariant.count;
       public_is = c.self.invariant.public_is;
       digits_are = digits;
       hint_is = c.replace_digits.ensures.made ∙ ap (λ d. product d c.self.inside.a1) digits
-          ∙ ap (product (digits_at (plan_of l n seed) (records_in l bytes))) c.self.invariant.public_is ∙ sym (hint_again l n seed bytes);
+          ∙ ap (product (digits_at p (records_in l bytes))) c.self.invariant.public_is ∙ sym (hint_again p l bytes sizes);
     }
 
 pub returns-clause-records : goal.returns-clause-records
@@ -79,7 +94,7 @@ returns-clause-records g c =
     let records : records_in l bytes ≡ slice_set (records_in l old) c.args.i c.args.bytes.now =
     ap (records_in l) (with_items_is c.self.inside.bytes new long) ∙ c.write_record.ensures
     ∙ ap (λ (b : List ℕ). slice_set (records_in l b) c.args.i c.args.bytes.now) c.deref_mut.ensures.value in
-    let made : List (List ℕ) → Records = λ rs. record { plan = plan_of l c.self.inside.a1.cols c.self.inside.seed; records = rs } in
+    let made : List (List ℕ) → Records = λ rs. record { plan = c.self.inside.plan; records = rs } in
     let replaced : Records → Records = λ e. record e { records = slice_set e.records c.args.i c.args.bytes.now } in
     ap made records ∙ ap replaced c.self.view_is
 

@@ -4,6 +4,7 @@ use Rattle.std.specs.Prelude.{All}
 use Rattle.digit_pack.specs.Layout.{Shape, digit_rows, records_in}
 use Rattle.snapshot_file.specs.declared.snapshot.Header.{Header}
 use Rattle.snapshot_file.specs.Snapshots.{header_of, shape_of}
+use Rattle.pir_schemes.specs.declared.plan.Plan.{Plan}
 use Rattle.pir_schemes.specs.Plans.{plan_of}
 use Rattle.version_store.specs.Drafts.{Changes, draft_of, is_some_change}
 use Rattle.hint_update.specs.Logs.{Log}
@@ -36,19 +37,20 @@ returns-clause-held g c =
       log = log.lists;
     } in
     let none : Log = record { version = h.version; lists = [] } in
-    let of : Shape → ℕ → Records = λ l n. record { plan = plan_of l n h.seed; records = records_in l bytes } in
+    let of : Plan → Shape → Records = λ p l. record { plan = p; records = records_in l bytes } in
+    let plan : Plan = plan_of (shape_of h) h.dimension h.seed in
     let with : List (List ℕ) → StoreState = λ d. record {
       version = h.version;
-      edition = of (shape_of h) h.dimension;
+      edition = of plan (shape_of h);
       draft = d;
       marked = false;
       publisher = h.publisher;
       log = [];
     } in
     ap (made c.in-Ok-open.edition c.new-2.result.entries) c.in-Ok-new.ensures
-    ∙ ap (λ e. made e c.new-2.result.entries none) (c.in-Ok-open.ensures ∙ ap (λ l. of l c.from-dimension.result) c.in-Ok.ensures.sizes.0
-    ∙ ap (of (shape_of h)) c.from-dimension.ensures)
-    ∙ ap (λ cs. made (of (shape_of h) h.dimension) cs none) c.new-2.ensures.empty
+    ∙ ap (λ e. made e c.new-2.result.entries none) (c.in-Ok-open.ensures ∙ ap (of c.plan_in-plan.result) c.in-Ok.ensures.sizes.0
+    ∙ ap (λ p. of p (shape_of h)) c.plan_in-plan.ensures)
+    ∙ ap (λ cs. made (of plan (shape_of h)) cs none) c.new-2.ensures.empty
     ∙ ap with (draft-none rs)
 
 pub returns-clause-history : goal.returns-clause-history

@@ -1,4 +1,4 @@
-use Rattle.std.proofs.Common.{ap, ◌∙◌, sym, ◌≡◌, ◌+◌, ℕ, List, ◌∷◌, take, false}
+use Rattle.std.proofs.Common.{ap, ◌∙◌, ◌≡◌, ◌+◌, ℕ, List, ◌∷◌, take, false}
 use Rattle.pir_schemes.specs.Plans.{digits_at}
 use Rattle.hint_update.specs.Logs.{Log, with_publication}
 use Rattle.version_store.specs.Deltas.{changed_rows}

@@ -1,0 +1,85 @@
+//! What stays the same in every version of some records, and what a client keeps to itself.
+
+ghost use Rattle.std.specs.Prelude.{◌≡◌, ◌≤◌, ℕ, List, IfOk, IfErr};
+ghost use Rattle.digit_pack.specs.Layout.{IsLayout, IsLayoutFault};
+ghost use Rattle.pir_schemes.specs.Plans.{shape_at, plan_of};
+
+use digit_pack::{Layout, LayoutError};
+use std::marker::Model;
+
+/// What stays the same in every version of some records. With a count of records it says how many words hints,
+/// queries and answers have, and with the records of a version what these words are.
+#[derive(Clone, Copy, Debug, PartialEq, Eq)]
+pub struct Plan {
+    /// How many bits a digit has.
+    pub width: u8,
+    /// How many bytes a record has.
+    pub record_len: u16,
+    /// How many records stand in a column of the digit matrix.
+    pub groups: u16,
+    /// The dimension n of the public matrices: how many words a secret has.
+    pub dimension: u16,
+    /// The public seed, which the words of the public matrices come from.
+    pub seed: [u8; 32],
+}
+
+impl Plan {
+    /// The plan of records of these sizes, with public matrices of `dimension` columns from the words of `seed`.
+    pub fn of(layout: &Layout, dimension: usize, seed: &[u8; 32]) -> Plan
+        requires { dimension ≤ 1024 }
+        ensures { result ≡ plan_of layout.now dimension seed.now }
+    {
+        Plan {
+            width: layout.width() as u8,
+            record_len: layout.record_len() as u16,
+            groups: layout.groups() as u16,
+            dimension: dimension as u16,
+            seed: *seed,
+        }
+    }
+
+    /// The sizes of `count` records. They are accepted exactly within the limits; else the first cause is named, in
+    /// the order of [`LayoutError`].
+    pub fn layout(&self, count: usize) -> Result<Layout, LayoutError>
+        ensures accepted { IfOk result (λ l. (l ≡ shape_at self.now count) × IsLayout l) }
+        ensures refused { IfErr result (IsLayoutFault (shape_at self.now count)) }
+    {
+        Layout::new(
+            u32::from(self.width),
+            usize::from(self.record_len),
+            usize::from(self.groups),
+            count,
+        )
+    }
+}
+
+/// The seed of a client's secrets and noise, which no server learns. Being a type of its own it can't stand where a
+/// public seed is wanted, nor a public one here. A contract sees it as its 32 bytes.
+#[derive(Clone, Copy)]
+pub struct SecretSeed {
+    bytes: [u8; 32],
+}
+
+impl Model for SecretSeed {
+    ghost Value = { List ℕ };
+
+    ghost view = { λ s. s.bytes };
+
+    ghost inverse = { λ bytes. record { bytes = bytes } };
+}
+
+impl SecretSeed {
+    /// The seed of these bytes.
+    pub fn new(bytes: [u8; 32]) -> SecretSeed
+        ensures { result ≡ bytes }
+    {
+        SecretSeed { bytes }
+    }
+
+    /// Its bytes.
+    pub fn bytes(&self) -> &[u8; 32]
+        ensures { result.now ≡ self.now }
+    {
+        &self.bytes
+    }
+}
