@@ -9,9 +9,13 @@ use digit_pack::DigitStore;
 use hint_update::{update_double, update_double_rows};
 use matrix_u32::{Kernel, Matrix};
 
+/// How many changed rows are taken together: as many as keep their rows of the second public matrix near the processor
+/// while the client's hint passes once for all of them.
+const NEAR_ROWS: usize = 128;
+
 /// Changes both hints of DoublePIR by the rows that are marked, each once, where `hint` is the hint of the
 /// changed digits. Nothing is multiplied for the other rows. Rows that stand one after another are taken
-/// together: `factors` has a word for each row, and what it held is lost.
+/// together, up to 128 of them: `factors` has a word for each row, and what it held is lost.
 pub fn follow_rows<K: Kernel, S: DigitStore>(
     kernel: K,
     hint: &Matrix,
@@ -80,14 +84,16 @@ fn follow_run<K: Kernel, S: DigitStore>(
     }
 }
 
-// How many rows are marked one after another from row `from` on.
+// How many rows are marked one after another from row `from` on, or 128 where more are.
 fn marked_run(marks: &[bool], from: usize) -> usize
     requires { from < length marks.now }
     ensures inside { from + result ≤ length marks.now }
     ensures marked { (k : ℕ) → k < result → is_marked marks.now (from + k) ≡ true }
-    ensures all { from + result < length marks.now → is_marked marks.now (from + result) ≡ false }
+    ensures most { result ≤ 128 }
+    ensures all { result < 128 → from + result < length marks.now →
+        is_marked marks.now (from + result) ≡ false }
 {
-    let room = marks.len() - from;
+    let room = NEAR_ROWS.min(marks.len() - from);
     for count in 0..room {
         if !marks[from + count] {
             return count;

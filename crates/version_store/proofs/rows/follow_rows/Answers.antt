@@ -18,7 +18,7 @@ loop-r-preserved-then-count-eq0 g c =
     let here : c.loop-r.r + c.marked_run-count.result ≡ c.loop-r.r = omega (arith, c.if-count-eq0.true) in
     let unmarked : is_marked c.args.marks.now c.loop-r.r ≡ false =
     subst (λ i. is_marked c.args.marks.now i ≡ false) here
-    (c.marked_run-count.ensures.all (omega (arith, c.if-count-eq0.true, c.loop-r-test.true))) in
+    (c.marked_run-count.ensures.all (omega (arith, c.if-count-eq0.true)) (omega (arith, c.if-count-eq0.true, c.loop-r-test.true))) in
     record {
       within = omega (arith, c.loop-r-test.true);
       follows = row_kept c.loop-r.r c.args.w c.args.hint.now c.args.a2.now (g.S.DigitStore.digits c.args.server.now) (g.S.DigitStore.digits c.loop-r.server)
