@@ -7,6 +7,7 @@ use Rattle.matrix_u32.specs.Matrix.{WordMatrix, product, times_vector}
 use Rattle.matrix_u32.proofs.Products.{length-list_of}
 use Rattle.lane_kernels.specs.Digit.{split_count}
 use Rattle.digit_pack.specs.Layout.{Shape, digit_rows, digit_cols, digits_per_record}
+use Rattle.simple_scheme.specs.Simple.{simple_query}
 use Rattle.double_scheme.specs.Double.{first_query_of, part_query_of, double_query, double_query_count, first_answer_of, part_answer_of, part_of_query, double_answer, double_answer_count, words_of_part}
 use Rattle.double_scheme.proofs.Blocks.{length-blocks}
 
@@ -20,7 +21,7 @@ after_prefix prefix f n b count l e =
 
 pub length-query_of : (l : Shape) (a1 a2 : WordMatrix) (seed : List ℕ) (number i : ℕ) → a1.rows ≡ digit_cols l → a2.rows ≡ digit_rows l →
     length (double_query l a1 a2 seed number i) ≡ double_query_count l
-unfolding double_query
+unfolding double_query simple_query
 length-query_of l a1 a2 seed number i rows1 rows2 =
     after_prefix (first_query_of l a1 seed number i) (part_query_of l a2 seed number i) (digit_cols l) (digit_rows l) (digits_per_record l)
     (length-list_of a1.rows _ ∙ rows1) (λ k. length-list_of a2.rows _ ∙ rows2)

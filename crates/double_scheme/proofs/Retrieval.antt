@@ -12,7 +12,7 @@ use Rattle.lane_kernels.specs.Digit.{digit, split_count}
 use Rattle.digit_pack.specs.Digits.{number_of}
 use Rattle.digit_pack.specs.Laws.{SplitJoins, DigitsAreSmall, DecomposedStandsBelow, RecordStandsInside, RecordStandsInItsColumn}
 use Rattle.digit_pack.specs.Layout.{Shape, IsShape, digit_matrix, digit_rows, digit_cols, digits_per_record, first_row, column_of, record_at}
-use Rattle.simple_scheme.specs.Simple.{secret, query_noise}
+use Rattle.simple_scheme.specs.Simple.{secret, query_noise, simple_query}
 use Rattle.double_scheme.specs.Double.{server_hint_of, client_hint_of, first_answer_of, first_query_of, part_query_of, double_query, part_of_query, part_answer_of, double_answer, answer_hint, answer_part, double_answer_count, words_of_part, second_digit, hint_part_words, first_words, row_read, word_read, double_digit_read, part_secret, part_noise, IsQuietDouble}
 use Rattle.double_scheme.specs.Laws.{GivesRowOf}
 use Rattle.double_scheme.proofs.Blocks.{block_after}
@@ -22,6 +22,7 @@ use Rattle.double_scheme.proofs.SecondLayer.{hint_digit_of, first_digit_of, row_
 module _ (l : Shape) (records : List (List ℕ)) (a1 a2 : WordMatrix) (seed : List ℕ) (number i : ℕ) (rows1 : a1.rows ≡ digit_cols l)
     (rows2 : a2.rows ≡ digit_rows l) (cols : a2.cols ≡ a1.cols) where
   length-first_query : length (first_query_of l a1 seed number i) ≡ digit_cols l
+  unfolding simple_query
   length-first_query = length-list_of a1.rows _ ∙ rows1
 
   -- a query's words are its first query and its parts
@@ -141,6 +142,7 @@ module _ (l : Shape) (records : List (List ℕ)) (a1 a2 : WordMatrix) (seed : Li
       double_digit_read l (client_hint_of (server_hint_of l.width (digit_matrix l records) a1) a2) seed number
       (double_answer l (digit_matrix l records) (server_hint_of l.width (digit_matrix l records) a1) a2 (double_query l a1 a2 seed number i)) d
       ≡ digit l.width (number_of 8 (record_at records i)) d
+  unfolding simple_query
   part_reads quiet_law small inside stands s p quiet d q gives =
       let w : ℕ = l.width in
       let m = digit_matrix l records in

@@ -9,8 +9,8 @@ use Rattle.noise_table.specs.Margin.{IsQuiet}
 use Rattle.regev_core.specs.Encryption.{cipher, stripped, nearest}
 use Rattle.lane_kernels.specs.Digit.{split_count}
 use Rattle.digit_pack.specs.Digits.{decomposed, joined}
-use Rattle.digit_pack.specs.Layout.{Shape, digit_matrix, digit_rows, digit_cols, digits_per_record, first_row, column_of}
-use Rattle.simple_scheme.specs.Simple.{secret, query_noise, IsQuietRetrieval}
+use Rattle.digit_pack.specs.Layout.{Shape, digit_matrix, digit_rows, digit_cols, digits_per_record, first_row}
+use Rattle.simple_scheme.specs.Simple.{secret, simple_query, IsQuietRetrieval}
 
 -- the secret of part d: n words of the client's stream 4 number + 2, from place d n on
 abbrev pub part_secret : List ℕ → ℕ → ℕ → ℕ → List ℕ
@@ -44,9 +44,9 @@ first_answer_of w digits c = decomposed w (product (one_row c) (transpose digits
 abbrev pub double_query_count : Shape → ℕ
 double_query_count l = digit_cols l + digits_per_record l * digit_rows l
 
--- the prefix of the query for record i: the encryption of its column
+-- the prefix of the query for record i: SimplePIR's query for it
 abbrev pub first_query_of : Shape → WordMatrix → List ℕ → ℕ → ℕ → List ℕ
-first_query_of l a1 seed number i = cipher l.width a1 (secret seed number a1.cols) (query_noise seed number a1.rows) (column_of l i)
+first_query_of l a1 seed number i = simple_query l a1 seed number i
 
 -- part d of it: the encryption of digit d's row
 abbrev pub part_query_of : Shape → WordMatrix → List ℕ → ℕ → ℕ → ℕ → List ℕ

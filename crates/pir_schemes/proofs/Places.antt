@@ -77,7 +77,7 @@ simple_word l n public seed number i k lt =
 
 double_word : (l : Shape) (n : ℕ) (public seed : List ℕ) (number i k : ℕ) → k < query_count Double l →
     slice_index (query_words Double l n public seed number i) k ≡ marked l.width (is_place Double l i k) (unmarked Double l n public seed number k)
-unfolding query_words double_query unmarked
+unfolding query_words double_query simple_query unmarked
 double_word l n public seed number i k lt = by (nat_lt k (digit_cols l)) refl
   where
     by : (b : Bool) → nat_lt k (digit_cols l) ≡ b →

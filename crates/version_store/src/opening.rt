@@ -9,6 +9,7 @@ ghost use Rattle.version_store.specs.Openings.{IsSound, IsOpenFault};
 use digit_pack::Layout;
 use pir_schemes::Plan;
 use snapshot_file::{MAX_DIMENSION, Snapshot};
+use std::alloc::AllocError;
 use thiserror::Error;
 
 /// Why a store can't be opened: the first cause in the order of the variants.
@@ -26,6 +27,16 @@ pub enum OpenError {
     /// There is no memory for what is made from the records.
     #[error("out of memory")]
     Memory,
+}
+
+impl From<AllocError> for OpenError {
+    ghost use Rattle.version_store.specs.declared.opening.OpenError.TheVariants.{Memory};
+
+    ghost from_gives = { λ _ fault. fault ≡ Memory };
+
+    fn from(_refused: AllocError) -> Self {
+        OpenError::Memory
+    }
 }
 
 /// What a snapshot says of every version of its records.

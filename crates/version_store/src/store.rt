@@ -56,6 +56,26 @@ pub enum PublishError {
     Memory,
 }
 
+impl From<AllocError> for EditError {
+    ghost use Rattle.version_store.specs.declared.store.EditError.TheVariants.{Memory};
+
+    ghost from_gives = { λ _ fault. fault ≡ Memory };
+
+    fn from(_refused: AllocError) -> Self {
+        EditError::Memory
+    }
+}
+
+impl From<AllocError> for PublishError {
+    ghost use Rattle.version_store.specs.declared.store.PublishError.TheVariants.{Memory};
+
+    ghost from_gives = { λ _ fault. fault ≡ Memory };
+
+    fn from(_refused: AllocError) -> Self {
+        PublishError::Memory
+    }
+}
+
 /// The current version of the records, with its hints, the draft of the next, and a log of the rows of
 /// digits that the latest publications changed.
 ///
@@ -104,10 +124,7 @@ impl<K: Kernel> Store<K> {
         ensures sound { OnOk result (IsSound (header_of snapshot) snapshot.records.items) }
         ensures refused { IfErr result (IsOpenFault (header_of snapshot) snapshot.records.items) }
     {
-        let layout = match sizes_of(&snapshot) {
-            Ok(layout) => layout,
-            Err(fault) => return Err(fault),
-        };
+        let layout = sizes_of(&snapshot)?;
         let plan = plan_in(&snapshot);
         let Snapshot {
             version,
@@ -115,12 +132,8 @@ impl<K: Kernel> Store<K> {
             records,
             ..
         } = snapshot;
-        let Ok(edition) = Edition::open(alloc, kernel, plan, layout, records) else {
-            return Err(OpenError::Memory);
-        };
-        let Ok(log) = DeltaLog::new(alloc, version) else {
-            return Err(OpenError::Memory);
-        };
+        let edition = Edition::open(alloc, kernel, plan, layout, records)?;
+        let log = DeltaLog::new(alloc, version)?;
         Ok(Store {
             alloc,
             edition,
@@ -326,9 +339,7 @@ impl<K: Kernel> Store<K> {
         if !self.fits(bytes) {
             return Err(EditError::BadLength);
         }
-        let Ok(copy) = copy_of(self.alloc, bytes) else {
-            return Err(EditError::Memory);
-        };
+        let copy = copy_of(self.alloc, bytes)?;
         match self.changes.insert(i, copy) {
             Ok(_) => Ok(()),
             Err(_) => Err(EditError::Memory),
@@ -371,18 +382,10 @@ impl<K: Kernel> Store<K> {
             return Err(PublishError::VersionsUsedUp);
         }
         let layout = self.edition.layout();
-        let Ok(mut scratch) = scratch_for(self.alloc, layout) else {
-            return Err(PublishError::Memory);
-        };
-        let Ok(mut marks) = marks_for(self.alloc, layout) else {
-            return Err(PublishError::Memory);
-        };
-        let Ok(mut rows) = Vec::with_capacity(self.alloc, layout.rows()) else {
-            return Err(PublishError::Memory);
-        };
-        let Ok(mut factors) = factors_for(self.alloc, layout) else {
-            return Err(PublishError::Memory);
-        };
+        let mut scratch = scratch_for(self.alloc, layout)?;
+        let mut marks = marks_for(self.alloc, layout)?;
+        let mut rows = Vec::with_capacity(self.alloc, layout.rows())?;
+        let mut factors = factors_for(self.alloc, layout)?;
         self.edition
             .apply(&mut self.changes, &mut scratch, &mut marks, &mut factors);
         push_marked(&marks, &mut rows);

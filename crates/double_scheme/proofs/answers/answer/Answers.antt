@@ -1,4 +1,4 @@
-use Rattle.std.proofs.Common.{ap, sym, ◌∙◌, ◌≡◌, ℕ, List, length, ◌++◌, take}
+use Rattle.std.proofs.Common.{ap, ◌∙◌, ◌≡◌, ℕ, List, length, ◌++◌, take}
 use Rattle.matrix_u32.specs.Matrix.{WordMatrix, product}
 use Rattle.digit_pack.specs.Layout.{digit_cols}
 use Rattle.double_scheme.specs.Double.{double_answer, first_answer_of, part_answers_of}

@@ -2,7 +2,7 @@ use Rattle.std.proofs.Common.{arith, ap, sym, ◌∙◌, ◌≡◌, ℕ, ◌+◌
 use Rattle.std.specs.Prelude.{flat_map}
 use Rattle.std.specs.List.{range_with_len}
 use Rattle.matrix_u32.specs.Matrix.{WordMatrix}
-use Rattle.digit_pack.specs.Layout.{digit_rows, digit_cols, digits_per_record}
+use Rattle.digit_pack.specs.Layout.{digit_rows, digits_per_record}
 use Rattle.double_scheme.specs.Double.{part_answer_of, part_of_query}
 use Rattle.double_scheme.proofs.Answering.{one_part}
 use Rattle.double_scheme.proofs.answers.append_parts.Goals as goal

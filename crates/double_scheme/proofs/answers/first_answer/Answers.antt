@@ -1,4 +1,4 @@
-use Rattle.std.proofs.Common.{ap, ◌∙◌, ◌≡◌, ℕ, List}
+use Rattle.std.proofs.Common.{ap, ◌∙◌, ℕ, List}
 use Rattle.matrix_u32.specs.Sum.{dot}
 use Rattle.matrix_u32.specs.Matrix.{WordMatrix, row, transpose, times_vector}
 use Rattle.matrix_u32.proofs.Products.{length-list_of}

@@ -1,4 +1,4 @@
-use Rattle.std.proofs.Common.{arith, sym, refl, ◌∙◌, ◌+◌, ◌<◌, ◌≡◌, ℕ, List, length}
+use Rattle.std.proofs.Common.{arith, sym, refl, ◌∙◌, ◌+◌, ◌<◌, ℕ, List, length}
 use Rattle.std.specs.Prelude.{slice_index}
 use Rattle.matrix_u32.specs.Matrix.{matrix_of}
 use Rattle.matrix_u32.proofs.Products.{row-matrix_of}

@@ -4,14 +4,12 @@ use Rattle.std.specs.List.{range_with_len}
 use Rattle.regev_core.specs.Encryption.{cipher}
 use Rattle.digit_pack.specs.Layout.{digits_per_record, digit_rows, first_row}
 use Rattle.digit_pack.proofs.Records.{row_inside}
-use Rattle.simple_scheme.specs.Simple.{simple_query}
 use Rattle.double_scheme.specs.Double.{double_query, first_query_of, part_query_of, part_secret, part_noise}
 use Rattle.double_scheme.proofs.Answering.{one_part}
 use Rattle.double_scheme.proofs.Lengths.{length-query_of}
 use Rattle.double_scheme.proofs.queries.query.Goals as goal
 
 pub loop-d-init : goal.loop-d-init
-unfolding simple_query
 loop-d-init g c = c.in_ok-out.ensures ∙ sym (append-nil (first_query_of c.args.layout.now c.args.a1.now c.args.seed.now c.args.number c.args.i))
 
 pub part_query-requires-clause-place : goal.part_query-requires-clause-place

@@ -10,27 +10,27 @@ use Rattle.version_store.proofs.DraftLemmas.{draft-inserted, some_after_insert, 
 use Rattle.version_store.proofs.HistoryLemmas.{edit_stands}
 use Rattle.version_store.proofs.store.Store.edit.Goals as goal
 
-pub returns-in-Ok-insert-clause-accepted : goal.returns-in-Ok-insert-clause-accepted
-returns-in-Ok-insert-clause-accepted g c =
+pub returns-in-Ok-clause-accepted : goal.returns-in-Ok-clause-accepted
+returns-in-Ok-clause-accepted g c =
     let e : Records = c.self.inside.edition in
     let many : length c.args.self.now.draft ≡ length e.records =
     sym (ap (λ s. length s.draft) c.self.view_is)
     ∙ length-list_of (length e.records) (λ i. bytes_or (change_at c.self.inside.changes.entries i) (record_at e.records i)) in
     let inside : c.args.i < length e.records = omega (arith, many, c.has_record.ensures.0 c.if-not-has_record.false) in
     let draft : draft_of e.records c.insert.new.self.entries ≡ slice_set (draft_of e.records c.self.inside.changes.entries) c.args.i c.args.bytes.now =
-    draft-inserted e.records c.self.inside.changes c.insert.new.self c.args.i _ c.in-Ok-insert.ensures.updates inside
-    ∙ ap (λ (b : List ℕ). slice_set (draft_of e.records c.self.inside.changes.entries) c.args.i b) c.in-Ok.ensures in
+    draft-inserted e.records c.self.inside.changes c.insert.new.self c.args.i _ c.in-Ok.ensures.updates inside
+    ∙ ap (λ (b : List ℕ). slice_set (draft_of e.records c.self.inside.changes.entries) c.args.i b) c.in_ok-copy.ensures in
     let made : List (List ℕ) → Bool →
     StoreState = λ d m. record { version = c.self.inside.log.version; edition = e; draft = d; marked = m; publisher = c.self.inside.publisher; log = c.self.inside.log.lists } in
     let after : StoreState → StoreState = λ s. record s { draft = slice_set s.draft c.args.i c.args.bytes.now; marked = true } in
     ap (λ d. made d (is_some_change c.insert.new.self.entries)) draft
     ∙ ap (made (slice_set (draft_of e.records c.self.inside.changes.entries) c.args.i c.args.bytes.now))
-    (some_after_insert c.self.inside.changes c.insert.new.self c.args.i _ c.in-Ok-insert.ensures.updates)
+    (some_after_insert c.self.inside.changes c.insert.new.self c.args.i _ c.in-Ok.ensures.updates)
     ∙ ap after c.self.view_is
 
-pub returns-in-Ok-insert-clause-history : goal.returns-in-Ok-insert-clause-history
-returns-in-Ok-insert-clause-history g c =
-    edit_stands c.args.self.now _ c.args.i c.args.bytes.now (returns-in-Ok-insert-clause-accepted g c)
+pub returns-in-Ok-clause-history : goal.returns-in-Ok-clause-history
+returns-in-Ok-clause-history g c =
+    edit_stands c.args.self.now _ c.args.i c.args.bytes.now (returns-in-Ok-clause-accepted g c)
 
 pub invariant_of-self : goal.invariant_of-self
 invariant_of-self g c =
@@ -39,10 +39,10 @@ invariant_of-self g c =
     sym (ap (λ s. length s.draft) c.self.view_is)
     ∙ length-list_of (length e.records) (λ i. bytes_or (change_at c.self.inside.changes.entries i) (record_at e.records i)) in
     let inside : c.args.i < length e.records = omega (arith, many, c.has_record.ensures.0 c.if-not-has_record.false) in
-    let fit : fits e.plan c.in-Ok.copy.items ≡ true =
-    ap (fits e.plan) c.in-Ok.ensures ∙ ap (λ s. fits s.edition.plan c.args.bytes.now) c.self.view_is ∙ sym c.fits.ensures ∙ c.if-not-fits.false in
+    let fit : fits e.plan c.in_ok-copy.copy.items ≡ true =
+    ap (fits e.plan) c.in_ok-copy.ensures ∙ ap (λ s. fits s.edition.plan c.args.bytes.now) c.self.view_is ∙ sym c.fits.ensures ∙ c.if-not-fits.false in
     record {
-      fit = fit-updated e c.self.inside.changes c.insert.new.self c.args.i (Some c.in-Ok.copy) c.in-Ok-insert.ensures.updates (inside, fit)
+      fit = fit-updated e c.self.inside.changes c.insert.new.self c.args.i (Some c.in_ok-copy.copy) c.in-Ok.ensures.updates (inside, fit)
           c.self.invariant.fit;
       rows = c.self.invariant.rows;
     }

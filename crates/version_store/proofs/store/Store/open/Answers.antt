@@ -16,11 +16,11 @@ use Rattle.version_store.proofs.store.Store.open.Goals as goal
 
 pub invariant_of-result : goal.invariant_of-result
 invariant_of-result g c =
-    let n : ℕ = digit_rows (version_shape c.in-Ok-open.edition) in
+    let n : ℕ = digit_rows (version_shape c.in_ok-edition.edition) in
     let below : Log → Type 0 = λ log. All (λ (rows : List ℕ). All (λ r. r < n) rows) log.lists in
     record {
       fit = λ i. rw c.new-2.ensures.empty tt;
-      rows = subst below (sym c.in-Ok-new.ensures) (All-nil (λ (rows : List ℕ). All (λ r. r < n) rows));
+      rows = subst below (sym c.in_ok-log.ensures) (All-nil (λ (rows : List ℕ). All (λ r. r < n) rows));
     }
 
 pub returns-clause-held : goal.returns-clause-held
@@ -47,8 +47,8 @@ returns-clause-held g c =
       publisher = h.publisher;
       log = [];
     } in
-    ap (made c.in-Ok-open.edition c.new-2.result.entries) c.in-Ok-new.ensures
-    ∙ ap (λ e. made e c.new-2.result.entries none) (c.in-Ok-open.ensures ∙ ap (of c.plan_in-plan.result) c.in-Ok.ensures.sizes.0
+    ap (made c.in_ok-edition.edition c.new-2.result.entries) c.in_ok-log.ensures
+    ∙ ap (λ e. made e c.new-2.result.entries none) (c.in_ok-edition.ensures ∙ ap (of c.plan_in-plan.result) c.in_ok-layout.ensures.sizes.0
     ∙ ap (λ p. of p (shape_of h)) c.plan_in-plan.ensures)
     ∙ ap (λ cs. made (of plan (shape_of h)) cs none) c.new-2.ensures.empty
     ∙ ap with (draft-none rs)

@@ -15,9 +15,9 @@ invariant_of-self g c =
     let e : Records = c.self.inside.edition in
     let draft : List (List ℕ) = draft_of e.records c.self.inside.changes.entries in
     let rows : c.push_marked.new.rows.items ≡ changed_rows (digits_at e.plan e.records) (digits_at e.plan draft) =
-    pushed_rows e c.apply.new.self draft c.layout-layout.result.now c.in-Ok-marks_for.marks c.deref_mut-2.result.now c.apply.new.marks c.deref.result.now
-    c.in-Ok-with_capacity.rows.items c.push_marked.new.rows.items c.apply.ensures.records c.layout-layout.ensures.value c.in-Ok-marks_for.ensures.count
-    c.in-Ok-marks_for.ensures.none c.deref_mut-2.ensures.value c.apply.ensures.marks c.deref.ensures.value c.in-Ok-with_capacity.ensures.items
+    pushed_rows e c.apply.new.self draft c.layout-layout.result.now c.in_ok-marks.marks c.deref_mut-2.result.now c.apply.new.marks c.deref.result.now
+    c.in_ok-rows.rows.items c.push_marked.new.rows.items c.apply.ensures.records c.layout-layout.ensures.value c.in_ok-marks.ensures.count
+    c.in_ok-marks.ensures.none c.deref_mut-2.ensures.value c.apply.ensures.marks c.deref.ensures.value c.in_ok-rows.ensures.items
     c.push_marked.ensures in
     held_after_publication e c.apply.new.self draft c.self.inside.log c.add.new.self c.push_marked.new.rows.items c.apply.new.changes.entries
     c.apply.ensures.records rows c.add.ensures (λ i. rw c.apply.ensures.none tt) c.self.invariant.rows
@@ -28,9 +28,9 @@ returns-clause-done g c =
     let draft : List (List ℕ) = draft_of e.records c.self.inside.changes.entries in
     let rows : List ℕ = changed_rows (digits_at e.plan e.records) (digits_at e.plan draft) in
     let are : c.push_marked.new.rows.items ≡ rows =
-    pushed_rows e c.apply.new.self draft c.layout-layout.result.now c.in-Ok-marks_for.marks c.deref_mut-2.result.now c.apply.new.marks c.deref.result.now
-    c.in-Ok-with_capacity.rows.items c.push_marked.new.rows.items c.apply.ensures.records c.layout-layout.ensures.value c.in-Ok-marks_for.ensures.count
-    c.in-Ok-marks_for.ensures.none c.deref_mut-2.ensures.value c.apply.ensures.marks c.deref.ensures.value c.in-Ok-with_capacity.ensures.items
+    pushed_rows e c.apply.new.self draft c.layout-layout.result.now c.in_ok-marks.marks c.deref_mut-2.result.now c.apply.new.marks c.deref.result.now
+    c.in_ok-rows.rows.items c.push_marked.new.rows.items c.apply.ensures.records c.layout-layout.ensures.value c.in_ok-marks.ensures.count
+    c.in_ok-marks.ensures.none c.deref_mut-2.ensures.value c.apply.ensures.marks c.deref.ensures.value c.in_ok-rows.ensures.items
     c.push_marked.ensures in
     let made : Records → Changes → Log → StoreState = λ e cs log. record {
       version = log.version;
