@@ -3,7 +3,7 @@
 //! A frame is the length of its payload (four bytes, the lowest first), its kind (one byte) and its
 //! payload, of at most 16,777,216 bytes. All numbers stand with their lowest byte first.
 //!
-//! Its tests are in `frame_tests::frames`.
+//! Its tests are in `frame_tests::frames` and `tests/long/frame_tests`.
 #![tactic(auto)]
 
 mod frame;

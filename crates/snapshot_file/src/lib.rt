@@ -4,7 +4,7 @@
 //! of all bytes before it. `specs/Snapshots.antt` defines these bytes, `specs/Verdicts.antt` what a reader
 //! makes of an input. Numbers stand with their lowest byte first.
 //!
-//! Its tests are in `frame_tests::snapshots`.
+//! Its tests are in `frame_tests::snapshots` and `tests/long/frame_tests`.
 #![tactic(auto)]
 
 mod header;
