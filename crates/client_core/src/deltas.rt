@@ -20,12 +20,9 @@ use crate::replies::{current_of, ends, fails};
 use crate::state::{Call, ClientFault, ClientState, Event, Reaction, ServerInfo};
 use frame_codec::Rows;
 use matrix_u32::Matrix;
-use pir_schemes::Scheme;
+use pir_schemes::{DELTA_ROWS, Scheme};
 use std::alloc::Global;
 use std::mem;
-
-/// The most rows that a Delta has.
-const MAX_ROWS: usize = 1024;
 
 /// A Delta answers a sync by delta: its rows replace those of the hint held.
 pub(crate) fn take_delta(
@@ -75,7 +72,7 @@ fn known_after(
         (λ k. (is_delta known.now asked since now count rows.now.dimension (row_numbers rows.now)
         ≡ true) × (k ≡ with_current known.now now count)) }
 {
-    if since != asked || rows.dimension() as usize != known.dimension || rows.len() > MAX_ROWS {
+    if since != asked || rows.dimension() as usize != known.dimension || rows.len() > DELTA_ROWS {
         return None;
     }
     if !is_ascending(rows, known.layout.rows()) {

@@ -5,10 +5,10 @@ ghost use Rattle.clap.specs.Matches.{found_of};
 ghost use Rattle.pir_client.specs.Tasks.{TaskFits, IsDimension, IsNumberIfGiven, ReadsGet, ReadsPut, ReadsPublish};
 
 use clap::{ArgMatches, Command};
-use client_core::Scheme;
 use command_words::{
     BadLine, Secret, key_at, number_at, option, record_bytes, seed_at, text_at, word,
 };
+use session_core::Scheme;
 use std::alloc::{AllocError, Global};
 
 /// The numbers of retrievals are below this one.

@@ -6,10 +6,9 @@ ghost use Rattle.pir_client.specs.Tasks.{TaskFits, IsDimension};
 use crate::command_line::{KEY_TAKES, SEED_TAKES, Task, task_of};
 use crate::failures::failure_of;
 use client_commands::{get, publish, put};
-use client_core::{ClientCore, Scheme};
 use command_words::{Failure, program_words};
-use lane_kernels::Lanes;
 use rehearsal::{RehearseFault, rehearse};
+use session_core::{ClientCore, Lanes, Scheme};
 use std::io;
 use std::net::{Ipv4Addr, TcpStream};
 

@@ -3,9 +3,8 @@
 ghost use Rattle.pir_client.specs.Failures.{IsReported, IsFault, call_name, conversation_name};
 
 use client_commands::CommandError;
-use client_core::CallFault;
 use command_words::Failure;
-use session_engines::ConverseFault;
+use session_core::{CallFault, ConverseFault};
 
 /// The failure that is printed, with its exit status, of a command that was not done.
 pub fn failure_of(fault: CommandError) -> Failure

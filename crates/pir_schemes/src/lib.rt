@@ -19,7 +19,7 @@ mod scheme;
 
 pub use certainty::is_certain;
 pub use counts::{answer_count, hint_len, hint_rows, query_count};
-pub use parts::{PART_WORDS, part_len, part_words};
+pub use parts::{DELTA_ROWS, PART_WORDS, part_len, part_words};
 pub use plan::{Plan, SecretSeed};
 pub use retrievals::{query, recover};
 pub use scheme::{PROFILE, Scheme};

@@ -1,10 +1,13 @@
-//! The parts in which a hint is sent.
+//! How much of a hint is sent at a time.
 
 ghost use Rattle.std.specs.Prelude.{◌≡◌, ◌≤◌, ◌*◌, ◌↔◌, IsNone, IfSome, length, take};
 ghost use Rattle.pir_schemes.specs.Parts.{part_of, part_len as words_of_part};
 
 /// The most words of a part of a hint.
 pub const PART_WORDS: usize = 65_536;
+
+/// The most rows that a delta has. Where more rows of a hint changed, the hint is sent by parts.
+pub const DELTA_ROWS: usize = 1024;
 
 /// How many words part `part` of `total` words has: those from 65,536 `part` on, at most 65,536.
 pub fn part_len(total: usize, part: u32) -> usize

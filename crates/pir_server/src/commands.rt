@@ -5,7 +5,7 @@ use crate::making::make;
 use crate::serving::serve_file;
 use crate::showing::show;
 use command_words::{Failure, program_words};
-use once_session::{OnceFault, once};
+use session_core::{OnceFault, once};
 use std::io;
 
 /// The most reads that `once` makes.

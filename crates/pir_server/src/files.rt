@@ -3,13 +3,12 @@
 ghost use Rattle.std.specs.Prelude.{◌≤◌, IfOk};
 
 use command_words::Failure;
-use lane_kernels::Lanes;
-use snapshot_file::write_snapshot_bytes;
+use session_core::{
+    Header, Lanes, OpenError, Snapshot, SnapshotFault, Store, WriteFault, read_snapshot,
+    write_snapshot, write_snapshot_bytes,
+};
 use std::fs;
 use std::fs::File;
-use version_store::{
-    Header, OpenError, Snapshot, SnapshotFault, Store, WriteFault, read_snapshot, write_snapshot,
-};
 
 /// What a snapshot file is made of.
 #[derive(Clone, Copy)]
@@ -49,27 +48,7 @@ pub fn store_of(rt: &HostRuntime, name: &str) -> Result<Store<Lanes>, Failure> {
 pub fn header_of(rt: &HostRuntime, name: &str) -> Result<Header, Failure>
     ensures { IfOk result (λ h. h.dimension ≤ 1024) }
 {
-    let Snapshot {
-        width,
-        record_len,
-        groups,
-        count,
-        dimension,
-        version,
-        seed,
-        publisher,
-        ..
-    } = snapshot_of(rt, name)?;
-    Ok(Header {
-        width,
-        record_len,
-        groups,
-        count,
-        dimension,
-        version,
-        seed,
-        publisher,
-    })
+    Ok(snapshot_of(rt, name)?.header())
 }
 
 // The snapshot in a file.

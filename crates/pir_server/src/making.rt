@@ -7,10 +7,10 @@ use crate::command_line::{KEY_TAKES, Making, SEED_TAKES};
 use crate::files::{Content, write_file};
 use command_words::Failure;
 use connection_io::{piece_buffer, read_piece};
+use session_core::Header;
 use sha2::{Digest, Sha256};
 use std::alloc::Global;
 use std::io::Read;
-use version_store::Header;
 
 /// The most record bytes: as many as there are words in the largest matrix.
 const MAX_RECORD_BYTES: usize = 33_554_432;

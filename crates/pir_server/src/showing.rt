@@ -4,10 +4,8 @@ ghost use Rattle.std.specs.Prelude.{◌≤◌};
 
 use crate::files::header_of;
 use command_words::Failure;
-use digit_pack::Layout;
-use pir_schemes::{Scheme, answer_count, hint_len, is_certain, query_count};
+use session_core::{Header, Layout, Scheme, answer_count, hint_len, is_certain, query_count};
 use std::alloc::{AllocError, Global};
-use version_store::Header;
 
 /// How many bytes a word has.
 const WORD_BYTES: u128 = 4;
@@ -30,13 +28,7 @@ pub fn show(rt: &HostRuntime, name: &str) -> Result<(), Failure> {
 fn description_of(alloc: Global, header: &Header) -> Result<String, Failure>
     requires { header.now.dimension ≤ 1024 }
 {
-    let layout = Layout::new(
-        u32::from(header.width),
-        usize::from(header.record_len),
-        usize::from(header.groups),
-        header.count as usize,
-    );
-    let Ok(layout) = layout else {
+    let Ok(layout) = header.layout() else {
         return Err(Failure::Fault("BadLayout"));
     };
     match description(alloc, header, &layout) {

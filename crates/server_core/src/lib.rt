@@ -14,5 +14,5 @@ mod server;
 mod session;
 mod standing;
 
-pub use server::{FeedError, OpenError, ServerCore};
+pub use server::{FeedError, ServerCore, SessionError};
 pub use standing::Standing;

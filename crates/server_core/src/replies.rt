@@ -20,9 +20,6 @@ use version_store::Store;
 /// The room that every reply but a hint's part, a delta and an answer fits into.
 pub const SHORT_REPLY: usize = 64;
 
-/// How many rows a delta has at most.
-pub const MOST_ROWS: usize = 1024;
-
 /// Adds a short reply for which there is room.
 fn put(reply: &Frame, out: &mut Vec<u8>)
     requires short { payload_size reply.now ≤ 59 }

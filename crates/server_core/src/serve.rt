@@ -8,13 +8,13 @@ ghost use Rattle.version_store.specs.Histories.{History, StandsFor};
 ghost use Rattle.server_core.specs.Serving.{setting_of, is_publisher_key, is_reader_key, Serves, ServedAll, BrokenOff, IsFull};
 
 use crate::replies::{
-    MOST_ROWS, SHORT_REPLY, part_of_hint, put_answer, put_delta, put_done, put_no_delta, put_part,
+    SHORT_REPLY, part_of_hint, put_answer, put_delta, put_done, put_no_delta, put_part,
     put_refused, put_stale, put_welcome,
 };
 use crate::standing::Standing;
 use frame_codec::{Bytes, Bytes32, Frame, Refusal, Words};
 use matrix_u32::Kernel;
-use pir_schemes::{PROFILE, Scheme};
+use pir_schemes::{DELTA_ROWS, PROFILE, Scheme};
 use sha2::{Digest, Sha256};
 use std::alloc::{AllocError, Global};
 use version_store::{EditError, PublishError, Store};
@@ -118,7 +118,7 @@ fn serve_delta_ask<K: Kernel>(
     let Some(rows) = found else {
         return put_no_delta(store, out);
     };
-    if rows.len() > MOST_ROWS {
+    if rows.len() > DELTA_ROWS {
         return put_no_delta(store, out);
     }
     if put_delta(alloc, store, since, &rows, out).is_err() {

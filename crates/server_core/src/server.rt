@@ -17,7 +17,7 @@ use version_store::{EditError, PublishError, Store};
 
 /// Why no session was opened: the first cause in the order of the variants.
 #[derive(Clone, Copy, Debug, PartialEq, Eq, Error)]
-pub enum OpenError {
+pub enum SessionError {
     /// There is a session of this number.
     #[error("there is a session of this number")]
     IdInUse,
@@ -73,9 +73,9 @@ impl<K: Kernel> ServerCore<K> {
     ///
     /// `IdInUse` exactly when there is one of this number, also a closed one; else it is opened, or `Memory`.
     /// A refused opening changes nothing.
-    pub fn open_session(&mut self, id: u64) -> Result<(), OpenError>
+    pub fn open_session(&mut self, id: u64) -> Result<(), SessionError>
         ensures opened { OnOk result (session_of self.new.sessions id ≡ Some sessions.new_session) }
-        ensures in_use { IsErrOf result OpenError.IdInUse ↔ IsSome
+        ensures in_use { IsErrOf result SessionError.IdInUse ↔ IsSome
             (session_of self.old.sessions id) }
         ensures others { (other : ℕ) → other ≢ id →
             session_of self.new.sessions other ≡ session_of self.old.sessions other }
@@ -83,11 +83,11 @@ impl<K: Kernel> ServerCore<K> {
         ensures refused { OnErr result (self.new ≡ self.old) }
     {
         if self.sessions.contains_key(&id) {
-            return Err(OpenError::IdInUse);
+            return Err(SessionError::IdInUse);
         }
         match self.sessions.insert(id, Session::new(self.alloc)) {
             Ok(_) => Ok(()),
-            Err(_) => Err(OpenError::Memory),
+            Err(_) => Err(SessionError::Memory),
         }
     }
 

@@ -3,6 +3,10 @@
 //!
 //! [`ServerCore`] and [`ClientCore`] know no connection: bytes go in by `feed`, in any pieces, and bytes come out.
 //! [`serve`] and [`converse`] run them over a reader and a writer, and [`once`] serves one database over one stream.
+//! A [`Store`] is opened from a [`Snapshot`], which is made of a [`Header`] and records, or read by [`read_snapshot`], and
+//! [`write_snapshot`] writes it back. [`Lanes`] is the kernel to use, [`Plain`] the slow one that it is compared with.
+//!
+//! Every type that a call takes or answers is here, so nothing else needs to be imported.
 //!
 //! A whole session by hand: a publisher's store, a session, a client that is let in, gets its hint, and retrieves
 //! a record without the server learning which. The test `tests::a_record_is_retrieved` is this code, over both kernels
@@ -42,10 +46,19 @@
 //! Its test is in `tests`.
 #![tactic(auto)]
 
-pub use client_core::{CallFault, ClientCore, ClientFault, Event, Fed, Scheme};
+pub use client_core::{CallFault, ClientCore, ClientFault, Event, Fed, Scheme, ServerInfo};
+pub use digit_pack::Layout;
+pub use frame_codec::{Bytes, Words};
+pub use lane_kernels::Lanes;
+pub use matrix_u32::{Kernel, Plain};
 pub use once_session::{OnceFault, once};
-pub use server_core::{FeedError, OpenError, ServerCore, Standing};
+pub use pir_schemes::{Plan, answer_count, hint_len, is_certain, query_count};
+pub use server_core::{FeedError, ServerCore, SessionError, Standing};
 pub use session_engines::{ConverseFault, Ending, ServeFault, converse, serve};
+pub use snapshot_file::{
+    Header, Snapshot, SnapshotFault, WriteFault, read_snapshot, write_snapshot_bytes,
+};
+pub use version_store::{EditError, OpenError, PublishError, Store, write_snapshot};
 
 #[cfg(test)]
 mod tests;

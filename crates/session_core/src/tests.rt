@@ -1,12 +1,12 @@
 //! The session that the crate's page shows.
 
-use crate::{CallFault, ClientCore, Event, FeedError, OpenError, Scheme, ServerCore};
-use lane_kernels::Lanes;
-use matrix_u32::{Kernel, Plain};
+use crate::{
+    CallFault, ClientCore, Event, FeedError, Header, Kernel, Lanes, Plain, Scheme, ServerCore,
+    SessionError, Store,
+};
 use std::alloc::Global;
 use std::process::Abort;
 use std::test::Fail;
-use version_store::{Header, Store};
 
 const READER: [u8; 32] = [0; 32];
 
@@ -31,7 +31,7 @@ fn server<K: Kernel>(alloc: Global, kernel: K) -> Result<ServerCore<K>, Fail> {
 
 // The calls below have no clause, so that the test doesn't carry theirs.
 
-fn open_session<K: Kernel>(server: &mut ServerCore<K>) -> Result<(), OpenError> {
+fn open_session<K: Kernel>(server: &mut ServerCore<K>) -> Result<(), SessionError> {
     server.open_session(7)
 }
 

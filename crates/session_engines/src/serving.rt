@@ -11,7 +11,7 @@ ghost use Rattle.session_engines.specs.ServingTurns.{WritesReplies, ServesTurn, 
 
 use connection_io::{Connection, Pair, piece_buffer, receive, send};
 use matrix_u32::Kernel;
-use server_core::{FeedError, OpenError, ServerCore};
+use server_core::{FeedError, ServerCore, SessionError};
 use std::alloc::Global;
 use std::io::{Read, Write};
 use thiserror::Error;
@@ -172,8 +172,8 @@ pub fn serve_over<K: Kernel, C: Connection>(
 {
     match core.open_session(id) {
         Ok(()) => {}
-        Err(OpenError::IdInUse) => return Err(ServeFault::IdInUse),
-        Err(OpenError::Memory) => return Err(ServeFault::Memory),
+        Err(SessionError::IdInUse) => return Err(ServeFault::IdInUse),
+        Err(SessionError::Memory) => return Err(ServeFault::Memory),
     }
     let ended = serve_opened(alloc, core, id, connection, turns);
     core.close_session(id);

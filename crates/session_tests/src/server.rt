@@ -3,7 +3,7 @@
 
 use lane_kernels::Lanes;
 use matrix_u32::{Kernel, Plain};
-use server_core::{FeedError, OpenError, ServerCore, laws};
+use server_core::{FeedError, ServerCore, SessionError, laws};
 use std::alloc::Global;
 use std::process::Abort;
 use std::test::Fail;
@@ -58,7 +58,7 @@ fn feed<K: Kernel>(
     server.feed(id, piece, out)
 }
 
-fn open_session<K: Kernel>(server: &mut ServerCore<K>, id: u64) -> Result<(), OpenError> {
+fn open_session<K: Kernel>(server: &mut ServerCore<K>, id: u64) -> Result<(), SessionError> {
     server.open_session(id)
 }
 
@@ -181,7 +181,7 @@ fn sessions_are_opened_and_closed_on<K: Kernel>(
     assert_eq!(rt; feed(server, 9, QUERY, &mut out), Err(FeedError::NoSession));
     assert_eq!(rt; out.is_empty(), true);
     assert_eq!(rt; open_session(server, 3), Ok(()));
-    assert_eq!(rt; open_session(server, 3), Err(OpenError::IdInUse));
+    assert_eq!(rt; open_session(server, 3), Err(SessionError::IdInUse));
     assert_eq!(rt; has_session(server, 3), true);
     assert_eq!(rt; close_session(server, 3), true);
     assert_eq!(rt; has_session(server, 3), false);

@@ -77,7 +77,7 @@ fn is_answered<K: Kernel>(
 // Opens a session, again where memory was refused: the first try has opened none.
 fn opens<K: Kernel>(rt: &impl Abort, server: &mut ServerCore<K>, id: u64) {
     if let Err(fault) = open_session(server, id) {
-        assert_eq!(rt; fault, OpenError::Memory);
+        assert_eq!(rt; fault, SessionError::Memory);
         assert!(rt; !has_session(server, id));
         assert_eq!(rt; open_session(server, id), Ok(()));
     }

@@ -5,8 +5,8 @@ use super::*;
 #[test]
 fn each_open_error_has_its_text(rt: HostRuntime) -> Result<(), Fail> {
     let texts = [
-        (OpenError::IdInUse, "there is a session of this number"),
-        (OpenError::Memory, "out of memory"),
+        (SessionError::IdInUse, "there is a session of this number"),
+        (SessionError::Memory, "out of memory"),
     ];
     for (fault, text) in texts {
         let reported = format!(in rt.alloc(); "{fault}")?;

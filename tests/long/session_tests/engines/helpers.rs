@@ -6,7 +6,7 @@ use super::*;
 use client_core::Scheme;
 use connection_io::Connection;
 pub use memory_io::Input;
-use server_core::OpenError;
+use server_core::SessionError;
 use session_engines::{converse_over, serve_over};
 use std::io;
 use version_store::PublishError;
@@ -121,7 +121,7 @@ pub fn edit<K: Kernel>(
     client.edit(index, bytes)
 }
 
-pub fn open_session<K: Kernel>(server: &mut ServerCore<K>, id: u64) -> Result<(), OpenError> {
+pub fn open_session<K: Kernel>(server: &mut ServerCore<K>, id: u64) -> Result<(), SessionError> {
     server.open_session(id)
 }
 

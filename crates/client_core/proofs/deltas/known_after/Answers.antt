@@ -2,7 +2,7 @@ use Rattle.std.proofs.Common.{◌≡◌, ◌∙◌, ◌≤◌, ◌<◌, List, �
 use Rattle.digit_pack.specs.Layout.{digit_rows}
 use Rattle.client_core.specs.Replies.{row_numbers, are_ascending}
 use Rattle.client_core.proofs.MovedRows.{length-numbers, other_since, other_dimension, too_many, delta_is_current}
-use Rattle.client_core.proofs.deltas.known_after.Goals.{then-since-asked-via-then-since-asked, then-since-asked-via-else-since-asked+then-dimension-known, then-since-asked-via-else-since-asked+else-dimension-known+then-len-gt-MAX_ROWS}
+use Rattle.client_core.proofs.deltas.known_after.Goals.{then-since-asked-via-then-since-asked, then-since-asked-via-else-since-asked+then-dimension-known, then-since-asked-via-else-since-asked+else-dimension-known+then-len-gt-DELTA_ROWS}
 use Rattle.client_core.proofs.deltas.known_after.Goals as goal
 
 pub returns-then-since-asked : goal.returns-then-since-asked
@@ -13,7 +13,7 @@ returns-then-since-asked c =
           other_since c.args.known.now c.args.asked c.args.since c.args.now c.args.count c.args.rows.now.dimension numbers (λ e. omega arith)
       | then-since-asked-via-else-since-asked+then-dimension-known w ↦
           other_dimension c.args.known.now c.args.asked c.args.since c.args.now c.args.count c.args.rows.now.dimension numbers (λ e. omega arith)
-      | then-since-asked-via-else-since-asked+else-dimension-known+then-len-gt-MAX_ROWS w ↦
+      | then-since-asked-via-else-since-asked+else-dimension-known+then-len-gt-DELTA_ROWS w ↦
           too_many c.args.known.now c.args.asked c.args.since c.args.now c.args.count c.args.rows.now.dimension numbers
           (omega (arith, length-numbers c.args.rows.now))
     ]
