@@ -17,14 +17,14 @@ ends : (want : Want) (old : Client) (event : Event) (read out : List ℕ) (left 
 ends want old event read out left new x =
     subst (λ (c : ClientState). Ends c.call event) x.accepted.state (event_ends_the_call x.called x.first most_reads event read out left new x.answered.1)
 
-record_of : (i : ℕ) (c : ClientState) (e : Event) → IsDone e → Ends (state_after_call (Ask i) c).call e → IsRecordAsked i e
-record_of i c (event.Retrieved index of bytes) done h = h.0
-record_of i c (event.Unreadable index of) done h = absurd done
-record_of i c (event.Stale of) done h = absurd done
-record_of i c (event.Refused code) done h = absurd done
-record_of i c (event.Welcomed of) done h = absurd h
-record_of i c (event.Synced scheme of) done h = absurd h
-record_of i c (event.Done of) done h = absurd h
+retrieved_ends : (i : ℕ) (c : ClientState) (e : Event) → IsDone e → Ends (state_after_call (Ask i) c).call e → IsRecordAsked i e
+retrieved_ends i c (event.Retrieved index of bytes) done h = h.0
+retrieved_ends i c (event.Unreadable index of) done h = absurd done
+retrieved_ends i c (event.Stale of) done h = absurd done
+retrieved_ends i c (event.Refused code) done h = absurd done
+retrieved_ends i c (event.Welcomed of) done h = absurd h
+retrieved_ends i c (event.Synced scheme of) done h = absurd h
+retrieved_ends i c (event.Done of) done h = absurd h
 
 version_of_edit : (i : ℕ) (bytes : List ℕ) (c : ClientState) (e : Event) → IsDone e → Ends (state_after_call (Edit i bytes) c).call e → IsDoneVersion e
 version_of_edit i b c (event.Done of) done h = tt
@@ -47,7 +47,7 @@ version_of_publication c (event.Synced scheme of) done h = absurd h
 -- an ask that was done ends with the record asked for
 pub ask_ends : (i : ℕ) (old : Client) (result : Result Event CommandError) (read out : List ℕ) (left : Option (List ℕ)) (new : Client)
     → ComesTo old (Ask i) result read out left new → IfOk result (IsRecordAsked i)
-ask_ends i old (Ok e) read out left new x = record_of i old.state e x.answered.0 (ends (Ask i) old e read out left new x)
+ask_ends i old (Ok e) read out left new x = retrieved_ends i old.state e x.answered.0 (ends (Ask i) old e read out left new x)
 ask_ends i old (Err failure) read out left new x = tt
 
 -- an edit that was done ends with a version

@@ -11,7 +11,7 @@ use Rattle.client_core.proofs.NumberLaws.{sync_number}
 use Rattle.pir_schemes.specs.declared.scheme.Scheme.{Scheme}
 use Rattle.client_commands.specs.declared.fault.CommandError.{CommandError}
 use Rattle.client_commands.specs.declared.fault.CommandError.TheVariants.{Refused, Stale, Unreadable, ShortSecrets, Call, Conversation}
-use Rattle.client_commands.specs.Transcripts.{most_reads, Answers, Exchanges, RefusesCall, ComesTo, Step, Calls, Judges, EndsWith, IsLastOf, Transacts, retrieval}
+use Rattle.client_commands.specs.Transcripts.{most_reads, Answers, Exchanges, RefusesCall, ComesTo, CommandStep, Calls, Judges, EndsWith, IsLastOf, Transacts, retrieval}
 use Rattle.client_commands.proofs.Conversations.{conversing_spends_no_number}
 
 -- ---- one call
@@ -87,7 +87,7 @@ abbrev pub Spends : Result Event CommandError → ℕ → ℕ → Type 0
 Spends (Ok event) old new = new ≡ old + 1
 Spends (Err failure) old new = (new ≡ old) ⊎ (new ≡ old + 1)
 
-none_spent : (step : Step) (later : List Step) (result : Result Event CommandError) (old new : ℕ) → IsLastOf (step ∷ later) result → new ≡ old →
+none_spent : (step : CommandStep) (later : List CommandStep) (result : Result Event CommandError) (old new : ℕ) → IsLastOf (step ∷ later) result → new ≡ old →
     Spends result old new
 none_spent step later (Ok event) old new is same = absurd cc
 none_spent step later (Err failure) old new is same = inl same
@@ -132,7 +132,7 @@ asks old i result read out left new (inl h) = last_ask old i result read out lef
 asks old i result read out left new (inr h) = absurd h.10
 
 -- after a call that asks for no record
-calm_then : (want : Want) (step : Step) (later : List Step) (old : Client) (result : Result Event CommandError) (read out : List ℕ)
+calm_then : (want : Want) (step : CommandStep) (later : List CommandStep) (old : Client) (result : Result Event CommandError) (read out : List ℕ)
     (left : Option (List ℕ)) (new : Client)
     → IsNoAsk want
     → ((mid : Client) (read2 out2 : List ℕ) → Transacts mid (step ∷ later) result read2 out2 left new → Spends result mid.state.number new.state.number)
@@ -144,7 +144,7 @@ calm_then want step later old result read out left new calm rest (inr h) =
     spent_after result old.state.number h.0.state.number new.state.number (calm_call old want (Ok h.9.0) h.1 h.3 h.5 h.0 calm h.9.1)
     (rest h.0 h.2 h.4 h.10)
 
-look_then : (least : ℕ) (step : Step) (later : List Step) (old : Client) (result : Result Event CommandError) (read out : List ℕ)
+look_then : (least : ℕ) (step : CommandStep) (later : List CommandStep) (old : Client) (result : Result Event CommandError) (read out : List ℕ)
     (left : Option (List ℕ)) (new : Client)
     → ((mid : Client) (read2 out2 : List ℕ) → Transacts mid (step ∷ later) result read2 out2 left new → Spends result mid.state.number new.state.number)
     → Transacts old (Judges least ∷ (step ∷ later)) result read out left new → Spends result old.state.number new.state.number
@@ -164,13 +164,13 @@ retrieval_spends least scheme index old result read out left new t =
     (λ b r o. calm_then (Sync scheme) _ _ b result r o left new tt (λ c r o. asks c index result r o left new))) t
 
 -- each of the steps is a call that asks for no record
-unfoldable pub AreNoAsks : List Step → Type 0
+unfoldable pub AreNoAsks : List CommandStep → Type 0
 AreNoAsks [] = Unit {0}
 AreNoAsks (Calls want ∷ later) = IsNoAsk want × AreNoAsks later
 AreNoAsks (Judges least ∷ later) = ⊥
 
 -- such steps spend no number
-pub no_asks_spend_none : (steps : List Step) (old : Client) (result : Result Event CommandError) (read out : List ℕ) (left : Option (List ℕ)) (new : Client)
+pub no_asks_spend_none : (steps : List CommandStep) (old : Client) (result : Result Event CommandError) (read out : List ℕ) (left : Option (List ℕ)) (new : Client)
     → AreNoAsks steps → Transacts old steps result read out left new → new.state.number ≡ old.state.number
 unfolding Transacts AreNoAsks
 no_asks_spend_none [] old result read out left new calm h = absurd h

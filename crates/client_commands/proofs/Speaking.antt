@@ -13,7 +13,7 @@ use Rattle.client_core.specs.Feeding.{Client}
 use Rattle.session_engines.specs.Conversing.{Converses}
 use Rattle.client_commands.specs.declared.fault.CommandError.{CommandError}
 use Rattle.client_commands.specs.declared.fault.CommandError.TheVariants.{Refused, Stale, Unreadable, ShortSecrets, Call, Conversation}
-use Rattle.client_commands.specs.Transcripts.{most_reads, said_against, Answers, AnswersCall, Exchanges, RefusesCall, ComesTo, Step, Calls, Judges, secret_len, IsLastOf, Transacts}
+use Rattle.client_commands.specs.Transcripts.{most_reads, failure_of_event, Answers, AnswersCall, Exchanges, RefusesCall, ComesTo, CommandStep, Calls, Judges, secret_len, IsLastOf, Transacts}
 
 -- ---- one conversation
 
@@ -23,7 +23,7 @@ answer_of event None = Ok event
 answer_of event (Some failure) = Err failure
 
 told : (called : Client) (first : List ℕ) (event : Event) (read out : List ℕ) (left : Option (List ℕ)) (new : Client)
-    → Converses called first most_reads (Ok event) read out left new → Answers called first (answer_of event (said_against event)) read out left new
+    → Converses called first most_reads (Ok event) read out left new → Answers called first (answer_of event (failure_of_event event)) read out left new
 told called first (event.Welcomed version) read out left new h = (tt, h)
 told called first (event.Synced scheme version) read out left new h = (tt, h)
 told called first (event.Retrieved index version bytes) read out left new h = (tt, h)
@@ -34,7 +34,7 @@ told called first (event.Refused code) read out left new h = h
 
 -- an event is answered, or reported as what it says against its call
 pub event_is_told : (called : Client) (first : List ℕ) (event : Event) (said : Option CommandError) (read out : List ℕ) (left : Option (List ℕ)) (new : Client)
-    → said_against event ≡ said → Converses called first most_reads (Ok event) read out left new
+    → failure_of_event event ≡ said → Converses called first most_reads (Ok event) read out left new
     → Answers called first (answer_of event said) read out left new
 event_is_told called first event said read out left new e h =
     let P : Option CommandError → Type 0 = λ s. Answers called first (answer_of event s) read out left new in
@@ -120,18 +120,18 @@ end (Ok event) = refl
 end (Err failure) = tt
 
 -- what came of steps, between two states of the reader and of the writer
-abbrev pub Spoken : Option (List ℕ) → Option (List ℕ) → Option (List ℕ) → Option (List ℕ) → Client → List Step → Result Event CommandError → Client → Type 0
+abbrev pub Spoken : Option (List ℕ) → Option (List ℕ) → Option (List ℕ) → Option (List ℕ) → Client → List CommandStep → Result Event CommandError → Client → Type 0
 Spoken left left2 held held2 old steps result new =
     (read : List ℕ) × (out : List ℕ) × Consumes left left2 read × Appends held held2 out × Transacts old steps result read out left2 new
 
 -- the call ended it
-pub last_call : (want : Want) (later : List Step) (left left2 held held2 : Option (List ℕ)) (old : Client) (result : Result Event CommandError) (new : Client)
+pub last_call : (want : Want) (later : List CommandStep) (left left2 held held2 : Option (List ℕ)) (old : Client) (result : Result Event CommandError) (new : Client)
     → IsLastOf later result → Called left left2 held held2 old want result new → Spoken left left2 held held2 old (Calls want ∷ later) result new
 unfolding Transacts
 last_call want later left left2 held held2 old result new is c = (c.0, c.1, c.2, c.3, inl (is, c.4))
 
 -- the call was done, and others followed
-pub after_call : (want : Want) (later : List Step) (left left2 left3 held held2 held3 : Option (List ℕ)) (old : Client) (event : Event) (mid : Client)
+pub after_call : (want : Want) (later : List CommandStep) (left left2 left3 held held2 held3 : Option (List ℕ)) (old : Client) (event : Event) (mid : Client)
     (result : Result Event CommandError) (new : Client)
     → Called left left2 held held2 old want (Ok event) mid → Spoken left2 left3 held2 held3 mid later result new
     → Spoken left left3 held held3 old (Calls want ∷ later) result new
@@ -145,7 +145,7 @@ after_call want later left left2 left3 held held2 held3 old event mid result new
 )
 
 -- the secrets were long enough, and others followed
-pub after_look : (least : ℕ) (later : List Step) (left left2 held held2 : Option (List ℕ)) (old : Client) (result : Result Event CommandError) (new : Client)
+pub after_look : (least : ℕ) (later : List CommandStep) (left left2 held held2 : Option (List ℕ)) (old : Client) (result : Result Event CommandError) (new : Client)
     → least ≤ secret_len old.state.known → Spoken left left2 held held2 old later result new
     → Spoken left left2 held held2 old (Judges least ∷ later) result new
 unfolding Transacts
@@ -153,7 +153,7 @@ after_look least later left left2 held held2 old result new enough s =
     (s.0, s.1, s.2, s.3, inr (old, [], s.0, [], s.1, left, s.2, refl, refl, (enough, (refl, refl, refl)), s.4))
 
 -- they were too short
-pub last_look : (least : ℕ) (later : List Step) (left held : Option (List ℕ)) (old : Client) (failure : CommandError)
+pub last_look : (least : ℕ) (later : List CommandStep) (left held : Option (List ℕ)) (old : Client) (failure : CommandError)
     → failure ≡ ShortSecrets (secret_len old.state.known) → secret_len old.state.known < least
     → Spoken left left held held old (Judges least ∷ later) (Err failure) old
 unfolding Transacts

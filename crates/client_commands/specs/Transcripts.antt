@@ -38,11 +38,11 @@ Answers called first (Err (Call fault)) read out left new = ⊥
 Answers called first (Err (Conversation fault)) read out left new = Converses called first most_reads (Err fault) read out left new
 
 -- what an event says against its call, as a command's failure
-abbrev pub said_against : Event → Option CommandError
-said_against (event.Refused code) = Some (Refused code)
-said_against (event.Stale version) = Some (Stale version)
-said_against (event.Unreadable index version) = Some (Unreadable index version)
-said_against _ = None
+abbrev pub failure_of_event : Event → Option CommandError
+failure_of_event (event.Refused code) = Some (Refused code)
+failure_of_event (event.Stale version) = Some (Stale version)
+failure_of_event (event.Unreadable index version) = Some (Unreadable index version)
+failure_of_event _ = None
 
 -- What came of what a client gave for a call: its bytes are answered, or its refusal is reported, and then nothing is read or written
 abbrev pub AnswersCall : Client → Result (Vec ℕ Global) CallFault → Result Event CommandError → List ℕ → List ℕ → Option (List ℕ) → Client → Type 0
@@ -71,38 +71,38 @@ ComesTo old want (Err (Call fault)) read out left new = RefusesCall old want fau
 ComesTo old want result read out left new = Exchanges old want result read out left new
 
 -- what a command does in its turn: a call, or a look at the length of the server's secrets, which is to be this one at least
-pub data Step : Type 0 where
-  Calls : (want : Want) → Step
-  Judges : (least : ℕ) → Step
+pub data CommandStep : Type 0 where
+  Calls : (want : Want) → CommandStep
+  Judges : (least : ℕ) → CommandStep
 
 -- how many words a secret has by the Welcome, 0 before it
 abbrev pub secret_len : Option ServerInfo → ℕ
 secret_len None = 0
-secret_len (Some k) = k.dimension
+secret_len (Some k) = k.plan.dimension
 
 -- nothing was read or written, and the client is as it was
 abbrev pub IsStill : Client → List ℕ → List ℕ → Client → Type 0
 IsStill old read out new = (read ≡ []) × (out ≡ []) × (new ≡ old)
 
 -- a step that was done
-abbrev pub Passes : Client → Step → List ℕ → List ℕ → Option (List ℕ) → Client → Type 0
+abbrev pub Passes : Client → CommandStep → List ℕ → List ℕ → Option (List ℕ) → Client → Type 0
 Passes old (Calls want) read out left new = (event : Event) × ComesTo old want (Ok event) read out left new
 Passes old (Judges least) read out left new = (least ≤ secret_len old.state.known) × IsStill old read out new
 
 -- a step with which a command ended
-abbrev pub EndsWith : Client → Step → Result Event CommandError → List ℕ → List ℕ → Option (List ℕ) → Client → Type 0
+abbrev pub EndsWith : Client → CommandStep → Result Event CommandError → List ℕ → List ℕ → Option (List ℕ) → Client → Type 0
 EndsWith old (Calls want) result read out left new = ComesTo old want result read out left new
 EndsWith old (Judges least) (Err (ShortSecrets dimension)) read out left new =
     (dimension ≡ secret_len old.state.known) × (dimension < least) × IsStill old read out new
 EndsWith old (Judges least) _ read out left new = ⊥
 
 -- an answer is that of the last step, and a failure may come at any
-abbrev pub IsLastOf : List Step → Result Event CommandError → Type 0
+abbrev pub IsLastOf : List CommandStep → Result Event CommandError → Type 0
 IsLastOf later (Ok event) = later ≡ []
 IsLastOf later (Err fault) = Unit {0}
 
 -- Steps one after another: the last one made ended the command, those before it were done. What was read and written is theirs, in their order.
-unfoldable pub Transacts : Client → List Step → Result Event CommandError → List ℕ → List ℕ → Option (List ℕ) → Client → Type 0
+unfoldable pub Transacts : Client → List CommandStep → Result Event CommandError → List ℕ → List ℕ → Option (List ℕ) → Client → Type 0
 Transacts old [] result read out left new = ⊥
 Transacts old (step ∷ later) result read out left new =
     (IsLastOf later result × EndsWith old step result read out left new)
@@ -113,15 +113,15 @@ Transacts old (step ∷ later) result read out left new =
 -- ---- the commands
 
 -- a retrieval: hello as a reader, a look at the secrets' length, sync, ask
-abbrev pub retrieval : ℕ → Scheme → ℕ → List Step
+abbrev pub retrieval : ℕ → Scheme → ℕ → List CommandStep
 retrieval least scheme index = Calls (Hello (replicate 32 0)) ∷ (Judges least ∷ (Calls (Sync scheme) ∷ (Calls (Ask index) ∷ [])))
 
 -- an edit: hello with the publisher's key, edit
-abbrev pub edition : List ℕ → ℕ → List ℕ → List Step
+abbrev pub edition : List ℕ → ℕ → List ℕ → List CommandStep
 edition key index bytes = Calls (Hello key) ∷ (Calls (Edit index bytes) ∷ [])
 
 -- a publication: hello with the publisher's key, publish
-abbrev pub publication : List ℕ → List Step
+abbrev pub publication : List ℕ → List CommandStep
 publication key = Calls (Hello key) ∷ (Calls Publish ∷ [])
 
 -- the event has this record

@@ -17,7 +17,7 @@ ghost use Rattle.client_commands.specs.Transcripts.{
 };
 ghost use Rattle.client_commands.specs.Sent.{SendsCommand};
 
-use crate::connection::{exchange, judge};
+use crate::connection::{check_dimension, exchange};
 use crate::fault::CommandError;
 use client_core::{ClientCore, Event, Scheme};
 use frame_codec::Bytes;
@@ -111,7 +111,7 @@ fn retrieve<K: Kernel, R: Read, W: Write>(
 {
     let sent = client.hello(READER);
     exchange(alloc, client, sent, reader, writer)?;
-    judge(client, least)?;
+    check_dimension(client, least)?;
     let sent = client.sync(scheme);
     exchange(alloc, client, sent, reader, writer)?;
     let sent = client.ask(index);

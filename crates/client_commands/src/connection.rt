@@ -3,7 +3,7 @@
 ghost use Rattle.std.specs.Prelude.{◌≡◌, ◌≤◌, ◌<◌, List, ℕ, MatchResult};
 ghost use Rattle.std.specs.Io.KnownBytes.{Appends, Consumes};
 ghost use Rattle.client_commands.specs.declared.fault.CommandError.TheVariants as fault;
-ghost use Rattle.client_commands.specs.Transcripts.{AnswersCall, said_against, secret_len};
+ghost use Rattle.client_commands.specs.Transcripts.{AnswersCall, failure_of_event, secret_len};
 
 use crate::fault::CommandError;
 use client_core::{CallFault, ClientCore, Event};
@@ -37,15 +37,15 @@ pub(crate) fn exchange<K: Kernel, R: Read, W: Write>(
         Ok(event) => event,
         Err(fault) => return Err(CommandError::Conversation(fault)),
     };
-    match said_against(&event) {
+    match failure_of_event(&event) {
         None => Ok(event),
         Some(failure) => Err(failure),
     }
 }
 
 /// What an event says against its call.
-fn said_against(event: &Event) -> Option<CommandError>
-    ensures { result ≡ said_against event.now }
+fn failure_of_event(event: &Event) -> Option<CommandError>
+    ensures { result ≡ failure_of_event event.now }
 {
     match event {
         Event::Refused(code) => Some(CommandError::Refused(*code)),
@@ -60,13 +60,16 @@ fn said_against(event: &Event) -> Option<CommandError>
 
 /// Judges how many words a secret has by the server's Welcome: `ShortSecrets` where they are fewer than the
 /// least number accepted.
-pub(crate) fn judge<K: Kernel>(client: &ClientCore<K>, least: usize) -> Result<(), CommandError>
+pub(crate) fn check_dimension<K: Kernel>(
+    client: &ClientCore<K>,
+    least: usize,
+) -> Result<(), CommandError>
     ensures { MatchResult result (λ _. least ≤ secret_len client.now.state.known)
         (λ e. (e ≡ fault.ShortSecrets (secret_len client.now.state.known)) ×
         (secret_len client.now.state.known < least)) }
 {
     let dimension = match client.known() {
-        Some(known) => known.dimension,
+        Some(known) => known.dimension(),
         None => 0,
     };
     if dimension < least {

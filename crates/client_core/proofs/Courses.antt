@@ -5,6 +5,7 @@ use Rattle.std.proofs.lemmas.List.{take_more, take-append-drop}
 use Rattle.std.proofs.lemmas.List.Concat.{flat_map-append}
 use Rattle.frame_codec.specs.declared.frame.Frame.{Frame}
 use Rattle.frame_codec.specs.Frames.{IsFrame, encoding}
+use Rattle.frame_codec.proofs.Runs.{all_append}
 use Rattle.client_core.specs.declared.state.ClientState.{ClientState}
 use Rattle.client_core.specs.declared.state.ClientFault.{ClientFault}
 use Rattle.client_core.specs.declared.state.Event.{Event}
@@ -25,10 +26,6 @@ fault_stays k (g ∷ gs) x e =
   where
     stuck : (k : Course) (g : Frame) (x : ClientFault) → k.fault ≡ Some x → course_more k g ≡ k
     stuck k g x e = rw e refl
-
-each_both : (fs gs : List Frame) → AllByRecursion IsFrame fs → AllByRecursion IsFrame gs → AllByRecursion IsFrame (fs ++ gs)
-each_both [] gs all more = more
-each_both (f ∷ fs) gs all more = (all.0, each_both fs gs all.1 more)
 
 -- the course one frame further
 course_next : (c : ClientState) (fs : List Frame) (i : ℕ) (f : Frame) → i < length fs → f ≡ get_or fs i f → (takes_all c (take i fs)).fault ≡ None
@@ -63,7 +60,7 @@ gives_more : (k : Course) (f : Frame) (state2 : ClientState) (out out2 : List �
 gives_more k f state2 out out2 events events2 fault g a = record {
   written = a.written ∙ ap (λ (x : List ℕ). x ++ flat_map encoding (sends_of (reaction_to_reply k.state f).reaction)) g.written
       ∙ sym (flat_map-append encoding k.sends (sends_of (reaction_to_reply k.state f).reaction));
-  each = each_both k.sends (sends_of (reaction_to_reply k.state f).reaction) g.each a.each;
+  each = all_append IsFrame k.sends (sends_of (reaction_to_reply k.state f).reaction) g.each a.each;
   reported = a.reported ∙ ap (λ (x : List Event). x ++ events_of (reaction_to_reply k.state f).reaction) g.reported;
 }
 

@@ -1,16 +1,17 @@
 -- How a call ends, and what is spent by then.
 use Rattle.std.proofs.Common.{◌≡◌, ◌≢◌, ℕ, ◌+◌, Bool, true, false, cond, List, [], ◌∷◌, ◌++◌, length, take, Option, Some, None, refl, sym, ap, subst, ◌∙◌, inl, inr}
-use Rattle.std.specs.Prelude.{◌==◌, ◌&&◌, nat_lt, not, MatchBool, is_some, ◌⊎◌}
+use Rattle.std.specs.Prelude.{◌==◌, ◌&&◌, not, MatchBool, is_some, ◌⊎◌}
 use Rattle.std.proofs.lemmas.Bool.{and_parts, eqb-true, eqb-false}
 use Rattle.std.proofs.lemmas.List.{append-nil, append_assoc}
 use Rattle.frame_codec.specs.declared.frame.Frame.{Frame}
 use Rattle.frame_codec.specs.declared.frame.Frame.TheVariants as frame
 use Rattle.frame_codec.specs.Rows.{RowList}
-use Rattle.digit_pack.specs.Layout.{Shape, shape}
+use Rattle.pir_schemes.specs.declared.plan.Plan.{Plan}
 use Rattle.pir_schemes.specs.declared.scheme.Scheme.{Scheme}
 use Rattle.pir_schemes.specs.declared.scheme.Scheme.TheVariants.{Simple}
 use Rattle.pir_schemes.specs.Schemes.{scheme_byte}
 use Rattle.pir_schemes.specs.Plans.{record_of}
+use Rattle.client_core.specs.States.{shape_known}
 use Rattle.pir_schemes.specs.Retrievals.{hint_len, answer_count, reading}
 use Rattle.client_core.specs.declared.state.ClientState.{ClientState}
 use Rattle.client_core.specs.declared.state.ServerInfo.{ServerInfo}
@@ -22,7 +23,7 @@ use Rattle.client_core.specs.declared.state.Event.TheVariants.{Welcomed, Synced,
 use Rattle.client_core.specs.declared.state.ClientFault.{ClientFault}
 use Rattle.client_core.specs.declared.state.Reaction.{Reaction}
 use Rattle.client_core.specs.declared.state.Reaction.TheVariants.{Asks, Reports, Fails}
-use Rattle.client_core.specs.Replies.{Taken, reaction_to_reply, is_accepted_welcome, takes_welcome, is_part, more_parts, takes_asked_part, takes_part, event_of, is_answer, answered, takes_answer, is_current, staled, takes_stale, row_numbers, is_delta, moved, takes_delta, goes_by_parts, takes_no_delta, takes_done, takes_refused}
+use Rattle.client_core.specs.Replies.{Taken, reaction_to_reply, is_accepted_welcome, takes_welcome, is_part, more_parts, takes_asked_part, takes_part, event_read, plan_given, is_answer, answered, takes_answer, is_current, reaction_to_stale, takes_stale, row_numbers, is_delta, moved, takes_delta, goes_by_parts, takes_no_delta, takes_done, takes_refused}
 use Rattle.client_core.specs.Feeding.{Client, Course, start, course_after_reply, course_more, runs, takes_all, sends_of, events_of, fault_of, failing, ends_with, codec_fault, Follows, BreaksOff, FeedsOpen, FeedsFailed}
 use Rattle.client_core.specs.Endings.{Ends, FirstEventEndsTheCall, FeedingSpendsNoNumber}
 use Rattle.client_core.proofs.NumberLaws.{takes_number}
@@ -41,15 +42,15 @@ if_reacts : (call : Call) (b : Bool) (x y : Taken) → (b ≡ true → ReactsTo 
 if_reacts call true x y p q = p refl
 if_reacts call false x y p q = q
 
-welcome_reacts : (call : Call) (c : ClientState) (profile : ℕ) (l : Shape) (n version : ℕ) (seed : List ℕ) →
-    ReactsTo call (takes_welcome call c profile l n version seed)
-welcome_reacts Idle c profile l n version seed = tt
-welcome_reacts (Hello key) c profile l n version seed = if_reacts (Hello key) (is_accepted_welcome profile l n version) _ _ (λ _. tt) tt
-welcome_reacts (Sync s v p) c profile l n version seed = tt
-welcome_reacts (Delta since) c profile l n version seed = tt
-welcome_reacts (Ask i x v m) c profile l n version seed = tt
-welcome_reacts (Edit i b) c profile l n version seed = tt
-welcome_reacts Publish c profile l n version seed = tt
+welcome_reacts : (call : Call) (c : ClientState) (profile : ℕ) (plan : Plan) (count version : ℕ) →
+    ReactsTo call (takes_welcome call c profile plan count version)
+welcome_reacts Idle c profile plan count version = tt
+welcome_reacts (Hello key) c profile plan count version = if_reacts (Hello key) (is_accepted_welcome profile plan count version) _ _ (λ _. tt) tt
+welcome_reacts (Sync s v p) c profile plan count version = tt
+welcome_reacts (Delta since) c profile plan count version = tt
+welcome_reacts (Ask i x v m) c profile plan count version = tt
+welcome_reacts (Edit i b) c profile plan count version = tt
+welcome_reacts Publish c profile plan count version = tt
 
 -- the number of the next part says nothing of the end
 next_part : (s : Scheme) (v p q : ℕ) (e : Event) → Ends (Sync s v q) e → Ends (Sync s v p) e
@@ -65,8 +66,8 @@ asked_part_reacts : (known : Option ServerInfo) (s : Scheme) (c : ClientState) (
     ReactsTo (Sync s v p) (takes_asked_part known s c v p scheme version part words)
 asked_part_reacts None s c v p scheme version part words = tt
 asked_part_reacts (Some k) s c v p scheme version part words =
-    if_reacts (Sync s v p) (is_part s (hint_len s k.layout k.dimension) v p scheme version part words) (more_parts s k c v p (c.parts ++ words)) _
-    (λ _. if_reacts (Sync s v p) (length (c.parts ++ words) == hint_len s k.layout k.dimension) _ _ (λ _. (refl, refl)) (next_part s v p (p + 1)))
+    if_reacts (Sync s v p) (is_part s (hint_len s (shape_known k) k.plan.dimension) v p scheme version part words) (more_parts s k c v p (c.parts ++ words)) _
+    (λ _. if_reacts (Sync s v p) (length (c.parts ++ words) == hint_len s (shape_known k) k.plan.dimension) _ _ (λ _. (refl, refl)) (next_part s v p (p + 1)))
     tt
 
 part_reacts : (call : Call) (c : ClientState) (scheme version part : ℕ) (words : List ℕ) → ReactsTo call (takes_part call c scheme version part words)
@@ -79,7 +80,7 @@ part_reacts (Edit i b) c scheme version part words = tt
 part_reacts Publish c scheme version part words = tt
 
 -- a record's event is of the record and the version asked
-of_record : (x : Scheme) (i v m version : ℕ) (given : Option (List ℕ)) → version ≡ v → Ends (Ask i x v m) (event_of i version given)
+of_record : (x : Scheme) (i v m version : ℕ) (given : Option (List ℕ)) → version ≡ v → Ends (Ask i x v m) (event_read i version given)
 of_record x i v m version (Some bytes) e = (refl, e)
 of_record x i v m version None e = (refl, e)
 
@@ -94,9 +95,9 @@ answered_reacts : (x : Scheme) (known : Option ServerInfo) (hint : Option Hint) 
 answered_reacts x None hint c i v m scheme version words = tt
 answered_reacts x (Some k) None c i v m scheme version words = tt
 answered_reacts x (Some k) (Some h) c i v m scheme version words =
-    let b = length words == answer_count h.scheme k.layout k.dimension in
+    let b = length words == answer_count h.scheme (shape_known k) k.plan.dimension in
     if_reacts (Ask i x v m) (is_answer h.scheme k v scheme version words) _ _
-    (λ is. of_record x i v m version (record_of k.layout (reading h.scheme k.layout h.matrix c.seed m i words)) (asked_version h.scheme scheme version v b is))
+    (λ is. of_record x i v m version (record_of k.plan (reading h.scheme (shape_known k) h.matrix c.seed m i words)) (asked_version h.scheme scheme version v b is))
     tt
 
 answer_reacts : (call : Call) (c : ClientState) (scheme version : ℕ) (words : List ℕ) → ReactsTo call (takes_answer call c scheme version words)
@@ -116,14 +117,14 @@ another_version version v b h = let x = and_parts (not (version == v)) b h in eq
     denied false h = refl
 
 stale_sync_reacts : (known : Option ServerInfo) (after c : ClientState) (s : Scheme) (v p version count : ℕ) →
-    ReactsTo (Sync s v p) (staled known after c v version count)
+    ReactsTo (Sync s v p) (reaction_to_stale known after c v version count)
 stale_sync_reacts None after c s v p version count = tt
 stale_sync_reacts (Some k) after c s v p version count =
     let b = is_current k version count in
     if_reacts (Sync s v p) (not (version == v) && b) _ _ (another_version version v b) tt
 
 stale_ask_reacts : (x : Scheme) (known : Option ServerInfo) (after c : ClientState) (i v m version count : ℕ) →
-    ReactsTo (Ask i x v m) (staled known after c v version count)
+    ReactsTo (Ask i x v m) (reaction_to_stale known after c v version count)
 stale_ask_reacts x None after c i v m version count = tt
 stale_ask_reacts x (Some k) after c i v m version count =
     let b = is_current k version count in
@@ -197,7 +198,7 @@ refused_reacts Publish c code = tt
 
 reacts : (c : ClientState) (f : Frame) → ReactsTo c.call (reaction_to_reply c f)
 reacts c (frame.Welcome profile width record_len groups count version dimension seed) =
-    welcome_reacts c.call c profile (shape width record_len groups count) dimension version seed
+    welcome_reacts c.call c profile (plan_given width record_len groups dimension seed) count version
 reacts c (frame.HintPart scheme version part words) = part_reacts c.call c scheme version part words
 reacts c (frame.Answer scheme version words) = answer_reacts c.call c scheme version words
 reacts c (frame.Stale version count) = stale_reacts c.call c version count

@@ -1,10 +1,10 @@
 -- Where no sync is outstanding, no reply changes the hint.
-use Rattle.std.proofs.Common.{◌≡◌, ℕ, Bool, true, false, cond, List, [], ◌∷◌, ◌++◌, take, Option, Some, None, refl, sym, ap, ◌∙◌, inl, inr}
+use Rattle.std.proofs.Common.{◌≡◌, ℕ, Bool, true, false, cond, List, [], ◌∷◌, Option, Some, None, refl, sym, ap, ◌∙◌, inl, inr}
 use Rattle.std.specs.Prelude.{MatchBool, is_some, ◌⊎◌}
 use Rattle.frame_codec.specs.declared.frame.Frame.{Frame}
 use Rattle.frame_codec.specs.declared.frame.Frame.TheVariants as frame
 use Rattle.frame_codec.specs.Rows.{RowList}
-use Rattle.digit_pack.specs.Layout.{Shape, shape}
+use Rattle.pir_schemes.specs.declared.plan.Plan.{Plan}
 use Rattle.client_core.specs.declared.state.ClientState.{ClientState}
 use Rattle.client_core.specs.declared.state.ServerInfo.{ServerInfo}
 use Rattle.client_core.specs.declared.state.Hint.{Hint}
@@ -12,7 +12,7 @@ use Rattle.client_core.specs.declared.state.Call.{Call}
 use Rattle.client_core.specs.declared.state.Call.TheVariants.{Idle, Hello, Sync, Delta, Ask, Edit, Publish}
 use Rattle.client_core.specs.declared.state.Event.{Event}
 use Rattle.client_core.specs.declared.state.ClientFault.{ClientFault}
-use Rattle.client_core.specs.Replies.{Taken, reaction_to_reply, takes_welcome, takes_part, answered, takes_answer, staled, takes_stale, takes_delta, takes_no_delta, takes_done, takes_refused}
+use Rattle.client_core.specs.Replies.{Taken, reaction_to_reply, plan_given, takes_welcome, takes_part, answered, takes_answer, reaction_to_stale, takes_stale, takes_delta, takes_no_delta, takes_done, takes_refused}
 use Rattle.client_core.specs.Feeding.{Client, Course, start, course_after_reply, course_more, runs, takes_all, failing, ends_with, codec_fault, Follows, BreaksOff, FeedsOpen, FeedsFailed}
 use Rattle.client_core.specs.Endings.{IsNoSync, OnlySyncsChangeTheHint}
 
@@ -34,16 +34,16 @@ either : (c : ClientState) (b : Bool) (x y : Taken) → Stays c x.state → Stay
 either c true x y p q = p
 either c false x y p q = q
 
-welcome_stays : (k : Call) (c : ClientState) (profile : ℕ) (l : Shape) (n version : ℕ) (seed : List ℕ) → IsNoSync k → IsNoSync c.call →
-    Stays c (takes_welcome k c profile l n version seed).state
-welcome_stays Idle c profile l n version seed a calm = failed_stays c calm
-welcome_stays (Hello key) c profile l n version seed a calm =
-    either c _ _ _ (ended_stays c (record c { known = Some (record { version = version; layout = l; dimension = n; seed = seed }) }) refl) (failed_stays c calm)
-welcome_stays (Sync s v p) c profile l n version seed a calm = absurd a
-welcome_stays (Delta since) c profile l n version seed a calm = absurd a
-welcome_stays (Ask i x v m) c profile l n version seed a calm = failed_stays c calm
-welcome_stays (Edit i b) c profile l n version seed a calm = failed_stays c calm
-welcome_stays Publish c profile l n version seed a calm = failed_stays c calm
+welcome_stays : (k : Call) (c : ClientState) (profile : ℕ) (plan : Plan) (count version : ℕ) → IsNoSync k → IsNoSync c.call →
+    Stays c (takes_welcome k c profile plan count version).state
+welcome_stays Idle c profile plan count version a calm = failed_stays c calm
+welcome_stays (Hello key) c profile plan count version a calm =
+    either c _ _ _ (ended_stays c (record c { known = Some (record { version = version; count = count; plan = plan }) }) refl) (failed_stays c calm)
+welcome_stays (Sync s v p) c profile plan count version a calm = absurd a
+welcome_stays (Delta since) c profile plan count version a calm = absurd a
+welcome_stays (Ask i x v m) c profile plan count version a calm = failed_stays c calm
+welcome_stays (Edit i b) c profile plan count version a calm = failed_stays c calm
+welcome_stays Publish c profile plan count version a calm = failed_stays c calm
 
 part_stays : (k : Call) (c : ClientState) (scheme version part : ℕ) (words : List ℕ) → IsNoSync k → IsNoSync c.call →
     Stays c (takes_part k c scheme version part words).state
@@ -72,7 +72,7 @@ answer_stays (Edit i b) c scheme version words a calm = failed_stays c calm
 answer_stays Publish c scheme version words a calm = failed_stays c calm
 
 staled_stays : (known : Option ServerInfo) (c : ClientState) (asked version count : ℕ) → IsNoSync c.call →
-    Stays c (staled known c c asked version count).state
+    Stays c (reaction_to_stale known c c asked version count).state
 staled_stays None c asked version count calm = failed_stays c calm
 staled_stays (Some k) c asked version count calm = either c _ _ _ (ended_stays c (record c { known = Some _ }) refl) (failed_stays c calm)
 
@@ -124,7 +124,7 @@ refused_stays Publish c code a calm = ended_stays c c refl
 
 takes_stays : (c : ClientState) (f : Frame) → IsNoSync c.call → Stays c (reaction_to_reply c f).state
 takes_stays c (frame.Welcome profile width record_len groups count version dimension seed) calm =
-    welcome_stays c.call c profile (shape width record_len groups count) dimension version seed calm calm
+    welcome_stays c.call c profile (plan_given width record_len groups dimension seed) count version calm calm
 takes_stays c (frame.HintPart scheme version part words) calm = part_stays c.call c scheme version part words calm calm
 takes_stays c (frame.Answer scheme version words) calm = answer_stays c.call c scheme version words calm calm
 takes_stays c (frame.Stale version count) calm = stale_stays c.call c version count calm calm

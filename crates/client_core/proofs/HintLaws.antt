@@ -7,7 +7,7 @@ use Rattle.matrix_u32.specs.Matrix.{WordMatrix}
 use Rattle.frame_codec.specs.Rows.{Row, RowList, row_list, rows_in}
 use Rattle.frame_codec.specs.declared.frame.Frame.{Frame}
 use Rattle.frame_codec.specs.declared.frame.Frame.TheVariants as frame
-use Rattle.digit_pack.specs.Layout.{shape}
+use Rattle.client_core.specs.States.{shape_known}
 use Rattle.pir_schemes.specs.declared.scheme.Scheme.{Scheme}
 use Rattle.pir_schemes.specs.declared.scheme.Scheme.TheVariants.{Simple}
 use Rattle.pir_schemes.specs.Schemes.{scheme_byte}
@@ -22,7 +22,7 @@ use Rattle.client_core.specs.declared.state.Call.TheVariants.{Idle, Sync}
 use Rattle.client_core.specs.declared.state.Event.{Event}
 use Rattle.client_core.specs.declared.state.Event.TheVariants.{Synced, Stale, Refused}
 use Rattle.client_core.specs.declared.state.Reaction.TheVariants.{Asks, Reports, Fails}
-use Rattle.client_core.specs.Replies.{Taken, reaction_to_reply, faulty, ended, is_part, more_parts, hint_made, takes_asked_part, takes_part, takes_welcome, takes_answer, takes_stale, takes_delta, takes_no_delta, takes_done, takes_refused, staled, is_current, with_current, is_delta, row_numbers, with_rows, hint_with_rows, moved}
+use Rattle.client_core.specs.Replies.{Taken, plan_given, reaction_to_reply, faulty, ended, is_part, more_parts, hint_made, takes_asked_part, takes_part, takes_welcome, takes_answer, takes_stale, takes_delta, takes_no_delta, takes_done, takes_refused, reaction_to_stale, is_current, with_current, is_delta, row_numbers, with_rows, hint_with_rows, moved}
 use Rattle.client_core.specs.Feeding.{Course, course_after_reply, runs}
 use Rattle.client_core.specs.Laws.{ArePartsFrom, ArePartsOf, IsMadeOfParts, SyncedHintIsMadeOfParts, PartsOfAHintMakeIt, DeltaMakesTheHint, rows_of}
 use Rattle.client_core.proofs.Courses.{fault_stays}
@@ -34,7 +34,7 @@ at c sends events = record { state = c; sends = sends; events = events; fault = 
 
 -- what a reply to a sync by parts may lead to
 data Leads (s : Scheme) (k : ServerInfo) (c : ClientState) (v p : ℕ) (f : Frame) : Type 0 where
-  Whole : (words : List ℕ) → f ≡ frame.HintPart (scheme_byte s) v p words → length (c.parts ++ words) ≡ hint_len s k.layout k.dimension
+  Whole : (words : List ℕ) → f ≡ frame.HintPart (scheme_byte s) v p words → length (c.parts ++ words) ≡ hint_len s (shape_known k) k.plan.dimension
       → reaction_to_reply c f ≡ ended (record c { hint = Some (hint_made s k v (c.parts ++ words)); parts = [] }) (Synced s v) → Leads s k c v p f
   More : (words : List ℕ) → f ≡ frame.HintPart (scheme_byte s) v p words
       → reaction_to_reply c f ≡ record { state = record c { call = Sync s v (p + 1); parts = c.parts ++ words }; reaction = Asks s v (p + 1) } →
@@ -54,25 +54,25 @@ part_is s scheme version part v p words a b d = cc
 
 part_leads : (s : Scheme) (k : ServerInfo) (c : ClientState) (v p scheme version part : ℕ) (words : List ℕ) →
     reaction_to_reply c (frame.HintPart scheme version part words) ≡ takes_asked_part (Some k) s c v p scheme version part words
-    → (b : Bool) → is_part s (hint_len s k.layout k.dimension) v p scheme version part words ≡ b → (w : Bool) →
-    (length (c.parts ++ words) == hint_len s k.layout k.dimension) ≡ w → Leads s k c v p (frame.HintPart scheme version part words)
+    → (b : Bool) → is_part s (hint_len s (shape_known k) k.plan.dimension) v p scheme version part words ≡ b → (w : Bool) →
+    (length (c.parts ++ words) == hint_len s (shape_known k) k.plan.dimension) ≡ w → Leads s k c v p (frame.HintPart scheme version part words)
 part_leads s k c v p scheme version part words e false h w whole =
     bad_part s k c v p (frame.HintPart scheme version part words) (e
     ∙ ap (λ (x : Bool). cond x (more_parts s k c v p (c.parts ++ words)) (faulty c BadReply)) h)
 part_leads s k c v p scheme version part words e true h w whole =
-    let a = and_parts (scheme == scheme_byte s) ((version == v) && ((part == p) && (length words == part_len (hint_len s k.layout k.dimension) p))) h in
-    let b = and_parts (version == v) ((part == p) && (length words == part_len (hint_len s k.layout k.dimension) p)) a.1 in
-    let d = and_parts (part == p) (length words == part_len (hint_len s k.layout k.dimension) p) b.1 in
+    let a = and_parts (scheme == scheme_byte s) ((version == v) && ((part == p) && (length words == part_len (hint_len s (shape_known k) k.plan.dimension) p))) h in
+    let b = and_parts (version == v) ((part == p) && (length words == part_len (hint_len s (shape_known k) k.plan.dimension) p)) a.1 in
+    let d = and_parts (part == p) (length words == part_len (hint_len s (shape_known k) k.plan.dimension) p) b.1 in
     let is = part_is s scheme version part v p words (eqb-true scheme (scheme_byte s) a.0) (eqb-true version v b.0) (eqb-true part p d.0) in
     let t : reaction_to_reply c (frame.HintPart scheme version part words) ≡ more_parts s k c v p (c.parts ++ words) = e
     ∙ ap (λ (x : Bool). cond x (more_parts s k c v p (c.parts ++ words)) (faulty c BadReply)) h in
     go w whole is t
   where
-    go : (w : Bool) → (length (c.parts ++ words) == hint_len s k.layout k.dimension) ≡ w →
+    go : (w : Bool) → (length (c.parts ++ words) == hint_len s (shape_known k) k.plan.dimension) ≡ w →
         frame.HintPart scheme version part words ≡ frame.HintPart (scheme_byte s) v p words
         → reaction_to_reply c (frame.HintPart scheme version part words) ≡ more_parts s k c v p (c.parts ++ words) →
         Leads s k c v p (frame.HintPart scheme version part words)
-    go true whole is t = Whole words is (eqb-true (length (c.parts ++ words)) (hint_len s k.layout k.dimension) whole) (t ∙ ap (λ (x : Bool). cond x
+    go true whole is t = Whole words is (eqb-true (length (c.parts ++ words)) (hint_len s (shape_known k) k.plan.dimension) whole) (t ∙ ap (λ (x : Bool). cond x
         (ended (record c { hint = Some (hint_made s k v (c.parts ++ words)); parts = [] }) (Synced s v))
         (record { state = record c { call = Sync s v (p + 1); parts = c.parts ++ words }; reaction = Asks s v (p + 1) })) whole)
     go false whole is t = More words is (t ∙ ap (λ (x : Bool). cond x
@@ -83,7 +83,7 @@ reported_state : ServerInfo → ClientState → ℕ → ℕ → ClientState
 reported_state k c version count = record c { parts = []; known = Some (with_current k version count); call = Idle }
 
 stale_leads : (s : Scheme) (k : ServerInfo) (c : ClientState) (v p version count : ℕ) →
-    reaction_to_reply c (frame.Stale version count) ≡ staled (Some k) (record c { parts = [] }) c v version count
+    reaction_to_reply c (frame.Stale version count) ≡ reaction_to_stale (Some k) (record c { parts = [] }) c v version count
     → (b : Bool) → (not (version == v) && is_current k version count) ≡ b → Leads s k c v p (frame.Stale version count)
 unfolding reported_state
 stale_leads s k c v p version count e true h = Reported (reported_state k c version count) version refl (e ∙ ap (λ (x : Bool). cond x
@@ -94,16 +94,16 @@ stale_leads s k c v p version count e false h = bad_part s k c v p (frame.Stale 
 leads : (s : Scheme) (k : ServerInfo) (c : ClientState) (v p : ℕ) (f : Frame) → c.known ≡ Some k → c.call ≡ Sync s v p → Leads s k c v p f
 leads s k c v p (frame.Welcome profile width record_len groups count version dimension seed) e a =
     bad_part s k c v p (frame.Welcome profile width record_len groups count version dimension seed)
-    (ap (λ (x : Call). takes_welcome x c profile (shape width record_len groups count) dimension version seed) a)
+    (ap (λ (x : Call). takes_welcome x c profile (plan_given width record_len groups dimension seed) count version) a)
 leads s k c v p (frame.HintPart scheme version part words) e a =
     part_leads s k c v p scheme version part words
     (ap (λ (x : Call). takes_part x c scheme version part words) a ∙ ap (λ (x : Option ServerInfo). takes_asked_part x s c v p scheme version part words) e)
-    (is_part s (hint_len s k.layout k.dimension) v p scheme version part words) refl (length (c.parts ++ words) == hint_len s k.layout k.dimension) refl
+    (is_part s (hint_len s (shape_known k) k.plan.dimension) v p scheme version part words) refl (length (c.parts ++ words) == hint_len s (shape_known k) k.plan.dimension) refl
 leads s k c v p (frame.Answer scheme version words) e a =
     bad_part s k c v p (frame.Answer scheme version words) (ap (λ (x : Call). takes_answer x c scheme version words) a)
 leads s k c v p (frame.Stale version count) e a =
     stale_leads s k c v p version count
-    (ap (λ (x : Call). takes_stale x c version count) a ∙ ap (λ (x : Option ServerInfo). staled x (record c { parts = [] }) c v version count) e)
+    (ap (λ (x : Call). takes_stale x c version count) a ∙ ap (λ (x : Option ServerInfo). reaction_to_stale x (record c { parts = [] }) c v version count) e)
     (not (version == v) && is_current k version count) refl
 leads s k c v p (frame.Delta since now count rows) e a =
     bad_part s k c v p (frame.Delta since now count rows) (ap (λ (x : Call). takes_delta x c since now count rows) a)
@@ -116,7 +116,7 @@ leads s k c v p f e a = bad_part s k c v p f refl
 -- an idle client takes no frame
 idle_bad : (c : ClientState) (f : Frame) → c.call ≡ Idle → reaction_to_reply c f ≡ faulty c BadReply
 idle_bad c (frame.Welcome profile width record_len groups count version dimension seed) a =
-    ap (λ (x : Call). takes_welcome x c profile (shape width record_len groups count) dimension version seed) a
+    ap (λ (x : Call). takes_welcome x c profile (plan_given width record_len groups dimension seed) count version) a
 idle_bad c (frame.HintPart scheme version part words) a = ap (λ (x : Call). takes_part x c scheme version part words) a
 idle_bad c (frame.Answer scheme version words) a = ap (λ (x : Call). takes_answer x c scheme version words) a
 idle_bad c (frame.Stale version count) a = ap (λ (x : Call). takes_stale x c version count) a
@@ -146,7 +146,7 @@ ends_here c sends events (g ∷ gs) a none =
 record Made (s : Scheme) (k : ServerInfo) (c : ClientState) (v p version : ℕ) (sends : List Frame) (fs : List Frame) : Type 0 where
   words : List ℕ
   parts : ArePartsFrom s v p fs words
-  count : length (c.parts ++ words) ≡ hint_len s k.layout k.dimension
+  count : length (c.parts ++ words) ≡ hint_len s (shape_known k) k.plan.dimension
   same : version ≡ v
   hint : (runs (at c sends []) fs).state.hint ≡ Some (hint_made s k v (c.parts ++ words))
 
@@ -164,7 +164,7 @@ synced_same : (s : Scheme) (v version : ℕ) → Synced s v ≡ Synced s version
 synced_same s v version e = cc
 
 whole_made : (s : Scheme) (k : ServerInfo) (c : ClientState) (v p version : ℕ) (sends : List Frame) (f : Frame) (fs : List Frame) (words : List ℕ)
-    → f ≡ frame.HintPart (scheme_byte s) v p words → length (c.parts ++ words) ≡ hint_len s k.layout k.dimension
+    → f ≡ frame.HintPart (scheme_byte s) v p words → length (c.parts ++ words) ≡ hint_len s (shape_known k) k.plan.dimension
     → reaction_to_reply c f ≡ ended (record c { hint = Some (hint_made s k v (c.parts ++ words)); parts = [] }) (Synced s v)
     → (runs (at c sends []) (f ∷ fs)).fault ≡ None → (runs (at c sends []) (f ∷ fs)).events ≡ Synced s version ∷ [] → Made s k c v p version sends (f ∷ fs)
 whole_made s k c v p version sends f fs words is len t none reported =
@@ -274,14 +274,14 @@ pub parts_make_it : PartsOfAHintMakeIt
 parts_make_it c s k v version replies hint by rows cols is_whole of =
     let m : IsMadeOfParts c s k v version replies = synced_is_made c s k v version replies by in
     let r = prefix_of s hint.words v 0 replies m.words m.parts of in
-    let len : length m.words ≡ length hint.words = m.count ∙ ap (λ (x : ℕ). x * k.dimension) (sym rows) ∙ ap (λ (x : ℕ). hint.rows * x) (sym cols)
+    let len : length m.words ≡ length hint.words = m.count ∙ ap (λ (x : ℕ). x * k.plan.dimension) (sym rows) ∙ ap (λ (x : ℕ). hint.rows * x) (sym cols)
     ∙ sym is_whole in
     let same : m.words ≡ hint.words = all_of_it m.words r.0 hint.words r.1 len in
     m.hint ∙ made m.words same
   where
     made : (words : List ℕ) → words ≡ hint.words → Some (hint_made s k v words) ≡ Some (record { scheme = s; version = v; matrix = hint })
     made words e =
-        ap (λ (x : ℕ). some_hint s v x k.dimension words) (sym rows)
+        ap (λ (x : ℕ). some_hint s v x k.plan.dimension words) (sym rows)
         ∙ ap (λ (x : ℕ). some_hint s v hint.rows x words) (sym cols)
         ∙ ap (λ (x : List ℕ). some_hint s v hint.rows hint.cols x) e
 

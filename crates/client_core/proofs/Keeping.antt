@@ -6,12 +6,13 @@ use Rattle.std.proofs.lemmas.List.{length-append}
 use Rattle.frame_codec.specs.declared.frame.Frame.{Frame}
 use Rattle.frame_codec.specs.declared.frame.Frame.TheVariants as frame
 use Rattle.frame_codec.specs.Rows.{RowList, rows_in}
-use Rattle.digit_pack.specs.Layout.{Shape, shape, digit_rows}
+use Rattle.digit_pack.specs.Layout.{digit_rows}
 use Rattle.pir_schemes.specs.declared.scheme.Scheme.{Scheme}
 use Rattle.pir_schemes.specs.declared.scheme.Scheme.TheVariants.{Simple, Double}
 use Rattle.pir_schemes.specs.Schemes.{scheme_byte}
 use Rattle.pir_schemes.specs.Parts.{part_len}
-use Rattle.pir_schemes.specs.Plans.{plan_of, profile_of}
+use Rattle.pir_schemes.specs.declared.plan.Plan.{Plan}
+use Rattle.pir_schemes.specs.Plans.{shape_at, is_profile}
 use Rattle.pir_schemes.specs.Retrievals.{hint_rows, hint_len}
 use Rattle.client_core.specs.declared.state.ClientState.{ClientState}
 use Rattle.client_core.specs.declared.state.ServerInfo.{ServerInfo}
@@ -20,8 +21,8 @@ use Rattle.client_core.specs.declared.state.Call.{Call}
 use Rattle.client_core.specs.declared.state.Call.TheVariants.{Idle, Hello, Sync, Delta, Ask, Edit, Publish}
 use Rattle.client_core.specs.declared.state.Event.TheVariants.{Welcomed}
 use Rattle.client_core.specs.declared.state.ClientFault.TheVariants.{BadWelcome, BadReply}
-use Rattle.client_core.specs.States.{IsState, IsKnown, Keeps, KnownFits, HintFits, CallFits, is_layout}
-use Rattle.client_core.specs.Replies.{Taken, reaction_to_reply, faulty, ended, is_accepted_welcome, takes_welcome, is_part, more_parts, takes_asked_part, takes_part, is_answer, answered, takes_answer, with_count, is_current, with_current, staled, takes_stale, are_ascending, row_numbers, is_delta, moved, takes_delta, goes_by_parts, takes_no_delta, takes_done, takes_refused}
+use Rattle.client_core.specs.States.{IsState, IsKnown, shape_known, Keeps, KnownFits, HintFits, CallFits, is_layout}
+use Rattle.client_core.specs.Replies.{Taken, plan_given, reaction_to_reply, faulty, ended, is_accepted_welcome, takes_welcome, is_part, more_parts, takes_asked_part, takes_part, is_answer, answered, takes_answer, is_current, with_current, reaction_to_stale, takes_stale, are_ascending, row_numbers, is_delta, moved, takes_delta, goes_by_parts, takes_no_delta, takes_done, takes_refused}
 use Rattle.client_core.proofs.MovedRows.{with_rows-rows, with_rows-cols}
 use Rattle.client_core.proofs.Layouts.{layout_means}
 
@@ -46,46 +47,46 @@ no_hint None None key parts k a b = tt
 no_hint None (Some h) key parts k a b = absurd b
 no_hint (Some j) hint key parts k a b = absurd a
 
-reported : ℕ → Shape → ℕ → List ℕ → ServerInfo
-reported version l n seed = record { version = version; layout = l; dimension = n; seed = seed }
+reported : ℕ → Plan → ℕ → ServerInfo
+reported version plan count = record { version = version; count = count; plan = plan }
 
-welcome_known : (profile : ℕ) (l : Shape) (n version : ℕ) (seed : List ℕ) → is_accepted_welcome profile l n version ≡ true → IsKnown (reported version l n seed)
+welcome_known : (profile : ℕ) (plan : Plan) (count version : ℕ) → is_accepted_welcome profile plan count version ≡ true → IsKnown (reported version plan count)
 unfolding reported
-welcome_known profile l n version seed h =
-    let a = and_parts (profile == profile_of (plan_of l n [])) (is_layout l && ((nat_le 1 n && nat_le n 1024) && nat_lt 0 version)) h in
-    let b = and_parts (is_layout l) ((nat_le 1 n && nat_le n 1024) && nat_lt 0 version) a.1 in
-    let d = and_parts (nat_le 1 n && nat_le n 1024) (nat_lt 0 version) b.1 in
-    let e = and_parts (nat_le 1 n) (nat_le n 1024) d.0 in
-    record { layout = layout_means l b.0; low = leb-true 1 n e.0; high = leb-true n 1024 e.1 }
+welcome_known profile plan count version h =
+    let a = and_parts (is_profile profile) (is_layout (shape_at plan count) && ((nat_le 1 plan.dimension && nat_le plan.dimension 1024) && nat_lt 0 version)) h in
+    let b = and_parts (is_layout (shape_at plan count)) ((nat_le 1 plan.dimension && nat_le plan.dimension 1024) && nat_lt 0 version) a.1 in
+    let d = and_parts (nat_le 1 plan.dimension && nat_le plan.dimension 1024) (nat_lt 0 version) b.1 in
+    let e = and_parts (nat_le 1 plan.dimension) (nat_le plan.dimension 1024) d.0 in
+    record { layout = layout_means (shape_at plan count) b.0; low = leb-true 1 plan.dimension e.0; high = leb-true plan.dimension 1024 e.1 }
 
-welcomed_keeps : (c : ClientState) (key : List ℕ) (profile : ℕ) (l : Shape) (n version : ℕ) (seed : List ℕ) → IsState c → CallFits (Hello key) c.known c.parts
-    → is_accepted_welcome profile l n version ≡ true → Keeps c (record c { known = Some (reported version l n seed); call = Idle })
-welcomed_keeps c key profile l n version seed s fits is = record {
+welcomed_keeps : (c : ClientState) (key : List ℕ) (profile : ℕ) (plan : Plan) (count version : ℕ) → IsState c → CallFits (Hello key) c.known c.parts
+    → is_accepted_welcome profile plan count version ≡ true → Keeps c (record c { known = Some (reported version plan count); call = Idle })
+welcomed_keeps c key profile plan count version s fits is = record {
   good = record {
     number = s.number;
-    known = welcome_known profile l n version seed is;
-    hint = no_hint c.known c.hint key c.parts (reported version l n seed) fits s.hint;
+    known = welcome_known profile plan count version is;
+    hint = no_hint c.known c.hint key c.parts (reported version plan count) fits s.hint;
     call = tt;
     delta = tt;
   };
   number = refl;
 }
 
-welcome_keeps : (call : Call) (c : ClientState) (profile : ℕ) (l : Shape) (n version : ℕ) (seed : List ℕ) → IsState c → CallFits call c.known c.parts →
-    Keeps c (takes_welcome call c profile l n version seed).state
+welcome_keeps : (call : Call) (c : ClientState) (profile : ℕ) (plan : Plan) (count version : ℕ) → IsState c → CallFits call c.known c.parts →
+    Keeps c (takes_welcome call c profile plan count version).state
 unfolding reported
-welcome_keeps Idle c profile l n version seed s fits = faulty_keeps c s
-welcome_keeps (Hello key) c profile l n version seed s fits =
-    if_keeps c (is_accepted_welcome profile l n version)
-    (ended (record c { known = Some (reported version l n seed) }) (Welcomed version))
+welcome_keeps Idle c profile plan count version s fits = faulty_keeps c s
+welcome_keeps (Hello key) c profile plan count version s fits =
+    if_keeps c (is_accepted_welcome profile plan count version)
+    (ended (record c { known = Some (reported version plan count) }) (Welcomed version))
     (faulty c BadWelcome)
-    (welcomed_keeps c key profile l n version seed s fits)
+    (welcomed_keeps c key profile plan count version s fits)
     (λ _. faulty_keeps c s)
-welcome_keeps (Sync x v p) c profile l n version seed s fits = faulty_keeps c s
-welcome_keeps (Delta since) c profile l n version seed s fits = faulty_keeps c s
-welcome_keeps (Ask i x v m) c profile l n version seed s fits = faulty_keeps c s
-welcome_keeps (Edit i b) c profile l n version seed s fits = faulty_keeps c s
-welcome_keeps Publish c profile l n version seed s fits = faulty_keeps c s
+welcome_keeps (Sync x v p) c profile plan count version s fits = faulty_keeps c s
+welcome_keeps (Delta since) c profile plan count version s fits = faulty_keeps c s
+welcome_keeps (Ask i x v m) c profile plan count version s fits = faulty_keeps c s
+welcome_keeps (Edit i b) c profile plan count version s fits = faulty_keeps c s
+welcome_keeps Publish c profile plan count version s fits = faulty_keeps c s
 
 -- ---- HintPart
 
@@ -107,10 +108,10 @@ part_fits total p parts words e le len ne =
     (omega arith, omega arith)
 
 more_keeps : (x : Scheme) (k : ServerInfo) (c : ClientState) (v p : ℕ) (words : List ℕ) → c.known ≡ Some k → IsState c → length c.parts ≡ 65536 * p
-    → length c.parts ≤ hint_len x k.layout k.dimension → length words ≡ part_len (hint_len x k.layout k.dimension) p
+    → length c.parts ≤ hint_len x (shape_known k) k.plan.dimension → length words ≡ part_len (hint_len x (shape_known k) k.plan.dimension) p
     → Keeps c (more_parts x k c v p (c.parts ++ words)).state
 more_keeps x k c v p words e s len le is =
-    if_keeps c (length (c.parts ++ words) == hint_len x k.layout k.dimension) _ _
+    if_keeps c (length (c.parts ++ words) == hint_len x (shape_known k) k.plan.dimension) _ _
     (λ whole. record { good = record { number = s.number; known = s.known; hint = rw e (refl, refl); call = tt; delta = tt }; number = refl })
     (λ other. record {
       good = record {
@@ -118,7 +119,7 @@ more_keeps x k c v p words e s len le is =
         known = s.known;
         hint = s.hint;
         call =
-            rw e (part_fits (hint_len x k.layout k.dimension) p c.parts words len le is other);
+            rw e (part_fits (hint_len x (shape_known k) k.plan.dimension) p c.parts words len le is other);
         delta = tt;
       };
       number = refl;
@@ -129,8 +130,8 @@ asked_part_keeps : (known : Option ServerInfo) (x : Scheme) (c : ClientState) (v
     → Keeps c (takes_asked_part known x c v p scheme version part words).state
 asked_part_keeps None x c v p scheme version part words e s fits = faulty_keeps c s
 asked_part_keeps (Some k) x c v p scheme version part words e s fits =
-    if_keeps c (is_part x (hint_len x k.layout k.dimension) v p scheme version part words) (more_parts x k c v p (c.parts ++ words)) (faulty c BadReply)
-    (λ is. more_keeps x k c v p words e s fits.0 fits.1 (is_part_len x (hint_len x k.layout k.dimension) v p scheme version part words is))
+    if_keeps c (is_part x (hint_len x (shape_known k) k.plan.dimension) v p scheme version part words) (more_parts x k c v p (c.parts ++ words)) (faulty c BadReply)
+    (λ is. more_keeps x k c v p words e s fits.0 fits.1 (is_part_len x (hint_len x (shape_known k) k.plan.dimension) v p scheme version part words is))
     (λ _. faulty_keeps c s)
 
 part_keeps : (call : Call) (c : ClientState) (scheme version part : ℕ) (words : List ℕ) → IsState c → CallFits call c.known c.parts →
@@ -168,21 +169,21 @@ same_rows : (k : ServerInfo) (version count : ℕ) (hint : Option Hint) → Hint
 same_rows k version count None fits = tt
 same_rows k version count (Some h) fits = (fits.0 ∙ rows_stay h.scheme k count, fits.1)
   where
-    rows_stay : (s : Scheme) (k : ServerInfo) (count : ℕ) → hint_rows s k.layout k.dimension ≡ hint_rows s (with_count k.layout count) k.dimension
+    rows_stay : (s : Scheme) (k : ServerInfo) (count : ℕ) → hint_rows s (shape_known k) k.plan.dimension ≡ hint_rows s (shape_at k.plan count) k.plan.dimension
     rows_stay Simple k count = refl
     rows_stay Double k count = refl
 
 current_known : (k : ServerInfo) (version count : ℕ) → IsKnown k → is_current k version count ≡ true → IsKnown (with_current k version count)
 current_known k version count old h =
-    let b = and_parts (nat_lt 0 version) (is_layout (with_count k.layout count)) h in
-    record { layout = layout_means (with_count k.layout count) b.1; low = old.low; high = old.high }
+    let b = and_parts (nat_lt 0 version) (is_layout (shape_at k.plan count)) h in
+    record { layout = layout_means (shape_at k.plan count) b.1; low = old.low; high = old.high }
 
 stale_known : (k : ServerInfo) (asked version count : ℕ) → IsKnown k → (not (version == asked) && is_current k version count) ≡ true →
     IsKnown (with_current k version count)
 stale_known k asked version count old h = current_known k version count old (and_parts (not (version == asked)) (is_current k version count) h).1
 
 staled_keeps : (known : Option ServerInfo) (c after : ClientState) (asked version count : ℕ) → c.known ≡ known → IsState c → after.number ≡ c.number →
-    after.hint ≡ c.hint → Keeps c (staled known after c asked version count).state
+    after.hint ≡ c.hint → Keeps c (reaction_to_stale known after c asked version count).state
 staled_keeps None c after asked version count e s en eh = faulty_keeps c s
 staled_keeps (Some k) c after asked version count e s en eh =
     let known : IsKnown k = let P : Option ServerInfo → Type 0 = KnownFits in subst P e s.known in
@@ -237,10 +238,10 @@ moved_keeps (Some k) (Some h) c asked since now count rows e eh s =
     delta_current : (k : ServerInfo) (asked since now count dimension : ℕ) (numbers : List ℕ) → is_delta k asked since now count dimension numbers ≡ true →
         is_current k now count ≡ true
     delta_current k asked since now count dimension numbers h =
-        let a = and_parts (since == asked) (is_current k now count && ((dimension == k.dimension) && (nat_le (length numbers) 1024
-        && are_ascending 0 (digit_rows k.layout) numbers))) h in
-        (and_parts (is_current k now count) ((dimension == k.dimension) && (nat_le (length numbers) 1024
-        && are_ascending 0 (digit_rows k.layout) numbers)) a.1).0
+        let a = and_parts (since == asked) (is_current k now count && ((dimension == k.plan.dimension) && (nat_le (length numbers) 1024
+        && are_ascending 0 (digit_rows (shape_known k)) numbers))) h in
+        (and_parts (is_current k now count) ((dimension == k.plan.dimension) && (nat_le (length numbers) 1024
+        && are_ascending 0 (digit_rows (shape_known k)) numbers)) a.1).0
 
 delta_keeps : (call : Call) (c : ClientState) (since now count : ℕ) (rows : RowList) → IsState c → Keeps c (takes_delta call c since now count rows).state
 delta_keeps Idle c since now count rows s = faulty_keeps c s
@@ -296,7 +297,7 @@ refused_keeps Publish c code s = ended_keeps c s
 
 pub takes_keeps : (c : ClientState) (f : Frame) → IsState c → Keeps c (reaction_to_reply c f).state
 takes_keeps c (frame.Welcome profile width record_len groups count version dimension seed) s =
-    welcome_keeps c.call c profile (shape width record_len groups count) dimension version seed s s.call
+    welcome_keeps c.call c profile (plan_given width record_len groups dimension seed) count version s s.call
 takes_keeps c (frame.HintPart scheme version part words) s = part_keeps c.call c scheme version part words s s.call
 takes_keeps c (frame.Answer scheme version words) s = answer_keeps c.call c scheme version words s
 takes_keeps c (frame.Stale version count) s = stale_keeps c.call c version count s

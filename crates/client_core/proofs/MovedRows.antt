@@ -12,6 +12,7 @@ use Rattle.matrix_u32.proofs.Changes.{matrix_by_entries}
 use Rattle.matrix_u32.proofs.Rows.{with_row-same, with_row-other, row_index, length-row}
 use Rattle.frame_codec.specs.Rows.{Row, RowList, row_list, row_count, row_at, rows_in}
 use Rattle.digit_pack.specs.Layout.{digit_rows}
+use Rattle.client_core.specs.States.{shape_known}
 use Rattle.client_core.specs.declared.state.ServerInfo.{ServerInfo}
 use Rattle.client_core.specs.Replies.{is_current, are_ascending, row_numbers, is_delta, with_rows}
 use Rattle.client_core.specs.Laws.{rows_of}
@@ -130,20 +131,20 @@ and_then_no false b e = refl
 pub other_since : (k : ServerInfo) (asked since now count n : ℕ) (is : List ℕ) → since ≢ asked → is_delta k asked since now count n is ≡ false
 other_since k asked since now count n is ne = and_no (since == asked) _ (ne_eqb since asked ne)
 
-pub other_dimension : (k : ServerInfo) (asked since now count n : ℕ) (is : List ℕ) → n ≢ k.dimension → is_delta k asked since now count n is ≡ false
+pub other_dimension : (k : ServerInfo) (asked since now count n : ℕ) (is : List ℕ) → n ≢ k.plan.dimension → is_delta k asked since now count n is ≡ false
 other_dimension k asked since now count n is ne =
-    and_then_no (since == asked) _ (and_then_no (is_current k now count) _ (and_no (n == k.dimension) _ (ne_eqb n k.dimension ne)))
+    and_then_no (since == asked) _ (and_then_no (is_current k now count) _ (and_no (n == k.plan.dimension) _ (ne_eqb n k.plan.dimension ne)))
 
 pub too_many : (k : ServerInfo) (asked since now count n : ℕ) (is : List ℕ) → 1024 < length is → is_delta k asked since now count n is ≡ false
 too_many k asked since now count n is lt =
-    and_then_no (since == asked) _ (and_then_no (is_current k now count) _ (and_then_no (n == k.dimension) _
+    and_then_no (since == asked) _ (and_then_no (is_current k now count) _ (and_then_no (n == k.plan.dimension) _
     (and_no (nat_le (length is) 1024) _ (lt-leb (length is) 1024 lt))))
 
 -- where all else is right, the version and the count decide
-pub delta_is_current : (k : ServerInfo) (asked since now count n : ℕ) (is : List ℕ) → since ≡ asked → n ≡ k.dimension → length is ≤ 1024 →
-    are_ascending 0 (digit_rows k.layout) is ≡ true → is_delta k asked since now count n is ≡ is_current k now count
+pub delta_is_current : (k : ServerInfo) (asked since now count n : ℕ) (is : List ℕ) → since ≡ asked → n ≡ k.plan.dimension → length is ≤ 1024 →
+    are_ascending 0 (digit_rows (shape_known k)) is ≡ true → is_delta k asked since now count n is ≡ is_current k now count
 delta_is_current k asked since now count n is same size few order =
-    rw (eq-eqb since asked same, eq-eqb n k.dimension size, le-leb (length is) 1024 few, order) (and_true (is_current k now count))
+    rw (eq-eqb since asked same, eq-eqb n k.plan.dimension size, le-leb (length is) 1024 few, order) (and_true (is_current k now count))
   where
     and_true : (b : Bool) → (b && true) ≡ b
     and_true true = refl

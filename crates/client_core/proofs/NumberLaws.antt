@@ -4,7 +4,7 @@ use Rattle.std.specs.Prelude.{slice_index}
 use Rattle.frame_codec.specs.declared.frame.Frame.{Frame}
 use Rattle.frame_codec.specs.declared.frame.Frame.TheVariants as frame
 use Rattle.frame_codec.specs.Rows.{RowList}
-use Rattle.digit_pack.specs.Layout.{Shape, shape}
+use Rattle.pir_schemes.specs.declared.plan.Plan.{Plan}
 use Rattle.pir_schemes.specs.declared.scheme.Scheme.{Scheme}
 use Rattle.client_core.specs.declared.state.ClientState.{ClientState}
 use Rattle.client_core.specs.declared.state.ServerInfo.{ServerInfo}
@@ -13,7 +13,7 @@ use Rattle.client_core.specs.declared.state.Call.{Call}
 use Rattle.client_core.specs.declared.state.Call.TheVariants as call
 use Rattle.client_core.specs.States.{delta_base}
 use Rattle.client_core.specs.Calls.{Want, Hello, Sync, Ask, Edit, Publish, sync_begun}
-use Rattle.client_core.specs.Replies.{Taken, reaction_to_reply, takes_welcome, more_parts, takes_asked_part, takes_part, answered, takes_answer, staled, takes_stale, moved, takes_delta, goes_by_parts, takes_no_delta, takes_done, takes_refused}
+use Rattle.client_core.specs.Replies.{Taken, plan_given, reaction_to_reply, takes_welcome, more_parts, takes_asked_part, takes_part, answered, takes_answer, reaction_to_stale, takes_stale, moved, takes_delta, goes_by_parts, takes_no_delta, takes_done, takes_refused}
 use Rattle.client_core.specs.Laws.{Happening, Accepted, TurnedDown, Lacking, Taken as Reply, Failing, after, numbers, NoNumberTwice}
 
 -- ---- no reply changes the number
@@ -22,15 +22,15 @@ either : (n : ℕ) (b : Bool) (x y : Taken) → x.state.number ≡ n → y.state
 either n true x y p q = p
 either n false x y p q = q
 
-welcome_number : (k : Call) (c : ClientState) (profile : ℕ) (l : Shape) (n version : ℕ) (seed : List ℕ) →
-    (takes_welcome k c profile l n version seed).state.number ≡ c.number
-welcome_number call.Idle c profile l n version seed = refl
-welcome_number (call.Hello key) c profile l n version seed = either c.number _ _ _ refl refl
-welcome_number (call.Sync s v p) c profile l n version seed = refl
-welcome_number (call.Delta since) c profile l n version seed = refl
-welcome_number (call.Ask i x v m) c profile l n version seed = refl
-welcome_number (call.Edit i b) c profile l n version seed = refl
-welcome_number call.Publish c profile l n version seed = refl
+welcome_number : (k : Call) (c : ClientState) (profile : ℕ) (plan : Plan) (count version : ℕ) →
+    (takes_welcome k c profile plan count version).state.number ≡ c.number
+welcome_number call.Idle c profile plan count version = refl
+welcome_number (call.Hello key) c profile plan count version = either c.number _ _ _ refl refl
+welcome_number (call.Sync s v p) c profile plan count version = refl
+welcome_number (call.Delta since) c profile plan count version = refl
+welcome_number (call.Ask i x v m) c profile plan count version = refl
+welcome_number (call.Edit i b) c profile plan count version = refl
+welcome_number call.Publish c profile plan count version = refl
 
 asked_part_number : (known : Option ServerInfo) (s : Scheme) (c : ClientState) (v p scheme version part : ℕ) (words : List ℕ) →
     (takes_asked_part known s c v p scheme version part words).state.number ≡ c.number
@@ -63,7 +63,7 @@ answer_number (call.Edit i b) c scheme version words = refl
 answer_number call.Publish c scheme version words = refl
 
 staled_number : (known : Option ServerInfo) (later c : ClientState) (asked version count : ℕ) → later.number ≡ c.number →
-    (staled known later c asked version count).state.number ≡ c.number
+    (reaction_to_stale known later c asked version count).state.number ≡ c.number
 staled_number None later c asked version count e = refl
 staled_number (Some k) later c asked version count e = either c.number _ _ _ e refl
 
@@ -124,7 +124,7 @@ refused_number call.Publish c code = refl
 
 pub takes_number : (c : ClientState) (f : Frame) → (reaction_to_reply c f).state.number ≡ c.number
 takes_number c (frame.Welcome profile width record_len groups count version dimension seed) =
-    welcome_number c.call c profile (shape width record_len groups count) dimension version seed
+    welcome_number c.call c profile (plan_given width record_len groups dimension seed) count version
 takes_number c (frame.HintPart scheme version part words) = part_number c.call c scheme version part words
 takes_number c (frame.Answer scheme version words) = answer_number c.call c scheme version words
 takes_number c (frame.Stale version count) = stale_number c.call c version count

@@ -9,7 +9,7 @@ use Rattle.frame_codec.specs.declared.frame.Frame.TheVariants as frame
 use Rattle.frame_codec.specs.Frames.{kind_of, payload_size}
 use Rattle.frame_codec.proofs.Payloads.{payload_sized}
 use Rattle.frame_codec.specs.Rows.{RowList}
-use Rattle.digit_pack.specs.Layout.{Shape, shape}
+use Rattle.pir_schemes.specs.declared.plan.Plan.{Plan}
 use Rattle.pir_schemes.specs.declared.scheme.Scheme.{Scheme}
 use Rattle.pir_schemes.specs.declared.scheme.Scheme.TheVariants.{Simple, Double}
 use Rattle.pir_schemes.specs.Schemes.{scheme_byte}
@@ -22,24 +22,24 @@ use Rattle.client_core.specs.declared.state.Call.{Call}
 use Rattle.client_core.specs.declared.state.Call.TheVariants as call
 use Rattle.client_core.specs.declared.state.CallFault.{CallFault}
 use Rattle.client_core.specs.declared.state.CallFault.TheVariants.{NotReady, Busy, SeedUsedUp, Failed, AlreadyWelcome}
-use Rattle.client_core.specs.States.{is_idle, is_ready, known_version, known_count, scheme_held, delta_base}
+use Rattle.client_core.specs.States.{shape_known, is_idle, is_ready, known_version, known_count, scheme_held, delta_base}
 use Rattle.client_core.specs.Calls.{Want, Hello, Sync, Ask, Edit, Publish, sync_begun, state_after_call, call_frame, call_words, refusal, spent}
-use Rattle.client_core.specs.Replies.{Taken, reaction_to_reply, is_accepted_welcome, takes_welcome, is_part, more_parts, takes_asked_part, takes_part, is_answer, answered, takes_answer, is_current, with_current, staled, takes_stale, row_numbers, is_delta, moved, takes_delta, goes_by_parts, takes_no_delta, takes_done, takes_refused}
+use Rattle.client_core.specs.Replies.{Taken, plan_given, reaction_to_reply, is_accepted_welcome, takes_welcome, is_part, more_parts, takes_asked_part, takes_part, is_answer, answered, takes_answer, is_current, with_current, reaction_to_stale, takes_stale, row_numbers, is_delta, moved, takes_delta, goes_by_parts, takes_no_delta, takes_done, takes_refused}
 use Rattle.client_core.specs.Feeding.{sends_of}
 use Rattle.client_core.specs.Laws.{Happening, Accepted, TurnedDown, Lacking, Taken as Reply, Failing, after}
 use Rattle.client_core.specs.Shapes.{frames_at, frames, FrameShape, shape_of_frame, frame_shape, BlankCall, BlankHello, BlankAsk, blank_call, blank_reply, BlankHappening, blank, Awaited, NoReply, APart, awaited, HintName, hint_name, Outline, outline, asked_count, named_base, sync_shape, call_shape, outline_of_sync, outline_after_call, outline_spent, Reacted, after_welcome, after_good_part, after_asked_part, after_part, after_asked_delta, after_delta, after_asked_no_delta, after_no_delta, after_asked_answer, after_answer, after_asked_stale, after_stale, after_done, after_refused, after_reply, outline_after, shapes_at, shapes, HasWholeKey, KeyIsWhole, IndexIsBelow, EqualShapes}
 
 -- a frame's shape by the size of its fields
-sized : (f : Frame) → shape_of_frame f ≡ frame_shape (kind_of f) (payload_size f)
+pub sized : (f : Frame) → shape_of_frame f ≡ frame_shape (kind_of f) (payload_size f)
 sized f = ap (λ (x : ℕ). frame_shape (kind_of f) x) (payload_sized f)
 
 -- ---- calls
 
-asked_length : (known : Option ServerInfo) (hint : Option Hint) (seed : List ℕ) (number i : ℕ) →
+pub asked_length : (known : Option ServerInfo) (hint : Option Hint) (seed : List ℕ) (number i : ℕ) →
     length (call_words known (scheme_held hint) seed number i) ≡ asked_count known (hint_name hint)
 asked_length None hint seed number i = refl
-asked_length (Some k) None seed number i = length_query _ k.layout k.dimension k.seed seed number i
-asked_length (Some k) (Some h) seed number i = length_query h.scheme k.layout k.dimension k.seed seed number i
+asked_length (Some k) None seed number i = length_query _ (shape_known k) k.plan.dimension k.plan.seed seed number i
+asked_length (Some k) (Some h) seed number i = length_query h.scheme (shape_known k) k.plan.dimension k.plan.seed seed number i
 
 -- a sync goes by delta from the version in the hint's name
 pub base_named : (s : Scheme) (hint : Option Hint) → delta_base s hint ≡ named_base s (hint_name hint)
@@ -90,20 +90,20 @@ either : (b : Bool) (x y : Taken) (v w : Reacted) → reacted x ≡ v → reacte
 either true x y v w p q = p
 either false x y v w p q = q
 
-welcome_reacts : (k : Call) (c : ClientState) (profile : ℕ) (l : Shape) (n version : ℕ) (seed : List ℕ) →
-    reacted (takes_welcome k c profile l n version seed) ≡ after_welcome (awaited k) (outline c) profile l n version seed
-welcome_reacts call.Idle c profile l n version seed = refl
-welcome_reacts (call.Hello key) c profile l n version seed = either (is_accepted_welcome profile l n version) _ _ _ _ refl refl
-welcome_reacts (call.Sync s v p) c profile l n version seed = refl
-welcome_reacts (call.Delta since) c profile l n version seed = refl
-welcome_reacts (call.Ask i s v m) c profile l n version seed = refl
-welcome_reacts (call.Edit i b) c profile l n version seed = refl
-welcome_reacts call.Publish c profile l n version seed = refl
+welcome_reacts : (k : Call) (c : ClientState) (profile : ℕ) (plan : Plan) (count version : ℕ) →
+    reacted (takes_welcome k c profile plan count version) ≡ after_welcome (awaited k) (outline c) profile plan count version
+welcome_reacts call.Idle c profile plan count version = refl
+welcome_reacts (call.Hello key) c profile plan count version = either (is_accepted_welcome profile plan count version) _ _ _ _ refl refl
+welcome_reacts (call.Sync s v p) c profile plan count version = refl
+welcome_reacts (call.Delta since) c profile plan count version = refl
+welcome_reacts (call.Ask i s v m) c profile plan count version = refl
+welcome_reacts (call.Edit i b) c profile plan count version = refl
+welcome_reacts call.Publish c profile plan count version = refl
 
 next_asked : (s : Scheme) (k : ServerInfo) (c : ClientState) (v p : ℕ) (words : List ℕ) →
     reacted (more_parts s k c v p words) ≡ after_good_part s k (outline c) v p (length words)
 next_asked s k c v p words =
-    either (length words == hint_len s k.layout k.dimension) _ _ _ _ refl
+    either (length words == hint_len s (shape_known k) k.plan.dimension) _ _ _ _ refl
     (ap (λ (x : FrameShape). more x) (sized (frame.HintAsk (scheme_byte s) v (p + 1))))
   where
     more : FrameShape → Reacted
@@ -113,7 +113,7 @@ asked_part_reacts : (known : Option ServerInfo) (s : Scheme) (c : ClientState) (
     → reacted (takes_asked_part known s c v p scheme version part words) ≡ after_asked_part known s (outline c) v p scheme version part (length words)
 asked_part_reacts None s c v p scheme version part words = refl
 asked_part_reacts (Some k) s c v p scheme version part words =
-    either (is_part s (hint_len s k.layout k.dimension) v p scheme version part words) (more_parts s k c v p (c.parts ++ words)) _ _ _
+    either (is_part s (hint_len s (shape_known k) k.plan.dimension) v p scheme version part words) (more_parts s k c v p (c.parts ++ words)) _ _ _
     (next_asked s k c v p (c.parts ++ words) ∙ ap (λ (x : ℕ). after_good_part s k (outline c) v p x) (length-append c.parts words))
     refl
 
@@ -144,7 +144,7 @@ answer_reacts (call.Edit i b) c scheme version words = refl
 answer_reacts call.Publish c scheme version words = refl
 
 staled_reacts : (known : Option ServerInfo) (dropped c : ClientState) (asked version count : ℕ) →
-    reacted (staled known dropped c asked version count) ≡ after_asked_stale known (outline dropped) (outline c) asked version count
+    reacted (reaction_to_stale known dropped c asked version count) ≡ after_asked_stale known (outline dropped) (outline c) asked version count
 staled_reacts None dropped c asked version count = refl
 staled_reacts (Some k) dropped c asked version count =
     either (not (version == asked) && is_current k version count) _ _ _ _ refl refl
@@ -218,7 +218,7 @@ refused_reacts call.Publish c code = refl
 
 reply_reacts : (c : ClientState) (f : Frame) → reacted (reaction_to_reply c f) ≡ after_reply (outline c) (blank_reply f)
 reply_reacts c (frame.Welcome profile width record_len groups count version dimension seed) =
-    welcome_reacts c.call c profile (shape width record_len groups count) dimension version seed
+    welcome_reacts c.call c profile (plan_given width record_len groups dimension seed) count version
 reply_reacts c (frame.HintPart scheme version part words) = part_reacts c.call c scheme version part words
 reply_reacts c (frame.Answer scheme version words) = answer_reacts c.call c scheme version words
 reply_reacts c (frame.Stale version count) = stale_reacts c.call c version count

@@ -13,7 +13,7 @@ use Rattle.client_core.specs.declared.state.Call.{Call}
 use Rattle.client_core.specs.declared.state.Call.TheVariants as call
 use Rattle.client_core.specs.declared.state.CallFault.{CallFault}
 use Rattle.client_core.specs.declared.state.CallFault.TheVariants.{NotReady, Busy, BadIndex, SeedUsedUp, Memory, Failed, AlreadyWelcome}
-use Rattle.client_core.specs.States.{is_idle, is_ready, known_version, known_count, scheme_held, delta_base}
+use Rattle.client_core.specs.States.{shape_known, is_idle, is_ready, known_version, known_count, scheme_held, delta_base}
 
 -- a call, with what the caller gives it
 pub data Want : Type 0 where
@@ -65,7 +65,7 @@ spent _ c = c
 -- the words of the query for a record
 abbrev pub call_words : Option ServerInfo → Scheme → List ℕ → ℕ → ℕ → List ℕ
 call_words None scheme seed number i = []
-call_words (Some k) scheme seed number i = query_words scheme k.layout k.dimension k.seed seed number i
+call_words (Some k) scheme seed number i = query_words scheme (shape_known k) k.plan.dimension k.plan.seed seed number i
 
 -- the frame of the outstanding call. An idle client has none, and any stands here
 abbrev pub call_frame : ClientState → Call → Frame

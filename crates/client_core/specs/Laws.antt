@@ -10,6 +10,7 @@ use Rattle.pir_schemes.specs.declared.scheme.Scheme.TheVariants.{Simple}
 use Rattle.pir_schemes.specs.Schemes.{scheme_byte}
 use Rattle.pir_schemes.specs.Parts.{part_of}
 use Rattle.pir_schemes.specs.Retrievals.{hint_rows, hint_len}
+use Rattle.client_core.specs.States.{shape_known}
 use Rattle.client_core.specs.declared.state.ClientState.{ClientState}
 use Rattle.client_core.specs.declared.state.ServerInfo.{ServerInfo}
 use Rattle.client_core.specs.declared.state.Hint.{Hint}
@@ -74,7 +75,7 @@ pub record IsSyncedBy (c : ClientState) (s : Scheme) (k : ServerInfo) (v version
 pub record IsMadeOfParts (c : ClientState) (s : Scheme) (k : ServerInfo) (v version : ℕ) (replies : List Frame) : Type 0 where
   pub words : List ℕ
   pub parts : ArePartsFrom s v 0 replies words
-  pub count : length words ≡ hint_len s k.layout k.dimension
+  pub count : length words ≡ hint_len s (shape_known k) k.plan.dimension
   pub same : version ≡ v
   pub hint : (takes_all c replies).state.hint ≡ Some (hint_made s k v words)
 
@@ -91,7 +92,7 @@ ArePartsOf s whole v j (f ∷ fs) = (f ≡ frame.HintPart (scheme_byte s) v j (p
 -- where the parts are those of a hint, the hint held is that hint
 abbrev pub PartsOfAHintMakeIt : Type 0
 PartsOfAHintMakeIt = (c : ClientState) (s : Scheme) (k : ServerInfo) (v version : ℕ) (replies : List Frame) (hint : WordMatrix) →
-    IsSyncedBy c s k v version replies → hint.rows ≡ hint_rows s k.layout k.dimension → hint.cols ≡ k.dimension → IsWhole hint →
+    IsSyncedBy c s k v version replies → hint.rows ≡ hint_rows s (shape_known k) k.plan.dimension → hint.cols ≡ k.plan.dimension → IsWhole hint →
     ArePartsOf s hint.words v 0 replies →
     (takes_all c replies).state.hint ≡ Some (record { scheme = s; version = v; matrix = hint })
 

@@ -1,7 +1,9 @@
 pub mod States
 pub mod Calls
 pub mod Replies
+pub mod Rooms
 pub mod Feeding
 pub mod Laws
 pub mod Endings
 pub mod Shapes
+pub mod Names

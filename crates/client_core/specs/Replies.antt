@@ -4,12 +4,13 @@ use Rattle.frame_codec.specs.declared.frame.Frame.{Frame}
 use Rattle.frame_codec.specs.declared.frame.Frame.TheVariants as frame
 use Rattle.frame_codec.specs.Rows.{Row, RowList, rows_in}
 use Rattle.matrix_u32.specs.Matrix.{WordMatrix, with_row}
-use Rattle.digit_pack.specs.Layout.{Shape, shape, digit_rows}
+use Rattle.digit_pack.specs.Layout.{digit_rows}
 use Rattle.pir_schemes.specs.declared.scheme.Scheme.{Scheme}
 use Rattle.pir_schemes.specs.declared.scheme.Scheme.TheVariants.{Simple}
 use Rattle.pir_schemes.specs.Schemes.{scheme_byte}
 use Rattle.pir_schemes.specs.Parts.{part_len}
-use Rattle.pir_schemes.specs.Plans.{plan_of, profile_of, record_of}
+use Rattle.pir_schemes.specs.declared.plan.Plan.{Plan}
+use Rattle.pir_schemes.specs.Plans.{shape_at, is_profile, record_of}
 use Rattle.pir_schemes.specs.Retrievals.{hint_rows, hint_len, answer_count, reading}
 use Rattle.client_core.specs.declared.state.ClientState.{ClientState}
 use Rattle.client_core.specs.declared.state.ServerInfo.{ServerInfo}
@@ -22,7 +23,7 @@ use Rattle.client_core.specs.declared.state.ClientFault.{ClientFault}
 use Rattle.client_core.specs.declared.state.ClientFault.TheVariants.{BadWelcome, BadReply}
 use Rattle.client_core.specs.declared.state.Reaction.{Reaction}
 use Rattle.client_core.specs.declared.state.Reaction.TheVariants.{Asks, Reports, Fails}
-use Rattle.client_core.specs.States.{is_layout}
+use Rattle.client_core.specs.States.{is_layout, shape_known}
 
 -- what a reply leads to: the state after it, and what comes of it
 pub record Taken : Type 0 where
@@ -39,22 +40,32 @@ ended c e = record { state = record c { call = Idle }; reaction = Reports e }
 
 -- ---- Welcome
 
--- a Welcome that a client accepts: the plan's profile, a layout and a dimension within the limits, a version
-abbrev pub is_accepted_welcome : ℕ → Shape → ℕ → ℕ → Bool
-is_accepted_welcome profile l dimension version =
-    (profile == profile_of (plan_of l dimension [])) && (is_layout l && ((nat_le 1 dimension && nat_le dimension 1024) && nat_lt 0 version))
+-- the plan that a Welcome gives
+abbrev pub plan_given : ℕ → ℕ → ℕ → ℕ → List ℕ → Plan
+plan_given width record_len groups dimension seed = record {
+  width = width;
+  record_len = record_len;
+  groups = groups;
+  dimension = dimension;
+  seed = seed;
+}
+
+-- a Welcome that a client accepts: a plan's profile, a layout and a dimension within the limits, a version
+abbrev pub is_accepted_welcome : ℕ → Plan → ℕ → ℕ → Bool
+is_accepted_welcome profile p count version =
+    is_profile profile && (is_layout (shape_at p count) && ((nat_le 1 p.dimension && nat_le p.dimension 1024) && nat_lt 0 version))
 
 -- what it tells is known from then on
-abbrev pub welcomed : ClientState → ℕ → Shape → ℕ → ℕ → List ℕ → Taken
-welcomed c profile l dimension version seed =
-    if is_accepted_welcome profile l dimension version
-    then ended (record c { known = Some (record { version = version; layout = l; dimension = dimension; seed = seed }) }) (Welcomed version)
+abbrev pub welcomed : ClientState → ℕ → Plan → ℕ → ℕ → Taken
+welcomed c profile p count version =
+    if is_accepted_welcome profile p count version
+    then ended (record c { known = Some (record { version = version; count = count; plan = p }) }) (Welcomed version)
     else faulty c BadWelcome
 
 -- it answers hello alone
-abbrev pub takes_welcome : Call → ClientState → ℕ → Shape → ℕ → ℕ → List ℕ → Taken
-takes_welcome (Hello key) c profile l dimension version seed = welcomed c profile l dimension version seed
-takes_welcome _ c profile l dimension version seed = faulty c BadReply
+abbrev pub takes_welcome : Call → ClientState → ℕ → Plan → ℕ → ℕ → Taken
+takes_welcome (Hello key) c profile p count version = welcomed c profile p count version
+takes_welcome _ c profile p count version = faulty c BadReply
 
 -- ---- HintPart
 
@@ -68,13 +79,13 @@ abbrev pub hint_made : Scheme → ServerInfo → ℕ → List ℕ → Hint
 hint_made s k version words = record {
   scheme = s;
   version = version;
-  matrix = record { rows = hint_rows s k.layout k.dimension; cols = k.dimension; words = words };
+  matrix = record { rows = hint_rows s (shape_known k) k.plan.dimension; cols = k.plan.dimension; words = words };
 }
 
 -- the last part makes the hint whole, and after another the next part is asked for
 abbrev pub more_parts : Scheme → ServerInfo → ClientState → ℕ → ℕ → List ℕ → Taken
 more_parts s k c version part words =
-    if length words == hint_len s k.layout k.dimension
+    if length words == hint_len s (shape_known k) k.plan.dimension
     then ended (record c { hint = Some (hint_made s k version words); parts = [] }) (Synced s version)
     else record { state = record c { call = Sync s version (part + 1); parts = words }; reaction = Asks s version (part + 1) }
 
@@ -82,7 +93,7 @@ more_parts s k c version part words =
 abbrev pub takes_asked_part : Option ServerInfo → Scheme → ClientState → ℕ → ℕ → ℕ → ℕ → ℕ → List ℕ → Taken
 takes_asked_part None s c asked next scheme version part words = faulty c BadReply
 takes_asked_part (Some k) s c asked next scheme version part words =
-    if is_part s (hint_len s k.layout k.dimension) asked next scheme version part words
+    if is_part s (hint_len s (shape_known k) k.plan.dimension) asked next scheme version part words
     then more_parts s k c asked next (c.parts ++ words) else faulty c BadReply
 
 -- it answers a sync by parts alone
@@ -92,15 +103,19 @@ takes_part _ c scheme version part words = faulty c BadReply
 
 -- ---- Answer
 
--- the record that an answer gives, or unreadable where it gives none
-abbrev pub event_of : ℕ → ℕ → Option (List ℕ) → Event
-event_of i version (Some bytes) = Retrieved i version bytes
-event_of i version None = Unreadable i version
+-- the record read, or unreadable where there is none
+abbrev pub event_read : ℕ → ℕ → Option (List ℕ) → Event
+event_read i version (Some bytes) = Retrieved i version bytes
+event_read i version None = Unreadable i version
+
+-- what an answer's digits give
+abbrev pub event_of : Plan → ℕ → ℕ → List ℕ → Event
+event_of p i version digits = event_read i version (record_of p digits)
 
 -- an answer of the scheme and the version asked, with as many words as the scheme wants
 abbrev pub is_answer : Scheme → ServerInfo → ℕ → ℕ → ℕ → List ℕ → Bool
 is_answer s k asked scheme version words =
-    (scheme == scheme_byte s) && ((version == asked) && (length words == answer_count s k.layout k.dimension))
+    (scheme == scheme_byte s) && ((version == asked) && (length words == answer_count s (shape_known k) k.plan.dimension))
 
 -- it is read with the hint held, and in the hint's scheme
 abbrev pub answered : Option ServerInfo → Option Hint → ClientState → ℕ → ℕ → ℕ → ℕ → ℕ → List ℕ → Taken
@@ -108,7 +123,7 @@ answered None hint c i asked number scheme version words = faulty c BadReply
 answered (Some k) None c i asked number scheme version words = faulty c BadReply
 answered (Some k) (Some h) c i asked number scheme version words =
     if is_answer h.scheme k asked scheme version words
-    then ended c (event_of i version (record_of k.layout (reading h.scheme k.layout h.matrix c.seed number i words)))
+    then ended c (event_of k.plan i version (reading h.scheme (shape_known k) h.matrix c.seed number i words))
     else faulty c BadReply
 
 -- it answers ask alone
@@ -118,30 +133,26 @@ takes_answer _ c scheme version words = faulty c BadReply
 
 -- ---- Stale
 
--- the layout with another count of records
-abbrev pub with_count : Shape → ℕ → Shape
-with_count l count = shape l.width l.record_len l.groups count
-
 -- a version and a count that a reply may name as the current ones
 abbrev pub is_current : ServerInfo → ℕ → ℕ → Bool
-is_current k version count = nat_lt 0 version && is_layout (with_count k.layout count)
+is_current k version count = nat_lt 0 version && is_layout (shape_at k.plan count)
 
 -- they are the last known
 abbrev pub with_current : ServerInfo → ℕ → ℕ → ServerInfo
-with_current k version count = record k { version = version; layout = with_count k.layout count }
+with_current k version count = record k { version = version; count = count }
 
 -- the version and the count told are the last known, where these are another version than asked and a count within the limits. The state is the one given first
-abbrev pub staled : Option ServerInfo → ClientState → ClientState → ℕ → ℕ → ℕ → Taken
-staled None after c asked version count = faulty c BadReply
-staled (Some k) after c asked version count =
+abbrev pub reaction_to_stale : Option ServerInfo → ClientState → ClientState → ℕ → ℕ → ℕ → Taken
+reaction_to_stale None after c asked version count = faulty c BadReply
+reaction_to_stale (Some k) after c asked version count =
     if not (version == asked) && is_current k version count
     then ended (record after { known = Some (with_current k version count) }) (Stale version)
     else faulty c BadReply
 
 -- it answers a sync by parts, of which the unfinished ones are dropped, and ask
 abbrev pub takes_stale : Call → ClientState → ℕ → ℕ → Taken
-takes_stale (Sync s v p) c version count = staled c.known (record c { parts = [] }) c v version count
-takes_stale (Ask i s v n) c version count = staled c.known c c v version count
+takes_stale (Sync s v p) c version count = reaction_to_stale c.known (record c { parts = [] }) c v version count
+takes_stale (Ask i s v n) c version count = reaction_to_stale c.known c c v version count
 takes_stale _ c version count = faulty c BadReply
 
 -- ---- Delta and NoDelta
@@ -158,8 +169,8 @@ row_numbers rows = map (λ r. r.number) (rows_in rows)
 -- a Delta that was asked for: from the version asked to one that can be, with rows of the hint's length, at most 1024 of them, in order and each once
 abbrev pub is_delta : ServerInfo → ℕ → ℕ → ℕ → ℕ → ℕ → List ℕ → Bool
 is_delta k asked since now count dimension numbers =
-    (since == asked) && (is_current k now count && ((dimension == k.dimension) && (nat_le (length numbers) 1024
-    && are_ascending 0 (digit_rows k.layout) numbers)))
+    (since == asked) && (is_current k now count && ((dimension == k.plan.dimension) && (nat_le (length numbers) 1024
+    && are_ascending 0 (digit_rows (shape_known k)) numbers)))
 
 -- a matrix with these rows in place of its own
 unfoldable pub with_rows : WordMatrix → List Row → WordMatrix
@@ -219,7 +230,7 @@ takes_refused _ c code = ended c (Refused code)
 -- what a frame leads to; the kinds that no reply has, and those that answer no call yet, are bad
 abbrev pub reaction_to_reply : ClientState → Frame → Taken
 reaction_to_reply c (frame.Welcome profile width record_len groups count version dimension seed) =
-    takes_welcome c.call c profile (shape width record_len groups count) dimension version seed
+    takes_welcome c.call c profile (plan_given width record_len groups dimension seed) count version
 reaction_to_reply c (frame.HintPart scheme version part words) = takes_part c.call c scheme version part words
 reaction_to_reply c (frame.Answer scheme version words) = takes_answer c.call c scheme version words
 reaction_to_reply c (frame.Stale version count) = takes_stale c.call c version count

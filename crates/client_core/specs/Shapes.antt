@@ -1,10 +1,12 @@
 -- The kinds and lengths of the frames that a client sends, as a function of what holds no index and no word.
-use Rattle.std.specs.Prelude.{◌≡◌, ◌≢◌, ◌⊎◌, ◌<◌, ◌+◌, ◌*◌, ℕ, List, [], ◌∷◌, ◌++◌, length, map, Bool, true, not, ◌&&◌, Option, Some, None, ◌==◌, nat_lt, if◌then◌else◌}
+use Rattle.std.specs.Prelude.{◌≡◌, ◌≢◌, ◌⊎◌, ◌<◌, ◌+◌, ◌*◌, ℕ, List, [], ◌∷◌, ◌++◌, length, map, Bool, true, false, not, ◌&&◌, Option, Some, None, is_some, Result, Ok, Err, ◌==◌, if◌then◌else◌}
 use Rattle.std.specs.List.{flat_map, AllByRecursion}
 use Rattle.frame_codec.specs.declared.frame.Frame.{Frame}
 use Rattle.frame_codec.specs.declared.frame.Frame.TheVariants as frame
+use Rattle.frame_codec.specs.declared.reader.ReadFault.{ReadFault}
 use Rattle.frame_codec.specs.Frames.{kind_of, payload_of, encoding}
-use Rattle.digit_pack.specs.Layout.{Shape, shape}
+use Rattle.frame_codec.specs.Streams.{Feeds}
+use Rattle.pir_schemes.specs.declared.plan.Plan.{Plan}
 use Rattle.pir_schemes.specs.declared.scheme.Scheme.{Scheme}
 use Rattle.pir_schemes.specs.declared.scheme.Scheme.TheVariants.{Simple}
 use Rattle.pir_schemes.specs.Schemes.{scheme_byte}
@@ -15,14 +17,14 @@ use Rattle.client_core.specs.declared.state.ServerInfo.{ServerInfo}
 use Rattle.client_core.specs.declared.state.Hint.{Hint}
 use Rattle.client_core.specs.declared.state.Call.{Call}
 use Rattle.client_core.specs.declared.state.Call.TheVariants as call
-use Rattle.client_core.specs.States.{known_version, known_count, simple_version}
+use Rattle.client_core.specs.States.{shape_known, known_version, known_count, simple_version}
 use Rattle.client_core.specs.declared.state.CallFault.{CallFault}
 use Rattle.client_core.specs.declared.state.ClientFault.{ClientFault}
 use Rattle.client_core.specs.declared.state.ClientFault.TheVariants.{Memory}
 use Rattle.client_core.specs.declared.state.Event.{Event}
 use Rattle.client_core.specs.Calls.{Want, Hello, Sync, Ask, Edit, Publish, state_after_call, call_frame, refusal, Accepts, Refuses}
-use Rattle.client_core.specs.Replies.{reaction_to_reply, is_accepted_welcome, is_current, with_current, row_numbers, is_delta}
-use Rattle.client_core.specs.Feeding.{Client, sends_of, takes_all, FeedsClient}
+use Rattle.client_core.specs.Replies.{reaction_to_reply, plan_given, is_accepted_welcome, is_current, with_current, row_numbers, is_delta}
+use Rattle.client_core.specs.Feeding.{Client, sends_of, events_of, fault_of, takes_all, FeedsClient}
 use Rattle.client_core.specs.Laws.{Happening, Accepted, TurnedDown, Lacking, Taken, Failing, after}
 
 -- ---- the frames that a client sends, and their shapes
@@ -73,7 +75,7 @@ blank_call Publish = BlankPublish
 
 -- a reply: its kind, its versions and its counts; the numbers of a Delta's rows; and a Welcome whole
 pub data BlankReply : Type 0 where
-  BlankWelcome : (profile : ℕ) (layout : Shape) (dimension version : ℕ) (seed : List ℕ) → BlankReply
+  BlankWelcome : (profile : ℕ) (plan : Plan) (count version : ℕ) → BlankReply
   BlankPart : (scheme version part count : ℕ) → BlankReply
   BlankDelta : (since now count dimension : ℕ) (numbers : List ℕ) → BlankReply
   BlankAnswer : (scheme version count : ℕ) → BlankReply
@@ -86,7 +88,7 @@ pub data BlankReply : Type 0 where
 -- a reply without its words
 abbrev pub blank_reply : Frame → BlankReply
 blank_reply (frame.Welcome profile width record_len groups count version dimension seed) =
-    BlankWelcome profile (shape width record_len groups count) dimension version seed
+    BlankWelcome profile (plan_given width record_len groups dimension seed) count version
 blank_reply (frame.HintPart scheme version part words) = BlankPart scheme version part (length words)
 blank_reply (frame.Delta since now count rows) = BlankDelta since now count rows.dimension (row_numbers rows)
 blank_reply (frame.Answer scheme version words) = BlankAnswer scheme version (length words)
@@ -159,8 +161,8 @@ outline c = record { number = c.number; known = c.known; hint = hint_name c.hint
 -- how many words a query has: as many as the scheme of the hint held wants for the count known
 abbrev pub asked_count : Option ServerInfo → Option HintName → ℕ
 asked_count None hint = 0
-asked_count (Some k) None = query_count Simple k.layout
-asked_count (Some k) (Some h) = query_count h.scheme k.layout
+asked_count (Some k) None = query_count Simple (shape_known k)
+asked_count (Some k) (Some h) = query_count h.scheme (shape_known k)
 
 -- the version from which a sync of a scheme goes by delta, where this hint is held
 abbrev pub named_base : Scheme → Option HintName → Option ℕ
@@ -214,16 +216,16 @@ abbrev pub ends : Outline → Reacted
 ends x = record { outline = record x { call = NoReply }; sends = [] }
 
 -- a Welcome answers hello alone
-abbrev pub after_welcome : Awaited → Outline → ℕ → Shape → ℕ → ℕ → List ℕ → Reacted
-after_welcome AWelcome x profile l dimension version seed =
-    if is_accepted_welcome profile l dimension version
-    then ends (record x { known = Some (record { version = version; layout = l; dimension = dimension; seed = seed }) }) else fails x
-after_welcome _ x profile l dimension version seed = fails x
+abbrev pub after_welcome : Awaited → Outline → ℕ → Plan → ℕ → ℕ → Reacted
+after_welcome AWelcome x profile p count version =
+    if is_accepted_welcome profile p count version
+    then ends (record x { known = Some (record { version = version; count = count; plan = p }) }) else fails x
+after_welcome _ x profile p count version = fails x
 
 -- the last part ends a sync, and after another the next part is asked for
 abbrev pub after_good_part : Scheme → ServerInfo → Outline → ℕ → ℕ → ℕ → Reacted
 after_good_part s k x version part words =
-    if words == hint_len s k.layout k.dimension
+    if words == hint_len s (shape_known k) k.plan.dimension
     then ends (record x { hint = Some (record { scheme = s; version = version }); words = 0 })
     else record { outline = record x { call = APart s version (part + 1); words = words }; sends = frame_shape 3 13 ∷ [] }
 
@@ -231,7 +233,7 @@ after_good_part s k x version part words =
 abbrev pub after_asked_part : Option ServerInfo → Scheme → Outline → ℕ → ℕ → ℕ → ℕ → ℕ → ℕ → Reacted
 after_asked_part None s x asked next scheme version part count = fails x
 after_asked_part (Some k) s x asked next scheme version part count =
-    if (scheme == scheme_byte s) && ((version == asked) && ((part == next) && (count == part_len (hint_len s k.layout k.dimension) next)))
+    if (scheme == scheme_byte s) && ((version == asked) && ((part == next) && (count == part_len (hint_len s (shape_known k) k.plan.dimension) next)))
     then after_good_part s k x asked next (x.words + count) else fails x
 
 -- it answers a sync by parts alone
@@ -273,7 +275,7 @@ abbrev pub after_asked_answer : Option ServerInfo → Option HintName → Outlin
 after_asked_answer None hint x asked scheme version count = fails x
 after_asked_answer (Some k) None x asked scheme version count = fails x
 after_asked_answer (Some k) (Some h) x asked scheme version count =
-    if (scheme == scheme_byte h.scheme) && ((version == asked) && (count == answer_count h.scheme k.layout k.dimension))
+    if (scheme == scheme_byte h.scheme) && ((version == asked) && (count == answer_count h.scheme (shape_known k) k.plan.dimension))
     then ends x else fails x
 
 -- it answers ask alone
@@ -307,7 +309,7 @@ after_refused _ x = ends x
 
 -- what a reply leads to, by its kind
 abbrev pub after_reply : Outline → BlankReply → Reacted
-after_reply x (BlankWelcome profile layout dimension version seed) = after_welcome x.call x profile layout dimension version seed
+after_reply x (BlankWelcome profile plan count version) = after_welcome x.call x profile plan count version
 after_reply x (BlankPart scheme version part count) = after_part x.call x scheme version part count
 after_reply x (BlankAnswer scheme version count) = after_answer x.call x scheme version count
 after_reply x (BlankStale version count) = after_stale x.call x version count
@@ -376,27 +378,68 @@ abbrev pub after_all : ClientState → List Happening → ClientState
 after_all c [] = c
 after_all c (h ∷ hs) = after_all (after c h) hs
 
+-- the events that are reported then
+abbrev pub events_at : ClientState → Happening → List Event
+events_at c (Taken reply) = events_of (reaction_to_reply c reply).reaction
+events_at c _ = []
+
+-- the events that a client reports, in order
+abbrev pub reported_events : ClientState → List Happening → List Event
+reported_events c [] = []
+reported_events c (h ∷ hs) = events_at c h ++ reported_events (after c h) hs
+
+-- what happens to a client at replies: each is taken, up to a bad one
+abbrev pub taken_of : ClientState → List Frame → List Happening
+taken_of c [] = []
+taken_of c (f ∷ fs) =
+    Taken f ∷ (if is_some (fault_of (reaction_to_reply c f).reaction) then [] else taken_of (reaction_to_reply c f).state fs)
+
+-- the client's failure, where the codec stopped
+abbrev pub failure_at : Result (Unit {0}) ReadFault → List Happening
+failure_at (Ok done) = []
+failure_at (Err fault) = Failing ∷ []
+
+-- what happens to a client at the replies of a piece and what the codec answered after them
+abbrev pub happenings_of : ClientState → List Frame → Result (Unit {0}) ReadFault → List Happening
+happenings_of c fs answer = taken_of c fs ++ (if is_some (takes_all c fs).fault then [] else failure_at answer)
+
 -- a reply, or a failure
 abbrev pub IsFed : Happening → Type 0
 IsFed (Taken reply) = Unit {0}
 IsFed Failing = Unit {0}
 IsFed _ = ⊥
 
--- such happenings led from one state to another, and their frames were written
-pub record Happened (old : ClientState) (out : List ℕ) (new : ClientState) : Type 0 where
+-- The replies that a piece makes whole happened to a client, one after another: they led from one state to the other,
+-- their frames were written and their events reported.
+pub record Happened (old : Client) (piece out : List ℕ) (events : List Event) (new : Client) : Type 0 where
+  pub answer : Result (Unit {0}) ReadFault
+  pub replies : List Frame
+  pub reads : Feeds old.reader piece answer replies new.reader
   pub happenings : List Happening
+  pub happenings_are : happenings ≡ happenings_of old.state replies answer
   pub fed : AllByRecursion IsFed happenings
-  pub written : out ≡ flat_map encoding (frames old happenings)
-  pub state : new ≡ after_all old happenings
+  pub written : out ≡ flat_map encoding (frames old.state happenings)
+  pub reported : events ≡ reported_events old.state happenings
+  pub state : new.state ≡ after_all old.state happenings
+
+-- nothing happened
+pub record NothingHappened (old : Client) (out : List ℕ) (events : List Event) (new : Client) : Type 0 where
+  pub written : out ≡ []
+  pub reported : events ≡ []
+  pub same : new ≡ old
 
 -- All that a client writes are the frames of happenings: of an accepted call; of none where a call is refused; and of
--- the replies that it is fed, taken one after another, up to its failure, where no memory is refused.
+-- the replies that it is fed, taken one after another, up to its failure, where no memory is refused. What it reports
+-- are their events, and nothing happens once it has failed.
 pub record ClientsHappen : Type 0 where
   pub accepted : (old new : ClientState) (want : Want) (bytes : List ℕ) → Accepts old want new bytes →
       (bytes ≡ flat_map encoding (frames_at old (Accepted want))) × (new ≡ after old (Accepted want))
   pub refused : (old new : ClientState) (want : Want) (fault : CallFault) → Refuses old want fault new →
       (new ≡ after old (TurnedDown want)) ⊎ (new ≡ after old (Lacking want))
   pub fed : (old new : Client) (piece out : List ℕ) (events : List Event) (fault : Option ClientFault) →
-      FeedsClient old piece out events fault new → fault ≢ Some Memory → Happened old.state out new.state
+      FeedsClient old piece out events fault new → old.state.failed ≡ false → fault ≢ Some Memory → Happened old piece out events new
+  pub failed : (old new : Client) (piece out : List ℕ) (events : List Event) (fault : Option ClientFault) →
+      FeedsClient old piece out events fault new → old.state.failed ≡ true → NothingHappened old out events new
   pub replies : (c : ClientState) (fs : List Frame) → (takes_all c fs).fault ≡ None →
-      ((takes_all c fs).sends ≡ frames c (map Taken fs)) × ((takes_all c fs).state ≡ after_all c (map Taken fs))
+      ((takes_all c fs).sends ≡ frames c (map Taken fs)) × ((takes_all c fs).events ≡ reported_events c (map Taken fs))
+      × ((takes_all c fs).state ≡ after_all c (map Taken fs))

@@ -1,9 +1,10 @@
 -- What a client holds, and what is true of it as long as it lives.
 use Rattle.std.specs.Prelude.{◌≡◌, ◌≤◌, ◌<◌, ◌*◌, ◌^◌, ℕ, List, [], length, Bool, true, false, Option, Some, None, ◌==◌}
-use Rattle.digit_pack.specs.Layout.{IsLayout}
+use Rattle.digit_pack.specs.Layout.{Shape}
 unfoldable pub use Rattle.digit_pack.specs.Layout.{is_layout}
 use Rattle.pir_schemes.specs.declared.scheme.Scheme.{Scheme}
 use Rattle.pir_schemes.specs.declared.scheme.Scheme.TheVariants.{Simple, Double}
+use Rattle.pir_schemes.specs.Plans.{IsPlan, shape_at}
 use Rattle.pir_schemes.specs.Retrievals.{hint_rows, hint_len}
 use Rattle.client_core.specs.declared.state.ClientState.{ClientState}
 use Rattle.client_core.specs.declared.state.ServerInfo.{ServerInfo}
@@ -24,7 +25,7 @@ known_version (Some k) = k.version
 -- the count of records known
 abbrev pub known_count : Option ServerInfo → ℕ
 known_count None = 0
-known_count (Some k) = k.layout.count
+known_count (Some k) = k.count
 
 -- a hint of the last version known is held
 abbrev pub is_ready : Option ServerInfo → Option Hint → Bool
@@ -51,11 +52,13 @@ delta_base _ hint = None
 abbrev pub fresh : List ℕ → ℕ → ClientState
 fresh seed number = record { seed = seed; number = number; known = None; hint = None; parts = []; call = Idle; failed = false }
 
--- what the server told is within the limits
-pub record IsKnown (k : ServerInfo) : Type 0 where
-  pub layout : IsLayout k.layout
-  pub low : 1 ≤ k.dimension
-  pub high : k.dimension ≤ 1024
+-- the shape of the last version known
+abbrev pub shape_known : ServerInfo → Shape
+shape_known k = shape_at k.plan k.count
+
+-- what the server reported is within the limits
+abbrev pub IsKnown : ServerInfo → Type 0
+IsKnown k = IsPlan k.plan k.count
 
 -- the same, where the Welcome came
 abbrev pub KnownFits : Option ServerInfo → Type 0
@@ -67,7 +70,7 @@ abbrev pub HintFits : Option ServerInfo → Option Hint → Type 0
 HintFits None None = Unit {0}
 HintFits None (Some h) = ⊥
 HintFits (Some k) None = Unit {0}
-HintFits (Some k) (Some h) = (h.matrix.rows ≡ hint_rows h.scheme k.layout k.dimension) × (h.matrix.cols ≡ k.dimension)
+HintFits (Some k) (Some h) = (h.matrix.rows ≡ hint_rows h.scheme (shape_known k) k.plan.dimension) × (h.matrix.cols ≡ k.plan.dimension)
 
 -- hello comes before the Welcome; the parts that came are whole ones of the hint; a record asked for is one that there is
 abbrev pub CallFits : Call → Option ServerInfo → List ℕ → Type 0
@@ -75,7 +78,7 @@ CallFits Idle known parts = Unit {0}
 CallFits (Hello key) None parts = Unit {0}
 CallFits (Hello key) (Some k) parts = ⊥
 CallFits (Sync scheme version part) None parts = Unit {0}
-CallFits (Sync scheme version part) (Some k) parts = (length parts ≡ 65536 * part) × (length parts ≤ hint_len scheme k.layout k.dimension)
+CallFits (Sync scheme version part) (Some k) parts = (length parts ≡ 65536 * part) × (length parts ≤ hint_len scheme (shape_known k) k.plan.dimension)
 CallFits (Delta since) known parts = Unit {0}
 CallFits (Ask index scheme version number) known parts = (index < known_count known) × (number < 2 ^ 62)
 CallFits (Edit index bytes) known parts = Unit {0}

@@ -4,17 +4,21 @@ ghost use Rattle.std.specs.Prelude.{◌≡◌, ◌≤◌, ◌<◌, ◌+◌, ◌^
 ghost use Rattle.frame_codec.specs.Frames.{IsFrame, payload_size, payload_limit, encoding};
 ghost use Rattle.pir_schemes.specs.Schemes.{scheme_byte};
 ghost use Rattle.pir_schemes.specs.Retrievals.{query_words};
-ghost use Rattle.client_core.specs.States.{IsKnown, is_ready, is_idle, known_count, scheme_held, delta_base};
+ghost use Rattle.client_core.specs.States.{IsKnown, shape_known, is_ready, is_idle, known_count, scheme_held, delta_base};
+ghost use Rattle.client_core.specs.Rooms.{IsAskRoom};
 ghost use Rattle.client_core.specs.Calls.{Want, refusal, hello_refusal, change_refusal};
 
 use crate::state::{Call, CallFault, ClientState, Hint, ServerInfo};
 use frame_codec::{Bytes, Frame, Words, write_frame};
 use matrix_u32::Kernel;
-use pir_schemes::{Plan, Scheme, SecretSeed, query};
+use pir_schemes::{QueryRoom, Scheme, SecretSeed, query_count};
 use std::alloc::Global;
 
 // The number after the last retrieval of a seed.
 const NUMBERS_END: u64 = 1 << 62;
+
+// How many bytes the frame of a query has before its words.
+const QUERY_HEAD: usize = 14;
 
 fn is_no_call(call: &Call) -> bool
     ensures { result ≡ is_idle call.now }
@@ -74,7 +78,7 @@ pub(crate) fn may_change(state: &ClientState) -> Result<ServerInfo, CallFault>
 /// The checks of `ask`, in their order. Answers what is known.
 pub(crate) fn may_ask(state: &ClientState, index: u32) -> Result<ServerInfo, CallFault>
     ensures { MatchResult result (λ k. (refusal (Want.Ask index) state.now ≡ None) ×
-        (state.now.known ≡ Some k) × (index < k.layout.count) × (state.now.number < 2 ^ 62))
+        (state.now.known ≡ Some k) × (index < k.count) × (state.now.number < 2 ^ 62))
         (λ e. refusal (Want.Ask index) state.now ≡ Some e) }
 {
     if state.failed {
@@ -89,7 +93,7 @@ pub(crate) fn may_ask(state: &ClientState, index: u32) -> Result<ServerInfo, Cal
     let Some(known) = state.known else {
         return Err(CallFault::NotReady);
     };
-    if index as usize >= known.layout.count() {
+    if index >= known.count {
         return Err(CallFault::BadIndex);
     }
     if state.number >= NUMBERS_END {
@@ -163,47 +167,64 @@ pub(crate) fn edit_bytes(alloc: Global, index: u32, bytes: &[u8]) -> Result<Vec<
     encoded(alloc, &frame)
 }
 
-/// The bytes of the query for a record.
-#[tactic(auto, using(crate::proofs::Queries::length_of_query))]
-pub(crate) fn query_bytes<K: Kernel>(
+/// The memory of a query: that of its words, and room for the bytes of its frame.
+#[derive(Drop)]
+pub(crate) struct AskRoom {
+    words: QueryRoom,
+    bytes: Vec<u8>,
+}
+
+/// Memory for a query of a scheme on the last version known. No index, number or secret seed is given, so a refusal
+/// depends on none of them.
+pub(crate) fn ask_room(
     alloc: Global,
+    scheme: Scheme,
+    known: &ServerInfo,
+) -> Result<AskRoom, CallFault>
+    requires { IsKnown known.now }
+    ensures room { IfOk result (IsAskRoom scheme known.now) }
+    ensures memory { IfErr result (λ e. e ≡ CallFault.Memory) }
+{
+    let Ok(words) = QueryRoom::new(alloc, scheme, &known.plan, known.count as usize) else {
+        return Err(CallFault::Memory);
+    };
+    let count = query_count(scheme, &known.layout());
+    let Ok(bytes) = Vec::with_capacity(alloc, QUERY_HEAD + 4 * count) else {
+        return Err(CallFault::Memory);
+    };
+    Ok(AskRoom { words, bytes })
+}
+
+/// The bytes of the query for a record. It takes no memory.
+#[tactic(auto, using(crate::proofs::Queries::length_of_query, crate::proofs::Queries::size_of_query))]
+pub(crate) fn query_bytes<K: Kernel>(
     kernel: K,
+    room: AskRoom,
     scheme: Scheme,
     known: &ServerInfo,
     seed: &[u8; 32],
     number: u64,
     index: u32,
-) -> Result<Vec<u8>, CallFault>
+) -> Vec<u8>
+    requires room { IsAskRoom scheme known.now room }
     requires known { IsKnown known.now }
     requires number { number < 2 ^ 62 }
-    requires record { index < known.now.layout.count }
-    ensures bytes { IfOk result (λ v. v.items ≡
-        encoding (Frame.Query (scheme_byte scheme) known.now.version
-        (query_words scheme known.now.layout known.now.dimension known.now.seed seed.now number
-        index))) }
-    ensures frame { IfOk result (λ _. IsFrame (Frame.Query (scheme_byte scheme) known.now.version
-        (query_words scheme known.now.layout known.now.dimension known.now.seed seed.now number
-        index))) }
-    ensures memory { IfErr result (λ e. e ≡ CallFault.Memory) }
+    requires record { index < known.now.count }
+    ensures bytes { result.items ≡ encoding (Frame.Query (scheme_byte scheme) known.now.version
+        (query_words scheme (shape_known known.now) known.now.plan.dimension known.now.plan.seed
+        seed.now number index)) }
+    ensures frame { IsFrame (Frame.Query (scheme_byte scheme) known.now.version
+        (query_words scheme (shape_known known.now) known.now.plan.dimension known.now.plan.seed
+        seed.now number index)) }
 {
-    let plan = Plan::of(&known.layout, known.dimension, &known.seed);
-    let words = query(
-        alloc,
-        kernel,
-        scheme,
-        &plan,
-        known.layout.count(),
-        &SecretSeed::new(*seed),
-        number,
-        index as usize,
-    );
-    let Ok(words) = words else {
-        return Err(CallFault::Memory);
-    };
+    let AskRoom { words, mut bytes } = room;
+    let words = words.fill(kernel, &SecretSeed::new(*seed), number, index as usize);
     let frame = Frame::Query {
         scheme: scheme.byte(),
         version: known.version,
         words: Words::new(words),
     };
-    encoded(alloc, &frame)
+    // There is room for the frame: no refusal is left.
+    let _ = write_frame(&frame, &mut bytes);
+    bytes
 }

@@ -6,17 +6,17 @@ ghost use Rattle.frame_codec.specs.declared.frame.Frame.{Frame};
 ghost use Rattle.pir_schemes.specs.Schemes.{scheme_byte};
 ghost use Rattle.pir_schemes.specs.Retrievals.{query_words};
 ghost use Rattle.client_core.specs.declared.state.ServerInfo.{ServerInfo};
-ghost use Rattle.client_core.specs.States.{fresh, scheme_held};
+ghost use Rattle.client_core.specs.States.{fresh, scheme_held, shape_known};
 ghost use Rattle.client_core.specs.Calls.{Want, Accepts, Refuses};
 ghost use Rattle.client_core.specs.Feeding.{Client, FeedsClient};
 
 use crate::calls::{
-    base_of, edit_bytes, encoded, may_ask, may_change, may_hello, query_bytes, scheme_of,
+    ask_room, base_of, edit_bytes, encoded, may_ask, may_change, may_hello, query_bytes, scheme_of,
     spend_number,
 };
 use crate::parts::Parts;
 use crate::state::{Call, CallFault, ClientFault, ClientState, Event, ServerInfo};
-use crate::taking::take_piece;
+use crate::taking::take_replies;
 use frame_codec::{Bytes, Bytes32, Frame, Reader};
 use matrix_u32::Kernel;
 use pir_schemes::{PROFILE, Scheme};
@@ -162,7 +162,7 @@ impl<K: Kernel> ClientCore<K> {
         ensures query { IfOk result (λ bytes. (k : ServerInfo) × (self.old.state.known ≡ Some k)
             × (bytes.items ≡ encoding
             (Frame.Query (scheme_byte (scheme_held self.old.state.hint)) k.version
-            (query_words (scheme_held self.old.state.hint) k.layout k.dimension k.seed
+            (query_words (scheme_held self.old.state.hint) (shape_known k) k.plan.dimension k.plan.seed
             self.old.state.seed self.old.state.number index)))) }
         ensures refused { IfErr result
             (λ e. Refuses self.old.state (Want.Ask index) e self.new.state) }
@@ -172,15 +172,16 @@ impl<K: Kernel> ClientCore<K> {
         // Spent before memory is asked for, so that no number serves two queries.
         let number = spend_number(&mut self.state);
         let scheme = scheme_of(&self.state.hint);
+        let room = ask_room(self.alloc, scheme, &known)?;
         let bytes = query_bytes(
-            self.alloc,
             self.kernel,
+            room,
             scheme,
             &known,
             &self.state.seed,
             number,
             index,
-        )?;
+        );
         self.state.call = Call::Ask {
             index,
             scheme,
@@ -253,7 +254,7 @@ impl<K: Kernel> ClientCore<K> {
         }
         let mut frames = Vec::new(self.alloc);
         let answer = self.reader.feed(piece, &mut frames);
-        let fault = take_piece(
+        let fault = take_replies(
             self.alloc,
             self.kernel,
             &mut self.state,

@@ -66,16 +66,17 @@ fn known_after(
     count: u32,
     rows: &Rows,
 ) -> Option<ServerInfo>
+    requires { IsKnown known.now }
     ensures { MatchOption result
         (is_delta known.now asked since now count rows.now.dimension (row_numbers rows.now)
         ≡ false)
         (λ k. (is_delta known.now asked since now count rows.now.dimension (row_numbers rows.now)
         ≡ true) × (k ≡ with_current known.now now count)) }
 {
-    if since != asked || rows.dimension() as usize != known.dimension || rows.len() > DELTA_ROWS {
+    if since != asked || rows.dimension() != known.plan.dimension || rows.len() > DELTA_ROWS {
         return None;
     }
-    if !is_ascending(rows, known.layout.rows()) {
+    if !is_ascending(rows, known.layout().rows()) {
         return None;
     }
     current_of(known, now, count)

@@ -60,8 +60,9 @@ pub fn shapes_hold_no_index()
 {}
 
 /// All that a client writes, where no feed was refused memory, are the frames of what happens to it: of
-/// accepted calls, and of the replies that it is fed, one after another. So the law of equal shapes speaks of
-/// each byte that calls and such feeds give.
+/// accepted calls, and of the replies that the pieces fed make whole, one after another; and the events that
+/// it reports are those of these replies, in their order. So the law of equal shapes speaks of each byte that
+/// calls and such feeds give.
 pub fn clients_happen()
     ensures { ClientsHappen }
 {}

@@ -18,5 +18,5 @@ mod state;
 mod taking;
 
 pub use client::{ClientCore, Fed};
-pub use pir_schemes::Scheme;
+pub use pir_schemes::{Plan, Scheme};
 pub use state::{CallFault, ClientFault, Event, ServerInfo};

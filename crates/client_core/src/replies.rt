@@ -1,35 +1,32 @@
 //! What comes of a reply: a function for each kind.
 
 ghost use Rattle.std.specs.Prelude.{◌≡◌, ◌≤◌, ◌<◌, ◌*◌, ◌^◌, ◌++◌, [], length, IfOk, IfErr, OnOk, OnErr, IfSome, IfNone, MatchOption, true, false};
-ghost use Rattle.digit_pack.specs.Layout.{shape, IsLayout};
-ghost use Rattle.pir_schemes.specs.Plans.{record_of};
+ghost use Rattle.pir_schemes.specs.Plans.{shape_at};
 ghost use Rattle.pir_schemes.specs.Retrievals.{hint_rows as rows_of_hint, answer_count as words_of_answer, reading};
-ghost use Rattle.client_core.specs.States.{IsState, IsKnown, is_layout};
+ghost use Rattle.client_core.specs.States.{IsState, IsKnown, is_layout, shape_known};
 ghost use Rattle.client_core.specs.Replies.{
   faulty,
   ended,
-  welcomed,
   takes_welcome,
   takes_part,
   more_parts,
   takes_answer,
   event_of,
   takes_stale,
-  staled,
+  reaction_to_stale,
   takes_done,
   takes_refused,
-  with_count,
   is_current,
   with_current,
 };
 
 use crate::parts::Parts;
 use crate::state::{Call, ClientFault, ClientState, Event, Hint, Reaction, ServerInfo};
-use digit_pack::Layout;
-use frame_codec::{Bytes, Bytes32, Words};
+use frame_codec::{Bytes, Words};
 use matrix_u32::{Kernel, Matrix};
 use pir_schemes::{
-    PROFILE, RecoverError, Scheme, SecretSeed, answer_count, hint_len, hint_rows, part_len, recover,
+    PROFILE, Plan, RecoverError, Scheme, SecretSeed, answer_count, hint_len, hint_rows, part_len,
+    recover,
 };
 use std::alloc::{AllocError, Global};
 use std::mem;
@@ -52,69 +49,43 @@ pub(crate) fn ends(state: &mut ClientState, event: Event) -> Reaction
     Reaction::Reports(event)
 }
 
-// The layout of these sizes, where it is within the limits.
+// Whether so many records of a plan are within the limits.
 #[tactic(auto, using(crate::proofs::Layouts::layout_accepted, crate::proofs::Layouts::layout_refused))]
-fn layout_of(width: u32, record_len: usize, groups: usize, count: usize) -> Option<Layout>
-    ensures { MatchOption result (is_layout (shape width record_len groups count) ≡ false)
-        (λ l. (is_layout (shape width record_len groups count) ≡ true) ×
-        (l ≡ shape width record_len groups count) × IsLayout l) }
+fn has_layout(plan: &Plan, count: u32) -> bool
+    ensures { result ≡ is_layout (shape_at plan.now count) }
 {
-    match Layout::new(width, record_len, groups, count) {
-        Ok(layout) => Some(layout),
-        Err(_) => None,
-    }
-}
-
-/// The sizes and the numbers of a Welcome.
-#[derive(Clone, Copy)]
-pub(crate) struct Sizes {
-    pub profile: u16,
-    pub width: u8,
-    pub record_len: u16,
-    pub groups: u16,
-    pub count: u32,
-    pub version: u64,
-    pub dimension: u16,
+    plan.layout(count as usize).is_ok()
 }
 
 /// A Welcome answers hello alone.
-pub(crate) fn take_welcome(state: &mut ClientState, sizes: Sizes, seed: &Bytes32) -> Reaction
-    ensures state { state.new ≡ (takes_welcome state.old.call state.old sizes.profile
-        (shape sizes.width sizes.record_len sizes.groups sizes.count) sizes.dimension sizes.version
-        seed.now).state }
-    ensures reaction { result ≡ (takes_welcome state.old.call state.old sizes.profile
-        (shape sizes.width sizes.record_len sizes.groups sizes.count) sizes.dimension sizes.version
-        seed.now).reaction }
+pub(crate) fn take_welcome(
+    state: &mut ClientState,
+    profile: u16,
+    plan: &Plan,
+    count: u32,
+    version: u64,
+) -> Reaction
+    ensures state { state.new ≡
+        (takes_welcome state.old.call state.old profile plan.now count version).state }
+    ensures reaction { result ≡
+        (takes_welcome state.old.call state.old profile plan.now count version).reaction }
 {
     match &state.call {
         Call::Hello { .. } => {}
         _ => return fails(state, ClientFault::BadReply),
     }
-    let layout = layout_of(
-        sizes.width as u32,
-        sizes.record_len as usize,
-        sizes.groups as usize,
-        sizes.count as usize,
-    );
-    let Some(layout) = layout else {
-        return fails(state, ClientFault::BadWelcome);
-    };
-    if sizes.profile != PROFILE
-        || sizes.dimension < 1
-        || sizes.dimension > 1024
-        || sizes.version == 0
-    {
+    if profile != PROFILE || !has_layout(plan, count) {
         return fails(state, ClientFault::BadWelcome);
     }
-    let mut copy = [0; 32];
-    copy.copy_from_slice(seed.as_slice());
+    if plan.dimension < 1 || plan.dimension > 1024 || version == 0 {
+        return fails(state, ClientFault::BadWelcome);
+    }
     state.known = Some(ServerInfo {
-        version: sizes.version,
-        layout,
-        dimension: sizes.dimension as usize,
-        seed: copy,
+        version,
+        count,
+        plan: *plan,
     });
-    ends(state, Event::Welcomed(sizes.version))
+    ends(state, Event::Welcomed(version))
 }
 
 /// A part of a hint answers a sync by parts alone: the part that was asked for, with all its words.
@@ -145,16 +116,16 @@ pub(crate) fn take_part(
         return Ok(fails(state, ClientFault::BadReply));
     };
     let words = words.as_slice();
-    let wanted = part_len(hint_len(kind, &known.layout, known.dimension), next);
+    let wanted = part_len(hint_len(kind, &known.layout(), known.dimension()), next);
     if scheme != kind.byte() || version != asked || part != next || words.len() != wanted {
         return Ok(fails(state, ClientFault::BadReply));
     }
     state.parts.add(words)?;
-    Ok(go_on(alloc, state, kind, &known, version, next))
+    Ok(continue_sync(alloc, state, kind, &known, version, next))
 }
 
 // The last part makes the hint whole; after another the next part is asked for.
-fn go_on(
+fn continue_sync(
     alloc: Global,
     state: &mut ClientState,
     scheme: Scheme,
@@ -169,7 +140,7 @@ fn go_on(
     ensures reaction { result ≡
         (more_parts scheme known.now state.old version part state.old.parts).reaction }
 {
-    if state.parts.len() != hint_len(scheme, &known.layout, known.dimension) {
+    if state.parts.len() != hint_len(scheme, &known.layout(), known.dimension()) {
         let part = part + 1;
         state.call = Call::Sync {
             scheme,
@@ -184,8 +155,8 @@ fn go_on(
     }
     let words = mem::replace(&mut state.parts, Parts::none(alloc)).into_vec();
     // There are as many words as the hint has, and no more than a matrix holds: no refusal is left.
-    let rows = hint_rows(scheme, &known.layout, known.dimension);
-    let matrix = Matrix::from_words(rows, known.dimension, words).unwrap();
+    let rows = hint_rows(scheme, &known.layout(), known.dimension());
+    let matrix = Matrix::from_words(rows, known.dimension(), words).unwrap();
     state.hint = Some(Hint {
         scheme,
         version,
@@ -208,22 +179,22 @@ fn read_answer<K: Kernel>(
 ) -> Result<Event, AllocError>
     requires known { IsKnown known.now }
     requires rows { hint.now.matrix.rows ≡
-        rows_of_hint hint.now.scheme known.now.layout known.now.dimension }
-    requires cols { hint.now.matrix.cols ≡ known.now.dimension }
+        rows_of_hint hint.now.scheme (shape_known known.now) known.now.plan.dimension }
+    requires cols { hint.now.matrix.cols ≡ known.now.plan.dimension }
     requires number { number < 2 ^ 62 }
-    requires record { index < known.now.layout.count }
+    requires record { index < known.now.count }
     requires words { length words.now ≡
-        words_of_answer hint.now.scheme known.now.layout known.now.dimension }
-    ensures { IfOk result (λ e. e ≡ event_of index version
-        (record_of known.now.layout
-        (reading hint.now.scheme known.now.layout hint.now.matrix seed.now number index
-        words.now))) }
+        words_of_answer hint.now.scheme (shape_known known.now) known.now.plan.dimension }
+    ensures { IfOk result (λ e. e ≡ event_of known.now.plan index version
+        (reading hint.now.scheme (shape_known known.now) hint.now.matrix seed.now number index
+        words.now)) }
 {
     match recover(
         alloc,
         kernel,
         hint.scheme,
-        &known.layout,
+        &known.plan,
+        known.count as usize,
         &hint.matrix,
         &SecretSeed::new(*seed),
         number,
@@ -272,7 +243,7 @@ pub(crate) fn take_answer<K: Kernel>(
         return Ok(fails(state, ClientFault::BadReply));
     };
     let words = words.as_slice();
-    let wanted = answer_count(hint.scheme, &known.layout, known.dimension);
+    let wanted = answer_count(hint.scheme, &known.layout(), known.dimension());
     if scheme != hint.scheme.byte() || version != asked || words.len() != wanted {
         return Ok(fails(state, ClientFault::BadReply));
     }
@@ -306,7 +277,7 @@ pub(crate) fn take_stale(
         Call::Ask { version, .. } => (version, false),
         _ => return fails(state, ClientFault::BadReply),
     };
-    let Some(reported) = reported_of(&state.known, asked, version, count) else {
+    let Some(reported) = known_after_stale(&state.known, asked, version, count) else {
         return fails(state, ClientFault::BadReply);
     };
     if in_sync {
@@ -317,15 +288,15 @@ pub(crate) fn take_stale(
 }
 
 // What is known after Stale, where it may name this version and count.
-fn reported_of(
+fn known_after_stale(
     known: &Option<ServerInfo>,
     asked: u64,
     version: u64,
     count: u32,
 ) -> Option<ServerInfo>
     ensures { (after c : ClientState) → MatchOption result
-        (staled known.now after c asked version count ≡ faulty c ClientFault.BadReply)
-        (λ k. staled known.now after c asked version count ≡
+        (reaction_to_stale known.now after c asked version count ≡ faulty c ClientFault.BadReply)
+        (λ k. reaction_to_stale known.now after c asked version count ≡
         ended (record after { known = Some k }) (Event.Stale version)) }
 {
     let Some(known) = known else {
@@ -343,16 +314,13 @@ pub(crate) fn current_of(known: &ServerInfo, version: u64, count: u32) -> Option
         (λ k. (is_current known.now version count ≡ true) ×
         (k ≡ with_current known.now version count)) }
 {
-    let old = known.layout;
-    let layout = layout_of(old.width(), old.record_len(), old.groups(), count as usize)?;
-    if version == 0 {
+    if version == 0 || !has_layout(&known.plan, count) {
         return None;
     }
     Some(ServerInfo {
         version,
-        layout,
-        dimension: known.dimension,
-        seed: known.seed,
+        count,
+        plan: known.plan,
     })
 }
 

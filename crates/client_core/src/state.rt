@@ -1,20 +1,43 @@
-//! What a client holds, and what it tells.
+//! What a client holds, and what it reports.
+
+ghost use Rattle.std.specs.Prelude.{◌≡◌};
+ghost use Rattle.digit_pack.specs.Layout.{IsLayout};
+ghost use Rattle.client_core.specs.States.{IsKnown, shape_known};
+ghost use Rattle.client_core.specs.Names.{call_fault_name, client_fault_name};
 
 use crate::parts::Parts;
 use digit_pack::Layout;
 use frame_codec::Bytes;
 use matrix_u32::Matrix;
-use pir_schemes::Scheme;
+use pir_schemes::{Plan, Scheme};
 use thiserror::Error;
 
-/// What the server reported of its store: the last version known, the layout with that version's count of
-/// records, the dimension n of the public matrix and the seed of its words.
+/// What the server reported of its store: the last version known, how many records that version has, and the plan,
+/// which is the same in every version.
 #[derive(Clone, Copy, Debug, PartialEq, Eq)]
 pub struct ServerInfo {
     pub version: u64,
-    pub layout: Layout,
-    pub dimension: usize,
-    pub seed: [u8; 32],
+    pub count: u32,
+    pub plan: Plan,
+}
+
+impl ServerInfo {
+    /// The sizes of the last version known.
+    pub(crate) fn layout(&self) -> Layout
+        requires { IsKnown self.now }
+        ensures shape { result ≡ shape_known self.now }
+        ensures limits { IsLayout result }
+    {
+        // The sizes were judged when the server reported them: no refusal is left.
+        self.plan.layout(self.count as usize).unwrap()
+    }
+
+    /// The dimension n of the public matrices.
+    pub fn dimension(&self) -> usize
+        ensures { result ≡ self.now.plan.dimension }
+    {
+        usize::from(self.plan.dimension)
+    }
 }
 
 /// A whole hint of a version: the rows that its scheme wants, of n words each.
@@ -124,6 +147,24 @@ pub enum CallFault {
     AlreadyWelcome,
 }
 
+impl CallFault {
+    /// Its name, as programs print it.
+    #[tactic(auto, unfolding(crate::specs::Names::call_fault_name))]
+    pub fn name(self) -> &'static str
+        ensures { result.now ≡ call_fault_name self }
+    {
+        match self {
+            CallFault::NotReady => "NotReady",
+            CallFault::Busy => "Busy",
+            CallFault::BadIndex => "BadIndex",
+            CallFault::SeedUsedUp => "SeedUsedUp",
+            CallFault::Memory => "Memory",
+            CallFault::Failed => "Failed",
+            CallFault::AlreadyWelcome => "AlreadyWelcome",
+        }
+    }
+}
+
 /// Why a client stopped.
 #[derive(Clone, Copy, Debug, PartialEq, Eq, Error)]
 pub enum ClientFault {
@@ -139,6 +180,21 @@ pub enum ClientFault {
     /// An earlier feed had a fault.
     #[error("the client had failed")]
     Failed,
+}
+
+impl ClientFault {
+    /// Its name, as programs print it.
+    #[tactic(auto, unfolding(crate::specs::Names::client_fault_name))]
+    pub fn name(self) -> &'static str
+        ensures { result.now ≡ client_fault_name self }
+    {
+        match self {
+            ClientFault::BadWelcome => "BadWelcome",
+            ClientFault::BadReply => "BadReply",
+            ClientFault::Memory => "Memory",
+            ClientFault::Failed => "Failed",
+        }
+    }
 }
 
 /// What comes of a reply: the next part is asked for, the call ends with an event, or the reply is bad.

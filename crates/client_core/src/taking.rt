@@ -10,11 +10,12 @@ ghost use Rattle.client_core.specs.Feeding.{sends_of, events_of, fault_of, takes
 
 use crate::deltas::{take_delta, take_no_delta};
 use crate::replies::{
-    Sizes, take_answer, take_done, take_other, take_part, take_refused, take_stale, take_welcome,
+    take_answer, take_done, take_other, take_part, take_refused, take_stale, take_welcome,
 };
 use crate::state::{ClientFault, ClientState, Event, Reaction};
 use frame_codec::{Frame, ReadFault, write_frame};
 use matrix_u32::Kernel;
+use pir_schemes::Plan;
 use std::alloc::{AllocError, Global};
 
 // What comes of a reply.
@@ -40,16 +41,14 @@ fn take_frame<K: Kernel>(
             dimension,
             seed,
         } => {
-            let sizes = Sizes {
-                profile: *profile,
+            let plan = Plan {
                 width: *width,
                 record_len: *record_len,
                 groups: *groups,
-                count: *count,
-                version: *version,
                 dimension: *dimension,
+                seed: seed.to_array(),
             };
-            Ok(take_welcome(state, sizes, seed))
+            Ok(take_welcome(state, *profile, &plan, *count, *version))
         }
         Frame::HintPart {
             scheme,
@@ -183,7 +182,7 @@ fn fault_after(answer: Result<(), ReadFault>) -> Option<ClientFault>
 
 /// Takes the frames of a piece, after which the codec answered `answer`. Adds the bytes to send and the
 /// events, and answers the fault.
-pub(crate) fn take_piece<K: Kernel>(
+pub(crate) fn take_replies<K: Kernel>(
     alloc: Global,
     kernel: K,
     state: &mut ClientState,

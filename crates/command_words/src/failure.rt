@@ -3,6 +3,7 @@
 ghost use Rattle.std.specs.Prelude.{◌≡◌};
 ghost use Rattle.command_words.specs.Statuses.{status_of};
 
+use std::alloc::AllocError;
 use thiserror::Error;
 
 /// How a command failed. Printed, it is the line that says so.
@@ -40,5 +41,15 @@ impl Failure {
             Failure::Value(_) => 2,
             Failure::Memory => 4,
         }
+    }
+}
+
+impl From<AllocError> for Failure {
+    ghost use Rattle.command_words.specs.declared.failure.Failure.TheVariants.{Memory};
+
+    ghost from_gives = { λ _ failure. failure ≡ Memory };
+
+    fn from(_refused: AllocError) -> Self {
+        Failure::Memory
     }
 }

@@ -7,3 +7,4 @@ pub mod ColumnLemmas
 pub mod RecordLemmas
 pub mod Triples
 pub mod Layouts
+pub mod SlotLemmas

@@ -1,11 +1,12 @@
 -- Records, their digits and their places.
-use Rattle.std.proofs.Common.{◌≡◌, ℕ, zero, suc, ◌+◌, ◌*◌, ◌/◌, ◌%◌, ◌^◌, ◌<◌, ◌≤◌, arith, ap, ◌∙◌, lit<, List, length}
+use Rattle.std.proofs.Common.{◌≡◌, ℕ, ◌+◌, ◌*◌, ◌/◌, ◌%◌, ◌^◌, ◌<◌, ◌≤◌, arith, ap, ◌∙◌, lit<, List, length}
 use Rattle.std.proofs.lemmas.Nat.{div-mul-add, mod-mul-add, mul-add-lt, mod_below, div_below, div-add-mod', pow_pos}
 use Rattle.std.proofs.lemmas.List.Elements.{All-from_get_or}
 use Rattle.std.proofs.Math.Nat.{mul-div_cancel, mod-eq_of_lt, pow-le-pow_right}
 use Rattle.std.specs.Prelude.{slice_index, All}
 use Rattle.matrix_u32.specs.Matrix.{WordMatrix, entry}
 use Rattle.matrix_u32.proofs.Products.{entry-matrix_of, list_of-at, same-list_of, length-list_of, each-list_of}
+use Rattle.matrix_u32.proofs.Changes.{some_columns}
 use Rattle.lane_kernels.specs.Digit.{digit, split_count}
 use Rattle.digit_pack.specs.Digits.{digits_of, number_of, joined, decomposed, decomposed_at, recomposed, recomposed_at}
 use Rattle.digit_pack.specs.Layout.{Shape, IsShape, IsRecord, record_digits, digit_matrix, digit_at, digit_rows, digit_cols, digits_per_record, first_row, column_of, record_at}
@@ -77,10 +78,6 @@ recomposed_at-decomposed : (w : ℕ) (a : WordMatrix) (k j : ℕ) → 0 < w → 
 recomposed_at-decomposed w a k j h q r b =
     ap (joined w) (same-list_of (split_count w) _ (λ t. digit w (entry a k j) t) (λ t p. entry-decomposed w a k t j p q r))
     ∙ join_split w (entry a k j) h b
-
-some_columns : (i rows cols : ℕ) → i < rows * cols → 0 < cols
-some_columns i rows zero l = absurd (omega arith)
-some_columns i rows (suc cols) l = omega arith
 
 pub recompose_decompose : (w : ℕ) (a : WordMatrix) → 0 < w → length a.words ≡ a.rows * a.cols → All (λ word. word < 2 ^ 32) a.words →
     recomposed w (decomposed w a) ≡ a

@@ -1,7 +1,8 @@
 -- Laws of digits.
-use Rattle.std.specs.Prelude.{◌≡◌, slice_set, ℕ, ◌+◌, ◌*◌, ◌/◌, ◌^◌, ◌<◌, ◌≤◌, List, length, All}
+use Rattle.std.specs.Prelude.{◌≡◌, true, slice_set, ℕ, ◌+◌, ◌*◌, ◌/◌, ◌^◌, ◌<◌, ◌≤◌, List, length, All}
 use Rattle.matrix_u32.specs.Matrix.{WordMatrix, entry}
 use Rattle.lane_kernels.specs.Digit.{digit, split_count}
+use Rattle.digit_pack.specs.Slots.{slot_of, is_slot, content_of}
 use Rattle.digit_pack.specs.Digits.{digits_of, number_of, decomposed, recomposed, joined}
 use Rattle.digit_pack.specs.Layout.{Shape, IsShape, IsRecord, FitsRecord, record_digits, record_bytes, digit_matrix, digits_per_record, digit_rows, digit_cols, first_row, column_of, record_at}
 
@@ -64,3 +65,18 @@ ReplacedRecordChangesItsPlace = (l : Shape) (records : List (List ℕ)) (i : ℕ
 -- digits are below 2 to their width
 abbrev pub DigitsAreSmall : Type 0
 DigitsAreSmall = (w number t : ℕ) → digit w number t < 2 ^ w
+
+-- a slot has its length, and the record in it is the one that fills it
+pub record FillsAndReads (len : ℕ) (bytes : List ℕ) : Type 0 where
+  pub size : length (slot_of len bytes) ≡ len
+  pub accepted : is_slot (slot_of len bytes) ≡ true
+  pub same : content_of (slot_of len bytes) ≡ bytes
+  pub each : All (λ b. b < 2 ^ 8) bytes → All (λ b. b < 2 ^ 8) (slot_of len bytes)
+
+-- of every record that fits
+abbrev pub SlotsHoldTheirRecords : Type 0
+SlotsHoldTheirRecords = (len : ℕ) (bytes : List ℕ) → length bytes + 2 ≤ len → length bytes < 2 ^ 16 → FillsAndReads len bytes
+
+-- and what is accepted as a slot is what the record in it fills
+abbrev pub SlotsAreThoseFilled : Type 0
+SlotsAreThoseFilled = (slot : List ℕ) → All (λ b. b < 2 ^ 8) slot → is_slot slot ≡ true → slot ≡ slot_of (length slot) (content_of slot)

@@ -4,3 +4,4 @@ pub mod Columns
 pub mod Laws
 pub mod Packed
 pub mod Windows
+pub mod Slots

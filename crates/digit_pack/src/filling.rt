@@ -9,7 +9,7 @@ use crate::store::DigitStore;
 use std::alloc::{AllocError, Global};
 
 /// The bytes of record i, of records that stand one after another in `bytes`.
-pub fn record_of<'a>(layout: &Layout, bytes: &'a [u8], i: usize) -> &'a [u8]
+pub fn nth_record<'a>(layout: &Layout, bytes: &'a [u8], i: usize) -> &'a [u8]
     requires count { length bytes.now ≡ layout.now.count * layout.now.record_len }
     requires index { i < layout.now.count }
     ensures value { result.now ≡ record_at (records_in layout.now bytes.now) i }
@@ -61,7 +61,7 @@ pub fn digits_of_records<S: DigitStore>(
     let mut packed = vec![in alloc; 0; layout.digits_per_record()]?;
     for i in 0..layout.count() {
         let (first, col) = layout.place(i);
-        pack(layout, record_of(layout, bytes, i), &mut packed);
+        pack(layout, nth_record(layout, bytes, i), &mut packed);
         write_digits(&mut store, first, col, &packed);
     }
     Ok(store)

@@ -11,6 +11,8 @@ ghost use Rattle.digit_pack.specs.Laws.{
   UnusedSlotsAreZero,
   ReplacedRecordChangesItsPlace,
   DigitsAreSmall,
+  SlotsHoldTheirRecords,
+  SlotsAreThoseFilled,
 };
 
 /// The digits of a word write the word.
@@ -56,4 +58,14 @@ pub fn replaced_record_changes_its_place()
 /// Digits are below two to their width.
 pub fn digits_are_small()
     ensures { DigitsAreSmall }
+{}
+
+/// A slot has its length, and the record in it is the one that fills it.
+pub fn slots_hold_their_records()
+    ensures { SlotsHoldTheirRecords }
+{}
+
+/// Bytes that are accepted as a slot are what the record in them fills.
+pub fn slots_are_those_filled()
+    ensures { SlotsAreThoseFilled }
 {}

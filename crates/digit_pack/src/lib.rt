@@ -14,12 +14,14 @@ pub mod laws;
 mod layout;
 mod packed3;
 mod packing;
+mod slots;
 mod store;
 
-pub use filling::{digits_of_records, record_of, write_digits, write_record};
+pub use filling::{digits_of_records, nth_record, write_digits, write_record};
 pub use layout::{
     BadDigits, Layout, LayoutError, MAX_COLS, MAX_RECORD_LEN, MAX_ROWS, pack, unpack,
 };
 pub use packed3::Packed3;
 pub use packing::{join_word, pack_bytes, split_count, split_word, word_digit};
+pub use slots::{BadSlot, fill_slot, read_slot};
 pub use store::{DigitStore, Flat};

@@ -1,39 +1,58 @@
--- A matrix that is filled place by place.
-use Rattle.std.proofs.Common.{◌≡◌, ℕ, ◌+◌, ◌*◌, ◌<◌, ◌≤◌, arith, ap, ◌∙◌, sym, ⊎_elim}
-use Rattle.std.proofs.lemmas.Bool.{cases_eq}
+-- A row of a matrix that is filled place by place.
+use Rattle.std.proofs.Common.{◌≡◌, ◌≢◌, ℕ, ◌+◌, ◌<◌, arith, ap, ◌∙◌, refl, inl, inr}
+use Rattle.std.proofs.lemmas.Bool.{cases_lt}
 use Rattle.std.proofs.lemmas.List.{length-set}
-use Rattle.std.proofs.lemmas.Nat.{same_from_place, mul-add-lt}
-use Rattle.matrix_u32.specs.Matrix.{WordMatrix, IsWhole, entry, matrix_of, with_entry}
-use Rattle.double_scheme.specs.Filled.{IsFilled}
-use Rattle.matrix_u32.proofs.Changes.{entry_kept, entry_set, matrix_by_entries}
+use Rattle.matrix_u32.specs.Sum.{list_of}
+use Rattle.matrix_u32.specs.Matrix.{WordMatrix, IsWhole, entry, row, with_entry}
+use Rattle.matrix_u32.proofs.Products.{same-list_of}
+use Rattle.matrix_u32.proofs.Changes.{entry_kept, entry_set}
 
-pub none_filled : (rows cols : ℕ) (f : ℕ → ℕ → ℕ) (m : WordMatrix) → m.rows ≡ rows → m.cols ≡ cols → IsWhole m → IsFilled rows cols (0 * cols + 0) f m
-none_filled rows cols f m r c w = record { rows_are = r; cols_are = c; whole = w; done = λ i j _ _ l. absurd (omega arith) }
+-- row r has the right word in the places before place n, and the rows before it are as they were
+pub record RowFilled (old : WordMatrix) (r n : ℕ) (f : ℕ → ℕ) (m : WordMatrix) : Type 0 where
+  pub rows : m.rows ≡ old.rows
+  pub cols : m.cols ≡ old.cols
+  pub whole : IsWhole m
+  pub written : (j : ℕ) → j < n → j < old.cols → entry m r j ≡ f j
+  pub kept : (i j : ℕ) → i < r → j < old.cols → entry m i j ≡ entry old i j
 
-pub one_filled : (rows cols i j v : ℕ) (f : ℕ → ℕ → ℕ) (m : WordMatrix) → i < rows → j < cols → v ≡ f i j → IsFilled rows cols (i * cols + j) f m →
-    IsFilled rows cols (i * cols + (j + 1)) f (with_entry m i j v)
-one_filled rows cols i j v f m p q e h = record {
-  rows_are = h.rows_are;
-  cols_are = h.cols_are;
-  whole = length-set _ _ _ ∙ h.whole;
-  done = λ r c a b l.
-      let inside : j < m.cols = omega (arith, h.cols_are) in
-      let here : c < m.cols = omega (arith, h.cols_are) in
-      ⊎_elim
-      (λ same.
-      let both : (r ≡ i) × (c ≡ j) = same_from_place r c i j cols b q same in
-      ap (λ r. entry (with_entry m i j v) r c) both.0 ∙ ap (entry (with_entry m i j v) i) both.1
-      ∙ entry_set m i j v h.whole (omega (arith, h.rows_are)) inside ∙ e
-      ∙ ap (λ r. f r j) (sym both.0) ∙ ap (f r) (sym both.1))
-      (λ apart.
-      entry_kept m i j v r c inside here (λ x. apart (ap (λ r. r * cols + c) x.0 ∙ ap (λ c. i * cols + c) x.1))
-      ∙ h.done r c a b (omega arith))
-      (cases_eq (r * cols + c) (i * cols + j));
+pub none_filled : (old : WordMatrix) (r : ℕ) (f : ℕ → ℕ) → IsWhole old → RowFilled old r 0 f old
+none_filled old r f whole = record {
+  rows = refl;
+  cols = refl;
+  whole = whole;
+  written = λ j lt q. absurd (omega arith);
+  kept = λ i j lt q. refl;
 }
 
-pub row_filled : (rows cols i : ℕ) (f : ℕ → ℕ → ℕ) (m : WordMatrix) → IsFilled rows cols (i * cols + cols) f m → IsFilled rows cols ((i + 1) * cols + 0) f m
-row_filled rows cols i f m h = record { rows_are = h.rows_are; cols_are = h.cols_are; whole = h.whole; done = λ r c a b l. h.done r c a b (omega arith) }
+pub one_filled : (old m : WordMatrix) (r n v : ℕ) (f : ℕ → ℕ) → r < old.rows → n < old.cols → v ≡ f n → RowFilled old r n f m →
+    RowFilled old r (n + 1) f (with_entry m r n v)
+one_filled old m r n v f below inside is h =
+    let wide : n < m.cols = omega (arith, h.cols) in
+    let high : r < m.rows = omega (arith, h.rows) in
+    record {
+      rows = h.rows;
+      cols = h.cols;
+      whole = length-set _ _ _ ∙ h.whole;
+      written = λ j lt q.
+          let here : j < m.cols = omega (arith, h.cols) in
+          elim (cases_lt j n) [
+            | inl lower ↦
+                let apart : j ≢ n = omega arith in entry_kept m r n v r j wide here (λ x. apart x.1) ∙ h.written j lower q
+            | inr ge ↦ let e : j ≡ n = omega arith in rw e (entry_set m r n v h.whole high wide ∙ is)
+          ];
+      kept = λ i j lt q.
+          let here : j < m.cols = omega (arith, h.cols) in
+          let apart : i ≢ r = omega arith in
+          entry_kept m r n v i j wide here (λ x. apart x.0) ∙ h.kept i j lt q;
+    }
 
-pub all_filled : (rows cols k : ℕ) (f : ℕ → ℕ → ℕ) (m : WordMatrix) → rows * cols ≤ k → IsFilled rows cols k f m → m ≡ matrix_of rows cols f
-all_filled rows cols k f m e h =
-    matrix_by_entries m rows cols f h.rows_are h.cols_are h.whole (λ i j p q. h.done i j p q (omega (arith, mul-add-lt i cols j rows p q)))
+-- a filled row, and a row that is kept
+pub filled_row_is : (old a m : WordMatrix) (r n : ℕ) (f : ℕ → ℕ) → old.cols ≡ a.cols → old.cols ≡ n → ((j : ℕ) → j < a.cols → f j ≡ entry a r j)
+    → RowFilled old r n f m → row m r ≡ row a r
+filled_row_is old a m r n f wide all same h =
+    ap (λ k. list_of k (λ j. entry m r j)) (h.cols ∙ wide)
+    ∙ same-list_of a.cols (λ j. entry m r j) (λ j. entry a r j) (λ j q. h.written j (omega arith) (omega arith) ∙ same j q)
+
+pub kept_row_is : (old m : WordMatrix) (r n i : ℕ) (f : ℕ → ℕ) → RowFilled old r n f m → i < r → row m i ≡ row old i
+kept_row_is old m r n i f h lt =
+    ap (λ k. list_of k (λ j. entry m i j)) h.cols ∙ same-list_of old.cols (λ j. entry m i j) (λ j. entry old i j) (λ j q. h.kept i j lt q)

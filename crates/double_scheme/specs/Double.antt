@@ -53,10 +53,13 @@ abbrev pub part_query_of : Shape → WordMatrix → List ℕ → ℕ → ℕ →
 part_query_of l a2 seed number i d =
     cipher l.width a2 (part_secret seed number a2.cols d) (part_noise seed number a2.rows d) (first_row l i + d)
 
+-- all parts of it
+abbrev pub part_queries_of : Shape → WordMatrix → List ℕ → ℕ → ℕ → List ℕ
+part_queries_of l a2 seed number i = flat_map (part_query_of l a2 seed number i) (range_with_len 0 (digits_per_record l))
+
 -- the query for record i
 unfoldable pub double_query : Shape → WordMatrix → WordMatrix → List ℕ → ℕ → ℕ → List ℕ
-double_query l a1 a2 seed number i =
-    first_query_of l a1 seed number i ++ flat_map (part_query_of l a2 seed number i) (range_with_len 0 (digits_per_record l))
+double_query l a1 a2 seed number i = first_query_of l a1 seed number i ++ part_queries_of l a2 seed number i
 
 -- the words of part d of a query's words
 abbrev pub part_of_query : Shape → List ℕ → ℕ → List ℕ

@@ -1,4 +1,4 @@
 pub mod Double
-pub mod Filled
 pub mod Laws
 pub mod Recovery
+pub mod Rooms

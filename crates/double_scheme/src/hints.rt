@@ -1,12 +1,11 @@
 //! The hints of both sides, and the digits of a matrix read across.
 
-ghost use Rattle.std.specs.Prelude.{◌≡◌, ◌+◌, ◌*◌, ◌<◌, ◌≤◌, IfOk};
-ghost use Rattle.matrix_u32.specs.Matrix.{WordMatrix, transpose};
+ghost use Rattle.std.specs.Prelude.{◌≡◌, ℕ, ◌+◌, ◌*◌, ◌<◌, ◌≤◌, IfOk};
+ghost use Rattle.matrix_u32.specs.Matrix.{WordMatrix, IsWhole, row, transpose};
 ghost use Rattle.lane_kernels.specs.Digit.{split_count};
-ghost use Rattle.digit_pack.specs.Digits.{decomposed, decomposed_at};
+ghost use Rattle.digit_pack.specs.Digits.{decomposed};
 ghost use Rattle.simple_scheme.specs.Simple.{hint_of};
 ghost use Rattle.double_scheme.specs.Double.{server_hint_of, client_hint_of};
-ghost use Rattle.double_scheme.specs.Filled.{IsFilled};
 
 use digit_pack::{DigitStore, split_count, word_digit};
 use matrix_u32::{Kernel, Matrix};
@@ -33,14 +32,17 @@ pub(crate) fn decompose<S: DigitStore>(alloc: Global, a: &Matrix, w: u32) -> Res
     Ok(store)
 }
 
-// Row r of the digits, where the rows before it are written.
+// Writes row r of the digits, and leaves the rows before it.
 fn decompose_row<S: DigitStore>(store: &mut S, a: &Matrix, w: u32, r: usize)
     requires width { (6 ≤ w) × (w ≤ 10) }
     requires row { r < a.now.cols * split_count w }
-    requires before { IsFilled (a.now.cols * split_count w) a.now.rows (r * a.now.rows + 0)
-        (decomposed_at w (transpose a.now)) (S.digits store.old) }
-    ensures { IsFilled (a.now.cols * split_count w) a.now.rows ((r + 1) * a.now.rows + 0)
-        (decomposed_at w (transpose a.now)) (S.digits store.new) }
+    requires high { (S.digits store.old).rows ≡ a.now.cols * split_count w }
+    requires wide { (S.digits store.old).cols ≡ a.now.rows }
+    requires whole { IsWhole (S.digits store.old) }
+    ensures shape { ((S.digits store.new).rows ≡ (S.digits store.old).rows) ×
+        ((S.digits store.new).cols ≡ (S.digits store.old).cols) × IsWhole (S.digits store.new) }
+    ensures written { row (S.digits store.new) r ≡ row (decomposed w (transpose a.now)) r }
+    ensures kept { (i : ℕ) → i < r → row (S.digits store.new) i ≡ row (S.digits store.old) i }
 {
     let count = split_count(w);
     for j in 0..a.rows() {

@@ -25,8 +25,8 @@ pub mod laws;
 mod queries;
 mod records;
 
-pub use answers::answer;
+pub use answers::{AnswerRoom, answer, answer_count};
 pub use hints::setup;
-pub use queries::query;
+pub use queries::{QueryRoom, query};
 pub use records::recover;
 pub use simple_scheme::RecoverError;

@@ -7,7 +7,7 @@ ghost use Rattle.digit_pack.specs.Layout.{digits_per_record};
 ghost use Rattle.double_scheme.specs.Double.{words_of_part, double_answer_count, answer_hint, second_word, part_read, double_digit_read, double_reading};
 ghost use Rattle.double_scheme.specs.Recovery.{DoubleReadsRecord, DoubleGivesQuietRecord};
 
-use crate::answers::part_of;
+use crate::answers::{answer_count, part_of};
 use crate::laws;
 use digit_pack::{Layout, join_word, split_count};
 use matrix_u32::{Kernel, Matrix};
@@ -199,9 +199,7 @@ fn is_whole(layout: &Layout, client_hint: &Matrix, answer: &[u32]) -> bool
     ensures { IsTrue result ↔
         (length answer.now ≡ double_answer_count layout.now client_hint.now.cols) }
 {
-    let prefix = client_hint.rows();
-    let part = prefix + split_count(layout.width());
-    answer.len() == prefix + layout.digits_per_record() * part
+    answer.len() == answer_count(layout, client_hint.cols())
 }
 
 // The record that an answer reads as.
@@ -222,12 +220,8 @@ fn read_record<K: Kernel>(
     if !is_whole(layout, client_hint, answer) {
         return Err(RecoverError::BadLength);
     }
-    let Ok(digits) = read_all(alloc, kernel, seed, number, client_hint, layout, answer) else {
-        return Err(RecoverError::Memory);
-    };
-    let Ok(bytes) = vec![in alloc; 0; layout.record_len()] else {
-        return Err(RecoverError::Memory);
-    };
+    let digits = read_all(alloc, kernel, seed, number, client_hint, layout, answer)?;
+    let bytes = vec![in alloc; 0; layout.record_len()]?;
     record_of_digits(layout, &digits, bytes)
 }
 

@@ -81,7 +81,7 @@ feeds_decide (Some old) piece (Err fault) (Err other) frames others new end f g 
 -- ---- where it may be refused
 
 -- what stands before the end of a piece
-some_begin : (old piece : List ℕ) (answer : Result (Unit {0}) ReadFault) (frames : List Frame) (new : Option (List ℕ)) →
+pub some_begin : (old piece : List ℕ) (answer : Result (Unit {0}) ReadFault) (frames : List Frame) (new : Option (List ℕ)) →
     Feeds (Some old) piece answer frames new → (rest : List ℕ) × Begins (old ++ piece) frames rest
 some_begin old piece (Ok done) frames new f = (f.0, f.1.begins)
 some_begin old piece (Err fault) frames new f = (f.0.0, f.0.1)

@@ -1,80 +1,121 @@
 -- A piece after an unfinished frame.
-use Rattle.std.proofs.Common.{◌≡◌, ℕ, ◌+◌, ◌<◌, ◌≤◌, max, List, [], ◌++◌, length, drop, sym, ap, subst, ◌∙◌, append_assoc, arith, inl, inr}
+use Rattle.std.proofs.Common.{◌≡◌, ℕ, ◌+◌, ◌-◌, ◌<◌, ◌≤◌, true, false, List, [], ◌++◌, length, take, drop, refl, sym, ap, subst, ◌∙◌, append_assoc, arith, inl, inr}
 use Rattle.std.proofs.lemmas.Bool.{cases_lt}
-use Rattle.std.proofs.lemmas.List.{length-append, length-drop, append-nil, nil_from_length}
+use Rattle.std.proofs.lemmas.List.{length-append, length-drop, length-take, append-nil, nil_from_length, take-append-drop}
 use Rattle.frame_codec.specs.declared.frame.Frame.{Frame}
 use Rattle.frame_codec.specs.Frames.{encoding, IsFrame}
 use Rattle.frame_codec.specs.declared.reader.ReadFault.{ReadFault}
-use Rattle.frame_codec.specs.Streams.{Fills, HasFault, StopsAt, IsPartial, IsReadable, TopsUp, length_at}
-use Rattle.frame_codec.proofs.NumberBytes.{number_ahead}
-use Rattle.frame_codec.proofs.Prefixes.{announced, partial_lacks, sound_ahead, fault_ahead, fault_stops, stops_ahead}
+use Rattle.frame_codec.specs.declared.reader.ReadFault.TheVariants.{TooLong, UnknownKind, BadPayload, Memory, Failed}
+use Rattle.frame_codec.specs.Streams.{HasFault, HasFrame, StopsAt, IsPartial, IsReadable, is_kind, kind_at, length_at}
+use Rattle.frame_codec.proofs.Prefixes.{announced, partial_lacks, sound_ahead, sound_before, fault_ahead}
+use Rattle.frame_codec.proofs.Unique.{fault_of_frame}
 
-pub tops_whole : (enough : ℕ) (old piece new rest : List ℕ) → TopsUp enough old piece new rest → new ++ rest ≡ old ++ piece
-tops_whole enough old piece new rest t = rw (t.grown, t.split) (append_assoc old t.moved rest)
+-- ---- a header in two places
 
-same_length : (size : ℕ) (first beyond new rest : List ℕ) → TopsUp size first beyond new rest → 4 ≤ length first → length_at new ≡ length_at first
-same_length size first beyond new rest t le = ap length_at t.grown ∙ number_ahead 4 first t.moved le
+pub header_readable : (bytes : List ℕ) (size : ℕ) → IsReadable (take 5 bytes) size → IsReadable bytes size
+header_readable bytes size r =
+    let n : length (take 5 bytes) ≤ 5 = omega (arith, length-take 5 bytes) in
+    subst (λ (x : List ℕ). IsReadable x size) (take-append-drop 5 bytes) (elim (cases_lt (length bytes) 5) [
+      | inl few ↦
+          let none : drop 5 bytes ≡ [] = nil_from_length (drop 5 bytes) (omega (arith, length-drop 5 bytes)) in
+          rw (none, append-nil) r
+      | inr all ↦ sound_ahead (take 5 bytes) (drop 5 bytes) size (omega (arith, length-take 5 bytes)) r
+    ])
 
--- all of the piece is used where the header isn't whole
-used_up : (old piece first beyond : List ℕ) (size : ℕ) (new rest : List ℕ) → TopsUp 5 old piece first beyond → TopsUp size first beyond new rest →
-    length first < 5 → (rest ≡ []) × (new ≡ first)
-used_up old piece first beyond size new rest a b lt =
-    let empty : beyond ≡ [] = a.until lt in
-    let n : length b.moved + length rest ≡ 0 = sym (length-append b.moved rest) ∙ ap length (sym b.split ∙ empty) in
-    let moved : b.moved ≡ [] = nil_from_length b.moved (omega arith) in
-    (nil_from_length rest (omega arith), b.grown ∙ ap (λ (x : List ℕ). first ++ x) moved ∙ append-nil first)
+pub header_fault : (fault : ReadFault) (bytes : List ℕ) → HasFault fault (take 5 bytes) → HasFault fault bytes
+header_fault fault bytes h = subst (HasFault fault) (take-append-drop 5 bytes) (fault_ahead fault (take 5 bytes) (drop 5 bytes) h)
 
--- the header and then the payload
-pub fills : (old piece first beyond : List ℕ) (size : ℕ) (new rest : List ℕ) → IsPartial old → TopsUp 5 old piece first beyond → IsReadable first size →
-    TopsUp size first beyond new rest → Fills old piece new rest
-fills old piece first beyond size new rest p a s b = record {
-  whole = tops_whole size first beyond new rest b ∙ tops_whole 5 old piece first beyond a;
-  alone = alone;
-  until = until;
-} where
-  -- no more than the payload was moved
-  within : 5 ≤ length first → length new ≤ size
-  within le = elim (cases_lt (length old) 5) [
-    | inl lt ↦ let top : length first ≤ max 5 (length old) = a.within in let k = (s.known le).1 in omega (arith, b.within, top, k)
-    | inr ge ↦
-        let top : length first ≤ max 5 (length old) = a.within in
-        let n : length first ≡ length old + length a.moved = ap length a.grown ∙ length-append old a.moved in
-        let moved : a.moved ≡ [] = nil_from_length a.moved (omega arith) in
-        let same : old ≡ first = sym (append-nil old) ∙ ap (λ (x : List ℕ). old ++ x) (sym moved) ∙ sym a.grown in
-        let lack : length first < size = partial_lacks first size (subst IsPartial same p) s in
-        omega (arith, b.within, lack)
-  ]
+-- ---- an unfinished frame that was given what it lacks of `size` bytes
 
-  alone : (f : Frame) (more : List ℕ) → IsFrame f → new ≡ encoding f ++ more → more ≡ []
-  alone f more fits e =
-      let an = announced new f more fits e in
-      elim (cases_lt (length first) 5) [
-        | inl lt ↦ absurd (let u = used_up old piece first beyond size new rest a b lt in omega (arith, an.size, ap length u.1))
-        | inr ge ↦
-            let len : length_at new ≡ length_at first = same_length size first beyond new rest b (omega arith) in
-            nil_from_length more (omega (
-              arith,
-              ap length an.after,
-              length-drop (length_at new) (drop 5 new),
-              length-drop 5 new,
-              within ge,
-              (s.known ge).1,
-              len,
-              an.size,
-            ))
-      ]
+pub record Fills (old piece new rest : List ℕ) (size : ℕ) : Type 0 where
+  pub partial : IsPartial old
+  pub readable : IsReadable (old ++ piece) size
+  pub new_is : new ≡ old ++ take (size - length old) piece
+  pub rest_is : rest ≡ drop (size - length old) piece
 
-  until : IsPartial new → rest ≡ []
-  until q = elim (cases_lt (length first) 5) [
-    | inl lt ↦ (used_up old piece first beyond size new rest a b lt).0
-    | inr ge ↦ b.until (partial_lacks new size q (subst (λ (x : List ℕ). IsReadable x size) (sym b.grown) (sound_ahead first b.moved size ge s)))
-  ]
+pub filled_whole : (old piece new rest : List ℕ) (size : ℕ) → Fills old piece new rest size → new ++ rest ≡ old ++ piece
+filled_whole old piece new rest size f =
+    rw (f.new_is, f.rest_is) (append_assoc old (take (size - length old) piece) (drop (size - length old) piece)
+    ∙ ap (λ (x : List ℕ). old ++ x) (take-append-drop (size - length old) piece))
 
--- a fault of the header stands in the whole
-pub header_stops : (fault : ReadFault) (old piece first beyond : List ℕ) → TopsUp 5 old piece first beyond → HasFault fault first → StopsAt fault (old ++ piece)
-header_stops fault old piece first beyond a h =
-    fault_stops fault (old ++ piece) (subst (HasFault fault) (tops_whole 5 old piece first beyond a) (fault_ahead fault first beyond h))
+-- the header says five bytes or more
+header_counts : (bytes : List ℕ) (size : ℕ) → IsReadable bytes size → 5 ≤ size
+header_counts bytes size r = elim (cases_lt (length bytes) 5) [
+  | inl few ↦ omega (arith, r.header few)
+  | inr all ↦ omega (arith, (r.known all).1)
+]
 
--- what stops a reader at the prefix of the filled frame stops it at the whole
-pub filled_stops : (fault : ReadFault) (old piece new rest : List ℕ) → Fills old piece new rest → StopsAt fault new → StopsAt fault (old ++ piece)
-filled_stops fault old piece new rest f h = subst (StopsAt fault) f.whole (stops_ahead fault new rest h)
+-- an unfinished frame is shorter than the header says
+lacks : (old piece : List ℕ) (size : ℕ) → IsPartial old → IsReadable (old ++ piece) size → length old < size
+lacks old piece size p r = elim (cases_lt (length old) 5) [
+  | inl few ↦ omega (arith, header_counts (old ++ piece) size r)
+  | inr ge ↦ partial_lacks old size p (sound_before old piece size ge r)
+]
+
+-- no more bytes than the frame's were put together, and as many where there were enough
+within : (old piece new rest : List ℕ) (size : ℕ) → Fills old piece new rest size → length new ≤ size
+within old piece new rest size f =
+    let lt = lacks old piece size f.partial f.readable in
+    let n : length new ≡ length old + length (take (size - length old) piece) = ap length f.new_is ∙ length-append old (take (size - length old) piece) in
+    omega (arith, lt, n, length-take (size - length old) piece)
+
+used_up : (old piece new rest : List ℕ) (size : ℕ) → Fills old piece new rest size → length new < size → rest ≡ []
+used_up old piece new rest size f lt =
+    let n : length new ≡ length old + length (take (size - length old) piece) = ap length f.new_is ∙ length-append old (take (size - length old) piece) in
+    let m : length rest ≡ length piece - (size - length old) = ap length f.rest_is ∙ length-drop (size - length old) piece in
+    nil_from_length rest (omega (arith, n, m, length-take (size - length old) piece))
+
+-- the header of what was put together, where it is whole
+filled_readable : (old piece new rest : List ℕ) (size : ℕ) → Fills old piece new rest size → 5 ≤ length new → IsReadable new size
+filled_readable old piece new rest size f ge =
+    sound_before new rest size ge (subst (λ (x : List ℕ). IsReadable x size) (sym (filled_whole old piece new rest size f)) f.readable)
+
+pub filled_alone : (old piece new rest : List ℕ) (size : ℕ) → Fills old piece new rest size → (f : Frame) (more : List ℕ) → IsFrame f →
+    new ≡ encoding f ++ more → more ≡ []
+filled_alone old piece new rest size fill f more fits e =
+    let an = announced new f more fits e in
+    let ge : 5 ≤ length new = omega (arith, an.size) in
+    let r = filled_readable old piece new rest size fill ge in
+    nil_from_length more (omega (
+      arith,
+      ap length an.after,
+      length-drop (length_at new) (drop 5 new),
+      length-drop 5 new,
+      within old piece new rest size fill,
+      (r.known ge).1,
+      an.size,
+    ))
+
+pub filled_until : (old piece new rest : List ℕ) (size : ℕ) → Fills old piece new rest size → IsPartial new → rest ≡ []
+filled_until old piece new rest size f q = elim (cases_lt (length new) 5) [
+  | inl few ↦ used_up old piece new rest size f (omega (arith, header_counts (old ++ piece) size f.readable))
+  | inr ge ↦ used_up old piece new rest size f (partial_lacks new size q (filled_readable old piece new rest size f ge))
+]
+
+-- ---- what stops a reader
+
+-- a sound header has no fault
+pub sound_stops : (bytes : List ℕ) (size : ℕ) → IsReadable bytes size → StopsAt Memory bytes
+sound_stops bytes size r = (
+  λ h. let le : length_at bytes ≤ 16777216 = r.short h.0 in omega (arith, le, h.1),
+  λ h. absurd (let t : is_kind (kind_at bytes) ≡ true = (r.known h.0).0 in let bad : true ≡ false = sym t ∙ h.2 in cc),
+)
+
+-- nor has a frame, or less than one
+pub frame_stops : (bytes : List ℕ) → HasFrame bytes → StopsAt Memory bytes
+frame_stops bytes w = (λ h. fault_of_frame TooLong bytes h w, λ h. fault_of_frame UnknownKind bytes h w)
+
+pub partial_stops : (bytes : List ℕ) → IsPartial bytes → StopsAt Memory bytes
+partial_stops bytes p = (p.no_fault TooLong, p.no_fault UnknownKind)
+
+pub frame_ahead : (bytes more : List ℕ) → HasFrame bytes → HasFrame (bytes ++ more)
+frame_ahead bytes more w = (w.0, w.1 ++ more, w.2, ap (λ (x : List ℕ). x ++ more) w.3 ∙ append_assoc (encoding w.0) w.1 more)
+
+-- what stops a reader at the frame that was put together stops it at the whole
+pub filled_stops : (fault : ReadFault) (old piece new rest : List ℕ) → new ++ rest ≡ old ++ piece → StopsAt fault new → (fault ≡ Memory → HasFrame new) →
+    StopsAt fault (old ++ piece)
+filled_stops TooLong old piece new rest whole h w = subst (HasFault TooLong) whole (fault_ahead TooLong new rest h)
+filled_stops UnknownKind old piece new rest whole h w = subst (HasFault UnknownKind) whole (fault_ahead UnknownKind new rest h)
+filled_stops BadPayload old piece new rest whole h w = subst (HasFault BadPayload) whole (fault_ahead BadPayload new rest h)
+filled_stops Memory old piece new rest whole h w = subst (StopsAt Memory) whole (frame_stops (new ++ rest) (frame_ahead new rest (w refl)))
+filled_stops Failed old piece new rest whole h w = absurd h

@@ -194,6 +194,17 @@ sound_ahead bytes more size le s =
       known = λ h. (ap is_kind (kind_ahead bytes more le) ∙ (s.known le).0, omega (arith, len, (s.known le).1));
     }
 
+-- and it was so before they came
+pub sound_before : (bytes more : List ℕ) (size : ℕ) → 5 ≤ length bytes → IsReadable (bytes ++ more) size → IsReadable bytes size
+sound_before bytes more size le s =
+    let len : length_at (bytes ++ more) ≡ length_at bytes = number_ahead 4 bytes more (omega arith) in
+    let long : 5 ≤ length (bytes ++ more) = omega (arith, length-append bytes more) in
+    record {
+      header = λ h. absurd (omega (arith, h));
+      short = λ h. omega (arith, len, s.short (omega arith));
+      known = λ h. (ap is_kind (sym (kind_ahead bytes more le)) ∙ (s.known long).0, omega (arith, len, (s.known long).1));
+    }
+
 -- a frame that stands at the beginning of bytes with more after them stands in the bytes, where they are long enough
 frame_within : (bytes more : List ℕ) → 5 + length_at bytes ≤ length bytes → HasFrame (bytes ++ more) → HasFrame bytes
 frame_within bytes more size h =
@@ -226,13 +237,6 @@ fault_ahead BadPayload bytes more h = (
 )
 fault_ahead Memory bytes more h = h
 fault_ahead Failed bytes more h = h
-
-pub stops_ahead : (fault : ReadFault) (bytes more : List ℕ) → StopsAt fault bytes → StopsAt fault (bytes ++ more)
-stops_ahead TooLong bytes more h = fault_ahead TooLong bytes more h
-stops_ahead UnknownKind bytes more h = fault_ahead UnknownKind bytes more h
-stops_ahead BadPayload bytes more h = fault_ahead BadPayload bytes more h
-stops_ahead Memory bytes more h = tt
-stops_ahead Failed bytes more h = h
 
 -- what makes a reader stop: a fault that stands there, or that memory was refused
 pub fault_stops : (fault : ReadFault) (bytes : List ℕ) → HasFault fault bytes → StopsAt fault bytes

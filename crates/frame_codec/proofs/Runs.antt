@@ -10,9 +10,10 @@ use Rattle.frame_codec.specs.Streams.{Advances, Begins, Reads, Stops, Feeds, Fee
 use Rattle.frame_codec.proofs.Prefixes.{nothing_partial}
 use Rattle.frame_codec.proofs.Unique.{one_reading}
 
-each_both : (fs gs : List Frame) → AllByRecursion IsFrame fs → AllByRecursion IsFrame gs → AllByRecursion IsFrame (fs ++ gs)
-each_both [] gs all others = others
-each_both (f ∷ fs) gs all others = (all.0, each_both fs gs all.1 others)
+-- what is so of each of some and of others is so of all
+pub all_append : {X : Type 0} (P : X → Type 0) (xs ys : List X) → AllByRecursion P xs → AllByRecursion P ys → AllByRecursion P (xs ++ ys)
+all_append P [] ys all others = others
+all_append P (x ∷ xs) ys all others = (all.0, all_append P xs ys all.1 others)
 
 pub begins_none : (bytes : List ℕ) → Begins bytes [] bytes
 begins_none bytes = record { whole = refl; each = tt }
@@ -28,7 +29,7 @@ pub begins_both : (bytes : List ℕ) (fs gs : List Frame) (rest more : List ℕ)
 begins_both bytes fs gs rest more a b = record {
   whole = a.whole ∙ ap (λ (x : List ℕ). flat_map encoding fs ++ x) b.whole ∙ sym (append_assoc (flat_map encoding fs) (flat_map encoding gs) more)
       ∙ ap (λ (x : List ℕ). x ++ more) (sym (flat_map-append encoding fs gs));
-  each = each_both fs gs a.each b.each;
+  each = all_append IsFrame fs gs a.each b.each;
 }
 
 pub begins_more : (bytes : List ℕ) (fs : List Frame) (rest : List ℕ) (f : Frame) (more : List ℕ) → Begins bytes fs rest → IsFrame f →

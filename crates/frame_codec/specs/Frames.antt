@@ -1,5 +1,5 @@
 -- What a frame is on the wire: the length of its payload in four bytes, its kind in one byte, its payload.
-use Rattle.std.specs.Prelude.{◌≡◌, ◌<◌, ◌≤◌, ◌+◌, ◌*◌, ◌^◌, ℕ, List, [], ◌∷◌, ◌++◌, length, All}
+use Rattle.std.specs.Prelude.{◌≡◌, ◌<◌, ◌≤◌, ◌+◌, ◌*◌, ◌^◌, ℕ, List, [], ◌∷◌, ◌++◌, length, All, Option, None, Some}
 use Rattle.frame_codec.specs.Numbers.{number_bytes, word_bytes}
 use Rattle.frame_codec.specs.Rows.{HasWholeRows}
 use Rattle.frame_codec.specs.declared.frame.Frame.{Frame}
@@ -110,3 +110,8 @@ pub record Stands (k : ℕ) (bytes : List ℕ) (f : Frame) : Type 0 where
 -- a frame of this kind has this payload
 abbrev pub IsPayload : ℕ → List ℕ → Type 0
 IsPayload k bytes = (f : Frame) × Stands k bytes f
+
+-- what a kind and a payload are read as: the frame that has them, where there is one
+abbrev pub ReadsAs : ℕ → List ℕ → Option Frame → Type 0
+ReadsAs k bytes None = (f : Frame) → Stands k bytes f → ⊥
+ReadsAs k bytes (Some f) = Stands k bytes f

@@ -1,5 +1,5 @@
 -- What a stream of bytes says: its frames, and what stands after them.
-use Rattle.std.specs.Prelude.{◌≡◌, ◌<◌, ◌≤◌, ◌+◌, ◌==◌, ℕ, List, [], ◌∷◌, ◌++◌, length, max, slice_index, Option, Some, None, Result, Ok, Err, ◌||◌, Bool, true, false}
+use Rattle.std.specs.Prelude.{◌≡◌, ◌<◌, ◌≤◌, ◌+◌, ◌==◌, ℕ, List, [], ◌∷◌, ◌++◌, length, slice_index, Option, Some, None, Result, Ok, Err, ◌||◌, Bool, true, false}
 use Rattle.std.specs.List.{flat_map, AllByRecursion}
 use Rattle.frame_codec.specs.declared.frame.Frame.{Frame}
 use Rattle.frame_codec.specs.declared.reader.ReadFault.{ReadFault}
@@ -34,12 +34,12 @@ HasFault BadPayload bytes =
 HasFault Memory bytes = ⊥
 HasFault Failed bytes = ⊥
 
--- what makes a reader stop with a fault: it stands there, or memory was refused
+-- What makes a reader stop with a fault: it stands there. Where memory was refused, none stands there that the length or the kind makes.
 abbrev pub StopsAt : ReadFault → List ℕ → Type 0
 StopsAt TooLong bytes = HasFault TooLong bytes
 StopsAt UnknownKind bytes = HasFault UnknownKind bytes
 StopsAt BadPayload bytes = HasFault BadPayload bytes
-StopsAt Memory bytes = Unit {0}
+StopsAt Memory bytes = (HasFault TooLong bytes → ⊥) × (HasFault UnknownKind bytes → ⊥)
 StopsAt Failed bytes = ⊥
 
 -- less than a frame, and nothing yet that could be judged
@@ -99,17 +99,3 @@ pub record IsReadable (bytes : List ℕ) (size : ℕ) : Type 0 where
   pub header : length bytes < 5 → size ≡ 5
   pub short : 4 ≤ length bytes → length_at bytes ≤ payload_limit
   pub known : 5 ≤ length bytes → (is_kind (kind_at bytes) ≡ true) × (size ≡ 5 + length_at bytes)
-
--- Bytes were moved from the beginning of a piece after older ones, until these were enough or the piece was used up.
-pub record TopsUp (enough : ℕ) (old piece new rest : List ℕ) : Type 0 where
-  pub moved : List ℕ
-  pub grown : new ≡ old ++ moved
-  pub split : piece ≡ moved ++ rest
-  pub within : length new ≤ max enough (length old)
-  pub until : length new < enough → rest ≡ []
-
--- An unfinished frame was given what it lacks from the beginning of a piece: no byte stands after it, and none is left over while it isn't whole.
-pub record Fills (old piece new rest : List ℕ) : Type 0 where
-  pub whole : new ++ rest ≡ old ++ piece
-  pub alone : (f : Frame) (more : List ℕ) → IsFrame f → new ≡ encoding f ++ more → more ≡ []
-  pub until : IsPartial new → rest ≡ []

@@ -188,6 +188,13 @@ impl Bytes32 {
     {
         &self.bytes
     }
+
+    /// The bytes, copied.
+    pub fn to_array(&self) -> [u8; 32]
+        ensures { result ≡ self.now }
+    {
+        self.bytes
+    }
 }
 
 /// A frame of the protocol, by its kind. No field's value is judged here.

@@ -18,4 +18,4 @@ mod writer;
 pub use frame::{Bytes, Bytes32, Frame, Rows, Words};
 pub use reader::{ReadFault, Reader};
 pub use refusal::Refusal;
-pub use writer::write_frame;
+pub use writer::{write_frame, write_hint_part};

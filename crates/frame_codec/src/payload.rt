@@ -1,9 +1,8 @@
 //! The frame that a kind and a payload make: one function a kind.
 
 ghost use Rattle.std.specs.Prelude.{◌≡◌, ◌≤◌, ◌<◌, ◌+◌, ◌*◌, ◌^◌, ◌∷◌, ◌++◌, ℕ, All, length, IfOk, OnErr, IfSome, IfNone};
-ghost use Rattle.frame_codec.specs.declared.frame.Frame.{Frame};
 ghost use Rattle.frame_codec.specs.Numbers.{number_bytes, word_bytes};
-ghost use Rattle.frame_codec.specs.Frames.{IsPayload, Stands};
+ghost use Rattle.frame_codec.specs.Frames.{IsPayload, ReadsAs};
 
 use crate::frame::{Bytes, Bytes32, Frame, Rows, Words};
 use crate::numbers::{u16_at, u32_at, u64_at};
@@ -38,8 +37,7 @@ fn scheme_words(alloc: Global, payload: &[u8]) -> Result<Option<(u8, u64, Words)
 }
 
 fn load_of(alloc: Global, payload: &[u8]) -> Result<Option<Frame>, AllocError>
-    ensures some { IfOk result (λ o. IfSome o (λ f. Stands 1 payload.now f)) }
-    ensures none { IfOk result (λ o. IfNone o ((f : Frame) → Stands 1 payload.now f → ⊥)) }
+    ensures reads { IfOk result (ReadsAs 1 payload.now) }
     ensures memory { OnErr result (IsPayload 1 payload.now) }
 {
     if payload.len() < 5 {
@@ -55,8 +53,7 @@ fn load_of(alloc: Global, payload: &[u8]) -> Result<Option<Frame>, AllocError>
 }
 
 fn hello_of(payload: &[u8]) -> Option<Frame>
-    ensures some { IfSome result (λ f. Stands 2 payload.now f) }
-    ensures none { IfNone result ((f : Frame) → Stands 2 payload.now f → ⊥) }
+    ensures { ReadsAs 2 payload.now result }
 {
     if payload.len() != 34 {
         return None;
@@ -68,8 +65,7 @@ fn hello_of(payload: &[u8]) -> Option<Frame>
 }
 
 fn hint_ask_of(payload: &[u8]) -> Option<Frame>
-    ensures some { IfSome result (λ f. Stands 3 payload.now f) }
-    ensures none { IfNone result ((f : Frame) → Stands 3 payload.now f → ⊥) }
+    ensures { ReadsAs 3 payload.now result }
 {
     if payload.len() != 13 {
         return None;
@@ -82,8 +78,7 @@ fn hint_ask_of(payload: &[u8]) -> Option<Frame>
 }
 
 fn delta_ask_of(payload: &[u8]) -> Option<Frame>
-    ensures some { IfSome result (λ f. Stands 4 payload.now f) }
-    ensures none { IfNone result ((f : Frame) → Stands 4 payload.now f → ⊥) }
+    ensures { ReadsAs 4 payload.now result }
 {
     if payload.len() != 8 {
         return None;
@@ -94,8 +89,7 @@ fn delta_ask_of(payload: &[u8]) -> Option<Frame>
 }
 
 fn query_of(alloc: Global, payload: &[u8]) -> Result<Option<Frame>, AllocError>
-    ensures some { IfOk result (λ o. IfSome o (λ f. Stands 5 payload.now f)) }
-    ensures none { IfOk result (λ o. IfNone o ((f : Frame) → Stands 5 payload.now f → ⊥)) }
+    ensures reads { IfOk result (ReadsAs 5 payload.now) }
     ensures memory { OnErr result (IsPayload 5 payload.now) }
 {
     let Some((scheme, version, words)) = scheme_words(alloc, payload)? else {
@@ -109,8 +103,7 @@ fn query_of(alloc: Global, payload: &[u8]) -> Result<Option<Frame>, AllocError>
 }
 
 fn edit_of(alloc: Global, payload: &[u8]) -> Result<Option<Frame>, AllocError>
-    ensures some { IfOk result (λ o. IfSome o (λ f. Stands 6 payload.now f)) }
-    ensures none { IfOk result (λ o. IfNone o ((f : Frame) → Stands 6 payload.now f → ⊥)) }
+    ensures reads { IfOk result (ReadsAs 6 payload.now) }
     ensures memory { OnErr result (IsPayload 6 payload.now) }
 {
     if payload.len() < 4 {
@@ -124,8 +117,7 @@ fn edit_of(alloc: Global, payload: &[u8]) -> Result<Option<Frame>, AllocError>
 }
 
 fn publish_of(payload: &[u8]) -> Option<Frame>
-    ensures some { IfSome result (λ f. Stands 7 payload.now f) }
-    ensures none { IfNone result ((f : Frame) → Stands 7 payload.now f → ⊥) }
+    ensures { ReadsAs 7 payload.now result }
 {
     if !payload.is_empty() {
         return None;
@@ -134,8 +126,7 @@ fn publish_of(payload: &[u8]) -> Option<Frame>
 }
 
 fn bye_of(payload: &[u8]) -> Option<Frame>
-    ensures some { IfSome result (λ f. Stands 8 payload.now f) }
-    ensures none { IfNone result ((f : Frame) → Stands 8 payload.now f → ⊥) }
+    ensures { ReadsAs 8 payload.now result }
 {
     if !payload.is_empty() {
         return None;
@@ -144,8 +135,7 @@ fn bye_of(payload: &[u8]) -> Option<Frame>
 }
 
 fn welcome_of(payload: &[u8]) -> Option<Frame>
-    ensures some { IfSome result (λ f. Stands 130 payload.now f) }
-    ensures none { IfNone result ((f : Frame) → Stands 130 payload.now f → ⊥) }
+    ensures { ReadsAs 130 payload.now result }
 {
     if payload.len() != 53 {
         return None;
@@ -163,8 +153,7 @@ fn welcome_of(payload: &[u8]) -> Option<Frame>
 }
 
 fn hint_part_of(alloc: Global, payload: &[u8]) -> Result<Option<Frame>, AllocError>
-    ensures some { IfOk result (λ o. IfSome o (λ f. Stands 131 payload.now f)) }
-    ensures none { IfOk result (λ o. IfNone o ((f : Frame) → Stands 131 payload.now f → ⊥)) }
+    ensures reads { IfOk result (ReadsAs 131 payload.now) }
     ensures memory { OnErr result (IsPayload 131 payload.now) }
 {
     if payload.len() < 13 || (payload.len() - 13) % 4 != 0 {
@@ -180,8 +169,7 @@ fn hint_part_of(alloc: Global, payload: &[u8]) -> Result<Option<Frame>, AllocErr
 }
 
 fn delta_of(alloc: Global, payload: &[u8]) -> Result<Option<Frame>, AllocError>
-    ensures some { IfOk result (λ o. IfSome o (λ f. Stands 132 payload.now f)) }
-    ensures none { IfOk result (λ o. IfNone o ((f : Frame) → Stands 132 payload.now f → ⊥)) }
+    ensures reads { IfOk result (ReadsAs 132 payload.now) }
     ensures memory { OnErr result (IsPayload 132 payload.now) }
 {
     if payload.len() < 22 || (payload.len() - 22) % 4 != 0 {
@@ -202,8 +190,7 @@ fn delta_of(alloc: Global, payload: &[u8]) -> Result<Option<Frame>, AllocError>
 }
 
 fn answer_of(alloc: Global, payload: &[u8]) -> Result<Option<Frame>, AllocError>
-    ensures some { IfOk result (λ o. IfSome o (λ f. Stands 133 payload.now f)) }
-    ensures none { IfOk result (λ o. IfNone o ((f : Frame) → Stands 133 payload.now f → ⊥)) }
+    ensures reads { IfOk result (ReadsAs 133 payload.now) }
     ensures memory { OnErr result (IsPayload 133 payload.now) }
 {
     let Some((scheme, version, words)) = scheme_words(alloc, payload)? else {
@@ -217,8 +204,7 @@ fn answer_of(alloc: Global, payload: &[u8]) -> Result<Option<Frame>, AllocError>
 }
 
 fn stale_of(payload: &[u8]) -> Option<Frame>
-    ensures some { IfSome result (λ f. Stands 134 payload.now f) }
-    ensures none { IfNone result ((f : Frame) → Stands 134 payload.now f → ⊥) }
+    ensures { ReadsAs 134 payload.now result }
 {
     if payload.len() != 12 {
         return None;
@@ -230,8 +216,7 @@ fn stale_of(payload: &[u8]) -> Option<Frame>
 }
 
 fn done_of(payload: &[u8]) -> Option<Frame>
-    ensures some { IfSome result (λ f. Stands 135 payload.now f) }
-    ensures none { IfNone result ((f : Frame) → Stands 135 payload.now f → ⊥) }
+    ensures { ReadsAs 135 payload.now result }
 {
     if payload.len() != 8 {
         return None;
@@ -242,8 +227,7 @@ fn done_of(payload: &[u8]) -> Option<Frame>
 }
 
 fn no_delta_of(payload: &[u8]) -> Option<Frame>
-    ensures some { IfSome result (λ f. Stands 136 payload.now f) }
-    ensures none { IfNone result ((f : Frame) → Stands 136 payload.now f → ⊥) }
+    ensures { ReadsAs 136 payload.now result }
 {
     if payload.len() != 12 {
         return None;
@@ -255,8 +239,7 @@ fn no_delta_of(payload: &[u8]) -> Option<Frame>
 }
 
 fn refused_of(payload: &[u8]) -> Option<Frame>
-    ensures some { IfSome result (λ f. Stands 143 payload.now f) }
-    ensures none { IfNone result ((f : Frame) → Stands 143 payload.now f → ⊥) }
+    ensures { ReadsAs 143 payload.now result }
 {
     if payload.len() != 1 {
         return None;
@@ -266,8 +249,7 @@ fn refused_of(payload: &[u8]) -> Option<Frame>
 
 /// The frame of this kind with this payload, if there is one. Memory is asked for only where there is.
 pub fn decode(alloc: Global, kind: u8, payload: &[u8]) -> Result<Option<Frame>, AllocError>
-    ensures some { IfOk result (λ o. IfSome o (λ f. Stands kind payload.now f)) }
-    ensures none { IfOk result (λ o. IfNone o ((f : Frame) → Stands kind payload.now f → ⊥)) }
+    ensures reads { IfOk result (ReadsAs kind payload.now) }
     ensures memory { OnErr result (IsPayload kind payload.now) }
 {
     match kind {

@@ -1,6 +1,6 @@
 //! The frames at the beginning of bytes.
 
-ghost use Rattle.std.specs.Prelude.{◌≡◌, ◌<◌, ℕ, List, ◌++◌, IfOk, IfErr, IfSome, IfNone, length};
+ghost use Rattle.std.specs.Prelude.{◌≡◌, ◌<◌, ◌≤◌, ℕ, List, ◌++◌, IfOk, IfErr, IfSome, IfNone, length, take};
 ghost use Rattle.frame_codec.specs.declared.frame.Frame.{Frame};
 ghost use Rattle.frame_codec.specs.Frames.{IsFrame, encoding};
 ghost use Rattle.frame_codec.specs.Streams.{Begins, HasFault, HasFrame, IsPartial, IsReadable, Reads, Stops, StopsAt, is_kind};
@@ -44,6 +44,33 @@ pub fn frame_len(bytes: &[u8]) -> Result<usize, ReadFault>
     Ok(HEADER_LEN + len)
 }
 
+/// The same of bytes that stand in two places, one after the other. It is found without memory.
+pub fn split_frame_len(first: &[u8], rest: &[u8]) -> Result<usize, ReadFault>
+    ensures ok { IfOk result (λ size. IsReadable (first.now ++ rest.now) size) }
+    ensures err { IfErr result (λ fault. HasFault fault (first.now ++ rest.now)) }
+{
+    let (header, len) = header_of(first, rest);
+    frame_len(&header[..len])
+}
+
+/// The first bytes of two slices, one after the other: as many as a header has, or all. The second number
+/// says how many.
+fn header_of(first: &[u8], rest: &[u8]) -> ([u8; HEADER_LEN], usize)
+    ensures within { result.1 ≤ 5 }
+    ensures bytes { take result.1 result.0 ≡ take 5 (first.now ++ rest.now) }
+{
+    let len = HEADER_LEN.min(first.len().saturating_add(rest.len()));
+    let mut header = [0; HEADER_LEN];
+    for i in 0..len {
+        header[i] = if i < first.len() {
+            first[i]
+        } else {
+            rest[i - first.len()]
+        };
+    }
+    (header, len)
+}
+
 /// The frame at the beginning and the bytes after it, if it is whole. `Memory` comes only where a frame
 /// stands there.
 pub fn frame_at<'a>(alloc: Global, bytes: &'a [u8]) -> Result<Option<(Frame, &'a [u8])>, ReadFault>
@@ -59,10 +86,9 @@ pub fn frame_at<'a>(alloc: Global, bytes: &'a [u8]) -> Result<Option<(Frame, &'a
         return Ok(None);
     }
     let (prefix, beyond) = bytes.split_at(size);
-    match decode(alloc, prefix[4], &prefix[HEADER_LEN..]) {
-        Err(_) => Err(ReadFault::Memory),
-        Ok(None) => Err(ReadFault::BadPayload),
-        Ok(Some(frame)) => Ok(Some((frame, beyond))),
+    match decode(alloc, prefix[4], &prefix[HEADER_LEN..])? {
+        None => Err(ReadFault::BadPayload),
+        Some(frame) => Ok(Some((frame, beyond))),
     }
 }
 
@@ -78,9 +104,7 @@ pub fn scan<'a>(alloc: Global, bytes: &'a [u8], out: &mut Vec<Frame>) -> Result<
 {
     let mut rest = bytes;
     while let Some((frame, beyond)) = frame_at(alloc, rest)? {
-        if out.push(frame).is_err() {
-            return Err(ReadFault::Memory);
-        }
+        out.push(frame)?;
         rest = beyond;
     }
     Ok(rest)

@@ -1,13 +1,13 @@
 //! Frames out of a stream that comes in pieces.
 
-ghost use Rattle.std.specs.Prelude.{◌≡◌, ◌↔◌, IsTrue, List, [], ◌∷◌, ◌++◌, None, Some, IfOk, IfErr, IfSome, IfNone, vec_capacity};
+ghost use Rattle.std.specs.Prelude.{◌≡◌, ◌↔◌, ◌-◌, IsTrue, ℕ, List, [], ◌∷◌, ◌++◌, length, take, drop, None, Some, IfOk, IfErr, IfSome, IfNone, OnOk, vec_capacity};
 ghost use Rattle.frame_codec.specs.declared.frame.Frame.{Frame};
 ghost use Rattle.frame_codec.specs.Frames.{IsFrame, encoding};
-ghost use Rattle.frame_codec.specs.Streams.{Feeds, Advances, Fills, IsPartial, StopsAt, TopsUp};
+ghost use Rattle.frame_codec.specs.Streams.{Feeds, Advances, IsPartial, StopsAt};
 
 use crate::frame::Frame;
-use crate::prefix::{HEADER_LEN, frame_at, frame_len, scan};
-use std::alloc::Global;
+use crate::prefix::{frame_at, scan, split_frame_len};
+use std::alloc::{AllocError, AllocFailed, Global};
 use std::marker::Model;
 use thiserror::Error;
 
@@ -29,6 +29,26 @@ pub enum ReadFault {
     /// An earlier feed had a fault.
     #[error("the stream had failed")]
     Failed,
+}
+
+impl From<AllocError> for ReadFault {
+    ghost use Rattle.frame_codec.specs.declared.reader.ReadFault.TheVariants.{Memory};
+
+    ghost from_gives = { λ _ fault. fault ≡ Memory };
+
+    fn from(_refused: AllocError) -> Self {
+        ReadFault::Memory
+    }
+}
+
+impl<T: Drop> From<AllocFailed<T>> for ReadFault {
+    ghost use Rattle.frame_codec.specs.declared.reader.ReadFault.TheVariants.{Memory};
+
+    ghost from_gives = { λ _ fault. fault ≡ Memory };
+
+    fn from(_refused: AllocFailed<T>) -> Self {
+        ReadFault::Memory
+    }
 }
 
 /// The bytes of an unfinished frame, or that the stream has failed: then it keeps none, and no room for any.
@@ -74,7 +94,9 @@ impl Reader {
     ///
     /// A fault comes with the piece that has the byte by which it is judged. The whole frames before
     /// it are added, what had come of the bad one is given up with its room, and every later feed
-    /// answers `Failed`. At `Memory` too the frames added are whole frames of the stream, in order.
+    /// answers `Failed`. At `Memory` too the frames added are whole frames of the stream, in order, and no
+    /// `TooLong` or `UnknownKind` stands after them: these are judged before memory is taken. Only a payload
+    /// can't be judged, where memory to put it together is refused.
     pub fn feed(&mut self, piece: &[u8], out: &mut Vec<Frame>) -> Result<(), ReadFault>
         ensures { (frames : List Frame) × (out.new.items ≡ out.old.items ++ frames) ×
             Feeds self.old piece.now result frames self.new }
@@ -124,9 +146,7 @@ fn start(
         Advances [] piece.now result frames pending.new.items }
 {
     let rest = scan(alloc, piece, out)?;
-    if pending.extend_from_slice(rest).is_err() {
-        return Err(ReadFault::Memory);
-    }
+    pending.extend_from_slice(rest)?;
     Ok(())
 }
 
@@ -153,38 +173,38 @@ fn finish<'a>(
     let Some((frame, _)) = frame_at(alloc, pending)? else {
         return Ok(None);
     };
-    if out.push(frame).is_err() {
-        return Err(ReadFault::Memory);
-    }
+    out.push(frame)?;
     // A long frame's room is given back.
     *pending = Vec::new(alloc);
     Ok(Some(rest))
 }
 
-/// Gives an unfinished frame what it lacks: its header, and then its payload. Answers the rest of the
-/// piece.
+/// Gives an unfinished frame what it lacks: its header and its payload. Answers the rest of the piece. The
+/// header is judged before memory is taken, so that a fault of it is never answered as `Memory`.
 fn fill<'a>(pending: &mut Vec<u8>, piece: &'a [u8]) -> Result<&'a [u8], ReadFault>
     requires { IsPartial pending.old.items }
-    ensures ok { IfOk result
-        (λ rest. Fills pending.old.items piece.now pending.new.items rest.now) }
+    ensures whole { IfOk result (λ rest. pending.new.items ++ rest.now
+        ≡ pending.old.items ++ piece.now) }
+    ensures alone { OnOk result ((f : Frame) (more : List ℕ) → IsFrame f →
+        pending.new.items ≡ encoding f ++ more → more ≡ []) }
+    ensures until { IfOk result (λ rest. IsPartial pending.new.items → rest.now ≡ []) }
     ensures err { IfErr result (λ fault. StopsAt fault (pending.old.items ++ piece.now)) }
 {
-    let beyond = top_up(pending, piece, HEADER_LEN)?;
-    let size = frame_len(pending)?;
-    top_up(pending, beyond, size)
+    let size = split_frame_len(pending, piece)?;
+    top_up(pending, piece, size)
 }
 
 /// Moves bytes from the beginning of a piece after the pending ones, until these are enough or the piece
 /// is used up.
 fn top_up<'a>(pending: &mut Vec<u8>, piece: &'a [u8], enough: usize) -> Result<&'a [u8], ReadFault>
-    ensures ok { IfOk result
-        (λ rest. TopsUp enough pending.old.items piece.now pending.new.items rest.now) }
+    ensures moved { OnOk result (pending.new.items
+        ≡ pending.old.items ++ take (enough - length pending.old.items) piece.now) }
+    ensures rest { IfOk result
+        (λ rest. rest.now ≡ drop (enough - length pending.old.items) piece.now) }
     ensures err { IfErr result (λ fault. fault ≡ ReadFault.Memory) }
 {
     let lacking = enough.saturating_sub(pending.len());
     let (moved, rest) = piece.split_at(lacking.min(piece.len()));
-    if pending.extend_from_slice(moved).is_err() {
-        return Err(ReadFault::Memory);
-    }
+    pending.extend_from_slice(moved)?;
     Ok(rest)
 }

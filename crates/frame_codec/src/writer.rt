@@ -1,13 +1,16 @@
 //! The encoding of a frame.
 
-ghost use Rattle.std.specs.Prelude.{◌≡◌, ◌≤◌, ◌<◌, ◌+◌, ◌*◌, ◌^◌, ◌∷◌, ◌++◌, All, length, vec_len, vec_capacity, IsOk, OnOk, OnErr};
+ghost use Rattle.std.specs.Prelude.{◌≡◌, ◌≤◌, ◌<◌, ◌+◌, ◌*◌, ◌^◌, [], ◌∷◌, ◌++◌, All, length, vec_len, vec_capacity, IsOk, OnOk, OnErr};
 ghost use Rattle.frame_codec.specs.Frames.{HasFields, IsFrame, encoding, payload_of, payload_size, kind_of, payload_limit};
 ghost use Rattle.frame_codec.specs.Numbers.{number_bytes, word_bytes};
-ghost use Rattle.frame_codec.specs.declared.frame.Frame.TheVariants.{Delta, Load};
+ghost use Rattle.frame_codec.specs.declared.frame.Frame.TheVariants.{Delta, HintPart, Load};
 
 use crate::frame::{Bytes, Frame, Rows, Words};
 use crate::numbers::{put, put_u16, put_u32, put_u64, put_words};
 use std::alloc::AllocError;
+
+// The kind of a part of a hint.
+const HINT_PART: u8 = 0x83;
 
 fn kind_number(frame: &Frame) -> u8
     ensures { result ≡ kind_of frame.now }
@@ -22,7 +25,7 @@ fn kind_number(frame: &Frame) -> u8
         Frame::Publish => 0x07,
         Frame::Bye => 0x08,
         Frame::Welcome { .. } => 0x82,
-        Frame::HintPart { .. } => 0x83,
+        Frame::HintPart { .. } => HINT_PART,
         Frame::Delta { .. } => 0x84,
         Frame::Answer { .. } => 0x85,
         Frame::Stale { .. } => 0x86,
@@ -114,16 +117,14 @@ fn put_reply(out: &mut Vec<u8>, frame: &Frame)
             part,
             words,
         } => {
-            put_scheme(out, *scheme, *version);
-            put_u32(out, *part);
-            put_words(out, words.as_slice());
+            put_hint_part(out, *scheme, *version, *part, words.as_slice());
         }
         Frame::Delta {
             since,
             now,
             count,
             rows,
-        } => put_delta(out, *since, *now, *count, rows),
+        } => put_delta_fields(out, *since, *now, *count, rows),
         Frame::Answer {
             scheme,
             version,
@@ -135,13 +136,13 @@ fn put_reply(out: &mut Vec<u8>, frame: &Frame)
         }
         Frame::Done { version } => put_u64(out, *version),
         Frame::Refused { code } => put(out, &[*code]),
-        _ => put_welcome(out, frame),
+        _ => put_welcome_fields(out, frame),
     }
 }
 
 /// The payload of a welcome. It is given no other frame.
 #[tactic(auto, using(crate::proofs::NumberBytes::lengths), unfolding(crate::specs::Frames::payload_of))]
-fn put_welcome(out: &mut Vec<u8>, frame: &Frame)
+fn put_welcome_fields(out: &mut Vec<u8>, frame: &Frame)
     requires welcome { kind_of frame.now ≡ 130 }
     requires room { vec_len out.old + payload_size frame.now ≤ vec_capacity out.old }
     ensures items { out.new.items ≡ out.old.items ++ payload_of frame.now }
@@ -186,7 +187,7 @@ fn put_load(out: &mut Vec<u8>, record_len: u16, groups: u16, width: u8, records:
 }
 
 #[tactic(auto, using(crate::proofs::NumberBytes::lengths), unfolding(crate::specs::Frames::payload_of))]
-fn put_delta(out: &mut Vec<u8>, since: u64, now: u64, count: u32, rows: &Rows)
+fn put_delta_fields(out: &mut Vec<u8>, since: u64, now: u64, count: u32, rows: &Rows)
     requires { vec_len out.old + (22 + 4 * length rows.now.words) ≤ vec_capacity out.old }
     ensures items { out.new.items ≡ out.old.items ++ payload_of (Delta since now count rows.now) }
     ensures fields { HasFields (Delta since now count rows.now) }
@@ -197,6 +198,20 @@ fn put_delta(out: &mut Vec<u8>, since: u64, now: u64, count: u32, rows: &Rows)
     put_u32(out, count);
     put_u16(out, rows.dimension());
     put_words(out, rows.as_slice());
+}
+
+/// The payload of a part of a hint.
+#[tactic(auto, using(crate::proofs::NumberBytes::lengths), unfolding(crate::specs::Frames::payload_of))]
+fn put_hint_part(out: &mut Vec<u8>, scheme: u8, version: u64, part: u32, words: &[u32])
+    requires { vec_len out.old + (13 + 4 * length words.now) ≤ vec_capacity out.old }
+    ensures items { out.new.items ≡ out.old.items ++ payload_of
+        (HintPart scheme version part words.now) }
+    ensures fields { HasFields (HintPart scheme version part words.now) }
+    ensures capacity { vec_capacity out.old ≤ vec_capacity out.new }
+{
+    put_scheme(out, scheme, version);
+    put_u32(out, part);
+    put_words(out, words);
 }
 
 fn put_scheme(out: &mut Vec<u8>, scheme: u8, version: u64)
@@ -221,6 +236,23 @@ fn put_scheme_words(out: &mut Vec<u8>, scheme: u8, version: u64, words: &Words)
     put_words(out, words.as_slice());
 }
 
+/// Adds the length and the kind of a frame, and gives `out` room for its payload. Nothing is added at an `Err`.
+fn put_head(out: &mut Vec<u8>, kind: u8, len: usize) -> Result<(), AllocError>
+    requires { len ≤ payload_limit }
+    ensures ok { OnOk result (out.new.items ≡
+        (out.old.items ++ number_bytes 4 len) ++ (kind ∷ [])) }
+    ensures space { OnOk result (vec_len out.new + len ≤ vec_capacity out.new) }
+    ensures err { OnErr result (out.new.items ≡ out.old.items) }
+    ensures capacity { vec_capacity out.old ≤ vec_capacity out.new }
+    ensures full { OnErr result (vec_capacity out.old < vec_len out.old + (5 + len)) }
+    ensures room { vec_len out.old + (5 + len) ≤ vec_capacity out.old → IsOk result }
+{
+    out.reserve(5 + len)?;
+    put_u32(out, len as u32);
+    put(out, &[kind]);
+    Ok(())
+}
+
 /// Adds the encoding of a frame to `out`.
 ///
 /// It fails only where `out` has less room than the encoding needs and more is refused; `out` is
@@ -238,9 +270,35 @@ pub fn write_frame(frame: &Frame, out: &mut Vec<u8>) -> Result<(), AllocError>
         IsOk result }
 {
     let len = frame.payload_len();
-    out.reserve(5 + len)?;
-    put_u32(out, len as u32);
-    put(out, &[kind_number(frame)]);
+    put_head(out, kind_number(frame), len)?;
     put_payload(out, frame);
+    Ok(())
+}
+
+/// Adds the encoding of a part of a hint, whose words are lent, so that no copy of them is made.
+///
+/// It fails only where `out` has less room than the encoding needs and more is refused; `out` is
+/// then as it was.
+#[tactic(auto, using(crate::proofs::Prefixes::encoded_length, crate::proofs::Payloads::payload_sized), unfolding(crate::specs::Frames::encoding))]
+pub fn write_hint_part(
+    scheme: u8,
+    version: u64,
+    part: u32,
+    words: &[u32],
+    out: &mut Vec<u8>,
+) -> Result<(), AllocError>
+    requires { 13 + 4 * length words.now ≤ payload_limit }
+    ensures ok { OnOk result (out.new.items ≡
+        out.old.items ++ encoding (HintPart scheme version part words.now)) }
+    ensures frame { OnOk result (IsFrame (HintPart scheme version part words.now)) }
+    ensures err { OnErr result (out.new.items ≡ out.old.items) }
+    ensures capacity { vec_capacity out.old ≤ vec_capacity out.new }
+    ensures full { OnErr result
+        (vec_capacity out.old < vec_len out.old + (18 + 4 * length words.now)) }
+    ensures room { vec_len out.old + (18 + 4 * length words.now) ≤ vec_capacity out.old →
+        IsOk result }
+{
+    put_head(out, HINT_PART, 13 + 4 * words.len())?;
+    put_hint_part(out, scheme, version, part, words);
     Ok(())
 }

@@ -5,9 +5,9 @@ use connection_io::{
     Connection, PIECE_LEN, Pair, ReadFailed, WriteFailed, piece_buffer, read_piece, receive, send,
     write_out,
 };
-use memory_io::{FailsOnce, Input, Output};
 use std::alloc::Global;
 use std::test::Fail;
+use test_support::{FailsOnce, Input, Output};
 
 /// A writer that takes `room` bytes, `most` a call.
 fn make_output(alloc: Global, most: usize, room: usize, fails: bool) -> Output {

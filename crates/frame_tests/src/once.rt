@@ -1,5 +1,4 @@
 use matrix_u32::Plain;
-use memory_io::{FailsOnce, Input, Output};
 use once_session::{OnceFault, once, once_with};
 use std::alloc::{AllocError, Global};
 use std::cell::Cell;
@@ -7,6 +6,7 @@ use std::io;
 use std::io::{Read, Write};
 use std::process::Abort;
 use std::test::Fail;
+use test_support::{FailsOnce, Input, Output};
 
 mod large;
 

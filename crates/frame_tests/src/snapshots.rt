@@ -1,13 +1,13 @@
 //! The snapshot of two records of one byte, written, read and damaged; readers and writers over memory that
 //! take their time or fail.
 
-use memory_io::{Input, Output};
 use snapshot_file::{
     Header, Snapshot, SnapshotFault, WriteFault, read_snapshot, write_snapshot_bytes,
 };
 use std::alloc::Global;
 use std::process::Abort;
 use std::test::Fail;
+use test_support::{Input, Output, RECORDS, TWO_RECORDS};
 
 /// Records 0a and c8 of one byte each, digits of eight bits, one record to a column, secrets of one word,
 /// version 1, a seed of zeros, and a publisher whose key is 32 bytes 01. Made with Python's hashlib.
@@ -22,14 +22,6 @@ const STORE: [u8; 125] = [
     0x5c, 0x90, 0xe0, 0xae, 0xcf, 0x91, 0xa3, 0xf1, 0x46, 0xac, 0x72, 0xd2, 0xcd,
 ];
 
-/// The SHA-256 digest of 32 bytes 01.
-const PUBLISHER: [u8; 32] = [
-    0x72, 0xcd, 0x6e, 0x84, 0x22, 0xc4, 0x07, 0xfb, 0x6d, 0x09, 0x86, 0x90, 0xf1, 0x13, 0x0b, 0x7d,
-    0xed, 0x7e, 0xc2, 0xf7, 0xf5, 0xe1, 0xd3, 0x0b, 0xd9, 0xd5, 0x21, 0xf0, 0x15, 0x36, 0x37, 0x93,
-];
-
-const RECORDS: [u8; 2] = [0x0a, 0xc8];
-
 /// The digest of the store's header with count 0. This one and the next were made with Python's hashlib.
 const EMPTY_DIGEST: [u8; 32] = [
     0x29, 0xcb, 0x5e, 0xea, 0xab, 0x69, 0x00, 0x6d, 0xb2, 0x09, 0x94, 0x55, 0xca, 0xc5, 0x42, 0x87,
@@ -41,19 +33,6 @@ const LONG_DIGEST: [u8; 32] = [
     0x32, 0x22, 0x7c, 0xb0, 0x1e, 0x82, 0x1b, 0xc3, 0xc9, 0xa9, 0x22, 0x39, 0xec, 0xcf, 0x0b, 0x33,
     0xb0, 0xdf, 0x50, 0x8e, 0x87, 0xc7, 0xc8, 0xd1, 0xb0, 0x82, 0xcf, 0x92, 0x17, 0x84, 0xfe, 0xd0,
 ];
-
-fn store_header() -> Header {
-    Header {
-        width: 8,
-        record_len: 1,
-        groups: 1,
-        count: 2,
-        dimension: 1,
-        version: 1,
-        seed: [0; 32],
-        publisher: PUBLISHER,
-    }
-}
 
 // Without room every write fails.
 fn make_output(alloc: Global, most: usize, room: usize) -> Output {
@@ -117,7 +96,7 @@ fn with_flip(alloc: Global, at: usize) -> Result<Vec<u8>, Fail> {
 fn the_bytes_of_a_store(rt: HostRuntime) -> Result<(), Fail> {
     for most in [1, 7, usize::MAX] {
         let mut writer = make_output(rt.alloc(), most, usize::MAX);
-        let written = write_snapshot_bytes(rt.alloc(), &store_header(), &RECORDS, &mut writer);
+        let written = write_snapshot_bytes(rt.alloc(), &TWO_RECORDS, &RECORDS, &mut writer);
         assert_eq!(rt; written, Ok(()), "{most}");
         assert_eq!(rt; writer.bytes.as_slice(), STORE.as_slice(), "{most}");
     }
@@ -133,7 +112,7 @@ fn a_store_is_read_back(rt: HostRuntime) -> Result<(), Fail> {
             fails: false,
         };
         let snapshot = read_snapshot(rt.alloc(), &mut reader)?;
-        assert_eq!(rt; snapshot.header(), store_header(), "{most}");
+        assert_eq!(rt; snapshot.header(), TWO_RECORDS, "{most}");
         assert_eq!(rt; snapshot.records.as_slice(), RECORDS.as_slice(), "{most}");
     }
     Ok(())
@@ -144,7 +123,7 @@ fn a_slice_and_a_vector_will_do(rt: HostRuntime) -> Result<(), Fail> {
     let header = Header {
         version: u64::MAX,
         count: 3,
-        ..store_header()
+        ..TWO_RECORDS
     };
     let mut bytes = Vec::new(rt.alloc());
     let written = write_snapshot_bytes(rt.alloc(), &header, &[1, 2, 3], &mut bytes);
@@ -164,7 +143,7 @@ fn records_longer_than_a_piece(rt: HostRuntime) -> Result<(), Fail> {
         groups: 16,
         count: 300,
         dimension: 1024,
-        ..store_header()
+        ..TWO_RECORDS
     };
     let mut records = Vec::new(rt.alloc());
     for i in 0..76800u32 {
@@ -295,12 +274,12 @@ fn a_reader_that_fails_at_each_byte(rt: HostRuntime) -> Result<(), Fail> {
 fn a_writer_that_fails_at_each_byte(rt: HostRuntime) -> Result<(), Fail> {
     for room in 0..125 {
         let mut writer = make_output(rt.alloc(), usize::MAX, room);
-        let written = write_snapshot_bytes(rt.alloc(), &store_header(), &RECORDS, &mut writer);
+        let written = write_snapshot_bytes(rt.alloc(), &TWO_RECORDS, &RECORDS, &mut writer);
         assert_eq!(rt; written, Err(WriteFault::Write), "{room}");
         assert_eq!(rt; Some(writer.bytes.as_slice()), STORE.get(..room), "{room}");
     }
     let mut lazy = make_output(rt.alloc(), 0, usize::MAX);
-    let written = write_snapshot_bytes(rt.alloc(), &store_header(), &RECORDS, &mut lazy);
+    let written = write_snapshot_bytes(rt.alloc(), &TWO_RECORDS, &RECORDS, &mut lazy);
     assert_eq!(rt; written, Err(WriteFault::Write));
     assert_eq!(rt; lazy.bytes.len(), 0);
     Ok(())
@@ -308,7 +287,7 @@ fn a_writer_that_fails_at_each_byte(rt: HostRuntime) -> Result<(), Fail> {
 
 #[test]
 fn a_header_and_its_records(rt: HostRuntime) -> Result<(), Fail> {
-    let header = store_header();
+    let header = TWO_RECORDS;
     assert!(rt; header.is_accepted());
     assert_eq!(rt; header.records_len(), 2);
     let refused = Header {
@@ -326,7 +305,7 @@ fn a_header_and_its_records(rt: HostRuntime) -> Result<(), Fail> {
 fn no_records_at_all(rt: HostRuntime) -> Result<(), Fail> {
     let header = Header {
         count: 0,
-        ..store_header()
+        ..TWO_RECORDS
     };
     let mut writer = make_output(rt.alloc(), usize::MAX, usize::MAX);
     let written = write_snapshot_bytes(rt.alloc(), &header, &[], &mut writer);

@@ -136,14 +136,14 @@ pub fn update_double_rows<K: Kernel, S: DigitStore>(
 {
     let _rows = client_hint.rows();
     for r in 0..server_hint.rows() {
-        replace_digits(server_hint, hint, w, r, start, factors);
+        replace_column(server_hint, hint, w, r, start, factors);
         add_changes(kernel, client_hint.row_mut(r), factors, a2, start);
     }
 }
 
 // Writes into row r of the server's hint the digits of the hint's rows from `start` on, one row for each
 // factor, and makes each factor the change of its digit.
-fn replace_digits<S: DigitStore>(
+fn replace_column<S: DigitStore>(
     server_hint: &mut S,
     hint: &Matrix,
     w: u32,

@@ -14,9 +14,9 @@ mod work;
 
 use std::env;
 use std::process::ExitCode;
-use work::Sizes;
+use work::BenchSizes;
 
-const SMALL: Sizes = Sizes {
+const SMALL: BenchSizes = BenchSizes {
     side: 50,
     secret: 19,
     groups: 1,
@@ -24,7 +24,7 @@ const SMALL: Sizes = Sizes {
     nanos: Some(10_042),
 };
 
-const FULL: Sizes = Sizes {
+const FULL: BenchSizes = BenchSizes {
     side: 4096,
     secret: 1024,
     groups: 64,

@@ -2,7 +2,7 @@
 
 use crate::figure::Figure;
 use crate::timing::{nanos_since, now};
-use crate::work::Sizes;
+use crate::work::BenchSizes;
 use lane_kernels::Lanes;
 use std::alloc::Global;
 use version_store::{Header, Scheme, Store};
@@ -17,7 +17,7 @@ const EDITED: usize = 17;
 
 /// Opens a store of `side` columns, publishes one record in each turn, of which each digit changes, and prints how long
 /// it took for each row of digits. None where memory or the clock is refused.
-pub fn time_publication(rt: &HostRuntime, sizes: Sizes) -> Option<()> {
+pub fn time_publication(rt: &HostRuntime, sizes: BenchSizes) -> Option<()> {
     let mut store = opened(rt.alloc(), header_of(sizes))?;
     let took = publications(rt, sizes.turns, &mut store)?;
     let made = store.hint_words(Scheme::Simple, 0).unwrap_or(&[]);
@@ -40,7 +40,7 @@ fn publications(rt: &HostRuntime, turns: u32, store: &mut Store<Lanes>) -> Optio
 
 /// Opens a store with a row of digits for each of `side` records of one byte, publishes a quarter of them in each turn,
 /// which stand one after another, and prints how long it took. None where memory or the clock is refused.
-pub fn time_neighbours(rt: &HostRuntime, sizes: Sizes) -> Option<()> {
+pub fn time_neighbours(rt: &HostRuntime, sizes: BenchSizes) -> Option<()> {
     let header = Header {
         width: 8,
         record_len: 1,
@@ -55,7 +55,7 @@ pub fn time_neighbours(rt: &HostRuntime, sizes: Sizes) -> Option<()> {
 }
 
 // The time of the quickest publication.
-fn neighbours(rt: &HostRuntime, sizes: Sizes, store: &mut Store<Lanes>) -> Option<u64> {
+fn neighbours(rt: &HostRuntime, sizes: BenchSizes, store: &mut Store<Lanes>) -> Option<u64> {
     let mut least = u64::MAX;
     for turn in 0..sizes.turns {
         let byte = if turn % 2 == 0 { 0xaa } else { 0x55 };
@@ -70,7 +70,7 @@ fn neighbours(rt: &HostRuntime, sizes: Sizes, store: &mut Store<Lanes>) -> Optio
 }
 
 // Records of 80 bytes in `side` columns.
-fn header_of(sizes: Sizes) -> Header {
+fn header_of(sizes: BenchSizes) -> Header {
     Header {
         width: 10,
         record_len: RECORD_LEN,

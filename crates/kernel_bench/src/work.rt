@@ -11,7 +11,7 @@ use std::alloc::Global;
 
 /// How large the matrices are, and how often the short pieces are done.
 #[derive(Clone, Copy)]
-pub struct Sizes {
+pub struct BenchSizes {
     /// The rows of the digit matrix, its columns, and the rows of the public matrix.
     pub side: u16,
     /// The columns of the public matrix.
@@ -27,7 +27,7 @@ pub struct Sizes {
 const DIGIT: u32 = 1023;
 
 /// Does every piece of work, and prints how long each took. None where memory or the clock is refused.
-pub fn time_kernels(rt: &HostRuntime, sizes: Sizes) -> Option<()> {
+pub fn time_kernels(rt: &HostRuntime, sizes: BenchSizes) -> Option<()> {
     let side = usize::from(sizes.side);
     let digits = filled(rt.alloc(), side, side, 1, DIGIT)?;
     let public = filled(rt.alloc(), side, usize::from(sizes.secret), 2, u32::MAX)?;
@@ -38,7 +38,7 @@ pub fn time_kernels(rt: &HostRuntime, sizes: Sizes) -> Option<()> {
 }
 
 // What is done with the digits alone.
-fn time_digits(rt: &HostRuntime, sizes: Sizes, digits: &Matrix) -> Option<()> {
+fn time_digits(rt: &HostRuntime, sizes: BenchSizes, digits: &Matrix) -> Option<()> {
     flat_product(rt, sizes.turns, digits)?.print(rt, sizes.nanos)?;
     long_dot(rt, sizes.turns, digits)?.print(rt, sizes.nanos)?;
     scaled_rows(rt, sizes.turns, digits)?.print(rt, sizes.nanos)
@@ -69,7 +69,7 @@ fn scaled_rows(rt: &HostRuntime, turns: u32, digits: &Matrix) -> Option<Figure> 
 }
 
 // What is done with digits as a store keeps them.
-fn time_packed(rt: &HostRuntime, sizes: Sizes, digits: &Matrix, public: &Matrix) -> Option<()>
+fn time_packed(rt: &HostRuntime, sizes: BenchSizes, digits: &Matrix, public: &Matrix) -> Option<()>
     requires { digits.now.cols ≡ public.now.rows }
 {
     let store = stored(rt.alloc(), digits)?;
@@ -164,7 +164,7 @@ fn hint(rt: &HostRuntime, digits: &Matrix, public: &Matrix) -> Option<Figure>
 }
 
 // What is done with a hint, which is `across` read across.
-fn time_hints(rt: &HostRuntime, sizes: Sizes, public: &Matrix) -> Option<()> {
+fn time_hints(rt: &HostRuntime, sizes: BenchSizes, public: &Matrix) -> Option<()> {
     let across = filled(rt.alloc(), public.cols(), public.rows(), 6, u32::MAX)?;
     both_hints(rt, &across, public)?.print(rt, sizes.nanos)?;
     let height = public.cols().checked_mul(4)?;

@@ -1,4 +1,5 @@
 pub mod LaneSums
 pub mod RowSums
+pub mod BlockSums
 pub mod PackedSums
 pub mod SplitDigits

@@ -7,16 +7,17 @@ use Rattle.std.proofs.lemmas.Bool.{cases_lt}
 use Rattle.std.proofs.lemmas.List.{get_or-take, get_or-drop, get_or_past}
 use Rattle.std.proofs.lemmas.List.Elements.{All-get_or}
 use Rattle.std.proofs.lemmas.List.FromFn.{fill_by_all, length-range_with_len, length-map-range_with_len, get_or-map-range_with_len}
-use Rattle.std.proofs.lemmas.Nat.{row_fits, mul-mod_second}
+use Rattle.std.proofs.lemmas.Nat.{row_fits}
 use Rattle.std.proofs.lemmas.Simd.{zip2_of_maps, splat_is_map}
 use Rattle.std.proofs.Math.Nat.{mul-add, add-mul, mul_assoc, mul_left_comm}
 use Rattle.matrix_u32.specs.Sum.{sum_below, dot}
 use Rattle.matrix_u32.specs.Matrix.{row}
 use Rattle.matrix_u32.proofs.Sums.{sum_below_none, sum_below-prefix, sum_same, sum_zero, sum_below-add, sum_congruent}
-use Rattle.matrix_u32.proofs.Products.{dot-list_of, row-matrix_of}
+use Rattle.matrix_u32.proofs.Remainders.{times_same}
+use Rattle.matrix_u32.proofs.Products.{at-list_of, length-list_of, dot-list_of, row-matrix_of}
 use Rattle.lane_kernels.specs.Digit.{digit}
 use Rattle.lane_kernels.specs.Packed.{packed_cols, unpacked}
-use Rattle.lane_kernels.specs.Carried.{shifted_products, shifted_sum, thirds, IsCarried, digit_products, products_at}
+use Rattle.lane_kernels.specs.Carried.{shifted_products, shifted_sum, thirds, digit_products, products_at, plus_part}
 use Rattle.lane_kernels.proofs.LaneSums.{chunk_at, chunk_is_map, lanes_total}
 
 -- the sum of the lanes, by index
@@ -118,9 +119,6 @@ shifted_end n k i s ws xs ys zs wt xt yt zt rest all le dw dx dy dz is so_far =
     let h = rw all at so_far in
     omega (arith, e, g, parts, w, h)
 
-times_same : (k a b : ℕ) → a % 2 ^ 32 ≡ b % 2 ^ 32 → (k * a) % 2 ^ 32 ≡ (k * b) % 2 ^ 32
-times_same k a b e = sym (mul-mod_second k a (2 ^ 32)) ∙ ap (λ v. (k * v) % 2 ^ 32) e ∙ mul-mod_second k b (2 ^ 32)
-
 split_left : (n d u x : ℕ) → n ≡ d + 1024 * u → n * x ≡ d * x + 1024 * (u * x)
 split_left n d u x e = ap (λ k. k * x) e ∙ add-mul d (1024 * u) x ∙ ap (λ k. d * x + k) (mul_assoc 1024 u x)
 
@@ -145,6 +143,11 @@ shifted_word w x y z b c eb ec =
     let high = times_same v (c + 1024 * y) z ec in
     omega (arith, first, second, third, fourth, low, high)
 
+-- each third word of x from the next place on, less 2 ^ 10 times the word before it, modulo 2 ^ 32
+abbrev IsCarried : List ℕ → ℕ → ℕ → List ℕ → Type 0
+IsCarried x first n carried =
+    (t : ℕ) → t < n → (slice_index carried t + 1024 * slice_index x (first + 3 * t)) % 2 ^ 32 ≡ slice_index x (first + 3 * t + 1) % 2 ^ 32
+
 -- the words of one part of a row
 pub part_sum : (packed x : List ℕ) (row start count : ℕ) (ws xs ys zs : List ℕ) → length ws ≡ count → count ≤ 1376
     → ws ≡ slice_range packed (row + start) (row + start + count)
@@ -168,13 +171,22 @@ part_sum packed x row start count ws xs ys zs long most w is ys-is zs-is =
     (shifted_word (slice_index packed (row + (start + t))) (slice_index x at) (slice_index x (at + 1)) (slice_index x (at + 2)) (slice_index ys t)
     (slice_index zs t) e1 e2)))
 
--- one more part of a row
-pub parts_more : (packed x : List ℕ) (row start count old new : ℕ) → old ≡ sum_below start (λ t. products_at packed x row t) % 2 ^ 32
-    → new ≡ sum_below count (λ t. products_at packed x row (start + t)) % 2 ^ 32
-    → (old + new) % 2 ^ 32 ≡ sum_below (start + count) (λ t. products_at packed x row t) % 2 ^ 32
-parts_more packed x row start count old new was is =
-    let more = sum_below-add start count (λ t. products_at packed x row t) in
-    omega (arith, was, is, more)
+-- each word of out is the sum of the products of its row of packed words, up to so many of them
+abbrev pub RowsSoFar : List ℕ → List ℕ → ℕ → ℕ → List ℕ → Type 0
+RowsSoFar packed x words more out =
+    (q : ℕ) → q < length out → slice_index out q ≡ sum_below more (λ t. products_at packed x (q * words) t) % 2 ^ 32
+
+-- one more part of each row
+pub parts_more : (packed x out new : List ℕ) (words start count : ℕ) → new ≡ plus_part out packed x words start count
+    → RowsSoFar packed x words start out → RowsSoFar packed x words (start + count) new
+parts_more packed x out new words start count is so_far q h =
+    let long : length new ≡ length out = ap length is ∙ length-list_of (length out) _ in
+    let here : q < length out = omega arith in
+    let now = ap (λ xs. slice_index xs q) is
+    ∙ at-list_of (length out) (λ q. (slice_index out q + sum_below count (λ t. products_at packed x (q * words) (start + t))) % 2 ^ 32) q here in
+    let was = so_far q here in
+    let more = sum_below-add start count (λ t. products_at packed x (q * words) t) in
+    now ∙ omega (arith, was, more)
 
 -- part of a row lies within the rows
 pub piece_fits : (row rows words start count total : ℕ) → row < rows → start + count ≤ words → total ≡ rows * words → row * words + start + count ≤ total

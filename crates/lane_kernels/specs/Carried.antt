@@ -1,5 +1,5 @@
 -- Products with packed digits that need no masks, as the functions of this crate make them.
-use Rattle.std.specs.Prelude.{ℕ, ◌≡◌, ◌+◌, ◌*◌, ◌/◌, ◌%◌, ◌^◌, ◌<◌, List, length, slice_index}
+use Rattle.std.specs.Prelude.{ℕ, ◌+◌, ◌*◌, ◌/◌, ◌%◌, ◌^◌, List, length, slice_index}
 use Rattle.matrix_u32.specs.Sum.{sum_below, list_of}
 
 -- a word, the word without its first digit and the word without its first two, times a word each
@@ -15,11 +15,6 @@ shifted_sum words a b c =
 abbrev pub thirds : List ℕ → ℕ → ℕ → List ℕ
 thirds x first n = list_of n (λ t. slice_index x (first + 3 * t))
 
--- each third word of x from the next place on, less 2 ^ 10 times the word before it, modulo 2 ^ 32
-abbrev pub IsCarried : List ℕ → ℕ → ℕ → List ℕ → Type 0
-IsCarried x first n carried =
-    (t : ℕ) → t < n → (slice_index carried t + 1024 * slice_index x (first + 3 * t)) % 2 ^ 32 ≡ slice_index x (first + 3 * t + 1) % 2 ^ 32
-
 -- the three products of the digits of a word whose bits from 30 on are 0
 abbrev pub digit_products : ℕ → ℕ → ℕ → ℕ → ℕ
 digit_products w a b c = w % 1024 * a + w / 2 ^ 10 % 1024 * b + w / 2 ^ 20 * c
@@ -29,7 +24,7 @@ abbrev pub products_at : List ℕ → List ℕ → ℕ → ℕ → ℕ
 products_at words x at t =
     digit_products (slice_index words (at + t)) (slice_index x (3 * t)) (slice_index x (3 * t + 1)) (slice_index x (3 * t + 2))
 
--- each word of out is the sum of the products of its row of packed words, up to so many of them
-abbrev pub RowsSoFar : List ℕ → List ℕ → ℕ → ℕ → List ℕ → Type 0
-RowsSoFar packed x words more out =
-    (q : ℕ) → q < length out → slice_index out q ≡ sum_below more (λ t. products_at packed x (q * words) t) % 2 ^ 32
+-- a list to which the products of `count` words of its rows of packed words, from word `start` on, were added
+abbrev pub plus_part : List ℕ → List ℕ → List ℕ → ℕ → ℕ → ℕ → List ℕ
+plus_part out packed x words start count =
+    list_of (length out) (λ q. (slice_index out q + sum_below count (λ t. products_at packed x (q * words) (start + t))) % 2 ^ 32)

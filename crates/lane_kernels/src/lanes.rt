@@ -2,9 +2,9 @@
 
 ghost use Rattle.std.specs.Prelude.{◌≡◌, ℕ, ◌<◌, ◌≤◌, ◌+◌, ◌*◌, ◌%◌, ◌^◌, ◌∷◌, [], length, slice_index};
 ghost use Rattle.matrix_u32.specs.Sum.{dot};
-ghost use Rattle.matrix_u32.specs.Matrix.{row, product, times_vector, plus_scaled, zero_matrix};
-ghost use Rattle.matrix_u32.specs.Blocks.{plus_rows, SoFar};
-ghost use Rattle.lane_kernels.specs.Rows.{plus_four};
+ghost use Rattle.matrix_u32.specs.Matrix.{IsWhole, row, product, times_vector, plus_scaled, zero_matrix};
+ghost use Rattle.matrix_u32.specs.Blocks.{plus_rows};
+ghost use Rattle.lane_kernels.specs.Rows.{plus_four, plus_products};
 
 use matrix_u32::{Kernel, Matrix, Plain};
 use std::simd::prelude::*;
@@ -295,8 +295,10 @@ fn add_block(a: &Matrix, b: &Matrix, start: usize, count: usize, out: &mut Matri
     requires fits { a.now.cols ≡ b.now.rows }
     requires inside { start + count ≤ a.now.cols }
     requires room { a.now.cols < 2 ^ 64 }
-    requires so_far { SoFar a.now b.now out.old start start 0 }
-    ensures { SoFar a.now b.now out.new (start + count) (start + count) 0 }
+    requires rows { out.old.rows ≡ a.now.rows }
+    requires cols { out.old.cols ≡ b.now.cols }
+    requires whole { IsWhole out.old }
+    ensures { out.new ≡ plus_products out.old a.now b.now start count }
 {
     for i in 0..a.rows() {
         let factors = &a.row(i)[start..start + count];

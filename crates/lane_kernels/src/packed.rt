@@ -8,7 +8,7 @@
 ghost use Rattle.std.specs.Prelude.{◌≡◌, ℕ, ◌∷◌, [], ◌<◌, ◌≤◌, ◌+◌, ◌*◌, ◌%◌, ◌^◌, length, slice_index, slice_range, All};
 ghost use Rattle.matrix_u32.specs.Matrix.{times_vector};
 ghost use Rattle.lane_kernels.specs.Packed.{packed_cols, unpacked};
-ghost use Rattle.lane_kernels.specs.Carried.{shifted_sum, thirds, IsCarried, RowsSoFar};
+ghost use Rattle.lane_kernels.specs.Carried.{shifted_sum, thirds, plus_part};
 
 use std::simd::prelude::*;
 
@@ -43,9 +43,7 @@ fn add_part(packed: &[u32], words: usize, start: usize, count: usize, x: &[u32],
     requires inside { start + count ≤ words }
     requires most { count ≤ 1376 }
     requires room { 3 * start + 1 < 2 ^ 63 }
-    requires so_far { RowsSoFar packed.now x.now words start out.old }
-    ensures count { length out.new ≡ length out.old }
-    ensures so_far { RowsSoFar packed.now x.now words (start + count) out.new }
+    ensures { out.new ≡ plus_part out.old packed.now x.now words start count }
 {
     let fours = out.len() / 4;
     let a_part = part(x, 3 * start);
@@ -121,7 +119,9 @@ fn part(x: &[u32], first: usize) -> [u32; PART]
 fn carried(x: &[u32], first: usize) -> [u32; PART]
     requires { first < 2 ^ 63 }
     ensures long { length result ≡ 1376 }
-    ensures words { IsCarried x.now first 1376 result }
+    ensures words { (t : ℕ) → t < 1376 →
+        (slice_index result t + 1024 * slice_index x.now (first + 3 * t)) % 2 ^ 32
+        ≡ slice_index x.now (first + 3 * t + 1) % 2 ^ 32 }
 {
     let mut out = [0u32; PART];
     for t in 0..PART {

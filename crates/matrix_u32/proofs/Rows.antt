@@ -1,4 +1,4 @@
--- Rows that are written in place, and products that are summed by blocks of inner places.
+-- Rows that are written in place, and multiples of rows that are added to a row.
 use Rattle.std.proofs.Common.{take, drop, ◌-◌, ◌≤◌, ◌≡◌, ◌≢◌, ℕ, ◌+◌, ◌*◌, ◌%◌, ◌^◌, ◌<◌, ◌==◌, if◌then◌else◌, ◌++◌, inl, inr, arith, ap, ◌∙◌, sym, refl, List, length, slice_index, replicate}
 use Rattle.std.proofs.lemmas.Nat.{row_fits}
 use Rattle.std.proofs.lemmas.Bool.{cases_eq, cases_lt}
@@ -11,7 +11,7 @@ use Rattle.std.specs.Simd.Lanes.{put_chunk}
 use Rattle.std.specs.List.{range_with_len}
 use Rattle.matrix_u32.specs.Sum.{sum_below, dot}
 use Rattle.matrix_u32.specs.Matrix.{WordMatrix, IsWhole, entry, matrix_of, row, column, product, plus_scaled, zero_matrix, with_row, overwritten, written_row}
-use Rattle.matrix_u32.specs.Blocks.{plus_rows, SoFar}
+use Rattle.matrix_u32.specs.Blocks.{plus_rows}
 use Rattle.matrix_u32.proofs.Sums.{sum_below_more, sum_below_none, sum_below-add, sum_same}
 use Rattle.matrix_u32.proofs.Products.{at-list_of, length-list_of, entry-matrix_of, words_are, entry-product_sum}
 use Rattle.matrix_u32.proofs.Changes.{matrix_by_entries}
@@ -112,63 +112,6 @@ plus_rows-more out n f b start wide =
     let more = sum_below_more n (λ k. f k * entry b (start + k) q) in
     now ∙ rw word (omega (arith, was, more)))
 
--- one more row of a block
-pub block_row : (a b m : WordMatrix) (start count i : ℕ) (f : ℕ → ℕ) (words : List ℕ) → i < a.rows → ((k : ℕ) → k < count → f k ≡ entry a i (start + k))
-    → words ≡ plus_rows (row m i) count f b start
-    → SoFar a b m start (start + count) i → SoFar a b (written_row m i words) start (start + count) (i + 1)
-block_row a b m start count i f words below factors is so_far =
-    let inside : i < m.rows = omega (arith, so_far.rows) in
-    let same : m.cols ≡ b.cols = so_far.cols in
-    let long : length words ≡ m.cols = ap length is ∙ plus_rows-length (row m i) count f b start ∙ length-row m i in
-    let word : (q : ℕ) → q < b.cols → entry (written_row m i words) i q ≡ sum_below (start + count) (λ k. entry a i k * entry b k q) % 2 ^ 32 =
-    λ q h.
-    let here : q < m.cols = omega arith in
-    let new = written_row-same m i words so_far.whole inside long q here in
-    let sum = ap (λ xs. slice_index xs q) is ∙ plus_rows-index (row m i) count f b start q (omega (arith, length-row m i)) in
-    let old = row_index m i q here ∙ so_far.rest i q (omega arith) below h in
-    let more = sum_below-add start count (λ k. entry a i k * entry b k q) in
-    let each = sum_same count (λ k. f k * entry b (start + k) q) (λ k. entry a i (start + k) * entry b (start + k) q)
-    (λ k p. ap (λ n. n * entry b (start + k) q) (factors k p)) in
-    new ∙ sum ∙ omega (arith, old, more, each) in
-    record {
-      rows = so_far.rows;
-      cols = same;
-      whole = length-written_row m i words so_far.whole inside long;
-      done = λ p q hp hq. elim (cases_lt p i) [
-        | inl lt ↦ written_row-other m i words so_far.whole inside long p q (omega arith) (omega arith) ∙ so_far.done p q lt hq
-        | inr le ↦ let e : p ≡ i = omega arith in rw e (word q hq)
-      ];
-      rest = λ p q le hp hq. written_row-other m i words so_far.whole inside long p q (omega arith) (omega arith) ∙ so_far.rest p q (omega arith) hp hq;
-    }
-
--- all rows of a block
-pub block_end : (a b m : WordMatrix) (start more i : ℕ) → a.rows ≤ i → SoFar a b m start more i → SoFar a b m more more 0
-block_end a b m start more i all so_far = record {
-  rows = so_far.rows;
-  cols = so_far.cols;
-  whole = so_far.whole;
-  done = λ p q hp hq. absurd (omega arith);
-  rest = λ p q le hp hq. so_far.done p q (omega arith) hq;
-}
-
--- the next block, before its first row
-pub block_begin : (a b m : WordMatrix) (start more : ℕ) → SoFar a b m start start 0 → SoFar a b m start more 0
-block_begin a b m start more so_far = record {
-  rows = so_far.rows;
-  cols = so_far.cols;
-  whole = so_far.whole;
-  done = λ p q hp hq. absurd (omega arith);
-  rest = so_far.rest;
-}
-
--- all blocks
-pub blocks_end : (a b m : WordMatrix) (start : ℕ) → start ≡ a.cols → a.cols ≡ b.rows → SoFar a b m start start 0 → m ≡ product a b
-blocks_end a b m start all fits so_far =
-    matrix_by_entries m a.rows b.cols (λ i j. dot (row a i) (column b j)) so_far.rows so_far.cols so_far.whole (λ p q hp hq.
-    rw all at (so_far.rest p q (omega arith) hp hq)
-    ∙ sym (entry-product_sum a b p q hp hq fits)
-    ∙ entry-matrix_of a.rows b.cols (λ i j. dot (row a i) (column b j)) p q hp hq)
-
 -- a matrix of which each word is 0
 pub zero_matrix_is : (m : WordMatrix) (rows cols : ℕ) → m.rows ≡ rows → m.cols ≡ cols → IsWhole m
     → ((p q : ℕ) → p < rows → q < cols → entry m p q ≡ 0) → m ≡ zero_matrix rows cols
@@ -181,13 +124,3 @@ pub entry-zero_matrix : (rows cols p q : ℕ) → p < rows → q < cols → entr
 entry-zero_matrix rows cols p q hp hq =
     let fits : p * cols + cols ≤ rows * cols = row_fits p cols rows cols hp (omega arith) in
     get_or-replicate (rows * cols) (p * cols + q) 0 0 (omega (arith, fits))
-
--- nothing is summed yet
-pub zero_so_far : (a b : WordMatrix) → SoFar a b (zero_matrix a.rows b.cols) 0 0 0
-zero_so_far a b = record {
-  rows = refl;
-  cols = refl;
-  whole = length-replicate (a.rows * b.cols) 0;
-  done = λ p q hp hq. absurd (omega arith);
-  rest = λ p q le hp hq. rw sum_below_none (entry-zero_matrix a.rows b.cols p q hp hq);
-}

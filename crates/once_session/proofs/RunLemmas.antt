@@ -9,12 +9,13 @@ use Rattle.frame_codec.specs.Frames.{encoding}
 use Rattle.frame_codec.specs.Streams.{Begins}
 use Rattle.frame_codec.proofs.Runs.{begins_both, begins_none, begins_ahead}
 use Rattle.frame_codec.proofs.Prefixes.{nothing_partial}
+use Rattle.frame_codec.proofs.Pieces.{partial_stops}
 use Rattle.once_session.specs.declared.engine.OnceFault.{OnceFault}
 use Rattle.once_session.specs.declared.engine.OnceFault.TheVariants as fault
 use Rattle.once_session.specs.declared.stage.Stage.{Stage}
 use Rattle.once_session.specs.declared.stage.Stage.TheVariants as stage
 use Rattle.once_session.specs.Courses.{replies_to, stage_after, encodings}
-use Rattle.once_session.specs.Outputs.{IsPrefixOf, goes_on, rest_reply, is_well, is_done, output_of, EndsWork, WaitsForMore, Breaks, Turns, IsOutput, IsOnceReply, IsStreamCut, IsServeFault, ServesOneStream, Finishes}
+use Rattle.once_session.specs.Outputs.{IsPrefixOf, goes_on, rest_reply, is_well, is_done, output_of, EndsWork, WaitsForMore, Breaks, Turns, IsOutput, IsOnceReply, IsStreamCut, LacksMemoryAfter, IsServeFault, ServesOneStream, Finishes}
 use Rattle.once_session.proofs.CourseLemmas.{stage_after-append, output-append, prefix_after, prefix_taken}
 
 -- nothing was read yet
@@ -113,6 +114,22 @@ breaks_on read out piece more st codec left w t =
       ];
     }
 
+-- memory was refused to it
+pub lacks_on : (read out piece more : List ℕ) (st : Stage) (codec : Option (List ℕ)) (w : WaitsForMore stage.Fresh read st codec out) →
+    LacksMemoryAfter st (w.rest ++ piece) more →
+    LacksMemoryAfter stage.Fresh (read ++ piece) (out ++ more)
+lacks_on read out piece more st codec w t =
+    let s : stage_after st t.frames ≡ stage_after stage.Fresh (w.frames ++ t.frames) = both_stages w.frames t.frames st w.stage_is in
+    record {
+      frames = w.frames ++ t.frames;
+      rest = t.rest;
+      begins = both_begin read piece w.frames t.frames w.rest t.rest w.reads.begins t.begins;
+      out_is = both_outs w.frames t.frames st out more w.out_is w.stage_is [] (t.out_is ∙ sym (append-nil (encodings (replies_to st t.frames))))
+          ∙ append-nil (encodings (replies_to stage.Fresh (w.frames ++ t.frames)));
+      open_still = ap goes_on (sym s) ∙ t.open_still;
+      unfaulted = t.unfaulted;
+    }
+
 -- every turn was used
 pub waits_served : (read out : List ℕ) (st : Stage) (codec : Option (List ℕ)) → WaitsForMore stage.Fresh read st codec out → goes_on st ≡ true →
     IsOnceReply read out
@@ -191,9 +208,11 @@ pub turn_served : (turns : ℕ) (e : OnceFault) (read out piece more : List ℕ)
     (w : WaitsForMore stage.Fresh read st codec out) → IsServeFault e →
     Turns (Err e) st (w.rest ++ piece) new later more → ServesOneStream turns (Err e) (read ++ piece) (out ++ more) left
 turn_served turns e read out piece more st new codec later left w (inl is) t =
-    subst (λ x. ServesOneStream turns (Err x) (read ++ piece) (out ++ more) left) (sym is) (breaks_on read out piece more st codec left w t)
+    let broken = subst (λ x. Turns (Err x) st (w.rest ++ piece) new later more) is t in
+    subst (λ x. ServesOneStream turns (Err x) (read ++ piece) (out ++ more) left) (sym is) (breaks_on read out piece more st codec left w broken)
 turn_served turns e read out piece more st new codec later left w (inr is) t =
-    subst (λ x. ServesOneStream turns (Err x) (read ++ piece) (out ++ more) left) (sym is) (breaks_on read out piece more st codec left w t)
+    let halts = subst (λ x. Turns (Err x) st (w.rest ++ piece) new later more) is t in
+    subst (λ x. ServesOneStream turns (Err x) (read ++ piece) (out ++ more) left) (sym is) (lacks_on read out piece more st codec w halts)
 
 -- what a turn that goes on, or ends, led to
 pub turned_on : (st new : Stage) (stream more : List ℕ) (left : Option (List ℕ)) → goes_on new ≡ true → Turns (Ok tt) st stream new left more →
@@ -206,7 +225,8 @@ turned_off st new stream more left over t = subst (λ b. MatchBool b (WaitsForMo
 
 -- no room for a piece: nothing was read
 pub nothing_served : (turns : ℕ) (left : Option (List ℕ)) → ServesOneStream turns (Err fault.Memory) [] [] left
-nothing_served turns left = record { frames = []; rest = []; begins = begins_none []; prefix = inl ([], refl) }
+nothing_served turns left =
+    record { frames = []; rest = []; begins = begins_none []; out_is = refl; open_still = refl; unfaulted = partial_stops [] nothing_partial }
 
 -- the refusal of a frame that is cut was written in part
 pub finish_cut : (e : OnceFault) (rest : List ℕ) (n : ℕ) → (rest ≡ [] → ⊥) → e ≡ fault.Write → Finishes (Err e) rest (take n (encoding (Refused 1)))

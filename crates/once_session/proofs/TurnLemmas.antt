@@ -1,29 +1,27 @@
 -- What a piece leads to.
-use Rattle.std.proofs.Common.{◌≡◌, ℕ, List, [], ◌∷◌, ◌++◌, length, take, Bool, true, false, Option, Some, Result, Ok, Err, arith, ap, ◌∙◌, sym, refl, subst, inl, inr, ◌⊎◌}
+use Rattle.std.proofs.Common.{◌≡◌, ℕ, zero, suc, ◌<◌, List, [], ◌∷◌, ◌++◌, append_assoc, length, take, drop, Bool, true, false, Option, Some, Result, Ok, Err, arith, ap, ◌∙◌, sym, refl, subst, inl, inr, ◌⊎◌}
 use Rattle.std.specs.Prelude.{cond, MatchBool}
-use Rattle.std.proofs.lemmas.List.{append-nil}
+use Rattle.std.specs.List.{flat_map, AllByRecursion}
+use Rattle.std.proofs.lemmas.List.{append-nil, take-append-drop}
+use Rattle.std.proofs.lemmas.List.Concat.{flat_map-cons, flat_map-append}
 use Rattle.frame_codec.specs.declared.frame.Frame.{Frame}
 use Rattle.frame_codec.specs.declared.frame.Frame.TheVariants.{Refused}
 use Rattle.frame_codec.specs.declared.reader.ReadFault.{ReadFault}
 use Rattle.frame_codec.specs.declared.reader.ReadFault.TheVariants.{TooLong, UnknownKind, BadPayload, Memory, Failed}
-use Rattle.frame_codec.specs.Frames.{encoding}
-use Rattle.frame_codec.specs.Streams.{Begins, Feeds, HasFault, StopsAt}
+use Rattle.frame_codec.specs.Frames.{encoding, IsFrame}
+use Rattle.frame_codec.specs.Streams.{Begins, Feeds, HasFault, HasFrame, StopsAt}
+use Rattle.frame_codec.proofs.Pieces.{frame_stops}
 use Rattle.once_session.specs.declared.stage.Stage.{Stage}
 use Rattle.once_session.specs.declared.stage.Stage.TheVariants as stage
 use Rattle.once_session.specs.Courses.{replies_to, stage_after, encodings}
-use Rattle.once_session.specs.Outputs.{IsPrefixOf, IsJudged, goes_on, rest_reply, is_well, is_done, EndsWork, WaitsForMore, Breaks, Turns}
+use Rattle.once_session.specs.Outputs.{IsPrefixOf, IsJudged, goes_on, rest_reply, is_well, is_done, IsServeFault, EndsWork, WaitsForMore, Breaks, Turns}
 use Rattle.connection_io.specs.Calls.{Call, Sends}
 use Rattle.connection_io.proofs.Parts.{sends_both, sends_faulty}
 use Rattle.once_session.specs.declared.engine.OnceFault.{OnceFault}
 use Rattle.once_session.specs.declared.engine.OnceFault.TheVariants as fault
-use Rattle.once_session.specs.OnceTurns.{SendsBefore}
+use Rattle.once_session.specs.OnceTurns.{SendsBefore, WritesWorkReplies, LacksMemoryForFrame}
 use Rattle.frame_codec.proofs.Unique.{fault_of_frame}
 use Rattle.once_session.proofs.CourseLemmas.{prefix_after, prefix_taken, all_prefix}
-
-pub feeds_begins : (old piece : List ℕ) (answer : Result (Unit {0}) ReadFault) (frames : List Frame) (new : Option (List ℕ)) →
-    Feeds (Some old) piece answer frames new → (rest : List ℕ) × Begins (old ++ piece) frames rest
-feeds_begins old piece (Ok d) frames new f = (f.0, f.1.begins)
-feeds_begins old piece (Err e) frames new f = (f.0.0, f.0.1)
 
 at_false : (b : Bool) (P Q : Type 0) → b ≡ false → Q → MatchBool b P Q
 at_false true P Q e q = let no : true ≡ false = e in cc
@@ -148,3 +146,96 @@ pub turn_on : (old new : Stage) (rest piece : List ℕ) (frames : List Frame) (c
 turn_on old new rest piece frames codec out feeds is going o =
     subst (λ b. MatchBool b (WaitsForMore old (rest ++ piece) new codec out) (EndsWork old (rest ++ piece) new out)) (sym going)
     (record { frames = frames; rest = feeds.0; reads = feeds.1; codec_is = feeds.2; stage_is = is; out_is = o })
+
+-- ---- refused memory
+
+has_next : (frames : List Frame) (count : ℕ) (rest : List ℕ) → AllByRecursion IsFrame frames → count < length frames →
+    HasFrame (flat_map encoding (drop count frames) ++ rest)
+has_next [] count rest all lt = absurd (omega arith)
+has_next (f ∷ fs) zero rest all lt = (
+  f,
+  flat_map encoding fs ++ rest,
+  all.0,
+  ap (λ (x : List ℕ). x ++ rest) (flat_map-cons encoding f fs) ∙ append_assoc (encoding f) (flat_map encoding fs) rest,
+)
+has_next (f ∷ fs) (suc count) rest all lt = has_next fs count rest all.1 (omega arith)
+
+first_each : (frames : List Frame) (count : ℕ) → AllByRecursion IsFrame frames → AllByRecursion IsFrame (take count frames)
+first_each frames zero all = tt
+first_each [] (suc count) all = tt
+first_each (f ∷ fs) (suc count) all = (all.0, first_each fs count all.1)
+
+-- the first frames, and what follows them
+first_begin : (stream : List ℕ) (frames : List Frame) (rest : List ℕ) (count : ℕ) → Begins stream frames rest →
+    Begins stream (take count frames) (flat_map encoding (drop count frames) ++ rest)
+first_begin stream frames rest count begins = record {
+  whole = begins.whole
+      ∙ ap (λ (x : List ℕ). x ++ rest) (ap (flat_map encoding) (sym (take-append-drop count frames))
+      ∙ flat_map-append encoding (take count frames) (drop count frames))
+      ∙ append_assoc (flat_map encoding (take count frames)) (flat_map encoding (drop count frames)) rest;
+  each = first_each frames count begins.each;
+}
+
+-- the replies to some frames failed: a write did, or memory was refused to one of them
+pub frames_failed : {C : Type 0} (does : C → Call → C → Type 0) (e : OnceFault) (old : Stage) (stream : List ℕ) (frames : List Frame) (rest : List ℕ)
+    (new : Stage) (codec : Option (List ℕ)) (a b : C)
+    → IsServeFault e → Begins stream frames rest → (out : List ℕ) × SendsBefore does e a out b × IsPrefixOf out (encodings (replies_to old frames))
+    → (e ≡ fault.Memory → LacksMemoryForFrame does frames old a new b)
+    → (out : List ℕ) × WritesWorkReplies does (Err e) a out b × Turns (Err e) old stream new codec out
+frames_failed does e old stream frames rest new codec a b (inl is) begins part lacks = (
+  part.0,
+  part.1,
+  subst (λ x. Turns (Err x) old stream new codec part.0) (sym is) (record { frames = frames; rest = rest; begins = begins; prefix = inl part.2 }),
+)
+frames_failed does e old stream frames rest new codec a b (inr is) begins part lacks =
+    let l = lacks is in
+    let later : List ℕ = flat_map encoding (drop l.0 frames) ++ rest in
+    let out : List ℕ = encodings (replies_to old (take l.0 frames)) in (
+      out,
+      subst (λ x. SendsBefore does x a out b) (sym is) l.2,
+      subst (λ x. Turns (Err x) old stream new codec out) (sym is) (record {
+        frames = take l.0 frames;
+        rest = later;
+        begins = first_begin stream frames rest l.0 begins;
+        out_is = refl;
+        open_still = ap goes_on (sym l.3) ∙ l.4;
+        unfaulted = frame_stops later (has_next frames l.0 rest begins.each l.1);
+      }),
+    )
+
+-- what stopped the reading and was not judged is refused memory
+unjudged_stops : (fault : ReadFault) (rest : List ℕ) → (IsJudged fault → ⊥) → StopsAt fault rest → StopsAt Memory rest
+unjudged_stops TooLong rest j s = absurd (j tt)
+unjudged_stops UnknownKind rest j s = absurd (j tt)
+unjudged_stops BadPayload rest j s = absurd (j tt)
+unjudged_stops Memory rest j s = s
+unjudged_stops Failed rest j s = absurd s
+
+-- what stopped the reading could not be answered: a write failed, or memory had been refused
+pub stop_failed : {C : Type 0} (does : C → Call → C → Type 0) (e : OnceFault) (old : Stage) (stream : List ℕ) (frames : List Frame) (rest : List ℕ)
+    (why : ReadFault) (new : Stage) (codec : Option (List ℕ)) (a m b : C)
+    → IsServeFault e → Begins stream frames rest → StopsAt why rest → goes_on (stage_after old frames) ≡ true
+    → Sends does a (encodings (replies_to old frames)) m
+    → (n : ℕ) × SendsBefore does e m (take n (encoding (Refused 1))) b × ((n ≡ 0) ⊎ IsJudged why)
+    → (IsJudged why → e ≡ fault.Write) → (e ≡ fault.Memory → b ≡ m)
+    → (out : List ℕ) × WritesWorkReplies does (Err e) a out b × Turns (Err e) old stream new codec out
+stop_failed does e old stream frames rest why new codec a m b (inl is) begins stops going sent part judged same =
+    let out : List ℕ = encodings (replies_to old frames) ++ take part.0 (encoding (Refused 1)) in (
+      out,
+      sends_before does e a m b _ _ sent part.1,
+      subst (λ x. Turns (Err x) old stream new codec out) (sym is) (turn_cut old stream frames rest why part.0 begins stops going part.2),
+    )
+stop_failed does e old stream frames rest why new codec a m b (inr is) begins stops going sent part judged same =
+    let out : List ℕ = encodings (replies_to old frames) in
+    let unjudged : IsJudged why → ⊥ = λ j. let bad : fault.Write ≡ fault.Memory = sym (judged j) ∙ is in absurd cc in (
+      out,
+      subst (λ x. SendsBefore does x a out b) (sym is) (subst (λ c. Sends does a out c) (sym (same is)) sent),
+      subst (λ x. Turns (Err x) old stream new codec out) (sym is) (record {
+        frames = frames;
+        rest = rest;
+        begins = begins;
+        out_is = refl;
+        open_still = going;
+        unfaulted = unjudged_stops why rest unjudged stops;
+      }),
+    )

@@ -1,3 +1,4 @@
 pub mod Courses
 pub mod Outputs
 pub mod OnceTurns
+pub mod Names

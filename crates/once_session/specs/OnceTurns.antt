@@ -22,11 +22,11 @@ abbrev pub WritesWorkReplies : {C : Type 0} → (C → Call → C → Type 0) �
 WritesWorkReplies does (Ok done) a bytes b = Sends does a bytes b
 WritesWorkReplies does (Err e) a bytes b = SendsBefore does e a bytes b
 
--- memory was refused for one of some frames: the replies to those before it went out, and no more
+-- memory was refused for one of some frames: the replies to those before it went out, and no more, and they left the work open
 abbrev pub LacksMemoryForFrame : {C : Type 0} → (C → Call → C → Type 0) → List Frame → Stage → C → Stage → C → Type 0
 LacksMemoryForFrame does frames old a new b =
     (count : ℕ) × (count < length frames) × Sends does a (encodings (replies_to old (take count frames))) b
-    × (new ≡ stage_after old (take count frames))
+    × (new ≡ stage_after old (take count frames)) × (goes_on new ≡ true)
 
 -- memory was refused for one of the frames that were read, or for the reading after them, of which no fault was found
 abbrev pub LacksMemory : {C : Type 0} → (C → Call → C → Type 0) → Result (Unit {0}) ReadFault → List Frame → Stage → C → Stage → C → Type 0
@@ -96,7 +96,7 @@ pub record ServesWorkTurns {C : Type 0} (does : C → Call → C → Type 0) (tu
   pub before : List CallTurn
   pub work : Work
   pub middle : C
-  pub go_on : WorkGoesOn does fresh_work a before work middle
+  pub begun : WorkGoesOn does fresh_work a before work middle
   pub ends : EndsWorkTurns does turns (length before) work middle result b
 
 -- the same, or there was no memory to begin with, and no call was made

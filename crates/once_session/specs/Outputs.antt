@@ -6,7 +6,7 @@ use Rattle.frame_codec.specs.declared.frame.Frame.TheVariants.{Refused}
 use Rattle.frame_codec.specs.declared.reader.ReadFault.{ReadFault}
 use Rattle.frame_codec.specs.declared.reader.ReadFault.TheVariants.{TooLong, UnknownKind, BadPayload, Memory as no_memory, Failed}
 use Rattle.frame_codec.specs.Frames.{encoding}
-use Rattle.frame_codec.specs.Streams.{Begins, Reads, HasFrame, IsPartial}
+use Rattle.frame_codec.specs.Streams.{Begins, Reads, HasFrame, IsPartial, StopsAt}
 use Rattle.once_session.specs.declared.stage.Stage.{Stage}
 use Rattle.once_session.specs.declared.stage.Stage.TheVariants.{Fresh, Loaded, Done, Bad}
 use Rattle.once_session.specs.declared.engine.OnceFault.{OnceFault}
@@ -71,6 +71,16 @@ pub record IsStreamCut (read out : List ℕ) (left : Option (List ℕ)) : Type 0
   pub begins : Begins read frames rest
   pub prefix : IsPrefixOf out (encodings (replies_to Fresh frames)) ⊎ (IsLast (stage_after Fresh frames) rest left × IsPrefixOf out (output_of frames rest))
 
+-- Memory was refused to work that was open: the replies to whole frames went out, all of each, and no fault that the
+-- length or the kind makes stands in what follows these frames.
+pub record LacksMemoryAfter (old : Stage) (stream out : List ℕ) : Type 0 where
+  pub frames : List Frame
+  pub rest : List ℕ
+  pub begins : Begins stream frames rest
+  pub out_is : out ≡ encodings (replies_to old frames)
+  pub open_still : goes_on (stage_after old frames) ≡ true
+  pub unfaulted : StopsAt no_memory rest
+
 -- what was written for what was read in at most so many turns, by the answer
 abbrev pub ServesOneStream : ℕ → Result (Unit {0}) OnceFault → List ℕ → List ℕ → Option (List ℕ) → Type 0
 ServesOneStream turns (Ok done) read out left = IsOutput read out left true
@@ -78,7 +88,7 @@ ServesOneStream turns (Err BadInput) read out left = IsOutput read out left fals
 ServesOneStream turns (Err Read) read out left = IsOnceReply read out
 ServesOneStream turns (Err TurnsUsedUp) read out left = IsOnceReply read out × (turns ≤ length read)
 ServesOneStream turns (Err Write) read out left = IsStreamCut read out left
-ServesOneStream turns (Err Memory) read out left = IsStreamCut read out left
+ServesOneStream turns (Err Memory) read out left = LacksMemoryAfter Fresh read out
 
 -- a fault of one reply
 abbrev pub IsServeFault : OnceFault → Type 0
@@ -135,6 +145,7 @@ pub record Breaks (old : Stage) (stream : List ℕ) (out : List ℕ) : Type 0 wh
 -- what a piece does at an open stage, where `stream` is the unfinished frame before it and the piece
 abbrev pub Turns : Result (Unit {0}) OnceFault → Stage → List ℕ → Stage → Option (List ℕ) → List ℕ → Type 0
 Turns (Ok done) old stream new codec out = MatchBool (goes_on new) (WaitsForMore old stream new codec out) (EndsWork old stream new out)
+Turns (Err Memory) old stream new codec out = LacksMemoryAfter old stream out
 Turns (Err e) old stream new codec out = Breaks old stream out
 
 -- what the stream's end is answered after its whole frames, by the answer

@@ -1,6 +1,6 @@
 //! The stream: pieces in, replies out.
 
-ghost use Rattle.std.specs.Prelude.{◌≡◌, ◌≤◌, ◌<◌, ◌++◌, ◌⊎◌, ℕ, List, [], ◌∷◌, length, take, true, false, IsTrue, ◌↔◌, Option, Some, None, Result, Ok, Err, OnOk, OnErr, IfOk, IfErr, unwrap_or};
+ghost use Rattle.std.specs.Prelude.{◌≡◌, ◌≤◌, ◌<◌, ◌++◌, ◌⊎◌, ℕ, List, [], ◌∷◌, length, take, true, false, IsTrue, ◌↔◌, Option, Some, None, Result, Ok, Err, OnOk, OnErr, IfOk, IfErr, IsSome, unwrap_or};
 ghost use Rattle.connection_io.specs.Calls.{Sends};
 ghost use Rattle.frame_codec.specs.Frames.{encoding, payload_size, payload_limit};
 ghost use Rattle.once_session.specs.Courses.{next, HasTable, FitsWorkReply, replies_to, stage_after, work_reply_bytes, reply, encodings};
@@ -10,8 +10,9 @@ ghost use Rattle.frame_codec.specs.Streams.{Feeds};
 ghost use Rattle.frame_codec.specs.declared.frame.Frame.{Frame};
 ghost use Rattle.frame_codec.specs.declared.reader.ReadFault.{ReadFault};
 ghost use Rattle.frame_codec.specs.declared.frame.Frame.TheVariants.{Refused};
+ghost use Rattle.once_session.specs.Names.{once_fault_name};
 
-use crate::stage::{Stage, Step, step_of};
+use crate::stage::{Stage, StageStep, step_of};
 use connection_io::{Connection, send as send_bytes};
 use frame_codec::{Frame, ReadFault, Reader, write_frame};
 use matrix_u32::Kernel;
@@ -38,8 +39,28 @@ pub enum OnceFault {
     TurnsUsedUp,
 }
 
+impl OnceFault {
+    /// Its name, as programs print it.
+    #[tactic(auto, unfolding(crate::specs::Names::once_fault_name))]
+    pub fn name(self) -> &'static str
+        ensures { result.now ≡ once_fault_name self }
+    {
+        match self {
+            OnceFault::BadInput => "BadInput",
+            OnceFault::Read => "Read",
+            OnceFault::Write => "Write",
+            OnceFault::Memory => "Memory",
+            OnceFault::TurnsUsedUp => "TurnsUsedUp",
+        }
+    }
+}
+
 // Writes a reply, made in a buffer of its own.
-fn send<C: Connection>(alloc: Global, reply: &Frame, connection: &mut C) -> Result<(), OnceFault>
+fn send_frame<C: Connection>(
+    alloc: Global,
+    reply: &Frame,
+    connection: &mut C,
+) -> Result<(), OnceFault>
     requires { payload_size reply.now ≤ payload_limit }
     ensures all { OnOk result (Sends C.does connection.old (encoding reply.now) connection.new) }
     ensures prefix { IfErr result (λ e. (n : ℕ)
@@ -58,7 +79,7 @@ fn send<C: Connection>(alloc: Global, reply: &Frame, connection: &mut C) -> Resu
 }
 
 // Serves a frame: writes its reply, and goes to the next stage.
-fn serve_frame<K: Kernel, C: Connection>(
+fn answer_frame<K: Kernel, C: Connection>(
     alloc: Global,
     kernel: K,
     stage: &mut Stage,
@@ -74,9 +95,10 @@ fn serve_frame<K: Kernel, C: Connection>(
         (take n (work_reply_bytes (reply stage.old frame.now))) connection.new) }
     ensures fault { IfErr result IsServeFault }
     ensures memory { IfErr result (λ e. e ≡ OnceFault.Memory →
-        (connection.new ≡ connection.old) × (stage.new ≡ stage.old)) }
+        (connection.new ≡ connection.old) × (stage.new ≡ stage.old)
+        × (goes_on stage.old ≡ true)) }
 {
-    let Ok(Step { reply, moves }) = step_of(alloc, kernel, stage, frame) else {
+    let Ok(StageStep { reply, moves }) = step_of(alloc, kernel, stage, frame) else {
         return Err(OnceFault::Memory);
     };
     send_reply(alloc, &reply, connection)?;
@@ -96,10 +118,11 @@ fn send_reply<C: Connection>(
     ensures prefix { IfErr result (λ e. (n : ℕ)
         × SendsBefore C.does e connection.old (take n (work_reply_bytes reply.now)) connection.new) }
     ensures fault { IfErr result IsServeFault }
-    ensures memory { IfErr result (λ e. e ≡ OnceFault.Memory → connection.new ≡ connection.old) }
+    ensures memory { IfErr result (λ e. e ≡ OnceFault.Memory →
+        (connection.new ≡ connection.old) × IsSome reply.now) }
 {
     match reply {
-        Some(frame) => send(alloc, frame, connection),
+        Some(frame) => send_frame(alloc, frame, connection),
         None => Ok(()),
     }
 }
@@ -114,7 +137,7 @@ fn move_on(stage: &mut Stage, moves: Option<Stage>)
 }
 
 // Serves frames in order.
-fn serve_frames<K: Kernel, C: Connection>(
+fn answer_frames<K: Kernel, C: Connection>(
     alloc: Global,
     kernel: K,
     stage: &mut Stage,
@@ -134,7 +157,7 @@ fn serve_frames<K: Kernel, C: Connection>(
         LacksMemoryForFrame C.does frames.now stage.old connection.old stage.new connection.new) }
 {
     for frame in frames {
-        if let Err(fault) = serve_frame(alloc, kernel, stage, frame, connection) {
+        if let Err(fault) = answer_frame(alloc, kernel, stage, frame, connection) {
             return Err(fault);
         }
     }
@@ -224,7 +247,7 @@ fn serve_read<K: Kernel, C: Connection>(
     ensures memory { IfErr result (λ e. e ≡ OnceFault.Memory →
         LacksMemory C.does read frames.now stage.old connection.old stage.new connection.new) }
 {
-    if let Err(fault) = serve_frames(alloc, kernel, stage, frames, connection) {
+    if let Err(fault) = answer_frames(alloc, kernel, stage, frames, connection) {
         return Err(fault);
     }
     if !goes_on(stage) {

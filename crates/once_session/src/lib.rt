@@ -10,4 +10,4 @@ mod stage;
 
 pub use engine::OnceFault;
 pub use session::{once, once_over, once_with};
-pub use stage::{Stage, Step, Table, step_of};
+pub use stage::{Stage, StageStep, Table, step_of};

@@ -130,8 +130,10 @@ pub fn once_with<K: Kernel, R: Read, W: Write>(
 /// # Errors
 ///
 /// `BadInput` where the stream was refused with code 1, `Read` and `Write` where a reader or a writer
-/// fails, `Memory` where there is none, `TurnsUsedUp` where the stream hadn't ended after all turns. At
-/// each what was written is the replies to what was read, or (at `Write` and `Memory`) a prefix of them.
+/// fails, `Memory` where it is refused, `TurnsUsedUp` where the stream hadn't ended after all turns. At
+/// each what was written is the replies to what was read, or at `Write` a prefix of them. At `Memory` it is
+/// the replies to the first frames read, which left the work open, and in what follows these frames stands no
+/// length that is too large and no unknown kind.
 pub fn once<R: Read, W: Write>(
     alloc: Global,
     reader: &mut R,

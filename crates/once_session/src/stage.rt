@@ -31,6 +31,7 @@ ghost use Rattle.frame_codec.specs.Frames.{IsFrame, encoding, payload_size, payl
 ghost use Rattle.frame_codec.specs.declared.frame.Frame.TheVariants.{Load, Refused};
 ghost use Rattle.once_session.specs.declared.stage.Stage.TheVariants.{Fresh, Bad};
 ghost use Rattle.digit_pack.specs.Layout.{IsLayout};
+ghost use Rattle.once_session.specs.Outputs.{goes_on};
 ghost use Rattle.once_session.specs.Courses.{
   next,
   reply,
@@ -95,7 +96,7 @@ fn load_layout(record_len: u16, groups: u16, width: u8, bytes: &[u8]) -> Option<
 
 /// What a frame does: its reply, and the stage that it leads to, where it leads to another.
 #[derive(Drop)]
-pub struct Step {
+pub struct StageStep {
     /// The reply, where there is one.
     pub reply: Option<Frame>,
     /// The next stage, where it is another one.
@@ -103,11 +104,11 @@ pub struct Step {
 }
 
 // A frame that has no place here.
-fn refuse() -> Step
+fn refuse() -> StageStep
     ensures reply { result.reply ≡ Some (Refused 1) }
     ensures moves { result.moves ≡ Some Bad }
 {
-    Step {
+    StageStep {
         reply: Some(Frame::Refused { code: 1 }),
         moves: Some(Stage::Bad),
     }
@@ -120,7 +121,7 @@ fn load(
     groups: u16,
     width: u8,
     records: &Bytes,
-) -> Result<Step, AllocError>
+) -> Result<StageStep, AllocError>
     ensures { IfOk result
         (λ s. WorkSteps Fresh (Load record_len groups width records.now) s.reply s.moves) }
 {
@@ -128,7 +129,7 @@ fn load(
         return Ok(refuse());
     };
     let digits = digits_of_records(alloc, &layout, records.as_slice())?;
-    Ok(Step {
+    Ok(StageStep {
         reply: None,
         moves: Some(Stage::Loaded(Table { layout, digits })),
     })
@@ -171,9 +172,10 @@ pub fn step_of<K: Kernel>(
     kernel: K,
     stage: &Stage,
     frame: &Frame,
-) -> Result<Step, AllocError>
+) -> Result<StageStep, AllocError>
     requires { HasTable stage.now }
-    ensures { IfOk result (λ s. WorkSteps stage.now frame.now s.reply s.moves) }
+    ensures ok { IfOk result (λ s. WorkSteps stage.now frame.now s.reply s.moves) }
+    ensures err { OnErr result (goes_on stage.now ≡ true) }
 {
     match stage {
         Stage::Fresh => match frame {
@@ -192,18 +194,18 @@ pub fn step_of<K: Kernel>(
                 words,
             } => {
                 let reply = query(alloc, kernel, table, *scheme, *version, words)?;
-                Ok(Step {
+                Ok(StageStep {
                     reply: Some(reply),
                     moves: None,
                 })
             }
-            Frame::Bye => Ok(Step {
+            Frame::Bye => Ok(StageStep {
                 reply: None,
                 moves: Some(Stage::Done),
             }),
             _ => Ok(refuse()),
         },
-        Stage::Done | Stage::Bad => Ok(Step {
+        Stage::Done | Stage::Bad => Ok(StageStep {
             reply: None,
             moves: None,
         }),

@@ -96,7 +96,7 @@ const WHOLE_SECRET: usize = 1024;
 // Warns of secrets of fewer words, once the server has reported their number.
 fn warn_of_short_secrets(rt: &HostRuntime, client: &ClientCore<Lanes>) {
     if let Some(known) = client.known() {
-        let dimension = known.dimension;
+        let dimension = known.dimension();
         if dimension < WHOLE_SECRET {
             let _ = eprintln!(rt;
                 "warning: the server's secrets have {dimension} words, and hide less than 1024 do"
@@ -130,9 +130,7 @@ fn get_record(
         index,
     )
     .map_err(failure_of)?;
-    let Ok(record) = hex::encode(rt.alloc(), got.bytes.as_slice()) else {
-        return Err(Failure::Memory);
-    };
+    let record = hex::encode(rt.alloc(), got.bytes.as_slice())?;
     let index = got.index;
     let version = got.version;
     printed(println!(rt; "retrieved {index} {version} {record}"))?;

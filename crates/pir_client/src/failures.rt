@@ -1,6 +1,6 @@
 //! How a command that was not done is reported.
 
-ghost use Rattle.pir_client.specs.Failures.{IsReported, IsFault, call_name, conversation_name};
+ghost use Rattle.pir_client.specs.Failures.{IsReported, IsCallFault, IsConverseFault};
 
 use client_commands::CommandError;
 use command_words::Failure;
@@ -22,31 +22,20 @@ pub fn failure_of(fault: CommandError) -> Failure
 
 // The failure that a refused call is.
 fn call_failure(fault: CallFault) -> Failure
-    ensures { IsFault (call_name fault) result }
+    ensures { IsCallFault fault result }
 {
     match fault {
-        CallFault::NotReady => Failure::Fault("NotReady"),
-        CallFault::Busy => Failure::Fault("Busy"),
-        CallFault::BadIndex => Failure::Fault("BadIndex"),
-        CallFault::SeedUsedUp => Failure::Fault("SeedUsedUp"),
         CallFault::Memory => Failure::Memory,
-        CallFault::Failed => Failure::Fault("Failed"),
-        CallFault::AlreadyWelcome => Failure::Fault("AlreadyWelcome"),
+        fault => Failure::Fault(fault.name()),
     }
 }
 
 // The failure that a conversation without an event is.
 fn converse_failure(fault: ConverseFault) -> Failure
-    ensures { IsFault (conversation_name fault) result }
+    ensures { IsConverseFault fault result }
 {
     match fault {
-        ConverseFault::Ended => Failure::Fault("Ended"),
-        ConverseFault::Read => Failure::Fault("Read"),
-        ConverseFault::Write => Failure::Fault("Write"),
-        ConverseFault::BadWelcome => Failure::Fault("BadWelcome"),
-        ConverseFault::BadReply => Failure::Fault("BadReply"),
         ConverseFault::Memory => Failure::Memory,
-        ConverseFault::TurnsUsedUp => Failure::Fault("TurnsUsedUp"),
-        ConverseFault::Failed => Failure::Fault("Failed"),
+        fault => Failure::Fault(fault.name()),
     }
 }

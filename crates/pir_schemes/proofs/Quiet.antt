@@ -27,23 +27,24 @@ digits_are simple double Double p records seed number i ok lt quiet =
     let l : Shape = shape_at p (length records) in
     double l records (first_public l p.dimension p.seed) (second_public l p.dimension p.seed) seed number i ok lt refl refl refl quiet
 
-record_is : (l : Shape) (bytes : List ℕ) → FitsRecord l (record_digits l bytes) → record_bytes l (record_digits l bytes) ≡ bytes →
-    record_of l (record_digits l bytes) ≡ Some bytes
+record_is : (p : Plan) (n : ℕ) (bytes : List ℕ) → let l = shape_at p n in FitsRecord l (record_digits l bytes) →
+    record_bytes l (record_digits l bytes) ≡ bytes → record_of p (record_digits l bytes) ≡ Some bytes
 unfolding record_of
-record_is l bytes fits e =
+record_is p n bytes fits e =
+    let l : Shape = shape_at p n in
     let t : nat_lt (number_of l.width (record_digits l bytes)) (2 ^ (8 * l.record_len)) ≡ true = lt-ltb _ _ fits in
     rw t (ap (λ (b : List ℕ). Some b) e)
 
 quiet_gives : SimpleReads → DoubleReads → PackUnpacks → (s : Scheme) (p : Plan) (records : List (List ℕ)) (seed : List ℕ) (number i : ℕ) →
     IsShape (shape_at p (length records)) → i < length records → IsRecord (shape_at p (length records)) (record_at records i) →
     IsQuietOf s p records seed number i →
-    record_of (shape_at p (length records)) (reading s (shape_at p (length records)) (hint_matrix s p records) seed number i
+    record_of p (reading s (shape_at p (length records)) (hint_matrix s p records) seed number i
     (answer_words s p records (query_words s (shape_at p (length records)) p.dimension p.seed seed number i)))
     ≡ Some (record_at records i)
 quiet_gives simple double packs s p records seed number i ok lt fits quiet =
     let l : Shape = shape_at p (length records) in
     let back = packs l (record_at records i) ok.width fits in
-    rw (digits_are simple double s p records seed number i ok lt quiet) (record_is l (record_at records i) back.accepted back.same)
+    rw (digits_are simple double s p records seed number i ok lt quiet) (record_is p (length records) (record_at records i) back.accepted back.same)
 
 pub retrieval_gives : SimpleReads → DoubleReads → PackUnpacks → CertainShapeIsQuiet → RetrievalGivesTheRecord
 retrieval_gives simple double packs certain s p records seed number i ok lt fits (inl quiet) =

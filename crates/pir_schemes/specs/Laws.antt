@@ -24,12 +24,13 @@ use Rattle.pir_schemes.specs.Retrievals.{
 
 -- what reading an answer comes to: the record that its digits write; or it has another count of words, it sets
 -- a bit past the record's last byte, or memory was refused
-abbrev pub ReadsRecordOf : Scheme → Shape → WordMatrix → List ℕ → ℕ → ℕ → List ℕ → Result (Vec ℕ Global) RecoverError → Type 0
-ReadsRecordOf s l hint seed number i answer outcome =
+abbrev pub ReadsRecordOf : Scheme → Plan → ℕ → WordMatrix → List ℕ → ℕ → ℕ → List ℕ → Result (Vec ℕ Global) RecoverError → Type 0
+ReadsRecordOf s p count hint seed number i answer outcome =
+    let l = shape_at p count in
     MatchResult outcome
-    (λ bytes. (length answer ≡ answer_count s l hint.cols) × (record_of l (reading s l hint seed number i answer) ≡ Some bytes.items))
+    (λ bytes. (length answer ≡ answer_count s l hint.cols) × (record_of p (reading s l hint seed number i answer) ≡ Some bytes.items))
     (λ e. ((e ≡ BadLength) × (length answer ≢ answer_count s l hint.cols))
-    ⊎ ((e ≡ BadDigits) × (length answer ≡ answer_count s l hint.cols) × (record_of l (reading s l hint seed number i answer) ≡ None))
+    ⊎ ((e ≡ BadDigits) × (length answer ≡ answer_count s l hint.cols) × (record_of p (reading s l hint seed number i answer) ≡ None))
     ⊎ ((e ≡ Memory) × (length answer ≡ answer_count s l hint.cols)))
 
 -- a hint has its rows, n columns, and as many words as these want
@@ -66,7 +67,7 @@ RetrievalGivesTheRecord = (s : Scheme) (p : Plan) (records : List (List ℕ)) (s
     IsQuietOf s p records seed number i ⊎ IsCertainOf s (shape_at p (length records)) →
     let l = shape_at p (length records) in
     let asked = query_words s l p.dimension p.seed seed number i in
-    record_of l (reading s l (hint_matrix s p records) seed number i (answer_words s p records asked))
+    record_of p (reading s l (hint_matrix s p records) seed number i (answer_words s p records asked))
     ≡ Some (record_at records i)
 
 -- on a certain shape every retrieval is quiet, for every list of records, seed and number

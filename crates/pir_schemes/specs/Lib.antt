@@ -2,4 +2,5 @@ pub mod Schemes
 pub mod Parts
 pub mod Plans
 pub mod Retrievals
+pub mod Rooms
 pub mod Laws

@@ -2,9 +2,9 @@
 use Rattle.std.specs.Prelude.{◌≤◌, ◌^◌, ◌*◌, ℕ, List, length, Bool, Option, Some, None, ◌==◌, nat_lt, if◌then◌else◌}
 use Rattle.matrix_u32.specs.Matrix.{WordMatrix}
 use Rattle.seed_expand.specs.Words.{public_rows}
-use Rattle.digit_pack.specs.Digits.{number_of}
+use Rattle.digit_pack.specs.Digits.{digits_of, number_of}
 use Rattle.pir_schemes.specs.declared.plan.Plan.{Plan}
-use Rattle.digit_pack.specs.Layout.{Shape, IsLayout, shape, digit_rows, digit_cols, digit_matrix, record_bytes}
+use Rattle.digit_pack.specs.Layout.{Shape, IsLayout, shape, digit_rows, digit_cols, digit_matrix}
 
 -- the shape of a version with so many records
 abbrev pub shape_at : Plan → ℕ → Shape
@@ -29,6 +29,10 @@ pub record IsPlan (p : Plan) (count : ℕ) : Type 0 where
 -- the profile that a server of this plan speaks
 abbrev pub profile_of : Plan → ℕ
 profile_of p = 1
+
+-- whether a number is the profile of a plan
+abbrev pub is_profile : ℕ → Bool
+is_profile profile = profile == 1
 
 -- the profile that a client asks for in its greeting
 abbrev pub client_profile : ℕ
@@ -55,6 +59,6 @@ abbrev pub second_public : Shape → ℕ → List ℕ → WordMatrix
 second_public l n public = public_rows public 1 0 (digit_rows l) n
 
 -- the record that an answer's digits write; none where they set a bit past its last byte
-unfoldable pub record_of : Shape → List ℕ → Option (List ℕ)
-record_of l digits =
-    if nat_lt (number_of l.width digits) (2 ^ (8 * l.record_len)) then Some (record_bytes l digits) else None
+unfoldable pub record_of : Plan → List ℕ → Option (List ℕ)
+record_of p digits =
+    if nat_lt (number_of p.width digits) (2 ^ (8 * p.record_len)) then Some (digits_of 8 p.record_len (number_of p.width digits)) else None

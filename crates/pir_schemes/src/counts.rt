@@ -59,10 +59,6 @@ pub fn answer_count(scheme: Scheme, layout: &Layout, n: usize) -> usize
 {
     match scheme {
         Scheme::Simple => layout.rows(),
-        Scheme::Double => {
-            let first = digits_in_words(layout, n);
-            let part = first + split_count(layout.width());
-            first + layout.digits_per_record() * part
-        }
+        Scheme::Double => double_scheme::answer_count(layout, n),
     }
 }

@@ -14,6 +14,7 @@ mod counts;
 pub mod laws;
 mod parts;
 mod plan;
+mod query_room;
 mod retrievals;
 mod scheme;
 
@@ -21,6 +22,7 @@ pub use certainty::is_certain;
 pub use counts::{answer_count, hint_len, hint_rows, query_count};
 pub use parts::{DELTA_ROWS, PART_WORDS, part_len, part_words};
 pub use plan::{Plan, SecretSeed};
-pub use retrievals::{query, recover};
+pub use query_room::QueryRoom;
+pub use retrievals::recover;
 pub use scheme::{PROFILE, Scheme};
 pub use simple_scheme::RecoverError;

@@ -55,10 +55,7 @@ fn serve_once(rt: &HostRuntime) -> Result<(), Failure> {
     let mut writer = io::writer(rt);
     match once(rt.alloc(), &mut reader, &mut writer, TURNS) {
         Ok(()) => Ok(()),
-        Err(OnceFault::BadInput) => Err(Failure::Fault("BadInput")),
-        Err(OnceFault::Read) => Err(Failure::Fault("Read")),
-        Err(OnceFault::Write) => Err(Failure::Fault("Write")),
         Err(OnceFault::Memory) => Err(Failure::Memory),
-        Err(OnceFault::TurnsUsedUp) => Err(Failure::Fault("TurnsUsedUp")),
+        Err(fault) => Err(Failure::Fault(fault.name())),
     }
 }

@@ -34,10 +34,7 @@ const NO_FILE: Failure = Failure::Fault("File");
 /// In this order: `File`, the refusals of the snapshot, those of the store.
 pub fn store_of(rt: &HostRuntime, name: &str) -> Result<Store<Lanes>, Failure> {
     let snapshot = snapshot_of(rt, name)?;
-    match Store::open(rt.alloc(), Lanes, snapshot) {
-        Ok(store) => Ok(store),
-        Err(fault) => Err(open_failure(fault)),
-    }
+    Store::open(rt.alloc(), Lanes, snapshot).map_err(open_failure)
 }
 
 /// The fields of the snapshot in a file, but its records.
@@ -78,9 +75,7 @@ pub fn write_file(rt: &HostRuntime, name: &str, content: &Content<'_>) -> Result
     if is_written_in_place(rt, name) {
         return write_new(rt, name, content);
     }
-    let Ok(beside) = format!(in rt.alloc(); "{name}.new") else {
-        return Err(Failure::Memory);
-    };
+    let beside = format!(in rt.alloc(); "{name}.new")?;
     let Err(failure) = write_beside(rt, name, &beside, content) else {
         return Ok(());
     };
@@ -142,22 +137,15 @@ fn write_new(rt: &HostRuntime, name: &str, content: &Content<'_>) -> Result<(), 
 // The failure that a refused snapshot is.
 fn snapshot_failure(fault: SnapshotFault) -> Failure {
     match fault {
-        SnapshotFault::NotSnapshot => Failure::Fault("NotSnapshot"),
-        SnapshotFault::BadLayout => Failure::Fault("BadLayout"),
-        SnapshotFault::Short => Failure::Fault("Short"),
-        SnapshotFault::BadDigest => Failure::Fault("BadDigest"),
-        SnapshotFault::TrailingBytes => Failure::Fault("TrailingBytes"),
-        SnapshotFault::Read => Failure::Fault("Read"),
         SnapshotFault::Memory => Failure::Memory,
+        fault => Failure::Fault(fault.name()),
     }
 }
 
 // The failure that a refused store is.
 fn open_failure(fault: OpenError) -> Failure {
     match fault {
-        OpenError::BadLayout => Failure::Fault("BadLayout"),
-        OpenError::BadVersion => Failure::Fault("BadVersion"),
-        OpenError::BadRecords => Failure::Fault("BadRecords"),
         OpenError::Memory => Failure::Memory,
+        fault => Failure::Fault(fault.name()),
     }
 }

@@ -65,9 +65,7 @@ fn read_records<R: Read>(alloc: Global, reader: &mut R) -> Result<Vec<u8>, Failu
         (R.remaining reader.new) bytes.items × IsAtEnd (R.remaining reader.new)) }
     ensures few { IfOk result (λ bytes. length bytes.items ≤ 33554432) }
 {
-    let Ok(mut buffer) = piece_buffer(alloc) else {
-        return Err(Failure::Memory);
-    };
+    let mut buffer = piece_buffer(alloc)?;
     let mut bytes = Vec::new(alloc);
     // Each read but the last gives a byte at least.
     'pieces: for _ in 0..=MAX_RECORD_BYTES {
@@ -80,9 +78,7 @@ fn read_records<R: Read>(alloc: Global, reader: &mut R) -> Result<Vec<u8>, Failu
         if n > MAX_RECORD_BYTES - bytes.len() {
             return Err(BAD_RECORDS);
         }
-        let Ok(()) = bytes.extend_from_slice(&buffer[..n]) else {
-            return Err(Failure::Memory);
-        };
+        bytes.extend_from_slice(&buffer[..n])?;
     }
     Err(BAD_RECORDS)
 }

@@ -102,10 +102,6 @@ fn drain(rt: &HostRuntime, stream: &TcpStream) -> io::Result<()> {
 fn fault_name(fault: ConnectionFault) -> &'static str {
     match fault {
         None => "Connect",
-        Some(ServeFault::IdInUse) => "IdInUse",
-        Some(ServeFault::Read) => "Read",
-        Some(ServeFault::Write) => "Write",
-        Some(ServeFault::Memory) => "Memory",
-        Some(ServeFault::TurnsUsedUp) => "TurnsUsedUp",
+        Some(fault) => fault.name(),
     }
 }

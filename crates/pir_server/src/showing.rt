@@ -31,10 +31,7 @@ fn description_of(alloc: Global, header: &Header) -> Result<String, Failure>
     let Ok(layout) = header.layout() else {
         return Err(Failure::Fault("BadLayout"));
     };
-    match description(alloc, header, &layout) {
-        Ok(text) => Ok(text),
-        Err(_) => Err(Failure::Memory),
-    }
+    Ok(description(alloc, header, &layout)?)
 }
 
 // All the lines.

@@ -11,6 +11,7 @@ use Rattle.frame_codec.specs.declared.reader.ReadFault.TheVariants as fault
 use Rattle.frame_codec.specs.Frames.{IsFrame, encoding}
 use Rattle.frame_codec.specs.Streams.{Feeds, Arrives, HasFrame}
 use Rattle.frame_codec.proofs.Unique.{reads_sent}
+use Rattle.frame_codec.proofs.Runs.{all_append}
 use Rattle.pir_world.specs.Runs.{Wire, whole, unread, reach, arrived, beyond, sent}
 use Rattle.pir_world.specs.Sides.{Carries}
 
@@ -95,10 +96,6 @@ memory_alone reader waiting w m stop frames new c f =
     is_memory fault.Memory later more a = refl
     is_memory fault.Failed later more a = absurd a
 
-each_append : (fs gs : List Frame) → AllByRecursion IsFrame fs → AllByRecursion IsFrame gs → AllByRecursion IsFrame (fs ++ gs)
-each_append [] gs a b = b
-each_append (f ∷ fs) gs a b = (a.0, each_append fs gs a.1 b)
-
 -- more frames are sent
 pub carries_more : (reader : Option (List ℕ)) (waiting : List ℕ) (w : Wire) (fs : List Frame) → AllByRecursion IsFrame fs → Carries reader waiting w →
     Carries reader (waiting ++ flat_map encoding fs) (sent w fs)
@@ -106,7 +103,7 @@ carries_more reader waiting w fs all c = record {
   unfinished = c.unfinished;
   reader_is = c.reader_is;
   got = c.got;
-  each = each_append w.frames fs c.each all;
+  each = all_append IsFrame w.frames fs c.each all;
   bytes = sym (append_assoc c.unfinished waiting (flat_map encoding fs)) ∙ ap (λ (x : List ℕ). x ++ flat_map encoding fs) c.bytes
       ∙ sym (flat_map-append encoding w.frames fs);
 }

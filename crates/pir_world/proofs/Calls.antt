@@ -25,7 +25,7 @@ use Rattle.client_core.specs.Feeding.{takes_all, fault_of}
 use Rattle.pir_world.specs.Runs.{Wire, Link, Entry, sent, arrived, beyond, link_called, link_reported, link_served, turn_of, reported_by, reacts, reader_key}
 use Rattle.pir_world.specs.Versions.{seed_of}
 use Rattle.pir_world.specs.Headlines.{IsRight}
-use Rattle.pir_world.specs.Invariants.{GoodHistory, KnownIs, SyncIs, IsReply, InFlight, Phase, LinkInv}
+use Rattle.pir_world.specs.Invariants.{GoodHistory, KnownIs, SyncIs, IsReply, InFlight, Phase, LinkInvariant}
 use Rattle.pir_world.proofs.Wires.{none_arrives, one_arrives, Split, IsFew, split_few}
 use Rattle.pir_world.proofs.Serves.{served_link}
 use Rattle.pir_world.proofs.Takes.{ClientInv, taken, hint_long}
@@ -115,11 +115,11 @@ link_begun base s l =
     let c = sync_begun base s l.client in
     record { client = c; standing = l.standing; up = sent l.up (call_frame c c.call ∷ []); down = l.down }
 
-module _ (x : Setting) (h : History) (seed : List ℕ) (l : Link) (g : GoodHistory x h) (i : LinkInv x h seed l) where
+module _ (x : Setting) (h : History) (seed : List ℕ) (l : Link) (g : GoodHistory x h) (i : LinkInvariant x h seed l) where
   nothing_waits : l.client.call ≡ Idle → (l.up.frames ≡ []) × (l.down.frames ≡ [])
   nothing_waits e = idle_phase x h l.standing seed l.client l.client.call l.up.frames l.down.frames e i.phase
 
-  pub called_hello : refusal (want_hello reader_key) l.client ≡ None → LinkInv x h seed (link_called (want_hello reader_key) l)
+  pub called_hello : refusal (want_hello reader_key) l.client ≡ None → LinkInvariant x h seed (link_called (want_hello reader_key) l)
   called_hello e =
       let a = else_none l.client.failed _ _ e in
       let b = else_none (is_some l.client.known) _ _ a.1 in
@@ -137,7 +137,7 @@ module _ (x : Setting) (h : History) (seed : List ℕ) (l : Link) (g : GoodHisto
 
   -- a sync begins, by parts or by delta
   sync_begins : (base : Option ℕ) (scheme : Scheme) → delta_base scheme l.client.hint ≡ base → is_some l.client.known ≡ true → l.client.call ≡ Idle →
-      LinkInv x h seed (link_begun base scheme l)
+      LinkInvariant x h seed (link_begun base scheme l)
   sync_begins None scheme is known idle = record {
     seed_is = i.seed_is;
     alive = i.alive;
@@ -161,14 +161,14 @@ module _ (x : Setting) (h : History) (seed : List ℕ) (l : Link) (g : GoodHisto
         phase = flight x h l.standing seed (sync_begun (Some since) scheme l.client) (Delta since) l.up.frames l.down.frames (nothing_waits idle);
       }
 
-  pub called_sync : (scheme : Scheme) → refusal (want_sync scheme) l.client ≡ None → LinkInv x h seed (link_called (want_sync scheme) l)
+  pub called_sync : (scheme : Scheme) → refusal (want_sync scheme) l.client ≡ None → LinkInvariant x h seed (link_called (want_sync scheme) l)
   called_sync scheme e =
       let a = else_none l.client.failed _ _ e in
       let b = then_none (is_some l.client.known) _ _ a.1 in
       let d = then_none (is_idle l.client.call) _ _ b.1 in
       sync_begins (delta_base scheme l.client.hint) scheme refl b.0 (idle_is l.client.call d.0)
 
-  pub called_ask : (j : ℕ) → refusal (want_ask j) l.client ≡ None → LinkInv x h seed (link_called (want_ask j) l)
+  pub called_ask : (j : ℕ) → refusal (want_ask j) l.client ≡ None → LinkInvariant x h seed (link_called (want_ask j) l)
   called_ask j e =
       let a = else_none l.client.failed _ _ e in
       let b = then_none (is_ready l.client.known l.client.hint) _ _ a.1 in
@@ -201,11 +201,11 @@ module _ (x : Setting) (h : History) (seed : List ℕ) (l : Link) (g : GoodHisto
 -- ---- a delivery to the client
 
 pub record ReportedLink (x : Setting) (seeds : List (List ℕ)) (h : History) (k : ℕ) (l : Link) (es : List Entry) : Type 0 where
-  pub link : LinkInv x h (seed_of seeds k) l
+  pub link : LinkInvariant x h (seed_of seeds k) l
   pub right : AllByRecursion (IsRight x seeds h) es
 
 module _ (law : RetrievalGivesTheRecord) (x : Setting) (seeds : List (List ℕ)) (k : ℕ) (h : History) (l : Link) (g : GoodHistory x h)
-    (i : LinkInv x h (seed_of seeds k) l) where
+    (i : LinkInvariant x h (seed_of seeds k) l) where
   client_inv : ClientInv x h (seed_of seeds k) l.standing l.client
   client_inv = record { seed_is = i.seed_is; alive = i.alive; known = i.known; hint = i.hint; call = i.call }
 
@@ -309,7 +309,7 @@ module _ (law : RetrievalGivesTheRecord) (x : Setting) (seeds : List (List ℕ))
 -- ---- a delivery to the server
 
 pub record ServedInv (x : Setting) (seeds : List (List ℕ)) (h : History) (seed : List ℕ) (l : Link) (h2 : History) (es : List Entry) : Type 0 where
-  pub link : LinkInv x h seed l
+  pub link : LinkInvariant x h seed l
   pub history_is : h2 ≡ h
   pub right : AllByRecursion (IsRight x seeds h) es
 
@@ -332,7 +332,7 @@ few_frames x h st seed c (Ask j z v m) up down p = few_flight x h st seed c (Ask
 few_frames x h st seed c (Edit j bytes) up down p = absurd p
 few_frames x h st seed c Publish up down p = absurd p
 
-pub served_inv : (short : Bool) (most : ℕ) (x : Setting) (seeds : List (List ℕ)) (k : ℕ) (h : History) (seed : List ℕ) (l : Link) → GoodHistory x h → LinkInv x h seed l
+pub served_inv : (short : Bool) (most : ℕ) (x : Setting) (seeds : List (List ℕ)) (k : ℕ) (h : History) (seed : List ℕ) (l : Link) → GoodHistory x h → LinkInvariant x h seed l
     → ServedInv x seeds h seed (link_served x short k most h l) (turn_of x short k most h l).history (turn_of x short k most h l).log
 served_inv short most x seeds k h seed l g i =
     let few = few_frames x h l.standing seed l.client l.client.call l.up.frames l.down.frames i.phase in

@@ -20,7 +20,7 @@ use Rattle.client_core.specs.Feeding.{Client, Course, takes_all, FeedsOpen, Feed
 use Rattle.pir_world.specs.Runs.{Link, serves, arrived, beyond, sent, link_reported, turn_of, link_served}
 use Rattle.pir_schemes.specs.Laws.{RetrievalGivesTheRecord}
 use Rattle.pir_world.specs.Versions.{seed_of}
-use Rattle.pir_world.specs.Invariants.{GoodHistory, LinkInv}
+use Rattle.pir_world.specs.Invariants.{GoodHistory, LinkInvariant}
 use Rattle.pir_world.specs.Sides.{Side, Carries, EndIs, TakesDelivery, prefix, rest}
 use Rattle.pir_world.proofs.Bytes.{delivered, memory_alone, prefix_read, carries_more}
 use Rattle.pir_world.proofs.Wires.{Split, IsFew, split_prefix}
@@ -36,7 +36,7 @@ pub record EndReported (e : Side) (session : Session) (l : Link) (most : ℕ) (e
   pub good : (takes_all l.client (arrived l.down most)).fault ≡ None
 
 module _ (law : RetrievalGivesTheRecord) (x : Setting) (seeds : List (List ℕ)) (k : ℕ) (h : History) (l : Link) (g : GoodHistory x h)
-    (inv : LinkInv x h (seed_of seeds k) l) (e e2 : Side) (session : Session) (most : ℕ) (i : EndIs e session l) where
+    (inv : LinkInvariant x h (seed_of seeds k) l) (e e2 : Side) (session : Session) (most : ℕ) (i : EndIs e session l) where
   abbrev Reported : List Event → Option ClientFault → Type 0
   Reported events fault = (fault ≡ Some Memory) ⊎ ((fault ≡ None) × EndReported e2 session l most events)
 
@@ -150,7 +150,7 @@ pub record EndServed (x : Setting) (k : ℕ) (h : History) (l : Link) (most : �
   pub store_is : StandsFor store (turn_of x short k most h l).history
   pub end_is : EndIs e2 after (link_served x short k most h l)
 
-module _ (x : Setting) (seeds : List (List ℕ)) (k : ℕ) (h : History) (l : Link) (good : GoodHistory x h) (inv : LinkInv x h (seed_of seeds k) l) (e e2 : Side)
+module _ (x : Setting) (seeds : List (List ℕ)) (k : ℕ) (h : History) (l : Link) (good : GoodHistory x h) (inv : LinkInvariant x h (seed_of seeds k) l) (e e2 : Side)
     (session after : Session) (store : StoreState) (most : ℕ) (replies : List ℕ) (i : EndIs e session l) where
   unclosed : is_closed session.standing ≡ false
   unclosed = ap is_closed i.standing_is ∙ inv.unclosed

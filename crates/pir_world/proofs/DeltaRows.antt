@@ -11,7 +11,7 @@ use Rattle.pir_schemes.specs.declared.plan.Plan.{Plan}
 use Rattle.pir_schemes.specs.Plans.{shape_at}
 use Rattle.pir_schemes.specs.Retrievals.{hint_matrix}
 use Rattle.version_store.specs.Histories.{History, delta_rows}
-use Rattle.version_store.specs.Deltas.{union_below}
+use Rattle.version_store.proofs.LoggedRows.{union_below}
 use Rattle.version_store.proofs.RowUnions.{is_in, in_range, in_filter}
 use Rattle.version_store.proofs.NamedRows.{joined, NamesRows, rows_named, same_hint_row}
 use Rattle.client_core.specs.Replies.{are_ascending}

@@ -10,6 +10,7 @@ use Rattle.server_core.specs.Serving.{Setting}
 use Rattle.client_core.specs.declared.state.CallFault.{CallFault}
 use Rattle.client_core.specs.Calls.{Want, refusal, call_frame}
 use Rattle.client_core.specs.Calls.{Hello as want_hello, Sync as want_sync, Ask as want_ask}
+use Rattle.frame_codec.proofs.Runs.{all_append}
 use Rattle.pir_world.specs.declared.steps.Step.{Step}
 use Rattle.pir_world.specs.declared.steps.Step.TheVariants.{Edit, Publish, Hello, Sync, Ask, ToServer, ToClient}
 use Rattle.pir_world.specs.declared.steps.Outcome.{Outcome}
@@ -18,27 +19,27 @@ use Rattle.pir_world.specs.Runs.{State, Link, Entry, Called, Sent, Plain, state_
 use Rattle.pir_world.specs.Earlier.{IsAside, HasEarlier}
 use Rattle.pir_world.specs.Versions.{seed_of}
 use Rattle.pir_world.specs.Headlines.{IsRight, IsRightOutcome}
-use Rattle.pir_world.specs.Invariants.{GoodHistory, LinkInv, LogInv, Inv}
+use Rattle.pir_world.specs.Invariants.{GoodHistory, LinkInvariant, LogInvariant, WorldInvariant}
 use Rattle.pir_world.proofs.Later.{IsLater, later_published, same_history, newest, good_published, good_edited, link_later, entries_later, get_same, get_other}
 use Rattle.pir_world.proofs.Calls.{called_hello, called_sync, called_ask, reported_inv, served_inv}
-use Rattle.pir_world.proofs.Logs.{all_append, each_more, each_later, log_aside, log_later, served_asides, reported_aside}
+use Rattle.pir_world.proofs.Logs.{each_more, each_later, log_aside, log_later, served_asides, reported_aside}
 use Rattle.pir_world.proofs.Told.{Logged, logged_hello, logged_sync, logged_ask, logged_served, logged_reported}
 
-module _ (x : Setting) (seeds : List (List ℕ)) (s : State) (inv : Inv x seeds s) where
+module _ (x : Setting) (seeds : List (List ℕ)) (s : State) (inv : WorldInvariant x seeds s) where
   -- a client's link is replaced
-  at_one : (k : ℕ) (l m : Link) (h : History) (es : List Entry) → slice_get s.links k ≡ Some l → h ≡ s.history → LinkInv x s.history (seed_of seeds k) m →
+  at_one : (k : ℕ) (l m : Link) (h : History) (es : List Entry) → slice_get s.links k ≡ Some l → h ≡ s.history → LinkInvariant x s.history (seed_of seeds k) m →
       AllByRecursion (IsRight x seeds s.history) es
-      → Logged x seeds s.history k m s.log es → ((j : ℕ) → k ≢ j → AllByRecursion (IsAside j) es) → Inv x seeds (with_link s h k m es)
+      → Logged x seeds s.history k m s.log es → ((j : ℕ) → k ≢ j → AllByRecursion (IsAside j) es) → WorldInvariant x seeds (with_link s h k m es)
   at_one k l m h es at e i right logged aside = rw e (record {
     history = inv.history;
     links = λ j y f. elim (cases_eq j k) [
-      | inl same ↦ let P : ℕ → Type 0 = λ n. LinkInv x s.history (seed_of seeds n) y in
-          subst P (sym same) (subst (λ (z : Link). LinkInv x s.history (seed_of seeds k) z) (replaced j k l m y at same f) i)
+      | inl same ↦ let P : ℕ → Type 0 = λ n. LinkInvariant x s.history (seed_of seeds n) y in
+          subst P (sym same) (subst (λ (z : Link). LinkInvariant x s.history (seed_of seeds k) z) (replaced j k l m y at same f) i)
       | inr other ↦ inv.links j y (sym (get_other s.links k j m other) ∙ f)
     ];
     logs = λ j y f. elim (cases_eq j k) [
-      | inl same ↦ let P : ℕ → Type 0 = λ n. LogInv x s.history (seed_of seeds n) n y (s.log ++ es) in
-          subst P (sym same) (subst (λ (z : Link). LogInv x s.history (seed_of seeds k) k z (s.log ++ es)) (replaced j k l m y at same f) logged.kept)
+      | inl same ↦ let P : ℕ → Type 0 = λ n. LogInvariant x s.history (seed_of seeds n) n y (s.log ++ es) in
+          subst P (sym same) (subst (λ (z : Link). LogInvariant x s.history (seed_of seeds k) k z (s.log ++ es)) (replaced j k l m y at same f) logged.kept)
       | inr other ↦ log_aside x s.history (seed_of seeds j) j y s.log es (inv.logs j y (sym (get_other s.links k j m other) ∙ f)) (aside j (λ e. other (sym e)))
     ];
     entries = all_append (IsRight x seeds s.history) s.log es inv.entries right;
@@ -51,7 +52,7 @@ module _ (x : Setting) (seeds : List (List ℕ)) (s : State) (inv : Inv x seeds 
           cc
 
   at_history : (h : History) (o : Outcome) → GoodHistory x h → IsLater s.history h → IsRightOutcome h o → ((j : ℕ) → IsAside j (Plain o))
-      → HasEarlier x seeds h s.log (Plain o) → Inv x seeds (with_history s h o)
+      → HasEarlier x seeds h s.log (Plain o) → WorldInvariant x seeds (with_history s h o)
   at_history h o g later right aside early = record {
     history = g;
     links = λ j y f. link_later x s.history h later (seed_of seeds j) y (inv.links j y f);
@@ -65,10 +66,10 @@ module _ (x : Setting) (seeds : List (List ℕ)) (s : State) (inv : Inv x seeds 
   abbrev Accepted : ℕ → Want → Link → Type 0
   Accepted k w l =
       let m = link_called w l in
-      LinkInv x s.history (seed_of seeds k) m × Logged x seeds s.history k m s.log (Called k w None ∷ Sent k (call_frame m.client m.client.call) ∷ [])
+      LinkInvariant x s.history (seed_of seeds k) m × Logged x seeds s.history k m s.log (Called k w None ∷ Sent k (call_frame m.client m.client.call) ∷ [])
 
   call_inv : (k : ℕ) (w : Want) (l : Link) (f : Option CallFault) → slice_get s.links k ≡ Some l → refusal w l.client ≡ f
-      → (refusal w l.client ≡ None → Accepted k w l) → Inv x seeds (call_at s k w l f)
+      → (refusal w l.client ≡ None → Accepted k w l) → WorldInvariant x seeds (call_at s k w l f)
   call_inv k w l (Some fault) at e called =
       at_one k l l s.history (Called k w (Some fault) ∷ []) at refl (inv.links k l at) (tt, tt)
       (record { kept = log_aside x s.history (seed_of seeds k) k l s.log (Called k w (Some fault) ∷ []) (inv.logs k l at) (tt, tt); earlier = (tt, tt) })
@@ -76,12 +77,12 @@ module _ (x : Setting) (seeds : List (List ℕ)) (s : State) (inv : Inv x seeds 
   call_inv k w l None at e called = let c = called e in at_one k l (link_called w l) s.history _ at refl c.0 (tt, (tt, tt)) c.1 (λ j ne. (ne, (ne, tt)))
 
   called_inv : (w : Want) (k : ℕ) (o : Option Link) → slice_get s.links k ≡ o
-      → ((l : Link) → LinkInv x s.history (seed_of seeds k) l → LogInv x s.history (seed_of seeds k) k l s.log → refusal w l.client ≡ None → Accepted k w l) →
-      Inv x seeds (called_at s w k o)
+      → ((l : Link) → LinkInvariant x s.history (seed_of seeds k) l → LogInvariant x s.history (seed_of seeds k) k l s.log → refusal w l.client ≡ None → Accepted k w l) →
+      WorldInvariant x seeds (called_at s w k o)
   called_inv w k None at called = inv
   called_inv w k (Some l) at called = call_inv k w l (refusal w l.client) at refl (called l (inv.links k l at) (inv.logs k l at))
 
-  served_at_inv : (short : Bool) (k most : ℕ) (o : Option Link) → slice_get s.links k ≡ o → Inv x seeds (served_at x short s k most o)
+  served_at_inv : (short : Bool) (k most : ℕ) (o : Option Link) → slice_get s.links k ≡ o → WorldInvariant x seeds (served_at x short s k most o)
   served_at_inv short k most None at = inv
   served_at_inv short k most (Some l) at =
       let d = served_inv short most x seeds k s.history (seed_of seeds k) l inv.history (inv.links k l at) in
@@ -90,7 +91,7 @@ module _ (x : Setting) (seeds : List (List ℕ)) (s : State) (inv : Inv x seeds 
       (logged_served x seeds s.history k l s.log (inv.logs k l at) short most (inv.links k l at))
       (λ j ne. served_asides j k ne x short _ (arrived l.up most) tt)
 
-  reported_at_inv : RetrievalGivesTheRecord → (k most : ℕ) (o : Option Link) → slice_get s.links k ≡ o → Inv x seeds (reported_at s k most o)
+  reported_at_inv : RetrievalGivesTheRecord → (k most : ℕ) (o : Option Link) → slice_get s.links k ≡ o → WorldInvariant x seeds (reported_at s k most o)
   reported_at_inv law k most None at = inv
   reported_at_inv law k most (Some l) at =
       let d = reported_inv law x seeds k s.history l inv.history (inv.links k l at) most in
@@ -98,19 +99,19 @@ module _ (x : Setting) (seeds : List (List ℕ)) (s : State) (inv : Inv x seeds 
       (logged_reported x seeds s.history k l s.log (inv.logs k l at) law inv.history most (inv.links k l at))
       (λ j ne. reported_aside j k ne l.client (arrived l.down most))
 
-  edit_inv : (i : ℕ) (bytes : List ℕ) → All (λ b. b < 2 ^ 8) bytes → Inv x seeds (edit_after x s i bytes)
+  edit_inv : (i : ℕ) (bytes : List ℕ) → All (λ b. b < 2 ^ 8) bytes → WorldInvariant x seeds (edit_after x s i bytes)
   edit_inv i bytes small =
-      cond_both (nat_lt i (length s.history.draft)) _ _ (λ t. Inv x seeds t)
-      (λ t. cond_both (fits x.plan bytes) _ _ (λ t. Inv x seeds t)
+      cond_both (nat_lt i (length s.history.draft)) _ _ (λ t. WorldInvariant x seeds t)
+      (λ t. cond_both (fits x.plan bytes) _ _ (λ t. WorldInvariant x seeds t)
       (λ u. at_history (after_edit i bytes s.history) (Edited i) (good_edited x s.history i bytes (record { len = eqb-true _ _ u; each = small }) inv.history)
       (λ v records p. p) tt (λ j. tt) tt)
       (λ u. at_history s.history (EditRefused i _) inv.history (same_history s.history) tt (λ j. tt) tt))
       (λ t. at_history s.history (EditRefused i _) inv.history (same_history s.history) tt (λ j. tt) tt)
 
-  publish_inv : Inv x seeds (publish_after s)
+  publish_inv : WorldInvariant x seeds (publish_after s)
   publish_inv =
-      cond_both s.history.marked _ _ (λ t. Inv x seeds t)
-      (λ t. cond_both (current_version s.history + 1 == 2 ^ 64) _ _ (λ t. Inv x seeds t)
+      cond_both s.history.marked _ _ (λ t. WorldInvariant x seeds t)
+      (λ t. cond_both (current_version s.history + 1 == 2 ^ 64) _ _ (λ t. WorldInvariant x seeds t)
       (λ u. at_history s.history (PublishRefused _) inv.history (same_history s.history) tt (λ j. tt) tt)
       (λ u. at_history (published s.history) (Published (current_version s.history + 1)) (good_published x s.history inv.history) (later_published s.history)
       (new_version s.history) (λ j. tt) tt))
@@ -119,7 +120,7 @@ module _ (x : Setting) (seeds : List (List ℕ)) (s : State) (inv : Inv x seeds 
       new_version : (h : History) → IsRightOutcome (published h) (Published (current_version h + 1))
       new_version h = let e : current_version (published h) ≡ current_version h + 1 = omega arith in (h.draft, let n = newest (published h) in rw (← e) n)
 
-  pub after_inv : RetrievalGivesTheRecord → (short : Bool) (step : Step) → FitsStep step → Inv x seeds (state_after x short s step)
+  pub after_inv : RetrievalGivesTheRecord → (short : Bool) (step : Step) → FitsStep step → WorldInvariant x seeds (state_after x short s step)
   after_inv law short (Edit i bytes) small = edit_inv i bytes small
   after_inv law short Publish small = publish_inv
   after_inv law short (Hello k) small =
@@ -134,13 +135,13 @@ module _ (x : Setting) (seeds : List (List ℕ)) (s : State) (inv : Inv x seeds 
   after_inv law short (ToServer k most) small = served_at_inv short k most (slice_get s.links k) refl
   after_inv law short (ToClient k most) small = reported_at_inv law k most (slice_get s.links k) refl
 
-pub step_inv : RetrievalGivesTheRecord → (x : Setting) (seeds : List (List ℕ)) (s : State) (step : Step) (t : State) → Steps x s step t → Inv x seeds s →
-    Inv x seeds t
+pub step_inv : RetrievalGivesTheRecord → (x : Setting) (seeds : List (List ℕ)) (s : State) (step : Step) (t : State) → Steps x s step t → WorldInvariant x seeds s →
+    WorldInvariant x seeds t
 step_inv law x seeds s step t (f, inl e) inv = rw e (after_inv x seeds s inv law false step f)
 step_inv law x seeds s step t (f, inr e) inv = rw e (after_inv x seeds s inv law true step f)
 
-pub run_inv : RetrievalGivesTheRecord → (x : Setting) (seeds : List (List ℕ)) (s : State) (steps : List Step) (t : State) → Run x s steps t → Inv x seeds s →
-    Inv x seeds t
+pub run_inv : RetrievalGivesTheRecord → (x : Setting) (seeds : List (List ℕ)) (s : State) (steps : List Step) (t : State) → Run x s steps t → WorldInvariant x seeds s →
+    WorldInvariant x seeds t
 run_inv law x seeds s [] t e inv = rw e inv
 run_inv law x seeds s (step ∷ steps) t r inv = run_inv law x seeds r.0 steps t r.2 (step_inv law x seeds s step r.0 r.1 inv)
 

@@ -27,7 +27,7 @@ use Rattle.pir_world.specs.declared.steps.Outcome.TheVariants.{Edited, EditRefus
 use Rattle.pir_world.specs.Runs.{Link, Retrieval, Entry, Called, Sent, Served, Ended, Plain}
 use Rattle.pir_world.specs.Versions.{HasVersion, IsVersion, HintIs, seed_of}
 use Rattle.pir_world.specs.Headlines.{IsRightEnd, IsRightQuery, IsServed, IsRightEvent, IsRightOutcome, IsRight}
-use Rattle.pir_world.specs.Invariants.{AreRecords, GoodHistory, IsKnownOf, KnownIs, CallIs, IsReplyOf, IsReply, InFlight, Phase, LinkInv}
+use Rattle.pir_world.specs.Invariants.{AreRecords, GoodHistory, IsKnownOf, KnownIs, CallIs, IsReplyOf, IsReply, InFlight, Phase, LinkInvariant}
 
 -- each version of one history is one of the other
 abbrev pub IsLater : History → History → Type 0
@@ -75,6 +75,7 @@ good_published x h g = record {
   first = g.first;
   versions = λ v records p. elim (version_cases h v records p) [ inl q ↦ g.versions v records q | inr e ↦ rw e g.draft ];
   draft = g.draft;
+  -- Rests on every version having as many records as the first.
   even = λ v records p. elim (version_cases h v records p) [ inl q ↦ g.even v records q | inr e ↦ ap length e ];
 }
 
@@ -106,6 +107,7 @@ good_edited x h i bytes fits g = record {
   first = g.first;
   versions = λ v records p. g.versions v records p;
   draft = edited_records x.plan h.draft i bytes fits g.draft;
+  -- Rests on every version having as many records as the first.
   even = λ v records p. g.even v records p ∙ sym (length-set h.draft i bytes);
 }
 
@@ -119,10 +121,8 @@ module _ (x : Setting) (h h2 : History) (later : IsLater h h2) where
   known_of_later y k = record {
     records = k.records;
     version_is = later _ _ k.version_is;
-    layout_is = k.layout_is;
-    dimension_is = k.dimension_is;
-    seed_is =
-        k.seed_is;
+    plan_is = k.plan_is;
+    count_is = k.count_is;
   }
 
   known_later : (st : Standing) (k : Option ServerInfo) → KnownIs x h st k → KnownIs x h2 st k
@@ -193,7 +193,7 @@ module _ (x : Setting) (h h2 : History) (later : IsLater h h2) where
   phase_later st seed c (Edit i bytes) up down q = q
   phase_later st seed c Publish up down q = q
 
-  pub link_later : (seed : List ℕ) (l : Link) → LinkInv x h seed l → LinkInv x h2 seed l
+  pub link_later : (seed : List ℕ) (l : Link) → LinkInvariant x h seed l → LinkInvariant x h2 seed l
   link_later seed l i = record {
     seed_is = i.seed_is;
     alive = i.alive;

@@ -8,6 +8,7 @@ use Rattle.std.proofs.lemmas.Bool.{cond_both, ne_eqb}
 use Rattle.pir_schemes.specs.declared.scheme.Scheme.{Scheme}
 use Rattle.frame_codec.specs.declared.frame.Frame.{Frame}
 use Rattle.frame_codec.specs.declared.frame.Frame.TheVariants as frame
+use Rattle.frame_codec.proofs.Runs.{all_append}
 use Rattle.version_store.specs.Histories.{History}
 use Rattle.server_core.specs.Serving.{Setting, is_closed}
 use Rattle.client_core.specs.declared.state.ClientState.{ClientState}
@@ -22,14 +23,10 @@ use Rattle.client_core.specs.Replies.{reaction_to_reply}
 use Rattle.client_core.specs.Feeding.{fault_of}
 use Rattle.pir_world.specs.declared.steps.Outcome.TheVariants.{Reported}
 use Rattle.pir_world.specs.Runs.{Link, Turn, Retrieval, Entry, Called, Sent, Served, Ended, Plain, turns, turn_more, reports, reacts, reported_by}
-use Rattle.pir_world.specs.Earlier.{AllWithEarlier, IsAside, IsSentLast, IsServedLast, is_ask, asks_of, hint_after, hint_told, IsAsked, HasEarlier}
+use Rattle.pir_world.specs.Earlier.{AllWithEarlier, IsAside, IsSentLast, IsServedLast, is_ask, asks_of, hint_after, hint_named, IsAsked, HasEarlier}
 use Rattle.pir_world.specs.Versions.{name_of, seed_of}
-use Rattle.pir_world.specs.Invariants.{IsFrom, LogInv, EachAfter}
+use Rattle.pir_world.specs.Invariants.{IsFrom, LogInvariant, EachAfter}
 use Rattle.pir_world.proofs.Later.{IsLater}
-
-pub all_append : {X : Type 0} (P : X → Type 0) (xs ys : List X) → AllByRecursion P xs → AllByRecursion P ys → AllByRecursion P (xs ++ ys)
-all_append P [] ys a b = b
-all_append P (x ∷ xs) ys a b = (a.0, all_append P xs ys a.1 b)
 
 -- ---- each entry, with those before it
 
@@ -94,7 +91,7 @@ asides_hint : (k : ℕ) (hint : Option (Scheme × ℕ)) (es : List Entry) → Al
 asides_hint k hint [] p = refl
 asides_hint k hint (e ∷ es) p = ap (λ (n : Option (Scheme × ℕ)). fold (hint_after k) n es) (aside_hint k hint e p.0) ∙ asides_hint k hint es p.1
 
-pub hint_more : (k : ℕ) (log es : List Entry) → hint_told k (log ++ es) ≡ fold (hint_after k) (hint_told k log) es
+pub hint_more : (k : ℕ) (log es : List Entry) → hint_named k (log ++ es) ≡ fold (hint_after k) (hint_named k log) es
 hint_more k log es = fold-append (hint_after k) None log es
 
 sent_aside : (k : ℕ) (f : Frame) (first log es : List Entry) → IsSentLast k f first log → AllByRecursion (IsAside k) es → IsSentLast k f first (log ++ es)
@@ -116,18 +113,18 @@ served_aside k f r first log es s p = record {
 }
 
 -- what the log says of a client is so after entries beside its own
-pub log_aside : (x : Setting) (h : History) (seed : List ℕ) (k : ℕ) (l : Link) (log es : List Entry) → LogInv x h seed k l log
-    → AllByRecursion (IsAside k) es → LogInv x h seed k l (log ++ es)
+pub log_aside : (x : Setting) (h : History) (seed : List ℕ) (k : ℕ) (l : Link) (log es : List Entry) → LogInvariant x h seed k l log
+    → AllByRecursion (IsAside k) es → LogInvariant x h seed k l (log ++ es)
 log_aside x h seed k l log es i p = record {
   number = same_number k l.client.number log es i.number (asides_ask k es p);
-  hint = i.hint ∙ sym (hint_more k log es ∙ asides_hint k (hint_told k log) es p);
+  hint = i.hint ∙ sym (hint_more k log es ∙ asides_hint k (hint_named k log) es p);
   sent = λ f e. let s = i.sent f e in (s.0, sent_aside k f s.0 log es s.1 p, s.2);
   served = λ r e. let s = i.served r e in (s.0, s.1, served_aside k s.0 r s.1 log es s.2 p, s.3);
 }
 
 -- and where only the ends of the wires differ
 pub log_same : (x : Setting) (h : History) (seed : List ℕ) (k : ℕ) (l m : Link) (log : List Entry) → m.client ≡ l.client → m.up.frames ≡ l.up.frames
-    → m.down.frames ≡ l.down.frames → LogInv x h seed k l log → LogInv x h seed k m log
+    → m.down.frames ≡ l.down.frames → LogInvariant x h seed k l log → LogInvariant x h seed k m log
 log_same x h seed k l m log c u d i = record {
   number = ap (λ (y : ClientState). y.number) c ∙ i.number;
   hint = ap (λ (y : ClientState). name_of y.hint) c ∙ i.hint;
@@ -207,7 +204,7 @@ module _ (x : Setting) (h h2 : History) (later : IsLater h h2) where
   from_later seed k (Edit i bytes) f first p = tt
   from_later seed k Publish f first p = tt
 
-  pub log_later : (seed : List ℕ) (k : ℕ) (l : Link) (log : List Entry) → LogInv x h seed k l log → LogInv x h2 seed k l log
+  pub log_later : (seed : List ℕ) (k : ℕ) (l : Link) (log : List Entry) → LogInvariant x h seed k l log → LogInvariant x h2 seed k l log
   log_later seed k l log i = record {
     number = i.number;
     hint = i.hint;

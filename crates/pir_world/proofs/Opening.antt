@@ -15,7 +15,7 @@ use Rattle.pir_world.specs.Runs.{Link, opening, setting_in, fresh_link}
 use Rattle.pir_world.specs.Versions.{seed_of}
 use Rattle.pir_world.specs.Earlier.{HasEarlier}
 use Rattle.pir_world.specs.Headlines.{IsOpening, EveryRunIsRight}
-use Rattle.pir_world.specs.Invariants.{AreRecords, LinkInv, LogInv, Inv}
+use Rattle.pir_world.specs.Invariants.{AreRecords, LinkInvariant, LogInvariant, WorldInvariant}
 use Rattle.version_store.specs.Histories.{StoreState, StandsFor, opened}
 use Rattle.version_store.specs.Openings.{held_of}
 use Rattle.server_core.specs.Cores.{Core, session_of}
@@ -60,7 +60,7 @@ opening_records h bytes o =
               All-take (λ (b : ℕ). b < 2 ^ 8) h.record_len (drop (i * h.record_len) bytes) (All-drop (λ (b : ℕ). b < 2 ^ 8) (i * h.record_len) bytes o.bytes);
         })
 
-pub opening_inv : (h : Header) (bytes : List ℕ) (seeds : List (List ℕ)) → IsOpening h bytes → Inv (setting_in h) seeds (opening h bytes seeds)
+pub opening_inv : (h : Header) (bytes : List ℕ) (seeds : List (List ℕ)) → IsOpening h bytes → WorldInvariant (setting_in h) seeds (opening h bytes seeds)
 opening_inv h bytes seeds o =
     let all = opening_records h bytes o in
     record {
@@ -73,9 +73,9 @@ opening_inv h bytes seeds o =
         even = λ v records p. sym (ap length (only_one (records_in (shape_of h) bytes) records (current_version (opening h bytes seeds).history - v)
             (sym (records_at (opening h bytes seeds).history v p.0) ∙ p.1)));
       };
-      links = λ k l e. subst (λ (m : Link). LinkInv (setting_in h) (opening h bytes seeds).history (seed_of seeds k) m) (link_of seeds k l e)
+      links = λ k l e. subst (λ (m : Link). LinkInvariant (setting_in h) (opening h bytes seeds).history (seed_of seeds k) m) (link_of seeds k l e)
           (record { seed_is = refl; alive = refl; unclosed = refl; known = tt; hint = tt; call = tt; phase = (refl, refl) });
-      logs = λ k l e. subst (λ (m : Link). LogInv (setting_in h) (opening h bytes seeds).history (seed_of seeds k) k m []) (link_of seeds k l e)
+      logs = λ k l e. subst (λ (m : Link). LogInvariant (setting_in h) (opening h bytes seeds).history (seed_of seeds k) k m []) (link_of seeds k l e)
           (record {
             number = refl;
             hint = refl;

@@ -29,7 +29,7 @@ use Rattle.pir_world.specs.declared.steps.Outcome.TheVariants.{Reported, CallRef
 use Rattle.pir_world.specs.Runs.{State, Link, Turn, turns, turn_more, sent, with_history, Entry, Called, Sent, Plain, arrived, reported_by, reacts, reports, link_reported, link_served, link_called, turn_of, outcomes_of, outcome_of, called_at, served_at, reported_at}
 use Rattle.pir_schemes.specs.Laws.{RetrievalGivesTheRecord}
 use Rattle.pir_world.specs.Versions.{seed_of}
-use Rattle.pir_world.specs.Invariants.{Inv, LinkInv}
+use Rattle.pir_world.specs.Invariants.{WorldInvariant, LinkInvariant}
 use Rattle.pir_world.specs.Sides.{Side, Carries, EndIs, TakesDelivery, ServesDelivery, MakesCall, Matched, IsParts, prefix}
 use Rattle.pir_world.proofs.Later.{get_same, get_other}
 use Rattle.pir_world.proofs.Wires.{IsFew, split_few}
@@ -115,7 +115,7 @@ serves_silent x short k t (f ∷ fs) e = serves_silent x short k (turn_more x sh
 module _ (x : Setting) (core : Core) (ends : List Side) (os : List Outcome) (s : State) (k : ℕ) (e e2 : Side) (p : IsParts x core ends os s)
     (at : slice_get ends k ≡ Some e) where
   pub parts_reported : RetrievalGivesTheRecord → (seeds : List (List ℕ)) (most : ℕ) (out : List ℕ) (events : List Event) (fault : Option ClientFault) →
-      Inv x seeds s → TakesDelivery most e out events fault e2
+      WorldInvariant x seeds s → TakesDelivery most e out events fault e2
       → (fault ≡ Some Memory) ⊎ ((fault ≡ None)
       × IsParts x core (slice_set ends k e2) (os ++ map (Reported k) events) (reported_at s k most (slice_get s.links k)))
   parts_reported law seeds most out events fault inv d =
@@ -126,7 +126,7 @@ module _ (x : Setting) (core : Core) (ends : List Side) (os : List Outcome) (s :
         | inr t ↦ inr (t.0, go m i t.1)
       ]
     where
-      go : (m : Met core k e s) → LinkInv x s.history (seed_of seeds k) m.link → EndReported e2 m.session m.link most events →
+      go : (m : Met core k e s) → LinkInvariant x s.history (seed_of seeds k) m.link → EndReported e2 m.session m.link most events →
           IsParts x core (slice_set ends k e2) (os ++ map (Reported k) events) (reported_at s k most (slice_get s.links k))
       go m i t =
           let few = (few_frames x s.history m.link.standing (seed_of seeds k) m.link.client m.link.client.call m.link.up.frames m.link.down.frames i.phase).1 in
@@ -142,7 +142,7 @@ module _ (x : Setting) (core : Core) (ends : List Side) (os : List Outcome) (s :
                 (map (Reported k) events) p.outcomes_are events_reported;
           })
 
-  pub parts_served : (core2 : Core) (seeds : List (List ℕ)) (most : ℕ) → Inv x seeds s
+  pub parts_served : (core2 : Core) (seeds : List (List ℕ)) (most : ℕ) → WorldInvariant x seeds s
       → ((other : ℕ) → other ≢ k → session_of core2.sessions other ≡ session_of core.sessions other)
       → ((h : History) (session : Session) → StandsFor core.store h → session_of core.sessions k ≡ Some session →
       (then_ : Session) × (session_of core2.sessions k ≡ Some then_) × ServesDelivery most h core.store e session core2.store e2 then_)

@@ -136,6 +136,7 @@ module _ (x : Setting) (h : History) (g : GoodHistory x h) (seed : List ℕ) (si
     right = tt;
   }
 
+  -- Rests on every version having as many records as the first.
   even : length before ≡ length h.current
   even = g.even since before there ∙ sym (g.even (current_version h) h.current (newest h))
 
@@ -182,7 +183,7 @@ pub asked_is : (x : Setting) (h : History) (y : ServerInfo) (records : List (Lis
     call_words (Some y) r.scheme seed r.number r.index ≡ asked_words x.plan records seed r
 asked_is x h y records seed r k p =
     let same : k.records ≡ records = one_version h y.version k.records records k.version_is p in
-    rw (k.layout_is, k.dimension_is, k.seed_is, same) refl
+    rw (k.plan_is, k.count_is, same) refl
 
 module _ (x : Setting) (h : History) (seed : List ℕ) (i : ℕ) (s : Scheme) (v n : ℕ) (records : List (List ℕ)) (there : HasVersion h v records) where
   abbrev retrieval : Retrieval

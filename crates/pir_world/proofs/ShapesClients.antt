@@ -5,20 +5,20 @@ use Rattle.std.proofs.lemmas.List.{append-nil}
 use Rattle.frame_codec.specs.declared.frame.Frame.{Frame}
 use Rattle.frame_codec.specs.declared.frame.Frame.TheVariants as frame
 use Rattle.frame_codec.specs.Rows.{RowList}
-use Rattle.digit_pack.specs.Layout.{Shape, shape}
+use Rattle.pir_schemes.specs.declared.plan.Plan.{Plan}
 use Rattle.pir_schemes.specs.declared.scheme.Scheme.{Scheme}
 use Rattle.pir_schemes.specs.declared.scheme.Scheme.TheVariants.{Simple}
 use Rattle.pir_schemes.specs.Schemes.{scheme_byte}
 use Rattle.pir_schemes.specs.Retrievals.{hint_len}
-use Rattle.pir_schemes.proofs.Lengths.{length_query}
 use Rattle.client_core.specs.declared.state.ClientState.{ClientState}
 use Rattle.client_core.specs.declared.state.ServerInfo.{ServerInfo}
 use Rattle.client_core.specs.declared.state.Hint.{Hint}
 use Rattle.client_core.specs.declared.state.Call.{Call}
 use Rattle.client_core.specs.declared.state.Call.TheVariants as call
-use Rattle.client_core.specs.States.{known_version, scheme_held, delta_base}
+use Rattle.client_core.specs.States.{shape_known, known_version, scheme_held, delta_base}
 use Rattle.client_core.specs.Calls.{Want, Hello, Sync, Ask, sync_begun, state_after_call, call_frame, call_words}
 use Rattle.client_core.specs.Replies.{
+  plan_given,
   Taken,
   reaction_to_reply,
   is_accepted_welcome,
@@ -30,7 +30,7 @@ use Rattle.client_core.specs.Replies.{
   answered,
   takes_answer,
   is_current,
-  staled,
+  reaction_to_stale,
   takes_stale,
   row_numbers,
   is_delta,
@@ -62,7 +62,7 @@ use Rattle.client_core.specs.Shapes.{
   outline_after_call,
   after_reply,
 }
-use Rattle.client_core.proofs.ShapeLaws.{no_index, base_named}
+use Rattle.client_core.proofs.ShapeLaws.{asked_length, no_index, base_named}
 use Rattle.pir_world.proofs.ShapesFrames.{IsFrameLike, same_frame, same_blank}
 
 -- ---- calls
@@ -92,12 +92,6 @@ held_is : (h : Option Hint) → scheme_held h ≡ held (hint_name h)
 unfolding held
 held_is None = refl
 held_is (Some h) = refl
-
-asked_length : (known : Option ServerInfo) (hint : Option Hint) (seed : List ℕ) (number i : ℕ)
-    → length (call_words known (scheme_held hint) seed number i) ≡ asked_count known (hint_name hint)
-asked_length None hint seed number i = refl
-asked_length (Some k) None seed number i = length_query _ k.layout k.dimension k.seed seed number i
-asked_length (Some k) (Some h) seed number i = length_query h.scheme k.layout k.dimension k.seed seed number i
 
 -- the first frame of a sync, by delta or by parts
 first_frame : Option ℕ → Scheme → Option ServerInfo → Frame
@@ -170,14 +164,14 @@ part_sends (call.Sync s v p) c scheme version part words = asked c.known
     asked : (known : Option ServerInfo) → Sends (takes_asked_part known s c v p scheme version part words)
     asked None = inl refl
     asked (Some k) =
-        either (is_part s (hint_len s k.layout k.dimension) v p scheme version part words) _ _
-        (either (length (c.parts ++ words) == hint_len s k.layout k.dimension) _ _ (inl refl) (inr (s, v, _, refl, refl)))
+        either (is_part s (hint_len s (shape_known k) k.plan.dimension) v p scheme version part words) _ _
+        (either (length (c.parts ++ words) == hint_len s (shape_known k) k.plan.dimension) _ _ (inl refl) (inr (s, v, _, refl, refl)))
         (inl refl)
 part_sends k c scheme version part words = inl refl
 
-welcome_sends : (k : Call) (c : ClientState) (profile : ℕ) (l : Shape) (n version : ℕ) (seed : List ℕ) → Sends (takes_welcome k c profile l n version seed)
-welcome_sends (call.Hello key) c profile l n version seed = either (is_accepted_welcome profile l n version) _ _ (inl refl) (inl refl)
-welcome_sends k c profile l n version seed = inl refl
+welcome_sends : (k : Call) (c : ClientState) (profile : ℕ) (plan : Plan) (count version : ℕ) → Sends (takes_welcome k c profile plan count version)
+welcome_sends (call.Hello key) c profile plan count version = either (is_accepted_welcome profile plan count version) _ _ (inl refl) (inl refl)
+welcome_sends k c profile plan count version = inl refl
 
 answer_sends : (k : Call) (c : ClientState) (scheme version : ℕ) (words : List ℕ) → Sends (takes_answer k c scheme version words)
 answer_sends (call.Ask i s v n) c scheme version words = asked c.known c.hint
@@ -188,7 +182,7 @@ answer_sends (call.Ask i s v n) c scheme version words = asked c.known c.hint
     asked (Some k) (Some h) = either (is_answer h.scheme k v scheme version words) _ _ (inl refl) (inl refl)
 answer_sends k c scheme version words = inl refl
 
-stale_asked : (known : Option ServerInfo) (dropped c : ClientState) (asked version count : ℕ) → Sends (staled known dropped c asked version count)
+stale_asked : (known : Option ServerInfo) (dropped c : ClientState) (asked version count : ℕ) → Sends (reaction_to_stale known dropped c asked version count)
 stale_asked None dropped c asked version count = inl refl
 stale_asked (Some k) dropped c asked version count =
     either (not (version == asked) && is_current k version count) _ _ (inl refl) (inl refl)
@@ -230,7 +224,7 @@ refused_sends k c code = inl refl
 
 reply_sends : (c : ClientState) (f : Frame) → Sends (reaction_to_reply c f)
 reply_sends c (frame.Welcome profile width record_len groups count version dimension seed) =
-    welcome_sends c.call c profile (shape width record_len groups count) dimension version seed
+    welcome_sends c.call c profile (plan_given width record_len groups dimension seed) count version
 reply_sends c (frame.HintPart scheme version part words) = part_sends c.call c scheme version part words
 reply_sends c (frame.Answer scheme version words) = answer_sends c.call c scheme version words
 reply_sends c (frame.Stale version count) = stale_sends c.call c version count

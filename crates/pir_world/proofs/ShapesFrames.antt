@@ -8,9 +8,9 @@ use Rattle.std.proofs.lemmas.List.Concat.{flat_map-cons}
 use Rattle.frame_codec.specs.declared.frame.Frame.{Frame}
 use Rattle.frame_codec.specs.declared.frame.Frame.TheVariants.{Query, Answer}
 use Rattle.frame_codec.specs.Frames.{kind_of, payload_size, encoding}
-use Rattle.frame_codec.proofs.Payloads.{payload_sized}
 use Rattle.frame_codec.proofs.Prefixes.{encoded_length}
 use Rattle.client_core.specs.Shapes.{FrameShape, shape_of_frame, frame_shape, BlankAnswer, blank_reply}
+use Rattle.client_core.proofs.ShapeLaws.{sized}
 use Rattle.pir_world.specs.Runs.{Wire, whole, unread, reach, arrived, beyond, sent}
 
 -- the same frame, but for the words of a query or of an answer, of which there are as many
@@ -34,9 +34,6 @@ module _ {A : Type 0} (v : Frame → A)
   equal_of (Query scheme version words) g e = query scheme version words e.0 e.2 ∙ ap v (sym e.1)
   equal_of (Answer scheme version words) g e = answer scheme version words e.0 e.2 ∙ ap v (sym e.1)
   equal_of f g e = ap v (sym e)
-
-sized : (f : Frame) → shape_of_frame f ≡ frame_shape (kind_of f) (payload_size f)
-sized f = ap (λ (x : ℕ). frame_shape (kind_of f) x) (payload_sized f)
 
 -- such frames have one shape
 pub same_shape : (f g : Frame) → IsFrameLike f g → shape_of_frame f ≡ shape_of_frame g

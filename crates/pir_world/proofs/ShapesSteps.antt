@@ -39,7 +39,7 @@ use Rattle.pir_world.specs.Runs.{
 }
 use Rattle.pir_world.specs.Versions.{seed_of}
 use Rattle.pir_world.specs.Shapes.{IsStepLike, AreStepsLike, HadMemory, AskIsBelow, AsksAreBelow, IsPlainRun, IndicesChangeNoShape}
-use Rattle.pir_world.specs.Invariants.{Inv}
+use Rattle.pir_world.specs.Invariants.{WorldInvariant}
 use Rattle.pir_world.proofs.Calls.{few_frames}
 use Rattle.pir_world.proofs.Keeping.{step_inv}
 use Rattle.pir_world.proofs.Opening.{opening_inv}
@@ -86,7 +86,7 @@ module _ (x : Setting) (s t : State) (a : IsStateLike s t) where
       → IsStateLike (called_at s v k (slice_get s.links k)) (called_at t w k (slice_get t.links k))
   calls_like k v w r e below below2 = called_like s t a k v w (slice_get s.links k) (slice_get t.links k) refl refl (a.links k) r e below below2
 
-  pub after_like : (seeds : List (List ℕ)) → Inv x seeds s → (step other : Step) → IsStepLike step other
+  pub after_like : (seeds : List (List ℕ)) → WorldInvariant x seeds s → (step other : Step) → IsStepLike step other
       → AskIsBelow s step → AskIsBelow t other → IsStateLike (state_after x false s step) (state_after x false t other)
   after_like seeds inv (Edit i bytes) other e b b2 = rw e (edit_like i bytes)
   after_like seeds inv Publish other e b b2 = rw e publish_like
@@ -166,7 +166,7 @@ run_kept P x s (step ∷ steps) t r all = steps_kept x s P step r.0 r.1 (run_kep
 -- ---- runs
 
 module _ (law : RetrievalGivesTheRecord) (x : Setting) (seeds : List (List ℕ)) where
-  runs_like : (s t : State) (steps others : List Step) (s2 t2 : State) → IsStateLike s t → Inv x seeds s → Inv x seeds t
+  runs_like : (s t : State) (steps others : List Step) (s2 t2 : State) → IsStateLike s t → WorldInvariant x seeds s → WorldInvariant x seeds t
       → AreStepsLike steps others → IsPlainRun x s steps s2 → IsPlainRun x t others t2 → IsStateLike s2 t2
   runs_like s t [] [] s2 t2 a i j e r q = rw (r.run, q.run) a
   runs_like s t (step ∷ steps) (other ∷ others) s2 t2 a i j e r q =

@@ -8,7 +8,7 @@ use Rattle.std.proofs.Math.Seq.{take-add}
 use Rattle.std.proofs.Math.Nat.{mul-pos}
 use Rattle.std.proofs.lemmas.Bool.{cases_Bool, eqb-true, eqb-false, eq-eqb, ne_eqb, lt-ltb, le-leb, and_from}
 use Rattle.matrix_u32.specs.Matrix.{WordMatrix, IsWhole, row}
-use Rattle.digit_pack.specs.Layout.{Shape, shape, IsShape, digit_rows}
+use Rattle.digit_pack.specs.Layout.{Shape, IsShape, digit_rows}
 use Rattle.digit_pack.proofs.Changes.{some_digits}
 use Rattle.digit_pack.proofs.DigitSums.{split_some}
 use Rattle.digit_pack.proofs.RecordLemmas.{shape_of_layout}
@@ -17,7 +17,7 @@ use Rattle.pir_schemes.specs.declared.scheme.Scheme.TheVariants.{Simple, Double}
 use Rattle.pir_schemes.specs.Schemes.{scheme_byte}
 use Rattle.pir_schemes.specs.Parts.{part_len}
 use Rattle.pir_schemes.specs.declared.plan.Plan.{Plan}
-use Rattle.pir_schemes.specs.Plans.{IsPlan, shape_at, profile_of, record_of}
+use Rattle.pir_schemes.specs.Plans.{IsPlan, shape_at, profile_of}
 use Rattle.pir_schemes.specs.Retrievals.{hint_rows as rows_of_hint, hint_len, hint_matrix, reading}
 use Rattle.pir_schemes.specs.Laws.{RetrievalGivesTheRecord}
 use Rattle.pir_schemes.proofs.Lengths.{hint_sizes, length-answer}
@@ -36,8 +36,8 @@ use Rattle.client_core.specs.declared.state.Call.{Call}
 use Rattle.client_core.specs.declared.state.Call.TheVariants.{Idle, Hello, Sync, Delta, Ask, Edit, Publish}
 use Rattle.client_core.specs.declared.state.ClientFault.TheVariants.{BadReply}
 use Rattle.client_core.specs.declared.state.Reaction.TheVariants.{Asks}
-use Rattle.client_core.specs.States.{is_layout}
-use Rattle.client_core.specs.Replies.{Taken, reaction_to_reply, takes_welcome, takes_part, takes_answer, takes_stale, takes_no_delta, takes_refused, takes_asked_part, more_parts, is_accepted_welcome, is_part, is_answer, is_current, with_current, with_count, are_ascending, is_delta, event_of, answered, ended, faulty}
+use Rattle.client_core.specs.States.{is_layout, shape_known}
+use Rattle.client_core.specs.Replies.{Taken, reaction_to_reply, takes_welcome, takes_part, takes_answer, takes_stale, takes_no_delta, takes_refused, takes_asked_part, more_parts, is_accepted_welcome, is_part, is_answer, is_current, with_current, are_ascending, is_delta, event_of, event_read, answered, ended, faulty}
 use Rattle.client_core.specs.declared.state.Event.TheVariants.{Synced}
 use Rattle.client_core.specs.Laws.{rows_of}
 use Rattle.client_core.specs.Feeding.{sends_of, fault_of}
@@ -86,7 +86,7 @@ pub record IsTaken (x : Setting) (seeds : List (List ℕ)) (k : ℕ) (h : Histor
 plan_accepted : (p : Plan) (n : ℕ) (l : Shape) → IsPlan p n → l ≡ shape_at p n → is_layout l ≡ true
 plan_accepted p n l ok e = rw e (layout_accepted (shape_at p n) ok.layout)
 
-welcome_good : (p : Plan) (n v : ℕ) → IsPlan p n → 0 < v → is_accepted_welcome (profile_of p) (shape p.width p.record_len p.groups n) p.dimension v ≡ true
+welcome_good : (p : Plan) (n v : ℕ) → IsPlan p n → 0 < v → is_accepted_welcome (profile_of p) p n v ≡ true
 welcome_good p n v ok lt =
     and_from (is_layout (shape_at p n)) _ (layout_accepted (shape_at p n) ok.layout)
     (and_from (nat_le 1 p.dimension && nat_le p.dimension 1024) (nat_lt 0 v) (and_from _ _ (le-leb 1 p.dimension ok.low) (le-leb p.dimension 1024 ok.high))
@@ -146,12 +146,12 @@ module _ (law : RetrievalGivesTheRecord) (x : Setting) (seeds : List (List ℕ))
 
   welcomed : (key : List ℕ) (v : ℕ) (records : List (List ℕ)) → HasVersion h v records → st ≡ Reader →
       IsTaken x seeds k h st c (Hello key) (welcome_frame x v records)
-      (takes_welcome (Hello key) c (profile_of x.plan) (shape x.plan.width x.plan.record_len x.plan.groups (length records)) x.plan.dimension v x.plan.seed)
+      (takes_welcome (Hello key) c (profile_of x.plan) x.plan (length records) v)
   welcomed key v records p reader = rw (welcome_good x.plan (length records) v (plan_ok v records p) (version_positive x h v records g p)) (record {
     client = record {
       seed_is = i.seed_is;
       alive = i.alive;
-      known = (reader, record { records = records; version_is = p; layout_is = refl; dimension_is = refl; seed_is = refl });
+      known = (reader, record { records = records; version_is = p; plan_is = refl; count_is = refl });
       hint = i.hint;
       call = tt;
     };
@@ -202,8 +202,14 @@ module _ (law : RetrievalGivesTheRecord) (x : Setting) (seeds : List (List ℕ))
   }
 
   module _ (y : ServerInfo) (at : c.known ≡ Some y) (known : (st ≡ Reader) × IsKnownOf x h y) where
-    count_same : (n : ℕ) → with_count y.layout n ≡ shape_at x.plan n
-    count_same n = ap (λ (l : Shape). with_count l n) known.1.layout_is
+    dimension_is : y.plan.dimension ≡ x.plan.dimension
+    dimension_is = ap (λ (p : Plan). p.dimension) known.1.plan_is
+
+    count_same : (n : ℕ) → shape_at y.plan n ≡ shape_at x.plan n
+    count_same n = ap (λ (p : Plan). shape_at p n) known.1.plan_is
+
+    shape_same : shape_known y ≡ shape_at x.plan (length known.1.records)
+    shape_same = count_same y.count ∙ ap (shape_at x.plan) known.1.count_is
 
     current_good : (now : ℕ) (records : List (List ℕ)) → HasVersion h now records → is_current y now (length records) ≡ true
     current_good now records p = and_from _ _ (lt-ltb 0 now (version_positive x h now records g p))
@@ -215,20 +221,19 @@ module _ (law : RetrievalGivesTheRecord) (x : Setting) (seeds : List (List ℕ))
         let ne : (now == v) ≡ false = ne_eqb now v (λ e. omega (arith, lt, e)) in
         rw ne (current_good now records p)
 
-    reported_of : (now : ℕ) (records : List (List ℕ)) → HasVersion h now records →
+    is_reported : (now : ℕ) (records : List (List ℕ)) → HasVersion h now records →
         IsKnownOf x h (with_current y now (length records))
-    reported_of now records p = record {
+    is_reported now records p = record {
       records = records;
       version_is = p;
-      layout_is = count_same (length records);
-      dimension_is = known.1.dimension_is;
-      seed_is = known.1.seed_is;
+      plan_is = known.1.plan_is;
+      count_is = refl;
     }
 
     stale_sync : (s : Scheme) (v q now : ℕ) (records : List (List ℕ)) → HasVersion h now records → v < now
         → IsTaken x seeds k h st c (Sync s v q) (frame.Stale now (length records)) (takes_stale (Sync s v q) c now (length records))
     stale_sync s v q now records p lt = rw (at, stale_good v now records p lt) (record {
-      client = record { seed_is = i.seed_is; alive = i.alive; known = (known.0, reported_of now records p); hint = i.hint; call = tt };
+      client = record { seed_is = i.seed_is; alive = i.alive; known = (known.0, is_reported now records p); hint = i.hint; call = tt };
       no_fault = refl;
       phase = (refl, refl);
       right = ((records, p), tt);
@@ -241,7 +246,7 @@ module _ (law : RetrievalGivesTheRecord) (x : Setting) (seeds : List (List ℕ))
     stale_ask : (j : ℕ) (s : Scheme) (v n now : ℕ) (records : List (List ℕ)) → HasVersion h now records → v < now
         → IsTaken x seeds k h st c (Ask j s v n) (frame.Stale now (length records)) (takes_stale (Ask j s v n) c now (length records))
     stale_ask j s v n now records p lt = rw (at, stale_good v now records p lt) (record {
-      client = record { seed_is = i.seed_is; alive = i.alive; known = (known.0, reported_of now records p); hint = i.hint; call = tt };
+      client = record { seed_is = i.seed_is; alive = i.alive; known = (known.0, is_reported now records p); hint = i.hint; call = tt };
       no_fault = refl;
       phase = (refl, refl);
       right = (inr (inl (record { now = now; records = records; version_is = p; later = lt; reply_is = refl; event_is = refl })), tt);
@@ -258,7 +263,7 @@ module _ (law : RetrievalGivesTheRecord) (x : Setting) (seeds : List (List ℕ))
       client = record {
         seed_is = i.seed_is;
         alive = i.alive;
-        known = (known.0, reported_of now records p);
+        known = (known.0, is_reported now records p);
         hint = tt;
         call = record {
           k = with_current y now (length records);
@@ -304,9 +309,9 @@ module _ (law : RetrievalGivesTheRecord) (x : Setting) (seeds : List (List ℕ))
       good =
           and_from (since == since) _ (eq-eqb since since refl)
           (and_from (is_current y d.now (length d.records)) _ (current_good d.now d.records d.version_is)
-          (and_from (new.cols == y.dimension) _ (eq-eqb new.cols y.dimension ((hint_sizes Simple x.plan d.records).cols ∙ sym known.1.dimension_is))
+          (and_from (new.cols == y.plan.dimension) _ (eq-eqb new.cols y.plan.dimension ((hint_sizes Simple x.plan d.records).cols ∙ sym dimension_is))
           (and_from (nat_le (length d.numbers) 1024) _ (le-leb (length d.numbers) 1024 d.few)
-          (ap (λ (l : Shape). are_ascending 0 (digit_rows l) d.numbers) known.1.layout_is ∙ d.ascending))))
+          (ap (λ (l : Shape). are_ascending 0 (digit_rows l) d.numbers) shape_same ∙ d.ascending))))
 
       moved_is : reaction_to_reply c (frame.Delta since d.now (length d.records) (row_list new.cols (rows_of new d.numbers)))
           ≡ ended (record c {
@@ -335,7 +340,7 @@ module _ (law : RetrievalGivesTheRecord) (x : Setting) (seeds : List (List ℕ))
             client = record {
               seed_is = i.seed_is;
               alive = i.alive;
-              known = (known.0, reported_of d.now d.records d.version_is);
+              known = (known.0, is_reported d.now d.records d.version_is);
               hint = (d.records, d.version_is, ap (λ (s : Scheme). hint_matrix s x.plan d.records) (sym a.scheme_is));
               call = tt;
             };
@@ -349,30 +354,30 @@ module _ (law : RetrievalGivesTheRecord) (x : Setting) (seeds : List (List ℕ))
           }))
 
     -- the layout is that of the version asked
-    layout_of : (v : ℕ) (records : List (List ℕ)) → y.version ≡ v → HasVersion h v records → y.layout ≡ shape_at x.plan (length records)
+    layout_of : (v : ℕ) (records : List (List ℕ)) → y.version ≡ v → HasVersion h v records → shape_known y ≡ shape_at x.plan (length records)
     layout_of v records e p =
         let same : known.1.records ≡ records =
         one_version h v known.1.records records (let P : ℕ → Type 0 = λ n. HasVersion h n known.1.records in subst P e known.1.version_is) p in
-        known.1.layout_is ∙ ap (λ (r : List (List ℕ)). shape_at x.plan (length r)) same
+        shape_same ∙ ap (λ (r : List (List ℕ)). shape_at x.plan (length r)) same
 
     module _ (s : Scheme) (v p : ℕ) (r : SyncIs x h s v p c.known c.parts) (e : y.version ≡ v) where
       abbrev total : ℕ
-      total = hint_len s y.layout y.dimension
+      total = hint_len s (shape_known y) y.plan.dimension
 
-      layout_is : y.layout ≡ shape_at x.plan (length r.records)
+      layout_is : shape_known y ≡ shape_at x.plan (length r.records)
       layout_is = layout_of v r.records e r.version_is
 
       total_is : total ≡ length (hint_words x s r.records)
-      total_is = ap (λ (l : Shape). hint_len s l y.dimension) layout_is ∙ ap (hint_len s (shape_at x.plan (length r.records))) known.1.dimension_is
+      total_is = ap (λ (l : Shape). hint_len s l y.plan.dimension) layout_is ∙ ap (hint_len s (shape_at x.plan (length r.records))) dimension_is
           ∙ sym (length-hint x s r.records)
 
-      made : (words : List ℕ) → words ≡ hint_words x s r.records → record { rows = rows_of_hint s y.layout y.dimension; cols = y.dimension; words = words }
+      made : (words : List ℕ) → words ≡ hint_words x s r.records → record { rows = rows_of_hint s (shape_known y) y.plan.dimension; cols = y.plan.dimension; words = words }
           ≡ hint_matrix s x.plan r.records
       made words all =
           let z = hint_sizes s x.plan r.records in
-          matrix_same (hint_matrix s x.plan r.records) (rows_of_hint s y.layout y.dimension) y.dimension words
-          (ap (λ (l : Shape). rows_of_hint s l y.dimension) layout_is ∙ ap (rows_of_hint s (shape_at x.plan (length r.records))) known.1.dimension_is ∙ sym z.rows)
-          (known.1.dimension_is ∙ sym z.cols)
+          matrix_same (hint_matrix s x.plan r.records) (rows_of_hint s (shape_known y) y.plan.dimension) y.plan.dimension words
+          (ap (λ (l : Shape). rows_of_hint s l y.plan.dimension) layout_is ∙ ap (rows_of_hint s (shape_at x.plan (length r.records))) dimension_is ∙ sym z.rows)
+          (dimension_is ∙ sym z.cols)
           (all ∙ hint_list_is x s r.records)
 
       part_good : is_part s total v p (scheme_byte s) v p (part_words x s r.records p) ≡ true
@@ -436,7 +441,7 @@ module _ (law : RetrievalGivesTheRecord) (x : Setting) (seeds : List (List ℕ))
           (more (c.parts ++ part_words x s r.records p) (ap (λ (w : List ℕ). w ++ part_words x s r.records p) r.parts_are ∙ parts_more x s r.records p)
           (cases_Bool (length (c.parts ++ part_words x s r.records p) == total)))
 
-    module _ (j : ℕ) (s : Scheme) (v n : ℕ) (records : List (List ℕ)) (p : HasVersion h v records) (lt : j < y.layout.count) (e : y.version ≡ v) (hint : Hint)
+    module _ (j : ℕ) (s : Scheme) (v n : ℕ) (records : List (List ℕ)) (p : HasVersion h v records) (lt : j < y.count) (e : y.version ≡ v) (hint : Hint)
         (held : c.hint ≡ Some hint) (se : hint.scheme ≡ s) (ve : hint.version ≡ v) where
       abbrev asked : Retrieval
       asked = record { index = j; scheme = s; version = v; number = n }
@@ -444,8 +449,8 @@ module _ (law : RetrievalGivesTheRecord) (x : Setting) (seeds : List (List ℕ))
       abbrev answer : List ℕ
       answer = given_words x.plan records (seed_of seeds k) asked
 
-      shape_is : y.layout ≡ shape_at x.plan (length records)
-      shape_is = layout_of v records e p
+      count_is : y.count ≡ length records
+      count_is = ap (λ (l : Shape). l.count) (layout_of v records e p)
 
       hint_right : hint.matrix ≡ hint_matrix s x.plan records
       hint_right =
@@ -453,41 +458,41 @@ module _ (law : RetrievalGivesTheRecord) (x : Setting) (seeds : List (List ℕ))
           f.2 ∙ ap (λ (r : List (List ℕ)). hint_matrix hint.scheme x.plan r) (one_version h v f.0 records (subst (λ (w : ℕ). HasVersion h w f.0) ve f.1) p)
           ∙ ap (λ (t : Scheme). hint_matrix t x.plan records) se
 
-      read_is : event_of j v (record_of y.layout (reading hint.scheme y.layout hint.matrix c.seed n j answer))
-          ≡ event_of j v (record_read x.plan records (seed_of seeds k) asked)
-      read_is = rw (shape_is, hint_right, se, i.seed_is) refl
+      read_is : event_of y.plan j v (reading hint.scheme (shape_known y) hint.matrix c.seed n j answer)
+          ≡ event_read j v (record_read x.plan records (seed_of seeds k) asked)
+      read_is = rw (known.1.plan_is, count_is, hint_right, se, i.seed_is) refl
 
       words_good : is_answer hint.scheme y v (scheme_byte s) v answer ≡ true
-      words_good = rw (se, shape_is, known.1.dimension_is)
+      words_good = rw (se, known.1.plan_is, count_is)
           (and_from (scheme_byte s == scheme_byte s) _ (eq-eqb (scheme_byte s) (scheme_byte s) refl)
           (and_from (v == v) _ (eq-eqb v v refl)
           (eq-eqb _ _ (length-answer s x.plan records (asked_words x.plan records (seed_of seeds k) asked)))))
 
       answer_right : IsAnswered x h (seed_of seeds k) asked (frame.Answer (scheme_byte s) v answer)
-          (event_of j v (record_of y.layout (reading hint.scheme y.layout hint.matrix c.seed n j answer)))
+          (event_of y.plan j v (reading hint.scheme (shape_known y) hint.matrix c.seed n j answer))
       answer_right =
           let r = g.versions v records p in
-          let inside : j < length records = omega (arith, lt, ap (λ (l : Shape). l.count) shape_is) in
+          let inside : j < length records = omega (arith, lt, count_is) in
           record {
             records = records;
             version_is = p;
             inside = inside;
             answer_is = refl;
             event_is = read_is;
-            quiet = λ q. read_is ∙ ap (event_of j v)
+            quiet = λ q. read_is ∙ ap (event_read j v)
                 (law s x.plan records (seed_of seeds k) n j (shape_of_layout (shape_at x.plan (length records)) r.plan.layout) inside (r.each j inside)
                 (inl q));
-            certain = λ q. read_is ∙ ap (event_of j v)
+            certain = λ q. read_is ∙ ap (event_read j v)
                 (law s x.plan records (seed_of seeds k) n j (shape_of_layout (shape_at x.plan (length records)) r.plan.layout) inside (r.each j inside)
                 (inr q));
           }
 
       answer_step : takes_answer (Ask j s v n) c (scheme_byte s) v answer
-          ≡ ended c (event_of j v (record_of y.layout (reading hint.scheme y.layout hint.matrix c.seed n j answer)))
+          ≡ ended c (event_of y.plan j v (reading hint.scheme (shape_known y) hint.matrix c.seed n j answer))
       answer_step =
           ap (λ (o : Option ServerInfo). answered o c.hint c j v n (scheme_byte s) v answer) at
           ∙ ap (λ (o : Option Hint). answered (Some y) o c j v n (scheme_byte s) v answer) held
-          ∙ ap (λ (b : Bool). cond b (ended c (event_of j v (record_of y.layout (reading hint.scheme y.layout hint.matrix c.seed n j answer))))
+          ∙ ap (λ (b : Bool). cond b (ended c (event_of y.plan j v (reading hint.scheme (shape_known y) hint.matrix c.seed n j answer)))
           (faulty c BadReply)) words_good
 
       answer_came : IsTaken x seeds k h st c (Ask j s v n) (frame.Answer (scheme_byte s) v answer) (takes_answer (Ask j s v n) c (scheme_byte s) v answer)
@@ -510,7 +515,7 @@ module _ (law : RetrievalGivesTheRecord) (x : Setting) (seeds : List (List ℕ))
   reply_taken Idle r e a p = absurd p
   reply_taken (Hello key) r e a p =
       rw p.1.3 (by_call (λ (q : Call). takes_welcome q c (profile_of x.plan)
-      (shape x.plan.width x.plan.record_len x.plan.groups (length p.1.1)) x.plan.dimension p.1.0 x.plan.seed) (Hello key) (welcome_frame x p.1.0 p.1.1) e
+      x.plan (length p.1.1) p.1.0) (Hello key) (welcome_frame x p.1.0 p.1.1) e
       (welcomed key p.1.0 p.1.1 p.1.2 p.0))
   reply_taken (Sync s v m) r e a (inl p) =
       rw p (by_call (λ (q : Call). takes_refused q c (code_of refusal.Memory)) (Sync s v m) (refused refusal.Memory) e

@@ -26,9 +26,9 @@ use Rattle.client_core.specs.Calls.{Hello as want_hello, Sync as want_sync, Ask 
 use Rattle.client_core.specs.Replies.{reaction_to_reply}
 use Rattle.client_core.specs.Feeding.{takes_all, sends_of, fault_of}
 use Rattle.pir_world.specs.Runs.{Wire, Link, Retrieval, Entry, Called, Sent, Served, arrived, beyond, sent, serves, served_or, turn_of, link_called, link_served, link_reported, reports, reacts, reported_by, reader_key}
-use Rattle.pir_world.specs.Earlier.{IsSentLast, IsServedLast, is_ask, asks_of, hint_after, hint_told, IsAsked, HasEarlier, IsAskForPart}
+use Rattle.pir_world.specs.Earlier.{IsSentLast, IsServedLast, is_ask, asks_of, hint_after, hint_named, IsAsked, HasEarlier, IsAskForPart}
 use Rattle.pir_world.specs.Versions.{name_of, seed_of}
-use Rattle.pir_world.specs.Invariants.{GoodHistory, IsReply, InFlight, Phase, LinkInv, IsFrom, LogInv, EachAfter}
+use Rattle.pir_world.specs.Invariants.{GoodHistory, IsReply, InFlight, Phase, LinkInvariant, IsFrom, LogInvariant, EachAfter}
 use Rattle.pir_world.proofs.Wires.{none_arrives, one_arrives}
 use Rattle.pir_world.proofs.Serves.{ask_words}
 use Rattle.pir_world.proofs.Takes.{ClientInv, IsTaken, IsPartBefore, one_alike, taken}
@@ -44,7 +44,7 @@ none_one {X = X} xs x a b = let e : ◌≡◌ {A = List X} [] (x ∷ []) = sym a
 
 -- what a step of client k leaves: what is said of it, and what came before each entry
 pub record Logged (x : Setting) (seeds : List (List ℕ)) (h : History) (k : ℕ) (l : Link) (log es : List Entry) : Type 0 where
-  pub kept : LogInv x h (seed_of seeds k) k l (log ++ es)
+  pub kept : LogInvariant x h (seed_of seeds k) k l (log ++ es)
   pub earlier : EachAfter (HasEarlier x seeds h) log es
 
 -- ---- which way a frame is on
@@ -145,7 +145,7 @@ module _ (x : Setting) (seeds : List (List ℕ)) (h : History) (k : ℕ) (log fi
   reacts_earlier (Reports event) (Edit j bytes) from asks = ((f, reply, first, s), tt)
   reacts_earlier (Reports event) Publish from asks = ((f, reply, first, s), tt)
 
-module _ (x : Setting) (seeds : List (List ℕ)) (h : History) (k : ℕ) (l : Link) (log : List Entry) (g : LogInv x h (seed_of seeds k) k l log) where
+module _ (x : Setting) (seeds : List (List ℕ)) (h : History) (k : ℕ) (l : Link) (log : List Entry) (g : LogInvariant x h (seed_of seeds k) k l log) where
   -- ---- an accepted call
 
   abbrev called_state : Want → ClientState
@@ -183,9 +183,9 @@ module _ (x : Setting) (seeds : List (List ℕ)) (h : History) (k : ℕ) (l : Li
 
   called_log : (w : Want) (d : ClientState)
       → InFlight x h l.standing (seed_of seeds k) d d.call (l.up.frames ++ call_frame d d.call ∷ []) l.down.frames
-      → d.number ≡ asks_of k (log ++ entries_of w d) → name_of d.hint ≡ hint_told k (log ++ entries_of w d)
+      → d.number ≡ asks_of k (log ++ entries_of w d) → name_of d.hint ≡ hint_named k (log ++ entries_of w d)
       → IsFrom x h (seed_of seeds k) k d.call (call_frame d d.call) (log ++ Called k w None ∷ [])
-      → LogInv x h (seed_of seeds k) k (link_with d) (log ++ entries_of w d)
+      → LogInvariant x h (seed_of seeds k) k (link_with d) (log ++ entries_of w d)
   called_log w d flight number hint from = record {
     number = number;
     hint = hint;
@@ -197,7 +197,7 @@ module _ (x : Setting) (seeds : List (List ℕ)) (h : History) (k : ℕ) (l : Li
     served = λ r e. absurd (called_down d r flight e);
   }
 
-  pub logged_hello : LinkInv x h (seed_of seeds k) (link_called (want_hello reader_key) l)
+  pub logged_hello : LinkInvariant x h (seed_of seeds k) (link_called (want_hello reader_key) l)
       → Logged x seeds h k (link_called (want_hello reader_key) l) log (called_entries (want_hello reader_key))
   logged_hello n =
       let es = called_entries (want_hello reader_key) in
@@ -208,12 +208,12 @@ module _ (x : Setting) (seeds : List (List ℕ)) (h : History) (k : ℕ) (l : Li
       }
 
   -- a sync that begins by parts or by delta
-  begun : (base : Option ℕ) (s : Scheme) → delta_base s l.client.hint ≡ base → LinkInv x h (seed_of seeds k) (link_begun base s l)
+  begun : (base : Option ℕ) (s : Scheme) → delta_base s l.client.hint ≡ base → LinkInvariant x h (seed_of seeds k) (link_begun base s l)
       → Logged x seeds h k (link_begun base s l) log (entries_of (want_sync s) (sync_begun base s l.client))
   begun None s is n =
       let d = sync_begun None s l.client in
       let es = entries_of (want_sync s) d in
-      let dropped : fold (hint_after k) (hint_told k log) es ≡ None = rw (eq-eqb k k refl) refl in
+      let dropped : fold (hint_after k) (hint_named k log) es ≡ None = rw (eq-eqb k k refl) refl in
       record {
         kept = called_log (want_sync s) d n.phase (same_number k l.client.number log es g.number (refl, (refl, tt))) (sym (hint_more k log es ∙ dropped)) refl;
         earlier = (tt, (inl (log, s, refl, refl, refl), tt));
@@ -222,21 +222,21 @@ module _ (x : Setting) (seeds : List (List ℕ)) (h : History) (k : ℕ) (l : Li
       let d = sync_begun (Some since) s l.client in
       let es = entries_of (want_sync s) d in
       let b = base_is s l.client.hint since is in
-      let named : hint_told k log ≡ Some (Simple, since) =
+      let named : hint_named k log ≡ Some (Simple, since) =
       sym g.hint ∙ ap name_of b.held ∙ rw (b.simple, b.version) refl in
       record {
         kept = called_log (want_sync s) d n.phase (same_number k l.client.number log es g.number (refl, (refl, tt))) (g.hint ∙ sym (hint_more k log es)) refl;
         earlier = (tt, ((log, ap (λ (z : Scheme). log ++ Called k (want_sync z) None ∷ []) b.scheme, named), tt));
       }
 
-  pub logged_sync : (s : Scheme) → LinkInv x h (seed_of seeds k) (link_called (want_sync s) l)
+  pub logged_sync : (s : Scheme) → LinkInvariant x h (seed_of seeds k) (link_called (want_sync s) l)
       → Logged x seeds h k (link_called (want_sync s) l) log (called_entries (want_sync s))
   logged_sync s n = begun (delta_base s l.client.hint) s refl n
 
   abbrev retrieval : ℕ → Retrieval
   retrieval j = record { index = j; scheme = scheme_held l.client.hint; version = known_version l.client.known; number = l.client.number }
 
-  asked : (j : ℕ) → LinkInv x h (seed_of seeds k) (link_called (want_ask j) l)
+  asked : (j : ℕ) → LinkInvariant x h (seed_of seeds k) (link_called (want_ask j) l)
       → IsAsked x h (seed_of seeds k) k (retrieval j) (called_frame (want_ask j)) (log ++ Called k (want_ask j) None ∷ [])
   asked j n =
       let s = scheme_held l.client.hint in
@@ -253,7 +253,7 @@ module _ (x : Setting) (seeds : List (List ℕ)) (h : History) (k : ℕ) (l : Li
         query_is = ap (λ (ws : List ℕ). frame.Query (scheme_byte s) v ws) w.2;
       }
 
-  pub logged_ask : (j : ℕ) → LinkInv x h (seed_of seeds k) (link_called (want_ask j) l)
+  pub logged_ask : (j : ℕ) → LinkInvariant x h (seed_of seeds k) (link_called (want_ask j) l)
       → Logged x seeds h k (link_called (want_ask j) l) log (called_entries (want_ask j))
   logged_ask j n =
       let es = called_entries (want_ask j) in
@@ -306,7 +306,7 @@ module _ (x : Setting) (seeds : List (List ℕ)) (h : History) (k : ℕ) (l : Li
   -- nothing arrives
   log_nothing : (m : Link) → m.client ≡ l.client → m.up.frames ≡ l.up.frames → m.down.frames ≡ l.down.frames → Logged x seeds h k m log []
   log_nothing m c u d = record {
-    kept = subst (λ (es : List Entry). LogInv x h (seed_of seeds k) k m es) (sym (append-nil log)) (log_same x h (seed_of seeds k) k l m log c u d g);
+    kept = subst (λ (es : List Entry). LogInvariant x h (seed_of seeds k) k m es) (sym (append-nil log)) (log_same x h (seed_of seeds k) k l m log c u d g);
     earlier = tt;
   }
 
@@ -314,7 +314,7 @@ module _ (x : Setting) (seeds : List (List ℕ)) (h : History) (k : ℕ) (l : Li
       → Logged x seeds h k (served_link short fs b) log (serves x short k h l.standing fs).log
   served_none short fs b e u = rw e (log_nothing _ refl u (append-nil l.down.frames))
 
-  pub logged_served : (short : Bool) (most : ℕ) → LinkInv x h (seed_of seeds k) l
+  pub logged_served : (short : Bool) (most : ℕ) → LinkInvariant x h (seed_of seeds k) l
       → Logged x seeds h k (link_served x short k most h l) log (turn_of x short k most h l).log
   logged_served short most i =
       let few = (few_frames x h l.standing (seed_of seeds k) l.client l.client.call l.up.frames l.down.frames i.phase).0 in
@@ -343,7 +343,7 @@ module _ (x : Setting) (seeds : List (List ℕ)) (h : History) (k : ℕ) (l : Li
           hint =
               ap (λ (y : ClientState). name_of y.hint) c ∙ t.told
               ∙ ap (λ (n : Option (Scheme × ℕ)). fold (hint_after k) n (reacts k l.client.call r reaction)) g.hint
-              ∙ ap (λ (z : List Entry). fold (hint_after k) (hint_told k log) z) (sym is)
+              ∙ ap (λ (z : List Entry). fold (hint_after k) (hint_named k log) z) (sym is)
               ∙ sym (hint_more k log es);
           sent = λ f e. (
             log,
@@ -374,7 +374,7 @@ module _ (x : Setting) (seeds : List (List ℕ)) (h : History) (k : ℕ) (l : Li
   reported_none : (fs : List Frame) (b : Wire) → fs ≡ [] → b.frames ≡ l.down.frames → Logged x seeds h k (reported_link fs b) log (reported_by k l.client fs)
   reported_none fs b e d = rw e (log_nothing (reported_link [] b) refl (append-nil l.up.frames) d)
 
-  pub logged_reported : RetrievalGivesTheRecord → GoodHistory x h → (most : ℕ) → LinkInv x h (seed_of seeds k) l
+  pub logged_reported : RetrievalGivesTheRecord → GoodHistory x h → (most : ℕ) → LinkInvariant x h (seed_of seeds k) l
       → Logged x seeds h k (link_reported most l) log (reported_by k l.client (arrived l.down most))
   logged_reported law good most i =
       let few = (few_frames x h l.standing (seed_of seeds k) l.client l.client.call l.up.frames l.down.frames i.phase).1 in

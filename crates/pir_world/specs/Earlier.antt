@@ -34,8 +34,8 @@ hint_after k hint (Plain (Reported j (Synced scheme version))) = cond (j == k) (
 hint_after k hint _ = hint
 
 -- the scheme and the version of the hint that client k holds, by the log
-abbrev pub hint_told : ℕ → List Entry → Option (Scheme × ℕ)
-hint_told k log = fold (hint_after k) None log
+abbrev pub hint_named : ℕ → List Entry → Option (Scheme × ℕ)
+hint_named k log = fold (hint_after k) None log
 
 -- an entry of another, or a call of client k that was refused
 abbrev pub IsAside : ℕ → Entry → Type 0
@@ -69,7 +69,7 @@ pub record IsAsked (x : Setting) (h : History) (seed : List ℕ) (k : ℕ) (r : 
   pub before : List Entry
   pub log_is : log ≡ before ++ Called k (Ask r.index) None ∷ []
   pub number_is : r.number ≡ asks_of k before
-  pub hint_is : hint_told k before ≡ Some (r.scheme, r.version)
+  pub hint_is : hint_named k before ≡ Some (r.scheme, r.version)
   pub records : List (List ℕ)
   pub version_is : HasVersion h r.version records
   pub query_is : query ≡ frame.Query (scheme_byte r.scheme) r.version (asked_words x.plan records seed r)
@@ -94,7 +94,7 @@ IsAskForPart k scheme version part log =
 -- The rows that changed since a version were asked for: after an accepted sync of SimplePIR, while that version's hint was held.
 abbrev pub IsAskForDelta : ℕ → ℕ → List Entry → Type 0
 IsAskForDelta k since log =
-    (first : List Entry) × (log ≡ first ++ Called k (Sync Simple) None ∷ []) × (hint_told k first ≡ Some (Simple, since))
+    (first : List Entry) × (log ≡ first ++ Called k (Sync Simple) None ∷ []) × (hint_named k first ≡ Some (Simple, since))
 
 -- What came before an entry: each frame sent is that of a call that was accepted last, or asks for the next part of a
 -- hint; each frame served was sent; each retrieval that ended was asked for and served, and each other event came of

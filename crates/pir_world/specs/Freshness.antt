@@ -8,6 +8,7 @@ use Rattle.client_core.specs.declared.state.Event.TheVariants.{Welcomed, Synced,
 use Rattle.pir_world.specs.declared.steps.Step.{Step}
 use Rattle.pir_world.specs.declared.steps.Outcome.TheVariants.{Published, Reported}
 use Rattle.pir_world.specs.Runs.{State, Link, Entry, Served, Ended, Plain, Run, opening, setting_in, turn_of}
+use Rattle.pir_world.specs.Earlier.{AllWithEarlier}
 use Rattle.pir_world.specs.Headlines.{IsOpening}
 
 -- an event names no version above this one
@@ -27,15 +28,29 @@ ReportedUpTo n (Plain (Reported k event)) = NamesUpTo n event
 ReportedUpTo n (Plain (Published v)) = v ≤ n
 ReportedUpTo n _ = Unit {0}
 
--- a frame is served while the version that is current then is `now`, and nobody was told of a later one before
+-- a frame was served while version `now` was current, and no later one had been reported to anybody before
+abbrev pub IsServedFresh : List Entry → Entry → Type 0
+IsServedFresh before (Served k f now reply) = AllByRecursion (ReportedUpTo now) before
+IsServedFresh before _ = Unit {0}
+
+-- each frame of a log that was served was served so
+abbrev pub IsFreshLog : List Entry → Type 0
+IsFreshLog log = AllWithEarlier IsServedFresh log
+
+-- a frame is served while the version that is current then is `now`, and no later one was reported before
 abbrev pub IsFresh : History → List Entry → Entry → Type 0
 IsFresh h before (Served k f now reply) = (now ≡ current_version h) × AllByRecursion (ReportedUpTo now) before
 IsFresh h before _ = Unit {0}
 
 -- So it is at every delivery to the server in every run. An answer is of the version that is current when its query
--- is served, so it is never older than a version that anybody had been told of before.
+-- is served, so it is never older than a version that had been reported to anybody before.
 abbrev pub AnswersAreFresh : Type 0
 AnswersAreFresh = (h : Header) (records : List ℕ) (seeds : List (List ℕ)) (steps : List Step) (s : State) → IsOpening h records →
     Run (setting_in h) (opening h records seeds) steps s →
     (short : Bool) (k most : ℕ) (l : Link) → slice_get s.links k ≡ Some l →
     AllByRecursion (IsFresh s.history s.log) (turn_of (setting_in h) short k most s.history l).log
+
+-- so is the log of every run from every snapshot that a store accepts, for all seeds
+abbrev pub EveryLogIsFresh : Type 0
+EveryLogIsFresh = (h : Header) (records : List ℕ) (seeds : List (List ℕ)) (steps : List Step) (s : State) → IsOpening h records →
+    Run (setting_in h) (opening h records seeds) steps s → IsFreshLog s.log

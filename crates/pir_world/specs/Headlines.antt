@@ -17,13 +17,13 @@ use Rattle.version_store.specs.Histories.{History}
 use Rattle.server_core.specs.Serving.{Setting}
 use Rattle.client_core.specs.declared.state.Event.{Event}
 use Rattle.client_core.specs.declared.state.Event.TheVariants.{Welcomed, Synced, Retrieved, Unreadable, Stale, Done, Refused}
-use Rattle.client_core.specs.Replies.{event_of}
+use Rattle.client_core.specs.Replies.{event_read}
 use Rattle.pir_world.specs.declared.steps.Step.{Step}
 use Rattle.pir_world.specs.declared.steps.Outcome.{Outcome}
 use Rattle.pir_world.specs.declared.steps.Outcome.TheVariants.{Published, Reported, Failed}
 use Rattle.pir_world.specs.Runs.{State, Link, Retrieval, Entry, Called, Sent, Served, Ended, Plain, Run, opening, setting_in}
 use Rattle.pir_world.specs.Versions.{HasVersion, IsVersion, given_words, record_read, IsQuietOn, seed_of, HintIs, name_of}
-use Rattle.pir_world.specs.Earlier.{AllWithEarlier, HasEarlier, hint_told}
+use Rattle.pir_world.specs.Earlier.{AllWithEarlier, HasEarlier, hint_named}
 
 -- An answered retrieval: the answer is that of the version named, and the event is what it says. Where the retrieval
 -- is quiet, and on a certain shape always, that is the record's bytes in this version.
@@ -32,7 +32,7 @@ pub record IsAnswered (x : Setting) (h : History) (seed : List ℕ) (r : Retriev
   pub version_is : HasVersion h r.version records
   pub inside : r.index < length records
   pub answer_is : reply ≡ frame.Answer (scheme_byte r.scheme) r.version (given_words x.plan records seed r)
-  pub event_is : event ≡ event_of r.index r.version (record_read x.plan records seed r)
+  pub event_is : event ≡ event_read r.index r.version (record_read x.plan records seed r)
   pub quiet : IsQuietOn x.plan records seed r → event ≡ Retrieved r.index r.version (record_at records r.index)
   pub certain : IsCertainOf r.scheme (shape_at x.plan (length records)) → event ≡ Retrieved r.index r.version (record_at records r.index)
 
@@ -104,7 +104,7 @@ pub record Headline (x : Setting) (seeds : List (List ℕ)) (s : State) : Type 0
   pub entries : AllByRecursion (IsRight x seeds s.history) s.log
   pub earlier : AllWithEarlier (HasEarlier x seeds s.history) s.log
   pub hints : (k : ℕ) (l : Link) → slice_get s.links k ≡ Some l → HintIs x s.history l.client.hint
-  pub told : (k : ℕ) (l : Link) → slice_get s.links k ≡ Some l → name_of l.client.hint ≡ hint_told k s.log
+  pub told : (k : ℕ) (l : Link) → slice_get s.links k ≡ Some l → name_of l.client.hint ≡ hint_named k s.log
 
 -- a snapshot that a store accepts, with bytes for its records
 pub record IsOpening (h : Header) (records : List ℕ) : Type 0 where

@@ -25,7 +25,7 @@ use Rattle.client_core.specs.declared.state.Call.TheVariants.{Idle, Hello, Sync,
 use Rattle.client_core.specs.Calls.{call_frame}
 use Rattle.client_core.specs.Replies.{are_ascending}
 use Rattle.pir_world.specs.Runs.{State, Link, Entry, reader_key}
-use Rattle.pir_world.specs.Earlier.{IsSentLast, IsServedLast, asks_of, hint_told, IsAsked, HasEarlier}
+use Rattle.pir_world.specs.Earlier.{IsSentLast, IsServedLast, asks_of, hint_named, IsAsked, HasEarlier}
 use Rattle.pir_world.specs.Versions.{HasVersion, HintIs, given_words, name_of, seed_of}
 use Rattle.pir_world.specs.Headlines.{IsRight}
 
@@ -45,9 +45,8 @@ pub record GoodHistory (x : Setting) (h : History) : Type 0 where
 pub record IsKnownOf (x : Setting) (h : History) (k : ServerInfo) : Type 0 where
   pub records : List (List ℕ)
   pub version_is : HasVersion h k.version records
-  pub layout_is : k.layout ≡ shape_at x.plan (length records)
-  pub dimension_is : k.dimension ≡ x.plan.dimension
-  pub seed_is : k.seed ≡ x.plan.seed
+  pub plan_is : k.plan ≡ x.plan
+  pub count_is : k.count ≡ length records
 
 -- what a client knows is true, and then it is a reader
 abbrev pub KnownIs : Setting → History → Standing → Option ServerInfo → Type 0
@@ -69,7 +68,7 @@ pub record AskIs (c : ClientState) (i : ℕ) (s : Scheme) (v : ℕ) : Type 0 whe
   pub k : ServerInfo
   pub known_is : c.known ≡ Some k
   pub asked : k.version ≡ v
-  pub inside : i < k.layout.count
+  pub inside : i < k.count
   pub hint : Hint
   pub hint_is : c.hint ≡ Some hint
   pub scheme_is : hint.scheme ≡ s
@@ -152,7 +151,7 @@ Phase x h st seed c (Edit i bytes) up down = ⊥
 Phase x h st seed c Publish up down = ⊥
 
 -- a client, its session and what is between them
-pub record LinkInv (x : Setting) (h : History) (seed : List ℕ) (l : Link) : Type 0 where
+pub record LinkInvariant (x : Setting) (h : History) (seed : List ℕ) (l : Link) : Type 0 where
   pub seed_is : l.client.seed ≡ seed
   pub alive : l.client.failed ≡ false
   pub unclosed : is_closed l.standing ≡ false
@@ -170,9 +169,9 @@ IsFrom x h seed k (Delta since) f first = f ≡ frame.DeltaAsk since
 IsFrom x h seed k _ f first = Unit {0}
 
 -- what the log says of a client: its next number, the hint that it holds, the frame on its way, or the reply
-pub record LogInv (x : Setting) (h : History) (seed : List ℕ) (k : ℕ) (l : Link) (log : List Entry) : Type 0 where
+pub record LogInvariant (x : Setting) (h : History) (seed : List ℕ) (k : ℕ) (l : Link) (log : List Entry) : Type 0 where
   pub number : l.client.number ≡ asks_of k log
-  pub hint : name_of l.client.hint ≡ hint_told k log
+  pub hint : name_of l.client.hint ≡ hint_named k log
   pub sent : (f : Frame) → l.up.frames ≡ f ∷ [] →
       (first : List Entry) × IsSentLast k f first log × IsFrom x h seed k l.client.call f first
   pub served : (r : Frame) → l.down.frames ≡ r ∷ [] →
@@ -184,9 +183,9 @@ EachAfter P before [] = Unit {0}
 EachAfter P before (e ∷ es) = P before e × EachAfter P (before ++ e ∷ []) es
 
 -- all of a state
-pub record Inv (x : Setting) (seeds : List (List ℕ)) (s : State) : Type 0 where
+pub record WorldInvariant (x : Setting) (seeds : List (List ℕ)) (s : State) : Type 0 where
   pub history : GoodHistory x s.history
-  pub links : (k : ℕ) (l : Link) → slice_get s.links k ≡ Some l → LinkInv x s.history (seed_of seeds k) l
-  pub logs : (k : ℕ) (l : Link) → slice_get s.links k ≡ Some l → LogInv x s.history (seed_of seeds k) k l s.log
+  pub links : (k : ℕ) (l : Link) → slice_get s.links k ≡ Some l → LinkInvariant x s.history (seed_of seeds k) l
+  pub logs : (k : ℕ) (l : Link) → slice_get s.links k ≡ Some l → LogInvariant x s.history (seed_of seeds k) k l s.log
   pub entries : AllByRecursion (IsRight x seeds s.history) s.log
   pub earlier : EachAfter (HasEarlier x seeds s.history) [] s.log

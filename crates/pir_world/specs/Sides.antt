@@ -16,8 +16,8 @@ use Rattle.client_core.specs.Feeding.{Client, FeedsClient}
 use Rattle.pir_world.specs.declared.steps.Step.{Step}
 use Rattle.pir_world.specs.declared.steps.Step.TheVariants as step
 use Rattle.pir_world.specs.declared.steps.Outcome.{Outcome}
-use Rattle.pir_world.specs.declared.ends.Request.{Request}
-use Rattle.pir_world.specs.declared.ends.Request.TheVariants.{Hello, Sync, Ask}
+use Rattle.pir_world.specs.declared.client_endpoint.Request.{Request}
+use Rattle.pir_world.specs.declared.client_endpoint.Request.TheVariants.{Hello, Sync, Ask}
 use Rattle.pir_world.specs.Runs.{Wire, Link, State, outcomes_of, reader_key}
 
 -- a client, and the bytes that wait in each direction

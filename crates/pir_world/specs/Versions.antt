@@ -30,7 +30,7 @@ given_words p records seed r = answer_words r.scheme p records (asked_words p re
 abbrev pub record_read : Plan → List (List ℕ) → List ℕ → Retrieval → Option (List ℕ)
 record_read p records seed r =
     let l = shape_at p (length records) in
-    record_of l (reading r.scheme l (hint_matrix r.scheme p records) seed r.number r.index (given_words p records seed r))
+    record_of p (reading r.scheme l (hint_matrix r.scheme p records) seed r.number r.index (given_words p records seed r))
 
 -- the noise sums of a retrieval on some records stay below half of delta
 abbrev pub IsQuietOn : Plan → List (List ℕ) → List ℕ → Retrieval → Type 0

@@ -1,7 +1,7 @@
 //! Laws of runs, over the definitions alone. A caller that calls one of these functions has its law at hand
 //! in its proof; the call costs nothing.
 
-ghost use Rattle.pir_world.specs.Freshness.{AnswersAreFresh};
+ghost use Rattle.pir_world.specs.Freshness.{AnswersAreFresh, EveryLogIsFresh};
 ghost use Rattle.pir_world.specs.Headlines.{EveryRunIsRight};
 ghost use Rattle.pir_world.specs.Shapes.{IndicesChangeNoShape};
 
@@ -15,10 +15,12 @@ pub fn every_run_is_right()
     pir_schemes::laws::retrieval_gives_the_record();
 }
 
-/// An answer is of the version that is current when its query is served, and nobody had been told of a later
-/// one before.
+/// An answer is of the version that is current when its query is served, and no later one had been reported
+/// to anybody before: at the next delivery of a run (`delivered`), and by its log at each one before
+/// (`logged`).
 pub fn answers_are_fresh()
-    ensures { AnswersAreFresh }
+    ensures delivered { AnswersAreFresh }
+    ensures logged { EveryLogIsFresh }
 {
     pir_schemes::laws::retrieval_gives_the_record();
 }

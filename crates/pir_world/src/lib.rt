@@ -8,12 +8,12 @@
 //! Its tests are in `world_tests::world` and `tests/long/world_tests`.
 #![tactic(auto)]
 
-mod ends;
+mod client_endpoint;
 pub mod laws;
 mod moves;
 mod steps;
 mod world;
 
-pub use ends::ClientEndpoint;
+pub use client_endpoint::ClientEndpoint;
 pub use steps::{Outcome, Step, StepFault};
 pub use world::World;

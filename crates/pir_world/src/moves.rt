@@ -6,10 +6,10 @@ ghost use Rattle.server_core.specs.Serving.{Setting};
 ghost use Rattle.pir_world.specs.declared.steps.Outcome.TheVariants.{Reported};
 ghost use Rattle.pir_world.specs.declared.steps.Step.TheVariants as step;
 ghost use Rattle.pir_world.specs.Runs.{State, Steps, state_after, edit_after, publish_after, called_at};
-ghost use Rattle.pir_world.specs.Invariants.{Inv};
+ghost use Rattle.pir_world.specs.Invariants.{WorldInvariant};
 ghost use Rattle.pir_world.specs.Sides.{Side, IsParts, want_of, has_client};
 
-use crate::ends::{ClientEndpoint, Request};
+use crate::client_endpoint::{ClientEndpoint, Request};
 use crate::steps::{Outcome, Step};
 use client_core::{ClientFault, Event, Fed};
 use matrix_u32::Kernel;
@@ -42,7 +42,7 @@ pub fn apply_step<K: Kernel>(
     step: &Step,
 ) -> Result<(), AllocError>
     requires { has_client step.now (length ends.old.items) ≡ true }
-    ensures made { OnOk result ((x : Setting) (seeds : List (List ℕ)) (s : State) → Inv x seeds s →
+    ensures made { OnOk result ((x : Setting) (seeds : List (List ℕ)) (s : State) → WorldInvariant x seeds s →
         IsParts x server.old ends.old.items outcomes.old.items s →
         (t : State) × Steps x s step.now t ×
         IsParts x server.new ends.new.items outcomes.new.items t) }
@@ -134,12 +134,12 @@ fn serve<K: Kernel>(
 ) -> Result<(), AllocError>
     requires { k < length ends.old.items }
     ensures made { OnOk result ((x : Setting) (seeds : List (List ℕ)) (s : State)
-        (outcomes : List Outcome) → Inv x seeds s → IsParts x server.old ends.old.items outcomes s →
+        (outcomes : List Outcome) → WorldInvariant x seeds s → IsParts x server.old ends.old.items outcomes s →
         (short : Bool) × IsParts x server.new ends.new.items outcomes
         (state_after x short s (step.ToServer k most))) }
     ensures clients { length ends.new.items ≡ length ends.old.items }
 {
-    match ends[k].send(alloc, server, k as u64, most) {
+    match ends[k].deliver_up(alloc, server, k as u64, most) {
         Ok(()) => {}
         Err(_) => return Err(AllocError),
     }
@@ -178,14 +178,14 @@ fn report<K: Kernel>(
 ) -> Result<(), AllocError>
     requires { k < length ends.old.items }
     ensures made { OnOk result ((core : Core) (x : Setting) (seeds : List (List ℕ)) (s : State) →
-        Inv x seeds s → IsParts x core ends.old.items outcomes.old.items s →
+        WorldInvariant x seeds s → IsParts x core ends.old.items outcomes.old.items s →
         IsParts x core ends.new.items outcomes.new.items
         (state_after x false s (step.ToClient k most))) }
     ensures clients { length ends.new.items ≡ length ends.old.items }
     ensures none { OnErr result (outcomes.new.items ≡ outcomes.old.items) }
 {
     retrieval_gives_the_record();
-    let taken = match ends[k].take(most) {
+    let taken = match ends[k].deliver_down(most) {
         Ok(taken) => taken,
         Err(_) => return Err(AllocError),
     };

@@ -6,13 +6,14 @@ ghost use Rattle.version_store.specs.Openings.{IsOpenFault};
 ghost use Rattle.server_core.specs.Cores.{session_of};
 ghost use Rattle.server_core.specs.Sessions.{new_session};
 ghost use Rattle.pir_world.specs.Runs.{State, Steps, outcomes_of, setting_in};
+ghost use Rattle.pir_world.specs.Freshness.{IsFreshLog};
 ghost use Rattle.pir_world.specs.Headlines.{Headline};
 ghost use Rattle.pir_world.specs.Shapes.{HidesIndices};
 ghost use Rattle.pir_world.specs.Sides.{fresh_side, has_client};
 ghost use Rattle.pir_world.specs.Worlds.{IsNew, IsRunOf};
 
-use crate::ends::ClientEndpoint;
-use crate::laws::{every_run_is_right, indices_change_no_shape};
+use crate::client_endpoint::ClientEndpoint;
+use crate::laws::{answers_are_fresh, every_run_is_right, indices_change_no_shape};
 use crate::moves::{apply_step, names_client};
 use crate::steps::{Outcome, Step, StepFault};
 use matrix_u32::Kernel;
@@ -99,7 +100,8 @@ impl<K: Kernel> World<K> {
     /// of it is right: an answered retrieval whose noise sums stay below half of delta gave exactly its
     /// record's bytes in the version that its hint names, and a query was refused as stale, with the current
     /// version, exactly when it named another. The log of the run says by earlier entries which call, which
-    /// query and which reply each retrieval had.
+    /// query and which reply each retrieval had. No answer is older than a version that had been reported
+    /// to anybody when its query was served.
     ///
     /// Steps that differ from these in the indices of asks alone put the same shapes on each link: as many
     /// frames each way, in the same order, of the same kinds and lengths. Of both it is asked that no reply
@@ -108,9 +110,11 @@ impl<K: Kernel> World<K> {
     pub fn outcomes(&self) -> &[Outcome]
         ensures kept { result.now ≡ self.now.outcomes }
         ensures right { (s : State) × IsRunOf self.now s × (result.now ≡ outcomes_of s.log) ×
-            Headline (setting_in self.now.header) self.now.seeds s × HidesIndices self.now s }
+            Headline (setting_in self.now.header) self.now.seeds s × IsFreshLog s.log ×
+            HidesIndices self.now s }
     {
         every_run_is_right();
+        answers_are_fresh();
         indices_change_no_shape();
         self.outcomes.as_slice()
     }

@@ -7,6 +7,7 @@ use Rattle.std.specs.Prelude.{slice_index, slice_index_or}
 use Rattle.matrix_u32.specs.Sum.{sum_below, residue, dot}
 use Rattle.matrix_u32.specs.Matrix.{WordMatrix, entry, row, product, times_vector, vector_times}
 use Rattle.matrix_u32.proofs.Sums.{sum_add, sum_congruent, sum_one}
+use Rattle.matrix_u32.proofs.Remainders.{times_same}
 use Rattle.matrix_u32.proofs.Products.{dot-with-list_of, dot-times_vector, at-list_of, length-list_of, row-product}
 use Rattle.noise_table.specs.Margin.{delta, signed_sum_below, noise_sum, IsQuiet}
 use Rattle.regev_core.specs.Encryption.{cipher, stripped, nearest}
@@ -25,9 +26,6 @@ noise_split (suc n) x e = omega (arith, ints, noise_split n x e, term_split (x n
 
 residue-up : (z : ℤ) → (residue z + down z) % 2 ^ 32 ≡ up z % 2 ^ 32
 residue-up z = residue-shift z (down z) (up z) (omega (arith, ints))
-
-times_same : (a m n : ℕ) → m % 2 ^ 32 ≡ n % 2 ^ 32 → (a * m) % 2 ^ 32 ≡ (a * n) % 2 ^ 32
-times_same a m n e = sym (mul-mod_second a m (2 ^ 32)) ∙ ap (λ t. (a * t) % 2 ^ 32) e ∙ mul-mod_second a n (2 ^ 32)
 
 residues : (n : ℕ) (x : ℕ → ℕ) (e : ℕ → ℤ) → (sum_below n (λ j. x j * residue (e j)) + sum_below n (λ j. x j * down (e j))) % 2 ^ 32
     ≡ sum_below n (λ j. x j * up (e j)) % 2 ^ 32

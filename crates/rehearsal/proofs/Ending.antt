@@ -10,7 +10,7 @@ use Rattle.rehearsal.specs.declared.stop.Stop.TheVariants as stop
 use Rattle.rehearsal.specs.Texts.{memory_text, too_long_text}
 use Rattle.rehearsal.specs.Lines.{lines_of}
 use Rattle.rehearsal.specs.Scripts.{Start, Plays, IsRehearsal}
-use Rattle.rehearsal.specs.Stages.{IsBefore, IsEarly, HasLastLine, StopsScript, StopsReading, ReportsEnd, SaysText, last_text, last_status}
+use Rattle.rehearsal.specs.Progress.{IsBefore, IsEarly, HasLastLine, StopsScript, StopsReading, ReportsEnd, SaysText, last_text, last_status}
 
 -- nothing more was written
 pub and_nothing : (a b c : Option (List ℕ)) (said : List ℕ) → Appends a b said → Appends b c [] → Appends a c said

@@ -7,12 +7,12 @@ use Rattle.std.proofs.KnownBytes.{Appends-nil, Appends-trans}
 use Rattle.std.specs.Io.KnownBytes.{Appends}
 use Rattle.std.specs.List.{flat_map}
 use Rattle.pir_world.specs.declared.steps.Outcome.{Outcome}
-use Rattle.rehearsal.specs.declared.stage.Stage.{Stage}
+use Rattle.rehearsal.specs.declared.progress.Progress.{Progress}
 use Rattle.rehearsal.specs.declared.stop.Stop.{Stop}
 use Rattle.rehearsal.specs.declared.stop.Stop.TheVariants as stop
 use Rattle.rehearsal.specs.Texts.{outcome_text, bad_line_text, refused_world_text, memory_text}
 use Rattle.rehearsal.specs.Scripts.{Place, Move, Goes, Bad, Refused, FollowsMove, IsOutOfMemory, joined_texts}
-use Rattle.rehearsal.specs.Stages.{MovesQuietly, MovesTo, StopsAtMove, StopsScript, SaysAll, SaysText}
+use Rattle.rehearsal.specs.Progress.{MovesQuietly, MovesTo, StopsAtMove, StopsScript, SaysAll, SaysText}
 
 -- the lines of outcomes are their texts, one after another
 pub joined-map : (outcomes : List Outcome) → joined_texts (map outcome_text outcomes) ≡ flat_map outcome_text outcomes
@@ -23,7 +23,7 @@ pub joined_one : (text : List ℕ) → joined_texts (text ∷ []) ≡ text
 joined_one text = append-nil text
 
 -- a move that prints nothing
-pub MovesTo-from_quiet : (L : Move → Type 0) (n : ℕ) (o : Option (List ℕ)) (r : Result Stage Stop) → MovesQuietly L n r → MovesTo L n o r o
+pub MovesTo-from_quiet : (L : Move → Type 0) (n : ℕ) (o : Option (List ℕ)) (r : Result Progress Stop) → MovesQuietly L n r → MovesTo L n o r o
 MovesTo-from_quiet L n o (Ok s) h = (h.0, [], h.1, h.2, Appends-nil o)
 MovesTo-from_quiet L n o (Err (stop.BadLine m)) h = (h.0, h.1, Appends-nil o)
 MovesTo-from_quiet L n o (Err stop.Memory) h = inl (Appends-nil o)
@@ -138,7 +138,7 @@ StopsAt-map L M n o t stop.Write f h = (h.0, h.1, h.2, f (Goes h.0 h.1) h.3, h.4
 StopsAt-map L M n o t stop.Read f h = absurd h
 StopsAt-map L M n o t stop.TooLong f h = absurd h
 
-pub MovesTo-map : (L M : Move → Type 0) (n : ℕ) (o t : Option (List ℕ)) (r : Result Stage Stop) → ((m : Move) → L m → M m) →
+pub MovesTo-map : (L M : Move → Type 0) (n : ℕ) (o t : Option (List ℕ)) (r : Result Progress Stop) → ((m : Move) → L m → M m) →
     MovesTo L n o r t → MovesTo M n o r t
 MovesTo-map L M n o t (Ok s) f h = (h.0, h.1, h.2, f (Goes h.0 h.1) h.3, h.4)
 MovesTo-map L M n o t (Err e) f h = StopsAt-map L M n o t e f h

@@ -11,11 +11,11 @@ use Rattle.pir_world.specs.Headlines.{IsOpening}
 use Rattle.pir_world.specs.Sides.{has_client}
 use Rattle.rehearsal.specs.declared.line.Line.{Line}
 use Rattle.rehearsal.specs.declared.line.Line.TheVariants as line
-use Rattle.rehearsal.specs.declared.stage.Stage.TheVariants as stage
+use Rattle.rehearsal.specs.declared.progress.Progress.TheVariants as progress
 use Rattle.rehearsal.specs.declared.stop.Stop.{Stop}
 use Rattle.rehearsal.specs.Texts.{outcome_text, no_client_text}
 use Rattle.rehearsal.specs.Scripts.{Filling, RunningWorld, Place, Running, Goes, Bad, MakesStep, LeadsRunning, named_client, added_outcomes, opened_world, header_of_filling}
-use Rattle.rehearsal.specs.Stages.{IsAt, IsOpened, MovesTo, StopsAtMove, SaysAll, SaysText, running_world}
+use Rattle.rehearsal.specs.Progress.{IsAt, IsOpened, MovesTo, StopsAtMove, SaysAll, SaysText, running_world}
 use Rattle.rehearsal.proofs.Moves.{joined-map, joined_one, StopsAt-from_all, StopsAt-from_text}
 
 pub is_true : (b : Bool) → (b ≡ false → ⊥) → b ≡ true
@@ -51,7 +51,7 @@ pub MovesTo-from_step : (w v : Kept) (s t : State) (step : Step) (n : ℕ) (befo
     v.header ≡ w.header → length v.ends ≡ length w.ends → v.broken ≡ false → before ≡ w.outcomes → IsRunOf w s → IsRunOf v t →
     has_client step (length w.ends) ≡ true → Steps (setting_in w.header) s step t →
     Appends o new (flat_map outcome_text (drop (length before) v.outcomes)) →
-    MovesTo (MakesStep (running_world w s) step) n o (Ok (stage.Running v)) new
+    MovesTo (MakesStep (running_world w s) step) n o (Ok (progress.Running v)) new
 MovesTo-from_step w v s t step n before o new e ends alive b p q has steps said = (
   after_step w t,
   map outcome_text (added_outcomes s t),
@@ -76,11 +76,11 @@ unmade w s step has = inr (has, refl)
 
 pub MovesTo-from_none : (w v : Kept) (s : State) (step : Step) (n k : ℕ) (o new : Option (List ℕ)) → v ≡ w → w.broken ≡ false → IsRunOf w s →
     has_client step (length w.ends) ≡ false → k ≡ named_client step → Appends o new (no_client_text k) →
-    MovesTo (MakesStep (running_world w s) step) n o (Ok (stage.Running v)) new
+    MovesTo (MakesStep (running_world w s) step) n o (Ok (progress.Running v)) new
 MovesTo-from_none w v s step n k o new same alive run has named said = (
   Running (running_world w s),
   no_client_text (named_client step) ∷ [],
-  subst (λ (u : Kept). IsAt (stage.Running u) (Running (running_world w s))) (sym same) (s, run, alive, refl),
+  subst (λ (u : Kept). IsAt (progress.Running u) (Running (running_world w s))) (sym same) (s, run, alive, refl),
   unmade w s step has,
   subst (Appends o new) (ap no_client_text named ∙ sym (joined_one (no_client_text (named_client step)))) said,
 )

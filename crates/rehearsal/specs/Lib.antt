@@ -1,4 +1,4 @@
 pub mod Texts
 pub mod Lines
 pub mod Scripts
-pub mod Stages
+pub mod Progress

@@ -11,7 +11,7 @@ use Rattle.pir_schemes.specs.declared.scheme.Scheme.{Scheme}
 use Rattle.pir_schemes.specs.declared.scheme.Scheme.TheVariants.{Simple, Double}
 use Rattle.pir_world.specs.declared.steps.Step.{Step}
 use Rattle.pir_world.specs.declared.steps.Step.TheVariants as step
-use Rattle.rehearsal.specs.declared.line.Sizes.{Sizes}
+use Rattle.rehearsal.specs.declared.line.HeaderSizes.{HeaderSizes}
 use Rattle.rehearsal.specs.declared.line.Line.{Line}
 use Rattle.rehearsal.specs.declared.line.Line.TheVariants as line
 
@@ -64,7 +64,7 @@ bytes32_in word = if length word == 64 then result_ok (decode_of word) else None
 -- ---- what a line says
 
 -- the sizes of a world
-abbrev pub sizes_in : List ℕ → List ℕ → List ℕ → List ℕ → Option Sizes
+abbrev pub sizes_in : List ℕ → List ℕ → List ℕ → List ℕ → Option HeaderSizes
 sizes_in w r g n =
     option_and_then (λ width. option_and_then (λ record_len. option_and_then (λ groups. option_map (λ dimension.
     record { width = width; record_len = record_len; groups = groups; dimension = dimension })

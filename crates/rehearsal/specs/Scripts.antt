@@ -12,7 +12,7 @@ use Rattle.pir_world.specs.declared.steps.Outcome.{Outcome}
 use Rattle.pir_world.specs.Runs.{State, Steps, setting_in, opening, outcomes_of}
 use Rattle.pir_world.specs.Headlines.{IsOpening}
 use Rattle.pir_world.specs.Sides.{has_client}
-use Rattle.rehearsal.specs.declared.line.Sizes.{Sizes}
+use Rattle.rehearsal.specs.declared.line.HeaderSizes.{HeaderSizes}
 use Rattle.rehearsal.specs.declared.line.Line.{Line}
 use Rattle.rehearsal.specs.declared.line.Line.TheVariants as line
 use Rattle.rehearsal.specs.Texts.{outcome_text, no_client_text, bad_line_text, refused_world_text, too_long_text, memory_text}
@@ -22,7 +22,7 @@ use Rattle.rehearsal.specs.Lines.{lines_of, is_silent, line_of}
 
 -- what a header has said: the sizes, the public seed, the records one after another, how many they are, the clients' seeds
 pub record Filling : Type 0 where
-  pub sizes : Sizes
+  pub sizes : HeaderSizes
   pub seed : List ℕ
   pub records : List ℕ
   pub count : ℕ
@@ -37,7 +37,7 @@ pub record RunningWorld : Type 0 where
 -- nothing was said; the sizes were; the seed was, and maybe records and clients; steps are made
 pub data Place : Type 0 where
   Start : Place
-  Sized : (sizes : Sizes) → Place
+  Sized : (sizes : HeaderSizes) → Place
   Filled : (filling : Filling) → Place
   Running : (world : RunningWorld) → Place
 
@@ -72,7 +72,7 @@ start_move (line.World sizes) = Goes (Sized sizes) []
 start_move _ = Bad
 
 -- what its second line leads to
-abbrev pub sized_move : Sizes → Line → Move
+abbrev pub sized_move : HeaderSizes → Line → Move
 sized_move sizes (line.Seed seed) = Goes (Filled (record { sizes = sizes; seed = seed; records = []; count = 0; clients = [] })) []
 sized_move sizes _ = Bad
 

@@ -2,20 +2,13 @@
 use Rattle.std.specs.Prelude.{ℕ, List, ◌++◌, ◌==◌, cond, codes, length}
 use Rattle.std.specs.Fmt.{decimal}
 use Rattle.hex.specs.Hex.{encode_lower}
-use Rattle.client_core.specs.declared.state.CallFault.{CallFault}
-use Rattle.client_core.specs.declared.state.CallFault.TheVariants as call
-use Rattle.client_core.specs.declared.state.ClientFault.{ClientFault}
-use Rattle.client_core.specs.declared.state.ClientFault.TheVariants as fault
 use Rattle.client_core.specs.declared.state.Event.{Event}
 use Rattle.client_core.specs.declared.state.Event.TheVariants as event
 use Rattle.pir_schemes.specs.declared.scheme.Scheme.{Scheme}
 use Rattle.pir_schemes.specs.declared.scheme.Scheme.TheVariants.{Simple, Double}
-use Rattle.version_store.specs.declared.store.EditError.{EditError}
-use Rattle.version_store.specs.declared.store.EditError.TheVariants as edit
-use Rattle.version_store.specs.declared.store.PublishError.{PublishError}
-use Rattle.version_store.specs.declared.store.PublishError.TheVariants as publish
 use Rattle.version_store.specs.declared.opening.OpenError.{OpenError}
-use Rattle.version_store.specs.declared.opening.OpenError.TheVariants as opening
+use Rattle.version_store.specs.Names.{edit_fault_name, publish_fault_name, open_fault_name}
+use Rattle.client_core.specs.Names.{call_fault_name, client_fault_name}
 use Rattle.pir_world.specs.declared.steps.Outcome.{Outcome}
 use Rattle.pir_world.specs.declared.steps.Outcome.TheVariants.{Edited, EditRefused, Published, PublishRefused, Reported, CallRefused, Failed}
 
@@ -23,42 +16,6 @@ use Rattle.pir_world.specs.declared.steps.Outcome.TheVariants.{Edited, EditRefus
 unfoldable pub scheme_name : Scheme → List ℕ
 scheme_name Simple = codes "simple"
 scheme_name Double = codes "double"
-
--- the name of a refused edit
-unfoldable pub edit_fault_name : EditError → List ℕ
-edit_fault_name edit.BadIndex = codes "BadIndex"
-edit_fault_name edit.BadLength = codes "BadLength"
-edit_fault_name edit.Memory = codes "Memory"
-
--- the name of a refused publication
-unfoldable pub publish_fault_name : PublishError → List ℕ
-publish_fault_name publish.NothingToPublish = codes "NothingToPublish"
-publish_fault_name publish.VersionsUsedUp = codes "VersionsUsedUp"
-publish_fault_name publish.Memory = codes "Memory"
-
--- the name of a refused call
-unfoldable pub call_fault_name : CallFault → List ℕ
-call_fault_name call.NotReady = codes "NotReady"
-call_fault_name call.Busy = codes "Busy"
-call_fault_name call.BadIndex = codes "BadIndex"
-call_fault_name call.SeedUsedUp = codes "SeedUsedUp"
-call_fault_name call.Memory = codes "Memory"
-call_fault_name call.Failed = codes "Failed"
-call_fault_name call.AlreadyWelcome = codes "AlreadyWelcome"
-
--- the name of a client's fault
-unfoldable pub client_fault_name : ClientFault → List ℕ
-client_fault_name fault.BadWelcome = codes "BadWelcome"
-client_fault_name fault.BadReply = codes "BadReply"
-client_fault_name fault.Memory = codes "Memory"
-client_fault_name fault.Failed = codes "Failed"
-
--- the name of a refused world
-unfoldable pub open_fault_name : OpenError → List ℕ
-open_fault_name opening.BadLayout = codes "BadLayout"
-open_fault_name opening.BadVersion = codes "BadVersion"
-open_fault_name opening.BadRecords = codes "BadRecords"
-open_fault_name opening.Memory = codes "Memory"
 
 -- a record's bytes in hex, or a dash where there are none
 unfoldable pub shown_bytes : List ℕ → List ℕ

@@ -2,7 +2,7 @@
 
 ghost use Rattle.std.specs.Prelude.{◌≤◌, IfErr, IfOk, length};
 ghost use Rattle.std.specs.Io.KnownBytes.{Consumes, IsAtEnd};
-ghost use Rattle.rehearsal.specs.Stages.{StopsReading};
+ghost use Rattle.rehearsal.specs.Progress.{StopsReading};
 
 use crate::stop::Stop;
 use connection_io::{piece_buffer, read_piece};

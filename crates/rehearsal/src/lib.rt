@@ -11,7 +11,7 @@ mod input;
 mod line;
 mod outcome;
 mod play;
-mod stage;
+mod progress;
 mod stop;
 
 pub use input::SCRIPT_LIMIT;

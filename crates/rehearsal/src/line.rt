@@ -15,7 +15,7 @@ use std::str;
 
 /// The sizes of a world.
 #[derive(Clone, Copy, Debug, PartialEq, Eq)]
-pub struct Sizes {
+pub struct HeaderSizes {
     /// How many bits a digit has.
     pub width: u8,
     /// How many bytes a record has.
@@ -30,7 +30,7 @@ pub struct Sizes {
 #[derive(Drop)]
 pub enum Line {
     /// The world's sizes.
-    World(Sizes),
+    World(HeaderSizes),
     /// The public seed.
     Seed([u8; 32]),
     /// The next record.
@@ -205,14 +205,14 @@ fn to_client(client: &str, most: &str) -> Option<Step>
     Some(Step::ToClient { client, most })
 }
 
-fn sizes_of(width: &str, record_len: &str, groups: &str, dimension: &str) -> Option<Sizes>
+fn sizes_of(width: &str, record_len: &str, groups: &str, dimension: &str) -> Option<HeaderSizes>
     ensures { result ≡ sizes_in width.now record_len.now groups.now dimension.now }
 {
     let width = width_of(width)?;
     let record_len = size_of(record_len)?;
     let groups = size_of(groups)?;
     let dimension = size_of(dimension)?;
-    Some(Sizes {
+    Some(HeaderSizes {
         width,
         record_len,
         groups,

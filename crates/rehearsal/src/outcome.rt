@@ -2,12 +2,12 @@
 
 ghost use Rattle.std.specs.Prelude.{◌≡◌, IfOk};
 ghost use Rattle.std.specs.String.{string_bytes};
-ghost use Rattle.rehearsal.specs.Texts.{outcome_text, call_fault_name, call_refused_text, client_fault_name, edit_fault_name, event_text, open_fault_name, publish_fault_name, refused_world_text, retrieved_text, scheme_name, shown_bytes};
+ghost use Rattle.rehearsal.specs.Texts.{outcome_text, call_refused_text, event_text, refused_world_text, retrieved_text, scheme_name, shown_bytes};
 
-use client_core::{CallFault, ClientFault, Event, Scheme};
+use client_core::{Event, Scheme};
 use pir_world::Outcome;
 use std::alloc::{AllocError, Global};
-use version_store::{EditError, OpenError, PublishError};
+use version_store::OpenError;
 
 /// The line of an outcome, with its end.
 pub fn outcome_line(alloc: Global, outcome: &Outcome) -> Result<String, AllocError>
@@ -16,20 +16,20 @@ pub fn outcome_line(alloc: Global, outcome: &Outcome) -> Result<String, AllocErr
     match outcome {
         Outcome::Edited { index } => format!(in alloc; "edit {index}: accepted\n"),
         Outcome::EditRefused { index, fault } => {
-            let name = edit_fault_name(*fault);
+            let name = fault.name();
             format!(in alloc; "edit {index}: refused {name}\n")
         }
         Outcome::Published { version } => format!(in alloc; "publish: version {version}\n"),
         Outcome::PublishRefused { fault } => {
-            let name = publish_fault_name(*fault);
+            let name = fault.name();
             format!(in alloc; "publish: refused {name}\n")
         }
         Outcome::Reported { client, event } => event_line(alloc, *client, event),
         Outcome::CallRefused { client, fault } => {
-            call_refused_line(alloc, *client, call_fault_name(*fault))
+            call_refused_line(alloc, *client, fault.name())
         }
         Outcome::Failed { client, fault } => {
-            let name = client_fault_name(*fault);
+            let name = fault.name();
             format!(in alloc; "client {client}: failed {name}\n")
         }
     }
@@ -46,7 +46,7 @@ fn call_refused_line(alloc: Global, client: usize, name: &str) -> Result<String,
 pub fn refused_world_line(alloc: Global, fault: OpenError) -> Result<String, AllocError>
     ensures { IfOk result (λ line. string_bytes line ≡ refused_world_text fault) }
 {
-    let name = open_fault_name(fault);
+    let name = fault.name();
     format!(in alloc; "world: refused {name}\n")
 }
 
@@ -109,66 +109,5 @@ fn scheme_name(scheme: Scheme) -> &'static str
     match scheme {
         Scheme::Simple => "simple",
         Scheme::Double => "double",
-    }
-}
-
-#[tactic(auto, unfolding(crate::specs::Texts::edit_fault_name))]
-fn edit_fault_name(fault: EditError) -> &'static str
-    ensures { result.now ≡ edit_fault_name fault }
-{
-    match fault {
-        EditError::BadIndex => "BadIndex",
-        EditError::BadLength => "BadLength",
-        EditError::Memory => "Memory",
-    }
-}
-
-#[tactic(auto, unfolding(crate::specs::Texts::publish_fault_name))]
-fn publish_fault_name(fault: PublishError) -> &'static str
-    ensures { result.now ≡ publish_fault_name fault }
-{
-    match fault {
-        PublishError::NothingToPublish => "NothingToPublish",
-        PublishError::VersionsUsedUp => "VersionsUsedUp",
-        PublishError::Memory => "Memory",
-    }
-}
-
-#[tactic(auto, unfolding(crate::specs::Texts::call_fault_name))]
-fn call_fault_name(fault: CallFault) -> &'static str
-    ensures { result.now ≡ call_fault_name fault }
-{
-    match fault {
-        CallFault::NotReady => "NotReady",
-        CallFault::Busy => "Busy",
-        CallFault::BadIndex => "BadIndex",
-        CallFault::SeedUsedUp => "SeedUsedUp",
-        CallFault::Memory => "Memory",
-        CallFault::Failed => "Failed",
-        CallFault::AlreadyWelcome => "AlreadyWelcome",
-    }
-}
-
-#[tactic(auto, unfolding(crate::specs::Texts::client_fault_name))]
-fn client_fault_name(fault: ClientFault) -> &'static str
-    ensures { result.now ≡ client_fault_name fault }
-{
-    match fault {
-        ClientFault::BadWelcome => "BadWelcome",
-        ClientFault::BadReply => "BadReply",
-        ClientFault::Memory => "Memory",
-        ClientFault::Failed => "Failed",
-    }
-}
-
-#[tactic(auto, unfolding(crate::specs::Texts::open_fault_name))]
-fn open_fault_name(fault: OpenError) -> &'static str
-    ensures { result.now ≡ open_fault_name fault }
-{
-    match fault {
-        OpenError::BadLayout => "BadLayout",
-        OpenError::BadVersion => "BadVersion",
-        OpenError::BadRecords => "BadRecords",
-        OpenError::Memory => "Memory",
     }
 }

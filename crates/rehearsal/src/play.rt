@@ -4,12 +4,12 @@ ghost use Rattle.std.specs.Prelude.{◌≡◌, ◌≤◌, ◌<◌, ◌⊎◌, �
 ghost use Rattle.std.specs.Io.KnownBytes.{Appends, Consumes};
 ghost use Rattle.rehearsal.specs.Lines.{is_silent, lines_of};
 ghost use Rattle.rehearsal.specs.Scripts.{IsRehearsal, LeadsText, Place, Plays, Start};
-ghost use Rattle.rehearsal.specs.Stages.{IsAt, IsEarly, MovesTo, PlaysScript, ReportsEnd, SaysText, last_text};
+ghost use Rattle.rehearsal.specs.Progress.{IsAt, IsEarly, MovesTo, PlaysScript, ReportsEnd, SaysText, last_text};
 
 use crate::input::read_script;
 use crate::line::read_line;
 use crate::outcome::refused_world_line;
-use crate::stage::{Stage, say};
+use crate::progress::{Progress, say};
 use crate::stop::Stop;
 use std::alloc::Global;
 use std::io::{Read, Write};
@@ -102,15 +102,11 @@ fn say_end<W: Write>(alloc: Global, stop: Stop, writer: &mut W) -> Result<(), St
         Stop::Write => Ok(()),
         Stop::TooLong => say(writer, "script: too long\n"),
         Stop::BadLine { number } => {
-            let Ok(line) = format!(in alloc; "line {number}: bad\n") else {
-                return Err(Stop::Memory);
-            };
+            let line = format!(in alloc; "line {number}: bad\n")?;
             say(writer, line.as_str())
         }
         Stop::World(fault) => {
-            let Ok(line) = refused_world_line(alloc, fault) else {
-                return Err(Stop::Memory);
-            };
+            let line = refused_world_line(alloc, fault)?;
             say(writer, line.as_str())
         }
         Stop::Memory => say(writer, "memory\n"),
@@ -135,18 +131,18 @@ fn play<W: Write>(alloc: Global, script: &[u8], writer: &mut W) -> Result<(), St
     ensures { PlaysScript (Plays (lines_of script.now) Start 1)
         (W.contents writer.old) result (W.contents writer.new) }
 {
-    let mut stage = Stage::Start;
+    let mut progress = Progress::Start;
     let mut number = 1u64;
     let mut rest = script;
     while let Some((text, after)) = first_line(rest) {
-        stage = match play_line(alloc, stage, number, text, writer) {
+        progress = match play_line(alloc, progress, number, text, writer) {
             Ok(next) => next,
             Err(stop) => return Err(stop),
         };
         number += 1;
         rest = after;
     }
-    match stage.end(alloc, number) {
+    match progress.end(alloc, number) {
         Ok(()) => Ok(()),
         Err(stop) => Err(stop),
     }
@@ -170,19 +166,19 @@ fn first_line(script: &[u8]) -> Option<(&[u8], &[u8])>
 /// Plays the line of a number.
 fn play_line<W: Write>(
     alloc: Global,
-    stage: Stage,
+    progress: Progress,
     number: u64,
     text: &[u8],
     writer: &mut W,
-) -> Result<Stage, Stop>
-    ensures { (place : Place) → IsAt stage place → MovesTo (LeadsText place text.now) number
+) -> Result<Progress, Stop>
+    ensures { (place : Place) → IsAt progress place → MovesTo (LeadsText place text.now) number
         (W.contents writer.old) result (W.contents writer.new) }
 {
     if is_silent(text) {
-        return Ok(stage);
+        return Ok(progress);
     }
     match read_line(alloc, text) {
-        Ok(Some(line)) => stage.take(alloc, number, line, writer),
+        Ok(Some(line)) => progress.take(alloc, number, line, writer),
         Ok(None) => Err(Stop::BadLine { number }),
         Err(_) => Err(Stop::Memory),
     }

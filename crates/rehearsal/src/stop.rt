@@ -1,5 +1,9 @@
 //! Why a rehearsal ends before its script does.
 
+ghost use Rattle.std.specs.Prelude.{◌≡◌};
+
+use connection_io::{ReadFailed, WriteFailed};
+use std::alloc::AllocError;
 use thiserror::Error;
 use version_store::OpenError;
 
@@ -24,4 +28,34 @@ pub enum Stop {
     /// Memory was refused.
     #[error("out of memory")]
     Memory,
+}
+
+impl From<AllocError> for Stop {
+    ghost use Rattle.rehearsal.specs.declared.stop.Stop.TheVariants.{Memory};
+
+    ghost from_gives = { λ _ stop. stop ≡ Memory };
+
+    fn from(_failed: AllocError) -> Self {
+        Stop::Memory
+    }
+}
+
+impl From<ReadFailed> for Stop {
+    ghost use Rattle.rehearsal.specs.declared.stop.Stop.TheVariants.{Read};
+
+    ghost from_gives = { λ _ stop. stop ≡ Read };
+
+    fn from(_failed: ReadFailed) -> Self {
+        Stop::Read
+    }
+}
+
+impl From<WriteFailed> for Stop {
+    ghost use Rattle.rehearsal.specs.declared.stop.Stop.TheVariants.{Write};
+
+    ghost from_gives = { λ _ stop. stop ≡ Write };
+
+    fn from(_failed: WriteFailed) -> Self {
+        Stop::Write
+    }
 }

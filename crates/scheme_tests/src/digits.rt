@@ -1,8 +1,9 @@
 ghost use Rattle.std.specs.Prelude.{◌<◌};
 
 use digit_pack::{
-    BadDigits, DigitStore, Flat, Layout, LayoutError, Packed3, digits_of_records, join_word, pack,
-    pack_bytes, record_of, split_count, split_word, unpack, word_digit, write_record,
+    BadDigits, BadSlot, DigitStore, Flat, Layout, LayoutError, Packed3, digits_of_records,
+    fill_slot, join_word, nth_record, pack, pack_bytes, read_slot, split_count, split_word, unpack,
+    word_digit, write_record,
 };
 use matrix_u32::{Kernel, MatrixError, Plain};
 use std::process::Abort;
@@ -284,7 +285,53 @@ fn records_stand_in_their_columns(rt: HostRuntime) -> Result<(), Fail> {
         assert_eq!(rt; digits.get(row, col), digit, "row {row}, column {col}");
     }
     write_record(&layout, &mut bytes, 3, &[70, 80]);
-    assert_eq!(rt; record_of(&layout, &bytes, 3), [70, 80].as_slice());
+    assert_eq!(rt; nth_record(&layout, &bytes, 3), [70, 80].as_slice());
     assert_eq!(rt; bytes, [1, 2, 3, 4, 5, 6, 70, 80, 9, 10]);
     Ok(())
+}
+
+#[test]
+fn slots_hold_records_of_their_own_lengths(rt: HostRuntime) {
+    let mut slot = [7; 5];
+    fill_slot(&[1, 2, 3], &mut slot);
+    assert_eq!(rt; slot, [3, 0, 1, 2, 3]);
+    assert_eq!(rt; read_slot(&slot), Ok(3));
+    fill_slot(&[9], &mut slot);
+    assert_eq!(rt; slot, [1, 0, 9, 0, 0]);
+    assert_eq!(rt; read_slot(&slot), Ok(1));
+    fill_slot(&[], &mut slot);
+    assert_eq!(rt; slot, [0; 5]);
+    assert_eq!(rt; read_slot(&slot), Ok(0));
+}
+
+#[test]
+fn what_no_record_fills_is_no_slot(rt: HostRuntime) {
+    let bad: [&[u8]; 7] = [
+        &[],
+        &[0],
+        &[1, 0],
+        &[2, 0, 10],
+        &[0, 0, 10],
+        &[0, 1, 0, 0, 0],
+        &[1, 0, 10, 0, 1],
+    ];
+    for slot in bad {
+        assert_eq!(rt; read_slot(slot), Err(BadSlot));
+    }
+    assert_eq!(rt; read_slot(&[0, 0]), Ok(0));
+    assert_eq!(rt; read_slot(&[1, 0, 10]), Ok(1));
+}
+
+// The longest record that a slot of 256 bytes holds has 254.
+#[test]
+fn the_longest_slot(rt: HostRuntime) {
+    let mut slot = [1; 256];
+    fill_slot(&[5; 254], &mut slot);
+    assert_eq!(rt; read_slot(&slot), Ok(254));
+    assert_eq!(rt; &slot[..2], [254, 0].as_slice());
+    assert_eq!(rt; slot[255], 5);
+    slot[0] = 255;
+    assert_eq!(rt; read_slot(&slot), Err(BadSlot));
+    slot[0] = 253;
+    assert_eq!(rt; read_slot(&slot), Err(BadSlot));
 }

@@ -79,3 +79,7 @@ few_words x records rows words few low is =
 pub all_sent : (x : Setting) (records : List (List ℕ)) (rows words : List ℕ) (i : ℕ) → length rows ≤ i → words ≡ words_sent x records (take i rows) →
     words ≡ words_sent x records rows
 all_sent x records rows words i all is = is ∙ ap (words_sent x records) (take_all i rows all)
+
+pub count_of_words : (x : Setting) (records : List (List ℕ)) (rows : List ℕ) →
+    length (named_hint_rows x records rows).words ≡ length rows * (x.plan.dimension + 1)
+count_of_words x records rows = ap length (words_of x records rows) ∙ words_count x records rows

@@ -1,4 +1,5 @@
 pub mod Agreement
+pub mod AnswerSizes
 pub mod Courses
 pub mod Hints
 pub mod Pieces

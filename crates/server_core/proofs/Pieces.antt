@@ -2,7 +2,7 @@
 use Rattle.std.proofs.Common.{◌≡◌, ◌≢◌, ℕ, Bool, true, false, List, [], ◌∷◌, ◌++◌, length, Some, None, Option, refl, sym, ap, subst, ◌∙◌, append_assoc, arith, inl, inr, Result, Ok, Err, IsErr, OnErr, OnOk, IfOk}
 use Rattle.std.proofs.Math.Seq.{take-length}
 use Rattle.std.specs.Prelude.{MatchBool, IsOk}
-use Rattle.std.specs.List.{flat_map, AllByRecursion}
+use Rattle.std.specs.List.{flat_map}
 use Rattle.std.specs.declared.alloc.AllocError.{AllocError}
 use Rattle.std.proofs.lemmas.List.{append-nil}
 use Rattle.std.proofs.lemmas.List.Concat.{flat_map-append, flat_map-cons}
@@ -13,15 +13,12 @@ use Rattle.frame_codec.specs.declared.refusal.Refusal.TheVariants as refusal
 use Rattle.frame_codec.specs.Refusals.{refused}
 use Rattle.frame_codec.specs.Frames.{IsFrame, encoding}
 use Rattle.frame_codec.specs.Streams.{Feeds}
+use Rattle.frame_codec.proofs.Runs.{all_append}
 use Rattle.version_store.specs.Histories.{StoreState, History, StandsFor}
 use Rattle.server_core.specs.declared.standing.Standing.{Standing}
 use Rattle.server_core.specs.declared.standing.Standing.TheVariants.{Closed}
 use Rattle.server_core.specs.Serving.{Setting, setting_of, ServedAll, is_closed, BrokenOff}
 use Rattle.server_core.specs.Sessions.{Session, IsLive, AfterReading, EndsPiece, ServesPiece, Fed, Ended, ServedFrames, StoppedFrames, IsUnjudged, IsUnread}
-
-each_append : (rs more : List Frame) → AllByRecursion IsFrame rs → AllByRecursion IsFrame more → AllByRecursion IsFrame (rs ++ more)
-each_append [] more all others = others
-each_append (g ∷ rs) more all others = (all.0, each_append rs more all.1 others)
 
 -- ---- a piece's frames and its end
 
@@ -107,7 +104,7 @@ fed_well x h old piece d store after u before new answer frames open_ reads s =
       written = s.written ∙ ap (λ (y : List ℕ). y ++ flat_map encoding s.more) a.written
           ∙ append_assoc before (flat_map encoding a.replies) (flat_map encoding s.more)
           ∙ ap (λ (y : List ℕ). before ++ y) (sym (flat_map-append encoding a.replies s.more));
-      each = each_append a.replies s.more a.each s.each;
+      each = all_append IsFrame a.replies s.more a.each s.each;
     }
 
 pub fed_short : (x : Setting) (h : History) (old : Session) (piece : List ℕ) (e : AllocError) (store : StoreState) (u : Option (List ℕ)) (before new : List ℕ)

@@ -1,5 +1,5 @@
 -- What the server does with a frame.
-use Rattle.std.specs.Prelude.{◌≡◌, ℕ, ◌+◌, ◌^◌, ◌<◌, List, [], ◌∷◌, ◌++◌, length, map, take, replicate, Bool, true, false, not, Option, Some, None, ◌==◌, ◌⊎◌, nat_eq, nat_le, nat_lt, if◌then◌else◌, MatchBool, option_to_list, vec_len, vec_capacity}
+use Rattle.std.specs.Prelude.{◌≡◌, ℕ, ◌+◌, ◌*◌, ◌^◌, ◌<◌, ◌≤◌, List, [], ◌∷◌, ◌++◌, length, map, take, replicate, Bool, true, false, not, Option, Some, None, ◌==◌, ◌⊎◌, nat_eq, nat_le, nat_lt, if◌then◌else◌, MatchBool, option_to_list, vec_len, vec_capacity}
 use Rattle.std.specs.Cmp.Lexicographic.{pointwise}
 use Rattle.std.specs.declared.vec.Vec.{Vec}
 use Rattle.std.specs.declared.alloc.Global.{Global}
@@ -12,7 +12,7 @@ use Rattle.pir_schemes.specs.Schemes.{scheme_byte, scheme_of_byte}
 use Rattle.pir_schemes.specs.Parts.{part_of, is_part_of}
 use Rattle.pir_schemes.specs.declared.plan.Plan.{Plan}
 use Rattle.pir_schemes.specs.Plans.{shape_at, profile_of, fits}
-use Rattle.pir_schemes.specs.Retrievals.{hint_matrix, query_count, answer_words}
+use Rattle.pir_schemes.specs.Retrievals.{hint_matrix, query_count, answer_count, answer_words}
 use Rattle.version_store.specs.Histories.{StoreState, History, StandsFor, current_version, after_edit, published, delta_rows}
 use Rattle.frame_codec.specs.declared.frame.Frame.{Frame}
 use Rattle.frame_codec.specs.declared.frame.Frame.TheVariants.{Hello, HintAsk, DeltaAsk, Query, Edit, Publish, Bye, Welcome, HintPart, Delta, Answer, Stale, Done, NoDelta}
@@ -64,6 +64,10 @@ named_hint_rows x records rows = row_list x.plan.dimension (map (hint_row x reco
 -- how many words a query on some records has
 abbrev pub words_asked : Setting → Scheme → List (List ℕ) → ℕ
 words_asked x scheme records = query_count scheme (shape_at x.plan (length records))
+
+-- how many words an answer on some records has
+abbrev pub words_answered : Setting → Scheme → List (List ℕ) → ℕ
+words_answered x scheme records = answer_count scheme (shape_at x.plan (length records)) x.plan.dimension
 
 -- what one frame leads to: the reply, the standing and the history after it
 pub record Outcome : Type 0 where
@@ -198,6 +202,16 @@ takes_memory x h st Publish =
     if is_welcome st then (
     if is_publisher st then (if h.marked then not (current_version h + 1 == 2 ^ 64) else false) else false) else false
 takes_memory x h st _ = false
+
+-- there is room for so many bytes more
+abbrev pub HasRoom : ℕ → Vec ℕ Global → Type 0
+HasRoom count out = vec_len out + count ≤ vec_capacity out
+
+-- no words yet, and room for so many rows of so many words, each after its number
+pub record IsRowRoom (count dimension : ℕ) (words : Vec ℕ Global) : Type 0 where
+  pub empty : words.items ≡ []
+  pub len : vec_len words ≡ 0
+  pub room : count * (dimension + 1) ≤ vec_capacity words
 
 -- the room for a short reply is not there
 abbrev pub IsFull : Vec ℕ Global → Type 0

@@ -1,6 +1,6 @@
 //! Replies, written after those before.
 
-ghost use Rattle.std.specs.Prelude.{All, ◌≡◌, ◌≤◌, ◌<◌, ◌+◌, ◌*◌, ◌++◌, length, vec_len, vec_capacity, OnOk, OnErr, IfOk, IfSome, IfNone, true, false};
+ghost use Rattle.std.specs.Prelude.{All, ◌≡◌, ◌≤◌, ◌<◌, ◌+◌, ◌*◌, ◌∷◌, ◌++◌, length, vec_len, vec_capacity, OnOk, OnErr, IfOk, IfSome, IfNone, true, false};
 ghost use Rattle.frame_codec.specs.Frames.{IsFrame, encoding, payload_size};
 ghost use Rattle.frame_codec.specs.declared.frame.Frame.TheVariants.{Answer, Delta, Done, HintPart, NoDelta, Stale, Welcome};
 ghost use Rattle.frame_codec.specs.Refusals.{refused};
@@ -9,16 +9,23 @@ ghost use Rattle.pir_schemes.specs.Plans.{profile_of};
 ghost use Rattle.pir_schemes.specs.Retrievals.{answer_words};
 ghost use Rattle.digit_pack.specs.Layout.{digit_rows};
 ghost use Rattle.version_store.specs.Editions.{version_shape};
-ghost use Rattle.server_core.specs.Serving.{setting_of, has_part, part_words, named_hint_rows, words_asked};
+ghost use Rattle.server_core.specs.Serving.{setting_of, has_part, part_words, named_hint_rows, words_asked, words_answered, hint_row, HasRoom, IsRowRoom};
+ghost use Rattle.version_store.specs.Rooms.{scheme_answered, IsAnswerRoom};
 
-use frame_codec::{Bytes32, Frame, Refusal, Rows, Words, write_frame};
+use frame_codec::{Bytes32, Frame, Refusal, Rows, Words, write_frame, write_hint_part};
 use matrix_u32::Kernel;
-use pir_schemes::{PROFILE, Scheme};
+use pir_schemes::{PROFILE, Scheme, answer_count};
 use std::alloc::{AllocError, Global};
-use version_store::Store;
+use version_store::{AnswerRoom, Store};
 
 /// The room that every reply but a hint's part, a delta and an answer fits into.
 pub const SHORT_REPLY: usize = 64;
+
+// How many bytes the frame of an answer has before its words.
+const ANSWER_HEAD: usize = 14;
+
+// How many bytes the frame of a delta has before its rows.
+const DELTA_HEAD: usize = 27;
 
 /// Adds a short reply for which there is room.
 fn put(reply: &Frame, out: &mut Vec<u8>)
@@ -102,9 +109,9 @@ pub fn part_of_hint<K: Kernel>(store: &Store<K>, scheme: Scheme, part: u32) -> O
     store.hint_words(scheme, part as usize)
 }
 
-/// Adds a part of a scheme's hint. Only refused memory gives an `Err`, and then nothing was added.
+/// Adds a part of a scheme's hint. Only where its room is missing, and more is refused, comes an `Err`, and then
+/// nothing was added. The words are encoded where they stand: no copy of them is made.
 pub fn put_part(
-    alloc: Global,
     scheme: Scheme,
     version: u64,
     part: u32,
@@ -116,16 +123,11 @@ pub fn put_part(
         (HintPart (scheme_byte scheme) version part words.now)) }
     ensures fits { OnOk result (IsFrame (HintPart (scheme_byte scheme) version part words.now)) }
     ensures err { OnErr result (out.new.items ≡ out.old.items) }
+    ensures full { OnErr result
+        (vec_capacity out.old < vec_len out.old + (18 + 4 * length words.now)) }
     ensures room { vec_capacity out.old ≤ vec_capacity out.new }
 {
-    let words = Words::new(words.to_vec(alloc)?);
-    let reply = Frame::HintPart {
-        scheme: scheme.byte(),
-        version,
-        part,
-        words,
-    };
-    write_frame(&reply, out)
+    write_hint_part(scheme.byte(), version, part, words, out)
 }
 
 /// Adds that no rows can be given, with the current version and its record count.
@@ -142,100 +144,144 @@ pub fn put_no_delta<K: Kernel>(store: &Store<K>, out: &mut Vec<u8>)
     put(&reply, out);
 }
 
-/// Adds rows of the current SimplePIR hint, in the order in which they are named. Only refused memory gives an
-/// `Err`, and then nothing was added.
+/// Memory for the words of so many rows of the current SimplePIR hint, each after its number, and room in `out` for
+/// their frame. It is not given which rows, so an `Err` depends on none; what `out` holds stays.
+pub fn room_for_rows<K: Kernel>(
+    alloc: Global,
+    store: &Store<K>,
+    count: usize,
+    out: &mut Vec<u8>,
+) -> Result<Vec<u32>, AllocError>
+    requires { count ≤ 1024 }
+    ensures words { IfOk result (IsRowRoom count store.now.edition.plan.dimension) }
+    ensures space { OnOk result (HasRoom
+        (27 + 4 * (count * (store.now.edition.plan.dimension + 1))) out.new) }
+    ensures items { out.new.items ≡ out.old.items }
+    ensures room { vec_capacity out.old ≤ vec_capacity out.new }
+{
+    let words = count * (store.dimension() + 1);
+    out.reserve(DELTA_HEAD + 4 * words)?;
+    Vec::with_capacity(alloc, words)
+}
+
+/// Adds rows of the current SimplePIR hint, in the order in which they are named, for which there is room. It takes
+/// no memory.
 ///
 /// Each row is copied once, and its bytes are written once.
+#[tactic(auto, using(crate::proofs::Deltas::count_of_words))]
 pub fn put_delta<K: Kernel>(
-    alloc: Global,
     store: &Store<K>,
     since: u64,
     rows: &[u32],
+    room: Vec<u32>,
     out: &mut Vec<u8>,
-) -> Result<(), AllocError>
+)
     requires few { length rows.now ≤ 1024 }
     requires inside { All (λ r. r < digit_rows (version_shape store.now.edition)) rows.now }
-    ensures ok { OnOk result (out.new.items ≡ out.old.items ++ encoding
+    requires room { IsRowRoom (length rows.now) store.now.edition.plan.dimension room }
+    requires space { HasRoom
+        (27 + 4 * (length rows.now * (store.now.edition.plan.dimension + 1))) out.old }
+    ensures items { out.new.items ≡ out.old.items ++ encoding
         (Delta since store.now.version (length store.now.edition.records)
-        (named_hint_rows (setting_of store.now) store.now.edition.records rows.now))) }
-    ensures fits { OnOk result (IsFrame
-        (Delta since store.now.version (length store.now.edition.records)
-        (named_hint_rows (setting_of store.now) store.now.edition.records rows.now))) }
-    ensures err { OnErr result (out.new.items ≡ out.old.items) }
-    ensures room { vec_capacity out.old ≤ vec_capacity out.new }
+        (named_hint_rows (setting_of store.now) store.now.edition.records rows.now)) }
+    ensures fits { IsFrame (Delta since store.now.version (length store.now.edition.records)
+        (named_hint_rows (setting_of store.now) store.now.edition.records rows.now)) }
 {
-    let rows = rows_of_hint(alloc, store, rows)?;
+    let rows = rows_of_hint(store, rows, room);
     let reply = Frame::Delta {
         since,
         now: store.version(),
         count: store.layout().count() as u32,
         rows,
     };
-    write_frame(&reply, out)
+    // There is room for the frame: no refusal is left.
+    let _ = write_frame(&reply, out);
 }
 
-/// Rows of the current SimplePIR hint.
-fn rows_of_hint<K: Kernel>(
-    alloc: Global,
-    store: &Store<K>,
-    rows: &[u32],
-) -> Result<Rows, AllocError>
+/// Rows of the current SimplePIR hint, in words that have room for them.
+fn rows_of_hint<K: Kernel>(store: &Store<K>, rows: &[u32], mut words: Vec<u32>) -> Rows
     requires few { length rows.now ≤ 1024 }
     requires inside { All (λ r. r < digit_rows (version_shape store.now.edition)) rows.now }
-    ensures rows { IfOk result (λ sent.
-        sent ≡ named_hint_rows (setting_of store.now) store.now.edition.records rows.now) }
-    ensures few { IfOk result (λ sent. length sent.words ≤ 1049600) }
+    requires room { IsRowRoom (length rows.now) store.now.edition.plan.dimension words }
+    ensures rows { result ≡
+        named_hint_rows (setting_of store.now) store.now.edition.records rows.now }
+    ensures few { length result.words ≤ 1049600 }
 {
     let dimension = store.dimension();
-    let mut words = Vec::with_capacity(alloc, rows.len() * (dimension + 1))?;
     for row in rows {
-        words.push(*row)?;
-        words.extend_from_slice(store.hint_row(*row as usize))?;
+        put_row(store, *row, &mut words);
     }
-    Ok(Rows::new(dimension as u16, Words::new(words)))
+    Rows::new(dimension as u16, Words::new(words))
 }
 
-/// Adds the answer to a query. Only refused memory gives an `Err`, and then nothing was added.
+/// Adds a row of the current SimplePIR hint after its number, for which there is room.
+fn put_row<K: Kernel>(store: &Store<K>, row: u32, words: &mut Vec<u32>)
+    requires inside { row < digit_rows (version_shape store.now.edition) }
+    requires room { vec_len words.old + (store.now.edition.plan.dimension + 1) ≤
+        vec_capacity words.old }
+    ensures items { words.new.items ≡ words.old.items ++ (row ∷
+        (hint_row (setting_of store.now) store.now.edition.records row).words) }
+    ensures len { vec_len words.new ≡
+        vec_len words.old + (store.now.edition.plan.dimension + 1) }
+    ensures capacity { vec_capacity words.old ≤ vec_capacity words.new }
+{
+    let _ = words.push(row);
+    let _ = words.extend_from_slice(store.hint_row(row as usize));
+}
+
+/// Memory for the answer to a query of a scheme, and room in `out` for its frame. No word of the query is given, so
+/// an `Err` depends on none; what `out` holds stays.
+#[tactic(auto, using(crate::proofs::AnswerSizes::few_words))]
+pub fn room_for_answer<K: Kernel>(
+    store: &Store<K>,
+    scheme: Scheme,
+    out: &mut Vec<u8>,
+) -> Result<AnswerRoom, AllocError>
+    ensures scheme { IfOk result (λ room. scheme_answered room ≡ scheme) }
+    ensures sizes { IfOk result (λ room. IsAnswerRoom (version_shape store.now.edition)
+        store.now.edition.plan.dimension room) }
+    ensures space { OnOk result (HasRoom
+        (14 + 4 * words_answered (setting_of store.now) scheme store.now.edition.records) out.new) }
+    ensures items { out.new.items ≡ out.old.items }
+    ensures room { vec_capacity out.old ≤ vec_capacity out.new }
+{
+    let count = answer_count(scheme, store.layout(), store.dimension());
+    out.reserve(ANSWER_HEAD + 4 * count)?;
+    store.answer_room(scheme)
+}
+
+/// Adds the answer to a query, for which there is room. It takes no memory.
 ///
 /// The answer's words are moved into the reply, and their bytes written once.
+#[tactic(auto, using(crate::proofs::AnswerSizes::size_of_answer, crate::proofs::AnswerSizes::few_words))]
 pub fn put_answer<K: Kernel>(
     store: &Store<K>,
     scheme: Scheme,
+    room: AnswerRoom,
     words: &Words,
     out: &mut Vec<u8>,
-) -> Result<(), AllocError>
-    requires { length words.now ≡
+)
+    requires words { length words.now ≡
         words_asked (setting_of store.now) scheme store.now.edition.records }
-    ensures ok { OnOk result (out.new.items ≡ out.old.items ++ encoding
+    requires scheme { scheme_answered room ≡ scheme }
+    requires sizes { IsAnswerRoom (version_shape store.now.edition)
+        store.now.edition.plan.dimension room }
+    requires space { HasRoom
+        (14 + 4 * words_answered (setting_of store.now) scheme store.now.edition.records) out.old }
+    ensures items { out.new.items ≡ out.old.items ++ encoding
         (Answer (scheme_byte scheme) store.now.version
-        (answer_words scheme store.now.edition.plan store.now.edition.records words.now))) }
-    ensures fits { OnOk result (IsFrame (Answer (scheme_byte scheme) store.now.version
-        (answer_words scheme store.now.edition.plan store.now.edition.records words.now))) }
-    ensures err { OnErr result (out.new.items ≡ out.old.items) }
-    ensures room { vec_capacity out.old ≤ vec_capacity out.new }
+        (answer_words scheme store.now.edition.plan store.now.edition.records words.now)) }
+    ensures fits { IsFrame (Answer (scheme_byte scheme) store.now.version
+        (answer_words scheme store.now.edition.plan store.now.edition.records words.now)) }
 {
-    let answer = answer_to(store, scheme, words.as_slice())?;
+    // Called for what it says of the sizes: they are within the limits.
+    store.layout();
+    let answer = store.answer_in(room, words.as_slice());
     let reply = Frame::Answer {
         scheme: scheme.byte(),
         version: store.version(),
         words: Words::new(answer),
     };
-    write_frame(&reply, out)
-}
-
-/// The words that answer a query: at most 342 digits times 6150 words, and 6144 more.
-fn answer_to<K: Kernel>(
-    store: &Store<K>,
-    scheme: Scheme,
-    words: &[u32],
-) -> Result<Vec<u32>, AllocError>
-    requires { length words.now ≡
-        words_asked (setting_of store.now) scheme store.now.edition.records }
-    ensures words { IfOk result (λ v.
-        v.items ≡ answer_words scheme store.now.edition.plan store.now.edition.records words.now) }
-    ensures few { IfOk result (λ v. length v.items ≤ 2109444) }
-{
-    store.layout();
-    let answer = store.answer(scheme, words)?;
-    Ok(answer)
+    // There is room for the frame: no refusal is left.
+    let _ = write_frame(&reply, out);
 }

@@ -5,11 +5,11 @@ ghost use Rattle.frame_codec.specs.Frames.{IsFrame, encoding};
 ghost use Rattle.frame_codec.specs.declared.frame.Frame.TheVariants.{DeltaAsk, Edit, Hello, HintAsk, Publish, Query};
 ghost use Rattle.frame_codec.specs.Refusals.{refused};
 ghost use Rattle.version_store.specs.Histories.{History, StandsFor};
-ghost use Rattle.server_core.specs.Serving.{setting_of, is_publisher_key, is_reader_key, Serves, ServedAll, BrokenOff, IsFull};
+ghost use Rattle.server_core.specs.Serving.{setting_of, is_publisher_key, is_reader_key, outcome_of_frame, HasRoom, HasOutcome, Serves, ServedAll, BrokenOff, IsFull};
 
 use crate::replies::{
     SHORT_REPLY, part_of_hint, put_answer, put_delta, put_done, put_no_delta, put_part,
-    put_refused, put_stale, put_welcome,
+    put_refused, put_stale, put_welcome, room_for_answer, room_for_rows,
 };
 use crate::standing::Standing;
 use frame_codec::{Bytes, Bytes32, Frame, Refusal, Words};
@@ -62,9 +62,9 @@ fn serve_hello<K: Kernel>(
     standing
 }
 
-/// Gives a part of the hint.
+/// Gives a part of the hint. Where there is room for the longest part, no memory is asked for, and none is said to be
+/// refused.
 fn serve_hint_ask<K: Kernel>(
-    alloc: Global,
     store: &Store<K>,
     standing: Standing,
     scheme: u8,
@@ -73,9 +73,13 @@ fn serve_hint_ask<K: Kernel>(
     out: &mut Vec<u8>,
 )
     requires { vec_len out.old + 64 ≤ vec_capacity out.old }
-    ensures { (h : History) → StandsFor store.now h →
+    ensures served { (h : History) → StandsFor store.now h →
         Serves (setting_of store.now) h standing
         (HintAsk scheme version part) store.now standing out.old.items out.new.items }
+    ensures never_refused_with_room { HasRoom 262162 out.old → (h : History) →
+        StandsFor store.now h → HasOutcome (setting_of store.now)
+        (outcome_of_frame (setting_of store.now) h standing (HintAsk scheme version part))
+        store.now standing out.old.items out.new.items }
 {
     if !standing.is_welcome() {
         return put_refused(Refusal::NotWelcome, out);
@@ -89,7 +93,7 @@ fn serve_hint_ask<K: Kernel>(
     match part_of_hint(store, scheme, part) {
         None => put_refused(Refusal::BadPart, out),
         Some(words) => {
-            if put_part(alloc, scheme, version, part, words, out).is_err() {
+            if put_part(scheme, version, part, words, out).is_err() {
                 put_refused(Refusal::Memory, out);
             }
         }
@@ -121,9 +125,10 @@ fn serve_delta_ask<K: Kernel>(
     if rows.len() > DELTA_ROWS {
         return put_no_delta(store, out);
     }
-    if put_delta(alloc, store, since, &rows, out).is_err() {
-        put_refused(Refusal::Memory, out);
-    }
+    let Ok(room) = room_for_rows(alloc, store, rows.len(), out) else {
+        return put_refused(Refusal::Memory, out);
+    };
+    put_delta(store, since, &rows, room, out);
 }
 
 /// Answers a query.
@@ -152,9 +157,10 @@ fn serve_query<K: Kernel>(
     if words.as_slice().len() != store.query_words(scheme) {
         return put_refused(Refusal::BadQueryLength, out);
     }
-    if put_answer(store, scheme, words, out).is_err() {
-        put_refused(Refusal::Memory, out);
-    }
+    let Ok(room) = room_for_answer(store, scheme, out) else {
+        return put_refused(Refusal::Memory, out);
+    };
+    put_answer(store, scheme, room, words, out);
 }
 
 /// Edits a record of the draft.
@@ -240,7 +246,7 @@ fn serve_with_room<K: Kernel>(
             version,
             part,
         } => {
-            serve_hint_ask(alloc, store, standing, *scheme, *version, *part, out);
+            serve_hint_ask(store, standing, *scheme, *version, *part, out);
             standing
         }
         Frame::DeltaAsk { since } => {

@@ -72,7 +72,7 @@ impl Session {
         }
         let mut frames = Vec::new(alloc);
         let read = self.reader.feed(piece, &mut frames);
-        match serve_piece(alloc, store, self.standing, &frames, read, out) {
+        match serve_completed(alloc, store, self.standing, &frames, read, out) {
             Ok(standing) => {
                 self.standing = standing;
                 Ok(())
@@ -87,7 +87,7 @@ impl Session {
 
 /// Serves the frames that a piece completes, and then tells how the reading ended. Answers the standing after
 /// it. At an `Err` memory was refused.
-fn serve_piece<K: Kernel>(
+fn serve_completed<K: Kernel>(
     alloc: Global,
     store: &mut Store<K>,
     standing: Standing,

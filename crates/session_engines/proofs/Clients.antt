@@ -11,6 +11,8 @@ use Rattle.frame_codec.specs.declared.reader.ReadFault.TheVariants as read_fault
 use Rattle.frame_codec.specs.Rows.{RowList}
 use Rattle.frame_codec.specs.Frames.{IsFrame, encoding}
 use Rattle.frame_codec.specs.Streams.{Feeds}
+use Rattle.frame_codec.proofs.Runs.{all_append}
+use Rattle.client_core.specs.States.{shape_known}
 use Rattle.client_core.specs.declared.state.ClientState.{ClientState}
 use Rattle.client_core.specs.declared.state.ServerInfo.{ServerInfo}
 use Rattle.client_core.specs.declared.state.Hint.{Hint}
@@ -21,11 +23,11 @@ use Rattle.client_core.specs.declared.state.ClientFault.TheVariants as client
 use Rattle.client_core.specs.declared.state.Event.{Event}
 use Rattle.pir_schemes.specs.declared.scheme.Scheme.{Scheme}
 use Rattle.pir_schemes.specs.Retrievals.{hint_len}
-use Rattle.digit_pack.specs.Layout.{Shape}
-use Rattle.client_core.specs.Replies.{Taken, faulty, reaction_to_reply, takes_welcome, takes_part, takes_answer, takes_stale, takes_done, takes_refused, is_accepted_welcome, is_part, more_parts, takes_asked_part, answered, staled, moved, takes_delta, goes_by_parts, takes_no_delta}
+use Rattle.pir_schemes.specs.declared.plan.Plan.{Plan}
+use Rattle.client_core.specs.Replies.{Taken, faulty, reaction_to_reply, takes_welcome, takes_part, takes_answer, takes_stale, takes_done, takes_refused, is_accepted_welcome, is_part, more_parts, takes_asked_part, answered, reaction_to_stale, moved, takes_delta, goes_by_parts, takes_no_delta}
 use Rattle.client_core.specs.Feeding.{Client, Course, start, course_after_reply, course_more, runs, takes_all, sends_of, fault_of, codec_fault, failing, ends_with, Gives, Follows, BreaksOff, FeedsOpen, FeedsFailed, FeedsClient}
 use Rattle.client_core.proofs.Courses.{runs_append, fault_stays}
-use Rattle.session_engines.proofs.Streams.{each_both, take_both, feeds_both}
+use Rattle.session_engines.proofs.Streams.{take_both, feeds_both}
 
 -- ---- a client fails with a fault alone, and no reply changes the next number
 abbrev IsSound : ClientState → Taken → Type 0
@@ -38,21 +40,21 @@ either : (c : ClientState) (b : Bool) (t u : Taken) → IsSound c t → IsSound 
 either c true t u a b = a
 either c false t u a b = b
 
-sound_welcome : (call : Call) (c : ClientState) (profile : ℕ) (l : Shape) (n v : ℕ) (seed : List ℕ) → IsSound c (takes_welcome call c profile l n v seed)
-sound_welcome Idle c profile l n v seed = bad c client.BadReply
-sound_welcome (Hello key) c profile l n v seed =
-    either c (is_accepted_welcome profile l n v) _ (faulty c client.BadWelcome) (λ _. (refl, refl)) (bad c client.BadWelcome)
-sound_welcome (Sync s w p) c profile l n v seed = bad c client.BadReply
-sound_welcome (Delta since) c profile l n v seed = bad c client.BadReply
-sound_welcome (Ask i s w k) c profile l n v seed = bad c client.BadReply
-sound_welcome (Edit i b) c profile l n v seed = bad c client.BadReply
-sound_welcome Publish c profile l n v seed = bad c client.BadReply
+sound_welcome : (call : Call) (c : ClientState) (profile : ℕ) (plan : Plan) (count v : ℕ) → IsSound c (takes_welcome call c profile plan count v)
+sound_welcome Idle c profile plan count v = bad c client.BadReply
+sound_welcome (Hello key) c profile plan count v =
+    either c (is_accepted_welcome profile plan count v) _ (faulty c client.BadWelcome) (λ _. (refl, refl)) (bad c client.BadWelcome)
+sound_welcome (Sync s w p) c profile plan count v = bad c client.BadReply
+sound_welcome (Delta since) c profile plan count v = bad c client.BadReply
+sound_welcome (Ask i s w k) c profile plan count v = bad c client.BadReply
+sound_welcome (Edit i b) c profile plan count v = bad c client.BadReply
+sound_welcome Publish c profile plan count v = bad c client.BadReply
 
 sound_asked : (known : Option ServerInfo) (s : Scheme) (c : ClientState) (asked next scheme version part : ℕ) (words : List ℕ) →
     IsSound c (takes_asked_part known s c asked next scheme version part words)
 sound_asked None s c asked next scheme version part words = bad c client.BadReply
 sound_asked (Some k) s c asked next scheme version part words =
-    either c (is_part s (hint_len s k.layout k.dimension) asked next scheme version part words) (more_parts s k c asked next (c.parts ++ words))
+    either c (is_part s (hint_len s (shape_known k) k.plan.dimension) asked next scheme version part words) (more_parts s k c asked next (c.parts ++ words))
     (faulty c client.BadReply)
     (either c _ _ _ (λ _. (refl, refl)) (λ _. (refl, refl))) (bad c client.BadReply)
 
@@ -81,7 +83,7 @@ sound_answer (Edit i b) c scheme version words = bad c client.BadReply
 sound_answer Publish c scheme version words = bad c client.BadReply
 
 sound_staled : (known : Option ServerInfo) (after c : ClientState) (asked version count : ℕ) → (after.failed ≡ c.failed) × (after.number ≡ c.number) →
-    IsSound c (staled known after c asked version count)
+    IsSound c (reaction_to_stale known after c asked version count)
 sound_staled None after c asked version count e = bad c client.BadReply
 sound_staled (Some k) after c asked version count e = either c _ _ (faulty c client.BadReply) (λ _. e) (bad c client.BadReply)
 
@@ -149,7 +151,7 @@ sound c (frame.Query scheme version words) = bad c client.BadReply
 sound c (frame.Edit index bytes) = bad c client.BadReply
 sound c frame.Publish = bad c client.BadReply
 sound c frame.Bye = bad c client.BadReply
-sound c (frame.Welcome profile width record_len groups count version dimension seed) = sound_welcome c.call c profile _ dimension version seed
+sound c (frame.Welcome profile width record_len groups count version dimension seed) = sound_welcome c.call c profile _ count version
 sound c (frame.HintPart scheme version part words) = sound_part c.call c scheme version part words
 sound c (frame.Delta since now count rows) = sound_delta c.call c since now count rows
 sound c (frame.Answer scheme version words) = sound_answer c.call c scheme version words
@@ -273,7 +275,7 @@ gives_after : (s : List Frame) (k : Course) (out more : List ℕ) (events : List
     Gives k more events → Gives (beyond s k) (out ++ more) events
 gives_after s k out more events e all g = record {
   written = ap (λ (y : List ℕ). y ++ more) e ∙ ap (λ (y : List ℕ). flat_map encoding s ++ y) g.written ∙ sym (flat_map-append encoding s k.sends);
-  each = each_both s k.sends all g.each;
+  each = all_append IsFrame s k.sends all g.each;
   reported = g.reported;
 }
 

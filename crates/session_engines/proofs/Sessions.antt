@@ -8,9 +8,9 @@ use Rattle.std.proofs.lemmas.List.Concat.{flat_map-append}
 use Rattle.frame_codec.specs.declared.frame.Frame.{Frame}
 use Rattle.frame_codec.specs.declared.reader.ReadFault.{ReadFault}
 use Rattle.frame_codec.specs.declared.reader.ReadFault.TheVariants as read_fault
-use Rattle.frame_codec.specs.Frames.{encoding}
+use Rattle.frame_codec.specs.Frames.{encoding, IsFrame}
 use Rattle.frame_codec.specs.Streams.{Feeds}
-use Rattle.frame_codec.proofs.Runs.{begins_none}
+use Rattle.frame_codec.proofs.Runs.{all_append, begins_none}
 use Rattle.frame_codec.proofs.Prefixes.{nothing_partial}
 use Rattle.version_store.specs.Histories.{StoreState, History, StandsFor}
 use Rattle.server_core.specs.Cores.{is_open, FeedsCore}
@@ -24,7 +24,7 @@ use Rattle.session_engines.specs.declared.serving.Ending.{Ending}
 use Rattle.session_engines.specs.declared.serving.ServeFault.{ServeFault}
 use Rattle.session_engines.specs.declared.serving.ServeFault.TheVariants as fault
 use Rattle.session_engines.specs.Serving.{IsStreamServed, ServesStream, ServesStreamPiece as TurnServes}
-use Rattle.session_engines.proofs.Streams.{each_both, take_both, feeds_both, cut_after}
+use Rattle.session_engines.proofs.Streams.{take_both, feeds_both, cut_after}
 
 not_both : {P : Type 0} (b : Bool) → b ≡ true → b ≡ false → P
 not_both b t f = absurd (let no : true ≡ false = sym t ∙ f in cc)
@@ -168,7 +168,7 @@ fed_both x h read piece out bytes answer store1 store2 s1 s2 a open_ step =
       course = then_feeds x h read piece a.history b.history s1 s2 a.replies b.replies answer a.course open_ b.course;
       written = ap (λ (y : List ℕ). y ++ bytes) a.written ∙ ap (λ (y : List ℕ). flat_map encoding a.replies ++ y) b.written
           ∙ sym (flat_map-append encoding a.replies b.replies);
-      each = each_both a.replies b.replies a.each b.each;
+      each = all_append IsFrame a.replies b.replies a.each b.each;
     }
 
 -- nothing was read yet
@@ -204,8 +204,8 @@ abbrev pub IsThere : Setting → History → List ℕ → List ℕ → StoreStat
 IsThere x h read out store found = (s : Session) × (found ≡ Some s) × Fed x h new_session read (Ok tt) store s [] out
 
 -- what a piece does to the session that is there
-abbrev pub Step : StoreState → Option Session → List ℕ → Result (Unit {0}) ServeFault → StoreState → Option Session → List ℕ → Type 0
-Step store1 found piece answer store2 new bytes =
+abbrev pub ServesOnePiece : StoreState → Option Session → List ℕ → Result (Unit {0}) ServeFault → StoreState → Option Session → List ℕ → Type 0
+ServesOnePiece store1 found piece answer store2 new bytes =
     (h : History) → StandsFor store1 h → (old : Session) → found ≡ Some old → TurnServes (setting_of store1) h old piece answer store2 new bytes
 
 pub opened : (h : History) (store : StoreState) (found : Option Session) → StandsFor store h → found ≡ Some new_session →
@@ -221,7 +221,7 @@ pub left_so : (x : Setting) (h : History) (read out : List ℕ) (store : StoreSt
 left_so x h read out store found o = (o.0, o.3, o.2)
 
 pub step_well : (x : Setting) (h : History) (read out piece bytes : List ℕ) (store1 store2 : StoreState) (found new : Option Session) →
-    IsOpenStill x h read out store1 found → Step store1 found piece (Ok tt) store2 new bytes
+    IsOpenStill x h read out store1 found → ServesOnePiece store1 found piece (Ok tt) store2 new bytes
     → IsThere x h (read ++ piece) (out ++ bytes) store2 new
 step_well x h read out piece bytes store1 store2 found new o step =
     let t = step o.3.history o.3.store_is o.0 o.1 in
@@ -229,7 +229,7 @@ step_well x h read out piece bytes store1 store2 found new o step =
 
 pub step_faulty : (e : ServeFault) (x : Setting) (h : History) (turns : ℕ) (read out piece bytes : List ℕ) (left : Option (List ℕ))
     (store1 store2 : StoreState) (found new : Option Session) → IsOpenStill x h read out store1 found
-    → Step store1 found piece (Err e) store2 new bytes → e ≢ fault.IdInUse → ServesStream x h turns (Err e) (read ++ piece) (out ++ bytes) left store2
+    → ServesOnePiece store1 found piece (Err e) store2 new bytes → e ≢ fault.IdInUse → ServesStream x h turns (Err e) (read ++ piece) (out ++ bytes) left store2
 step_faulty fault.IdInUse x h turns read out piece bytes left store1 store2 found new o step other = absurd (other refl)
 step_faulty fault.Read x h turns read out piece bytes left store1 store2 found new o step other = absurd (step o.3.history o.3.store_is o.0 o.1)
 step_faulty fault.Write x h turns read out piece bytes left store1 store2 found new o step other =

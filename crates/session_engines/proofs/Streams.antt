@@ -1,19 +1,12 @@
 -- Two pieces of a stream are one.
 use Rattle.std.proofs.Common.{◌≡◌, ◌<◌, ◌+◌, suc, ℕ, List, [], ◌∷◌, ◌++◌, length, take, drop, Option, Some, None, Result, Ok, Err, sym, ap, subst, ◌∙◌, append_assoc, arith}
-use Rattle.std.specs.List.{AllByRecursion}
 use Rattle.std.proofs.lemmas.List.{take-append-drop, length-drop}
 use Rattle.frame_codec.specs.declared.frame.Frame.{Frame}
 use Rattle.frame_codec.specs.declared.reader.ReadFault.{ReadFault}
 use Rattle.frame_codec.specs.declared.reader.ReadFault.TheVariants.{Failed}
-use Rattle.frame_codec.specs.Frames.{IsFrame}
 use Rattle.frame_codec.specs.Streams.{Feeds}
 use Rattle.frame_codec.proofs.Runs.{begins_ahead, reads_on, stops_on}
 use Rattle.session_engines.specs.Prefixes.{IsCutOff}
-
--- frames that are all frames, and others
-pub each_both : (fs gs : List Frame) → AllByRecursion IsFrame fs → AllByRecursion IsFrame gs → AllByRecursion IsFrame (fs ++ gs)
-each_both [] gs all others = others
-each_both (f ∷ fs) gs all others = (all.0, each_both fs gs all.1 others)
 
 -- the first of both, where the first of them are whole
 pub take_both : {X : Type 0} (n : ℕ) (xs ys : List X) → take (length xs + n) (xs ++ ys) ≡ xs ++ take n ys

@@ -45,7 +45,7 @@ pub record ReceivesTurns {C : Type 0} (does : C → Call → C → Type 0) (turn
   pub before : List CallTurn
   pub client : Client
   pub middle : C
-  pub go_on : ConversingGoesOn does old a before client middle
+  pub begun : ConversingGoesOn does old a before client middle
   pub ends : EndsConversing does turns (length before) client middle result new b
 
 -- There was no memory for a piece, and no call was made; or a write of the first bytes failed, and none was read.

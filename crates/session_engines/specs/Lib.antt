@@ -3,3 +3,4 @@ pub mod Serving
 pub mod ServingTurns
 pub mod Conversing
 pub mod ConversingTurns
+pub mod Names

@@ -60,7 +60,7 @@ pub record ServesTurns {C : Type 0} (does : C → Call → C → Type 0) (id tur
   pub before : List CallTurn
   pub core : Core
   pub middle : C
-  pub go_on : GoesOn does id old a before core middle
+  pub begun : GoesOn does id old a before core middle
   pub ends : EndsTurns does id turns (length before) core middle result new b
 
 -- there was no memory to begin with: no call was made

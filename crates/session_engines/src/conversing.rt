@@ -4,6 +4,7 @@ ghost use Rattle.std.specs.Prelude.{◌≡◌, ◌≤◌, ◌<◌, ◌*◌, ℕ,
 ghost use Rattle.std.specs.Io.KnownBytes.{Appends, Consumes};
 ghost use Rattle.session_engines.specs.Conversing.{converse_fault, ReceivesPiece, Receives, Converses};
 ghost use Rattle.session_engines.specs.ConversingTurns.{WritesSayings, ReceivesTurn, ReceivesTurns, ConversesOver};
+ghost use Rattle.session_engines.specs.Names.{converse_fault_name};
 
 use client_core::{ClientCore, ClientFault, Event};
 use connection_io::{Connection, Pair, piece_buffer, receive, send};
@@ -41,6 +42,25 @@ pub enum ConverseFault {
     Failed,
 }
 
+impl ConverseFault {
+    /// Its name, as programs print it.
+    #[tactic(auto, unfolding(crate::specs::Names::converse_fault_name))]
+    pub fn name(self) -> &'static str
+        ensures { result.now ≡ converse_fault_name self }
+    {
+        match self {
+            ConverseFault::Ended => "Ended",
+            ConverseFault::Read => "Read",
+            ConverseFault::Write => "Write",
+            ConverseFault::BadWelcome => "BadWelcome",
+            ConverseFault::BadReply => "BadReply",
+            ConverseFault::Memory => "Memory",
+            ConverseFault::TurnsUsedUp => "TurnsUsedUp",
+            ConverseFault::Failed => "Failed",
+        }
+    }
+}
+
 // The fault of a client, as that of its conversation.
 fn fault_of(fault: ClientFault) -> ConverseFault
     ensures { result ≡ converse_fault fault }
@@ -54,7 +74,7 @@ fn fault_of(fault: ClientFault) -> ConverseFault
 }
 
 // Gives the client a piece, and writes what it says to it. Answers the first event, where there is one.
-fn take_piece<K: Kernel, C: Connection>(
+fn feed_client<K: Kernel, C: Connection>(
     client: &mut ClientCore<K>,
     piece: &[u8],
     connection: &mut C,
@@ -100,7 +120,7 @@ pub fn converse_turn<K: Kernel, C: Connection>(
     if n == 0 {
         return Err(ConverseFault::Ended);
     }
-    match take_piece(client, &buffer[..n], connection) {
+    match feed_client(client, &buffer[..n], connection) {
         Ok(found) => Ok(found),
         Err(fault) => Err(fault),
     }

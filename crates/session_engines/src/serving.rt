@@ -8,6 +8,7 @@ ghost use Rattle.server_core.specs.Serving.{setting_of};
 ghost use Rattle.server_core.specs.Sessions.{Session, new_session};
 ghost use Rattle.session_engines.specs.Serving.{ServesStreamPiece, ServesStream};
 ghost use Rattle.session_engines.specs.ServingTurns.{WritesReplies, ServesTurn, ServesTurns, NeverServes, ServesOver};
+ghost use Rattle.session_engines.specs.Names.{serve_fault_name};
 
 use connection_io::{Connection, Pair, piece_buffer, receive, send};
 use matrix_u32::Kernel;
@@ -45,8 +46,24 @@ pub enum ServeFault {
     TurnsUsedUp,
 }
 
+impl ServeFault {
+    /// Its name, as programs print it.
+    #[tactic(auto, unfolding(crate::specs::Names::serve_fault_name))]
+    pub fn name(self) -> &'static str
+        ensures { result.now ≡ serve_fault_name self }
+    {
+        match self {
+            ServeFault::IdInUse => "IdInUse",
+            ServeFault::Read => "Read",
+            ServeFault::Write => "Write",
+            ServeFault::Memory => "Memory",
+            ServeFault::TurnsUsedUp => "TurnsUsedUp",
+        }
+    }
+}
+
 // Gives the session a piece, and writes what it is replied, also where there was no memory for all of it.
-fn serve_piece<K: Kernel, C: Connection>(
+fn answer_piece<K: Kernel, C: Connection>(
     core: &mut ServerCore<K>,
     id: u64,
     piece: &[u8],
@@ -105,7 +122,7 @@ pub fn serve_turn<K: Kernel, C: Connection>(
     if n == 0 {
         return Ok(Some(Ending::EndOfInput));
     }
-    if let Err(fault) = serve_piece(core, id, &buffer[..n], out, connection) {
+    if let Err(fault) = answer_piece(core, id, &buffer[..n], out, connection) {
         return Err(fault);
     }
     if core.is_open(id) {

@@ -9,16 +9,11 @@ use std::alloc::{AllocError, Global};
 use std::io::{Read, Write};
 use std::process::Abort;
 use std::test::Fail;
-use version_store::{Header, Store};
+use test_support::{RECORDS, TWO_RECORDS};
+use version_store::Store;
 
 mod refused_memory;
 mod texts;
-
-// The SHA-256 digest of 32 bytes 01.
-const PUBLISHER: [u8; 32] = [
-    0x72, 0xcd, 0x6e, 0x84, 0x22, 0xc4, 0x07, 0xfb, 0x6d, 0x09, 0x86, 0x90, 0xf1, 0x13, 0x0b, 0x7d,
-    0xed, 0x7e, 0xc2, 0xf7, 0xf5, 0xe1, 0xd3, 0x0b, 0xd9, 0xd5, 0x21, 0xf0, 0x15, 0x36, 0x37, 0x93,
-];
 
 // A greeting but its key, and what it is answered but the seed of zeros.
 const GREETING: &[u8] = &[0x22, 0, 0, 0, 0x02, 1, 0];
@@ -47,21 +42,9 @@ fn joined(alloc: Global, parts: &[&[u8]]) -> Result<Vec<u8>, AllocError> {
     Ok(bytes)
 }
 
-// The sizes of the store of the records 0a and c8 at version 1.
-const STORE: Header = Header {
-    width: 8,
-    record_len: 1,
-    groups: 1,
-    count: 2,
-    dimension: 1,
-    version: 1,
-    seed: [0; 32],
-    publisher: PUBLISHER,
-};
-
 // A server of it, without a session.
 fn server<K: Kernel>(alloc: Global, kernel: K) -> Result<ServerCore<K>, Fail> {
-    let snapshot = STORE.with_records([10u8, 200].to_vec(alloc)?);
+    let snapshot = TWO_RECORDS.with_records(RECORDS.to_vec(alloc)?);
     Ok(ServerCore::new(alloc, Store::open(alloc, kernel, snapshot)?))
 }
 

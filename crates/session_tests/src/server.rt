@@ -7,19 +7,11 @@ use server_core::{FeedError, ServerCore, SessionError, laws};
 use std::alloc::Global;
 use std::process::Abort;
 use std::test::Fail;
+use test_support::{RECORDS, TWO_RECORDS};
 use version_store::{Header, Store};
 
 mod refused_memory;
 mod texts;
-
-/// The SHA-256 digest of 32 bytes 01.
-const PUBLISHER: [u8; 32] = [
-    0x72, 0xcd, 0x6e, 0x84, 0x22, 0xc4, 0x07, 0xfb, 0x6d, 0x09, 0x86, 0x90, 0xf1, 0x13, 0x0b, 0x7d,
-    0xed, 0x7e, 0xc2, 0xf7, 0xf5, 0xe1, 0xd3, 0x0b, 0xd9, 0xd5, 0x21, 0xf0, 0x15, 0x36, 0x37, 0x93,
-];
-
-// The store of most tests.
-const RECORDS: &[u8] = &[0x0a, 0xc8];
 
 // A greeting, but its key.
 const GREETING: &[u8] = &[0x22, 0, 0, 0, 0x02, 1, 0];
@@ -41,6 +33,15 @@ const QUERY: &[u8] = &[
 
 const ANSWER: &[u8] = &[
     0x0d, 0, 0, 0, 0x85, 0, 1, 0, 0, 0, 0, 0, 0, 0, 0xa4, 0x1a, 0, 0xc8,
+];
+
+// The same query but for its first word, which is odd: the first record, 10, is added once more.
+const ODD_QUERY: &[u8] = &[
+    0x11, 0, 0, 0, 0x05, 0, 1, 0, 0, 0, 0, 0, 0, 0, 0x17, 0, 0, 0, 0x21, 0, 0, 1,
+];
+
+const ODD_ANSWER: &[u8] = &[
+    0x0d, 0, 0, 0, 0x85, 0, 1, 0, 0, 0, 0, 0, 0, 0, 0xae, 0x1a, 0, 0xc8,
 ];
 
 const BYE: &[u8] = &[0, 0, 0, 0, 0x08];
@@ -73,14 +74,9 @@ fn has_session<K: Kernel>(server: &ServerCore<K>, id: u64) -> bool {
 // The sizes of a store of so many records of one byte, each a column of its own.
 fn header(count: u32, version: u64) -> Header {
     Header {
-        width: 8,
-        record_len: 1,
-        groups: 1,
         count,
-        dimension: 1,
         version,
-        seed: [0; 32],
-        publisher: PUBLISHER,
+        ..TWO_RECORDS
     }
 }
 
@@ -132,6 +128,7 @@ const RETRIEVAL: Dialogue = &[
     (&[GREETING, ZEROS], &[WELCOME, ZEROS]),
     (&[HINT_ASK], &[HINT_PART]),
     (&[QUERY], &[ANSWER]),
+    (&[ODD_QUERY], &[ODD_ANSWER]),
     (&[BYE, QUERY], &[]),
     (&[GREETING, ZEROS, QUERY], &[]),
 ];
@@ -141,12 +138,12 @@ fn a_reader_gets_the_hint_and_answers(rt: HostRuntime) -> Result<(), Fail> {
     a_reader_gets_the_hint_and_answers_on(
         &rt,
         rt.alloc(),
-        &mut server(rt.alloc(), Plain, RECORDS, 1)?,
+        &mut server(rt.alloc(), Plain, &RECORDS, 1)?,
     )?;
     a_reader_gets_the_hint_and_answers_on(
         &rt,
         rt.alloc(),
-        &mut server(rt.alloc(), Lanes, RECORDS, 1)?,
+        &mut server(rt.alloc(), Lanes, &RECORDS, 1)?,
     )
 }
 
@@ -167,9 +164,13 @@ fn sessions_are_opened_and_closed(rt: HostRuntime) -> Result<(), Fail> {
     sessions_are_opened_and_closed_on(
         &rt,
         rt.alloc(),
-        &mut server(rt.alloc(), Plain, RECORDS, 1)?,
+        &mut server(rt.alloc(), Plain, &RECORDS, 1)?,
     )?;
-    sessions_are_opened_and_closed_on(&rt, rt.alloc(), &mut server(rt.alloc(), Lanes, RECORDS, 1)?)
+    sessions_are_opened_and_closed_on(
+        &rt,
+        rt.alloc(),
+        &mut server(rt.alloc(), Lanes, &RECORDS, 1)?,
+    )
 }
 
 fn sessions_are_opened_and_closed_on<K: Kernel>(

@@ -1,13 +1,9 @@
 -- The record that a quiet answer gives.
-use Rattle.std.proofs.Common.{◌≡◌, ℕ, ◌*◌, ◌<◌, ◌^◌, arith, ap, ◌∙◌, List, length, ⊎_elim, Ok, Err}
-use Rattle.std.proofs.lemmas.Nat.{pow_pos}
-use Rattle.std.specs.Prelude.{Result, MatchResult, slice_index}
+use Rattle.std.proofs.Common.{◌≡◌, ℕ, ◌∙◌, List, length, ⊎_elim, Ok, Err}
+use Rattle.std.specs.Prelude.{Result, MatchResult}
 use Rattle.std.specs.declared.vec.Vec.{Vec}
 use Rattle.std.specs.declared.alloc.Global.{Global}
-use Rattle.matrix_u32.specs.Sum.{sum_below}
-use Rattle.digit_pack.specs.Digits.{number_of}
-use Rattle.digit_pack.specs.Layout.{Shape, IsRecord, FitsRecord, digits_per_record, record_digits, record_bytes}
-use Rattle.digit_pack.proofs.DigitSums.{number_below, number_of-digits_of}
+use Rattle.digit_pack.specs.Layout.{Shape, FitsRecord, record_bytes}
 use Rattle.simple_scheme.specs.declared.records.RecoverError.{RecoverError}
 use Rattle.simple_scheme.specs.declared.records.RecoverError.TheVariants.{Memory}
 use Rattle.simple_scheme.specs.Recovery.{RecordFrom}

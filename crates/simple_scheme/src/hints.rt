@@ -1,9 +1,9 @@
 //! The hint.
 
-ghost use Rattle.std.specs.Prelude.{◌≡◌, ◌<◌, ◌≤◌, ◌+◌, ◌*◌, ◌^◌, length, IfOk, OnOk};
-ghost use Rattle.matrix_u32.specs.Matrix.{product, row};
+ghost use Rattle.std.specs.Prelude.{◌≡◌, ℕ, ◌<◌, ◌≤◌, ◌+◌, ◌*◌, ◌^◌, length, IfOk, OnOk};
+ghost use Rattle.matrix_u32.specs.Matrix.{IsWhole, product, row};
 ghost use Rattle.simple_scheme.specs.Simple.{hint_of};
-ghost use Rattle.simple_scheme.specs.Blocks.{rows_from, HasRowsOf};
+ghost use Rattle.simple_scheme.specs.Blocks.{rows_from};
 
 use digit_pack::DigitStore;
 use matrix_u32::{Kernel, Matrix};
@@ -42,7 +42,7 @@ pub fn setup<K: Kernel, S: DigitStore>(
     Ok(hint)
 }
 
-// Writes `count` rows of the hint, from `start` on; the rows before them are written already.
+// Writes `count` rows of the product into the hint, from `start` on, and leaves the rows before them.
 fn put_rows<K: Kernel, S: DigitStore>(
     alloc: Global,
     kernel: K,
@@ -55,9 +55,14 @@ fn put_rows<K: Kernel, S: DigitStore>(
     requires inside { start + count ≤ (S.digits digits.now).rows }
     requires inner { (S.digits digits.now).cols ≡ a.now.rows }
     requires room { start + count < 2 ^ 64 }
-    requires before { HasRowsOf (product (S.digits digits.now) a.now) start hint.old }
-    ensures { OnOk result (HasRowsOf (product (S.digits digits.now) a.now) (start + count)
-        hint.new) }
+    requires high { hint.old.rows ≡ (S.digits digits.now).rows }
+    requires wide { hint.old.cols ≡ a.now.cols }
+    requires whole { IsWhole hint.old }
+    ensures shape { OnOk result ((hint.new.rows ≡ hint.old.rows) ×
+        (hint.new.cols ≡ hint.old.cols) × IsWhole hint.new) }
+    ensures written { OnOk result ((i : ℕ) → start ≤ i → i < start + count →
+        row hint.new i ≡ row (product (S.digits digits.now) a.now) i) }
+    ensures kept { OnOk result ((i : ℕ) → i < start → row hint.new i ≡ row hint.old i) }
 {
     let block = unpacked_rows(alloc, digits, start, count)?;
     let Ok(mut made) = Matrix::zeros(alloc, count, a.cols()) else {

@@ -11,9 +11,11 @@
 
 mod hints;
 pub mod laws;
+mod mask;
 mod queries;
 mod records;
 
 pub use hints::setup;
-pub use queries::{answer, noise_words, query};
+pub use mask::Mask;
+pub use queries::{QueryRoom, answer, put_query, query};
 pub use records::{RecoverError, read_digits, record_of_digits, recover};

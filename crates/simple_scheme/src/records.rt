@@ -29,6 +29,16 @@ pub enum RecoverError {
     Memory,
 }
 
+impl From<AllocError> for RecoverError {
+    ghost use Rattle.simple_scheme.specs.declared.records.RecoverError.TheVariants.{Memory};
+
+    ghost from_gives = { λ _ fault. fault ≡ Memory };
+
+    fn from(_refused: AllocError) -> Self {
+        RecoverError::Memory
+    }
+}
+
 // The digits that an answer reads as.
 fn read_all<K: Kernel>(
     alloc: Global,
@@ -93,12 +103,8 @@ fn read_record<K: Kernel>(
     if answer.len() != layout.rows() {
         return Err(RecoverError::BadLength);
     }
-    let Ok(digits) = read_all(alloc, kernel, seed, number, hint, layout, i, answer) else {
-        return Err(RecoverError::Memory);
-    };
-    let Ok(bytes) = vec![in alloc; 0; layout.record_len()] else {
-        return Err(RecoverError::Memory);
-    };
+    let digits = read_all(alloc, kernel, seed, number, hint, layout, i, answer)?;
+    let bytes = vec![in alloc; 0; layout.record_len()]?;
     record_of_digits(layout, &digits, bytes)
 }
 

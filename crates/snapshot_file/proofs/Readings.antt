@@ -6,7 +6,7 @@ use Rattle.sha2.specs.Sha256.{sha256}
 use Rattle.snapshot_file.specs.declared.snapshot.Header.{Header}
 use Rattle.snapshot_file.specs.declared.snapshot.SnapshotFault.{SnapshotFault}
 use Rattle.snapshot_file.specs.declared.snapshot.SnapshotFault.TheVariants as faults
-use Rattle.snapshot_file.specs.Snapshots.{magic, header_bytes, hashed_bytes, snapshot_bytes, IsSnapshot}
+use Rattle.snapshot_file.specs.Snapshots.{magic, header_bytes, hashed_bytes, snapshot_bytes, records_len, IsHeader, IsAccepted, IsSnapshot}
 use Rattle.snapshot_file.specs.Verdicts.{IsUnfinished, HasBadDigest, EndsBelow, EndsKept, EndsAfter, StopsReadingAt, MayRefuse}
 
 -- the input ended, or failed, in the fields
@@ -19,6 +19,20 @@ stops_in_fields faults.BadLayout first part left e d = absurd d
 stops_in_fields faults.BadDigest first part left e d = absurd d
 stops_in_fields faults.TrailingBytes first part left e d = absurd d
 stops_in_fields faults.Memory first part left e d = absurd d
+
+-- after the header, and not yet after the records
+in_records : (h : Header) (part : List ℕ) → IsHeader h → IsAccepted h → length part < records_len h → IsUnfinished (header_bytes h ++ part)
+in_records h part is good lt = inr (inr (h, part, (is, good, refl), omega (arith, lt)))
+
+pub stops_in_records : (fault : SnapshotFault) (h : Header) (part : List ℕ) (left : Option (List ℕ)) → IsHeader h → IsAccepted h →
+    EndsKept (records_len h) fault part left → StopsReadingAt fault (header_bytes h ++ part) left
+stops_in_records faults.Short h part left is good d = (in_records h part is good d.0, d.1)
+stops_in_records faults.Read h part left is good d = inl (in_records h part is good d)
+stops_in_records faults.Memory h part left is good d = (h, part, (is, good, refl))
+stops_in_records faults.NotSnapshot h part left is good d = absurd d
+stops_in_records faults.BadLayout h part left is good d = absurd d
+stops_in_records faults.BadDigest h part left is good d = absurd d
+stops_in_records faults.TrailingBytes h part left is good d = absurd d
 
 -- after the records, and not yet after the digest
 in_digest : (h : Header) (records part : List ℕ) → IsSnapshot h records → length part < 32 → IsUnfinished (header_bytes h ++ (records ++ part))

@@ -1,3 +1,4 @@
 pub mod Snapshots
 pub mod Verdicts
 pub mod Laws
+pub mod Names

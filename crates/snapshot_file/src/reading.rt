@@ -121,9 +121,7 @@ fn keep_piece<R: Read>(
         Ok(0) => Err(SnapshotFault::Short),
         Err(_) => Err(SnapshotFault::Read),
         Ok(n) => {
-            if records.extend_from_slice(&buffer[..n]).is_err() {
-                return Err(SnapshotFault::Memory);
-            }
+            records.extend_from_slice(&buffer[..n])?;
             Ok(())
         }
     }
@@ -142,9 +140,7 @@ fn read_records<R: Read>(
         Consumes (R.remaining reader.old) (R.remaining reader.new) part
         × EndsKept wanted fault part (R.remaining reader.new)) }
 {
-    let Ok(buffer) = piece_buffer(alloc, wanted.min(PIECE_LEN)) else {
-        return Err(SnapshotFault::Memory);
-    };
+    let buffer = piece_buffer(alloc, wanted.min(PIECE_LEN))?;
     let mut records = read_by_pieces(reader, wanted, buffer, Vec::new(alloc))?;
     // The records stay as they are from here on: what they grew by beyond their length is given back.
     records.shrink_to_fit();
@@ -206,9 +202,7 @@ fn read_body<R: Read>(
         × StopsReadingAt fault (header_bytes header.now ++ read) (R.remaining reader.new)) }
 {
     // the bytes that were read: a header has no others
-    let Ok(prefix) = header_bytes(alloc, header) else {
-        return Err(SnapshotFault::Memory);
-    };
+    let prefix = header_bytes(alloc, header)?;
     let records = read_records(alloc, reader, header.records_len())?;
     let digest = read_array::<DIGEST_LEN, R>(reader)?;
     if digest != digest_of(&prefix, &records) {

@@ -3,9 +3,11 @@
 ghost use Rattle.std.specs.Prelude.{◌≡◌, ◌↔◌, IsTrue, IfOk, IfErr};
 ghost use Rattle.digit_pack.specs.Layout.{IsLayout, IsLayoutFault};
 ghost use Rattle.snapshot_file.specs.Snapshots.{header_of, shape_of, records_len, IsAccepted};
+ghost use Rattle.snapshot_file.specs.Names.{snapshot_fault_name};
 
 use connection_io::WriteFailed;
 use digit_pack::{Layout, LayoutError};
+use std::alloc::AllocError;
 use thiserror::Error;
 
 /// The greatest dimension: how many words a secret has.
@@ -82,6 +84,34 @@ pub enum SnapshotFault {
     Memory,
 }
 
+impl From<AllocError> for SnapshotFault {
+    ghost use Rattle.snapshot_file.specs.declared.snapshot.SnapshotFault.TheVariants.{Memory};
+
+    ghost from_gives = { λ _ fault. fault ≡ Memory };
+
+    fn from(_refused: AllocError) -> Self {
+        SnapshotFault::Memory
+    }
+}
+
+impl SnapshotFault {
+    /// Its name, as programs print it.
+    #[tactic(auto, unfolding(crate::specs::Names::snapshot_fault_name))]
+    pub fn name(self) -> &'static str
+        ensures { result.now ≡ snapshot_fault_name self }
+    {
+        match self {
+            SnapshotFault::NotSnapshot => "NotSnapshot",
+            SnapshotFault::BadLayout => "BadLayout",
+            SnapshotFault::Short => "Short",
+            SnapshotFault::BadDigest => "BadDigest",
+            SnapshotFault::TrailingBytes => "TrailingBytes",
+            SnapshotFault::Read => "Read",
+            SnapshotFault::Memory => "Memory",
+        }
+    }
+}
+
 /// Why a snapshot was not written, or not as a whole.
 #[derive(Clone, Copy, Debug, PartialEq, Eq, Error)]
 pub enum WriteFault {
@@ -91,6 +121,16 @@ pub enum WriteFault {
     /// There is no memory for the header.
     #[error("out of memory")]
     Memory,
+}
+
+impl From<AllocError> for WriteFault {
+    ghost use Rattle.snapshot_file.specs.declared.snapshot.WriteFault.TheVariants.{Memory};
+
+    ghost from_gives = { λ _ fault. fault ≡ Memory };
+
+    fn from(_refused: AllocError) -> Self {
+        WriteFault::Memory
+    }
 }
 
 impl From<WriteFailed> for WriteFault {

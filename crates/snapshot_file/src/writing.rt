@@ -27,9 +27,7 @@ pub fn write_snapshot_bytes<W: Write>(
         (take n (snapshot_bytes header.now records.now))
         × (fault ≡ WriteFault.Memory → n ≡ 0)) }
 {
-    let Ok(prefix) = header_bytes(alloc, header) else {
-        return Err(WriteFault::Memory);
-    };
+    let prefix = header_bytes(alloc, header)?;
     let digest = digest_of(&prefix, records);
     write_out(writer, &prefix)?;
     write_out(writer, records)?;

@@ -9,31 +9,13 @@ use matrix_u32::{Kernel, Plain};
 use std::alloc::Global;
 use std::process::Abort;
 use std::test::Fail;
+use test_support::{RECORDS, TWO_RECORDS};
 use version_store::{
     EditError, Header, OpenError, PublishError, Scheme, Snapshot, Store, laws, read_snapshot,
     write_snapshot,
 };
 
 mod texts;
-
-/// The SHA-256 digest of 32 bytes 01.
-const PUBLISHER: [u8; 32] = [
-    0x72, 0xcd, 0x6e, 0x84, 0x22, 0xc4, 0x07, 0xfb, 0x6d, 0x09, 0x86, 0x90, 0xf1, 0x13, 0x0b, 0x7d,
-    0xed, 0x7e, 0xc2, 0xf7, 0xf5, 0xe1, 0xd3, 0x0b, 0xd9, 0xd5, 0x21, 0xf0, 0x15, 0x36, 0x37, 0x93,
-];
-
-/// The fields of the store of records 0a and c8: digits of eight bits, one record to a column, secrets of
-/// one word, a seed of zeros.
-const STORE: Header = Header {
-    width: 8,
-    record_len: 1,
-    groups: 1,
-    count: 2,
-    dimension: 1,
-    version: 1,
-    seed: [0; 32],
-    publisher: PUBLISHER,
-};
 
 /// The hints of both schemes for records 0a and c8, computed from the definitions by a program of another
 /// language.
@@ -77,8 +59,11 @@ fn hint_words<K: Kernel>(store: &Store<K>, scheme: Scheme) -> Option<&[u32]> {
 
 // The store of two records, at some version.
 fn two_records<K: Kernel>(alloc: Global, kernel: K, version: u64) -> Result<Store<K>, Fail> {
-    let header = Header { version, ..STORE };
-    let snapshot = header.with_records([10u8, 200].to_vec(alloc)?);
+    let header = Header {
+        version,
+        ..TWO_RECORDS
+    };
+    let snapshot = header.with_records(RECORDS.to_vec(alloc)?);
     let store = open(alloc, kernel, snapshot)?;
     Ok(store)
 }
@@ -189,8 +174,8 @@ fn read_back(alloc: Global, mut file: &[u8]) -> Result<Snapshot, Fail> {
 
 // Compares the fields and the records with those of the store as it was opened.
 fn is_as_opened(rt: &impl Abort, snapshot: &Snapshot) {
-    assert_eq!(rt; snapshot.header(), STORE);
-    assert_eq!(rt; snapshot.records.as_slice(), &[10u8, 200][..]);
+    assert_eq!(rt; snapshot.header(), TWO_RECORDS);
+    assert_eq!(rt; snapshot.records.as_slice(), &RECORDS[..]);
 }
 
 // An edit that isn't published isn't written.

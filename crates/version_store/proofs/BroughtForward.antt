@@ -15,9 +15,10 @@ use Rattle.pir_schemes.specs.declared.plan.Plan.{Plan}
 use Rattle.pir_schemes.specs.Plans.{shape_at, digits_at, first_public}
 use Rattle.pir_schemes.specs.Retrievals.{hint_matrix}
 use Rattle.hint_update.specs.Logs.{Log, lists_since}
-use Rattle.version_store.specs.Deltas.{differs_at, changed_rows, changes_of, union_below, reaches_back, rows_logged}
+use Rattle.version_store.specs.Deltas.{differs_at, changed_rows, changes_of}
+use Rattle.version_store.proofs.LoggedRows.{union_below, reaches_back, rows_logged, history_rows, rows_as_logged}
 use Rattle.version_store.specs.Editions.{Records}
-use Rattle.version_store.specs.Histories.{current_version, delta_rows}
+use Rattle.version_store.specs.Histories.{current_version}
 use Rattle.version_store.specs.Laws.{UnchangedRowsStay}
 use Rattle.version_store.proofs.DoubleLemmas.{simple_hint}
 use Rattle.version_store.proofs.RowUnions.{is_in, in_range, in_filter}
@@ -76,13 +77,13 @@ some_rows n log v rows e = by (reaches_back log v) e
     by false e = let bad : None ≡ Some rows = e in absurd cc
 
 pub unchanged_rows_stay : UnchangedRowsStay
-unfolding delta_rows
+unfolding history_rows
 unchanged_rows_stay p h since rows records given version r below gone =
     let n : ℕ = digit_rows (shape_at p (length h.current)) in
     let changes : List (List ℕ) = changes_of p h.current h.past in
     let log : Log = record { version = current_version h; lists = take 16 changes } in
     let d : ℕ = current_version h - since in
-    let some = some_rows n log since rows given in
+    let some = some_rows n log since rows (sym (rows_as_logged p h since) ∙ given) in
     let back = and_parts (nat_le since (current_version h)) (nat_le d (length (take 16 changes))) some.0 in
     let low : since ≤ current_version h = leb-true since (current_version h) back.0 in
     let few : d ≤ 16 = omega (arith, leb-true d (length (take 16 changes)) back.1, length-take 16 changes) in

@@ -8,9 +8,10 @@ use Rattle.snapshot_file.specs.Snapshots.{shape_of}
 use Rattle.digit_pack.specs.Layout.{digit_rows}
 use Rattle.pir_schemes.specs.declared.plan.Plan.{Plan}
 use Rattle.pir_schemes.specs.Plans.{shape_at, digits_at}
-use Rattle.version_store.specs.Deltas.{changed_rows, changes_of, rows_logged}
+use Rattle.version_store.specs.Deltas.{changed_rows, changes_of}
 use Rattle.version_store.specs.Openings.{held_of}
-use Rattle.version_store.specs.Histories.{StoreState, History, StandsFor, current_version, delta_rows, held_rows, opened, after_edit, published, held_edited, held_published, Change, history_after, held_after}
+use Rattle.version_store.specs.Histories.{StoreState, History, StandsFor, current_version, delta_rows, opened, after_edit, published, held_edited, held_published, Change, history_after, held_after}
+use Rattle.version_store.proofs.LoggedRows.{rows_logged, history_rows, held_rows, rows_as_logged}
 
 pub edit_stands : (old new : StoreState) (i : ℕ) (bytes : List ℕ) → new ≡ held_edited i bytes old →
     (h : History) → StandsFor old h → StandsFor new (after_edit i bytes h)
@@ -62,7 +63,7 @@ open_stands s h bytes e = record {
 
 -- the rows that a store and its history give
 pub held_as_history : (s : StoreState) (h : History) (since : ℕ) → StandsFor s h → held_rows s since ≡ delta_rows s.edition.plan h since
-unfolding delta_rows
+unfolding history_rows
 held_as_history s h since stands =
     let p : Plan = s.edition.plan in
     let n : ℕ = digit_rows (shape_at p (length h.current)) in
@@ -71,6 +72,7 @@ held_as_history s h since stands =
     ap (λ m. rows_logged m (record { version = s.version; lists = s.log }) since) rows
     ∙ ap (λ v. at v s.log) (sym stands.version)
     ∙ ap (at (current_version h)) (sym stands.log)
+    ∙ sym (rows_as_logged p h since)
 
 -- a store stands for its history after any changes
 pub run_stands : (changes : List Change) (s : StoreState) (h : History) → StandsFor s h → StandsFor (held_after changes s) (history_after changes h)

@@ -1,4 +1,5 @@
 pub mod DraftLemmas
+pub mod LoggedRows
 pub mod HistoryLemmas
 pub mod RecordBytes
 pub mod Versions

@@ -14,9 +14,10 @@ use Rattle.pir_schemes.specs.declared.plan.Plan.{Plan}
 use Rattle.pir_schemes.specs.Plans.{shape_at, digits_at, first_public}
 use Rattle.pir_schemes.specs.Retrievals.{hint_matrix}
 use Rattle.simple_scheme.specs.Simple.{hint_of}
-use Rattle.hint_update.specs.Logs.{Log, lists_since}
+use Rattle.hint_update.specs.Logs.{lists_since}
 use Rattle.version_store.specs.Histories.{History, current_version, delta_rows}
-use Rattle.version_store.specs.Deltas.{differs_at, changed_rows, changes_of, union_below, reaches_back, rows_logged}
+use Rattle.version_store.specs.Deltas.{differs_at, changed_rows, changes_of}
+use Rattle.version_store.proofs.LoggedRows.{union_below, reaches_back, rows_logged, log_of, history_rows, rows_as_logged}
 use Rattle.version_store.proofs.RowUnions.{is_in, in_range, in_filter, reaches}
 
 denied : (b : Bool) → (not b && true) ≡ false → b ≡ true
@@ -58,10 +59,6 @@ unchanged_since p n (suc d) current (b ∷ past) before r lt e out =
 some_alike : {X : Type 0} {a b : X} → Some a ≡ Some b → a ≡ b
 some_alike e = cc
 
--- the log that a history gives a store
-abbrev log_of : Plan → History → Log
-log_of p h = record { version = current_version h; lists = take 16 (changes_of p h.current h.past) }
-
 abbrev rows_now : Plan → History → ℕ
 rows_now p h = digit_rows (shape_at p (length h.current))
 
@@ -97,8 +94,8 @@ logged_named p h since before rows at e (inr out) =
 -- the rows that a history names since a version of these records
 pub rows_named : (p : Plan) (h : History) (since : ℕ) (before : List (List ℕ)) (rows : List ℕ) →
     slice_get (h.current ∷ h.past) (current_version h - since) ≡ Some before → delta_rows p h since ≡ Some rows → NamesRows p h before rows
-unfolding delta_rows rows_logged
-rows_named p h since before rows at e = logged_named p h since before rows at e (cases_Bool (reaches_back (log_of p h) since))
+unfolding history_rows rows_logged
+rows_named p h since before rows at e = logged_named p h since before rows at (sym (rows_as_logged p h since) ∙ e) (cases_Bool (reaches_back (log_of p h) since))
 
 -- where two versions of as many records have the same digits in a row, their hints have the same words in it
 pub same_hint_row : (p : Plan) (old new : List (List ℕ)) (r : ℕ) → length old ≡ length new → r < digit_rows (shape_at p (length new)) →

@@ -13,7 +13,7 @@ use Rattle.std.specs.declared.vec.Vec.{Vec}
 use Rattle.std.specs.declared.alloc.Global.{Global}
 use Rattle.std.specs.declared.alloc.AllocError.{AllocError}
 use Rattle.hint_update.specs.Logs.{Log, ReachesBack, lists_since, AreRowsOf}
-use Rattle.version_store.specs.Deltas.{union_below, reaches_back, rows_logged}
+use Rattle.version_store.proofs.LoggedRows.{union_below, reaches_back, rows_logged}
 
 -- whether a number is in a list
 abbrev pub is_in : List ℕ → ℕ → Bool

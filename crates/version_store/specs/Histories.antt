@@ -1,10 +1,12 @@
 -- All versions of the records, a draft, and a mark.
-use Rattle.std.specs.Prelude.{◌≡◌, ℕ, ◌+◌, ◌-◌, List, [], ◌∷◌, length, Bool, true, false, Option, Some, None, nat_lt, if◌then◌else◌, slice_set, slice_get, take}
+use Rattle.std.specs.Prelude.{◌≡◌, ℕ, ◌+◌, ◌-◌, List, [], ◌∷◌, length, Bool, true, false, Option, Some, None, nat_eq, nat_lt, nat_le, ◌&&◌, if◌then◌else◌, unwrap_or, filter, slice_set, slice_get, take}
+use Rattle.std.specs.List.{list_any, range_with_len}
 use Rattle.digit_pack.specs.Layout.{digit_rows}
 use Rattle.pir_schemes.specs.declared.plan.Plan.{Plan}
 use Rattle.pir_schemes.specs.Plans.{shape_at, digits_at}
-use Rattle.version_store.specs.Deltas.{changed_rows, changes_of, rows_logged}
-use Rattle.version_store.specs.Editions.{Records, version_shape}
+use Rattle.hint_update.specs.Logs.{Log}
+use Rattle.version_store.specs.Deltas.{changed_rows, changes_of}
+use Rattle.version_store.specs.Editions.{Records}
 
 -- what a store keeps: the number of the current version and its records, the draft, whether an edit was accepted since
 -- the last publication, the digest of the publisher's key, and the rows of digits that each of the newest 16
@@ -88,13 +90,29 @@ pub record StandsFor (s : StoreState) (h : History) : Type 0 where
   pub log : take 16 (changes_of s.edition.plan h.current h.past) ≡ s.log
 
 -- ---- what publications changed
--- the rows of digits, ascending, in which some two consecutive versions from one on differ; none where that one is
--- neither the current version nor one of the 16 before it
+-- the records of a version, and none where there is no such version
+abbrev pub version_records : History → ℕ → List (List ℕ)
+version_records h v = unwrap_or (records_of h v) []
+
+-- the rows of digits in which a version and the next one differ
+abbrev pub next_changes : Plan → History → ℕ → List ℕ
+next_changes p h v = changed_rows (digits_at p (version_records h v)) (digits_at p (version_records h (v + 1)))
+
+-- whether some two consecutive versions from one to the current one differ in row r of the digits
+abbrev pub changed_since : Plan → History → ℕ → ℕ → Bool
+changed_since p h since r = list_any (λ v. list_any (nat_eq r) (next_changes p h v)) (range_with_len since (current_version h - since))
+
+-- whether a version is the current one, or one of the 16 before it
+abbrev pub is_recent : History → ℕ → Bool
+is_recent h v = nat_le h.first v && (nat_le v (current_version h) && nat_le (current_version h - v) 16)
+
+-- The rows of digits in which some two consecutive versions from one to the current one differ, ascending, each once; none
+-- where that one is neither the current version nor one of the 16 before it.
 unfoldable pub delta_rows : Plan → History → ℕ → Option (List ℕ)
 delta_rows p h since =
-    rows_logged (digit_rows (shape_at p (length h.current)))
-    (record { version = current_version h; lists = take 16 (changes_of p h.current h.past) }) since
+    if is_recent h since then Some (filter (changed_since p h since) (range_with_len 0 (digit_rows (shape_at p (length h.current)))))
+    else None
 
--- the same of what a store keeps
-abbrev pub held_rows : StoreState → ℕ → Option (List ℕ)
-held_rows s since = rows_logged (digit_rows (version_shape s.edition)) (record { version = s.version; lists = s.log }) since
+-- the log that a store keeps
+abbrev pub kept_log : StoreState → Log
+kept_log s = record { version = s.version; lists = s.log }

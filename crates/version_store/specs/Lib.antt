@@ -3,4 +3,6 @@ pub mod Drafts
 pub mod Deltas
 pub mod Histories
 pub mod Openings
+pub mod Rooms
 pub mod Laws
+pub mod Names

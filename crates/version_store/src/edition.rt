@@ -8,7 +8,9 @@ ghost use Rattle.pir_schemes.specs.Retrievals.{hint_matrix, server_hint, query_c
 ghost use Rattle.version_store.specs.Drafts.{draft_of, FitRecords};
 ghost use Rattle.version_store.specs.Editions.{Records, version_shape, MarksChanges};
 ghost use Rattle.version_store.specs.Openings.{bytes_of_records};
+ghost use Rattle.version_store.specs.Rooms.{scheme_answered, IsAnswerRoom};
 
+use crate::answer_room::AnswerRoom;
 use crate::drafts::{Changes, apply_changes};
 use crate::first_layer::{Digits, FirstLayer};
 use crate::rows::follow_rows;
@@ -132,40 +134,43 @@ impl<K: Kernel> Edition<K> {
         self.server.words()
     }
 
-    /// The answer to the words of a query. Only refused memory gives an `Err`.
-    pub fn answer(
-        &self,
-        alloc: Global,
-        scheme: Scheme,
-        words: &[u32],
-    ) -> Result<Vec<u32>, AllocError>
-        requires { length words.now ≡ query_count scheme (version_shape self.now) }
-        ensures { IfOk result (λ v. v.items ≡
-            answer_words scheme self.now.plan self.now.records words.now) }
+    /// Memory for the answer to a query. It is taken by sizes alone. Only refused memory gives an `Err`.
+    pub fn answer_room(&self, alloc: Global, scheme: Scheme) -> Result<AnswerRoom, AllocError>
+        ensures scheme { IfOk result (λ room. scheme_answered room ≡ scheme) }
+        ensures sizes { IfOk result (λ room.
+            IsAnswerRoom (version_shape self.now) self.now.plan.dimension room) }
     {
-        match scheme {
-            Scheme::Simple => self.layer.answer(alloc, self.kernel, words),
-            Scheme::Double => self.answer_double(alloc, words),
+        let dimension = usize::from(self.layer.plan().dimension);
+        AnswerRoom::new(alloc, scheme, self.layer.layout(), dimension)
+    }
+
+    /// The answer to the words of a query of the room's scheme. It takes no memory.
+    pub fn answer_in(&self, room: AnswerRoom, words: &[u32]) -> Vec<u32>
+        requires words { length words.now ≡
+            query_count (scheme_answered room) (version_shape self.now) }
+        requires sizes { IsAnswerRoom (version_shape self.now) self.now.plan.dimension room }
+        ensures { result.items ≡
+            answer_words (scheme_answered room) self.now.plan self.now.records words.now }
+    {
+        match room {
+            AnswerRoom::Simple(mut out) => {
+                self.layer.put_answer(self.kernel, words, &mut out);
+                out
+            }
+            AnswerRoom::Double(room) => self.double_answer_in(room, words),
         }
     }
 
     // The answer to the words of a DoublePIR query.
-    fn answer_double(&self, alloc: Global, words: &[u32]) -> Result<Vec<u32>, AllocError>
-        requires { length words.now ≡ query_count Scheme.Double (version_shape self.now) }
-        ensures { IfOk result (λ v.
-            v.items ≡ answer_words Scheme.Double self.now.plan self.now.records words.now) }
+    fn double_answer_in(&self, room: double_scheme::AnswerRoom, words: &[u32]) -> Vec<u32>
+        requires words { length words.now ≡ query_count Scheme.Double (version_shape self.now) }
+        requires layout { room.layout ≡ version_shape self.now }
+        requires dimension { room.dimension ≡ self.now.plan.dimension }
+        ensures { result.items ≡
+            answer_words Scheme.Double self.now.plan self.now.records words.now }
     {
-        let layout = self.layer.layout();
         let digits = self.layer.digits();
-        double_scheme::answer(
-            alloc,
-            self.kernel,
-            layout,
-            digits,
-            &self.server,
-            &self.a2,
-            words,
-        )
+        room.fill(self.kernel, digits, &self.server, &self.a2, words)
     }
 
     /// Puts each change into the records, marks the rows whose digits change, and leaves no change. `scratch`

@@ -8,7 +8,7 @@ ghost use Rattle.version_store.specs.Editions.{Records, version_shape, MarksChan
 ghost use Rattle.version_store.specs.Openings.{bytes_of_records};
 
 use crate::columns::replace_digits;
-use digit_pack::{DigitStore, Layout, Packed3, digits_of_records, pack, record_of, write_record};
+use digit_pack::{DigitStore, Layout, Packed3, digits_of_records, nth_record, pack, write_record};
 use matrix_u32::{Kernel, Matrix};
 use pir_schemes::{Plan, Scheme};
 use seed_expand::expand;
@@ -97,7 +97,7 @@ impl FirstLayer {
         ensures value { result.now ≡ record_at self.now.records i }
         ensures count { length result.now ≡ self.now.plan.record_len }
     {
-        record_of(&self.layout, &self.bytes, i)
+        nth_record(&self.layout, &self.bytes, i)
     }
 
     /// The bytes of all records, record 0 first.
@@ -125,18 +125,13 @@ impl FirstLayer {
         &self.hint
     }
 
-    /// The answer to the words of a SimplePIR query. Only refused memory gives an `Err`.
-    pub fn answer<K: Kernel>(
-        &self,
-        alloc: Global,
-        kernel: K,
-        words: &[u32],
-    ) -> Result<Vec<u32>, AllocError>
-        requires { length words.now ≡ digit_cols (version_shape self.now) }
-        ensures { IfOk result (λ v.
-            v.items ≡ answer_words Scheme.Simple self.now.plan self.now.records words.now) }
+    /// Writes the answer to the words of a SimplePIR query.
+    pub fn put_answer<K: Kernel>(&self, kernel: K, words: &[u32], out: &mut [u32])
+        requires words { length words.now ≡ digit_cols (version_shape self.now) }
+        requires room { length out.old ≡ digit_rows (version_shape self.now) }
+        ensures { out.new ≡ answer_words Scheme.Simple self.now.plan self.now.records words.now }
     {
-        simple_scheme::answer(alloc, kernel, &self.digits, words)
+        self.digits.mul_vec(kernel, words, out);
     }
 
     /// Puts another record in the place of record i, and marks the rows whose digits change. `scratch` has

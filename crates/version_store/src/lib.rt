@@ -3,6 +3,7 @@
 //! Its tests are in `store_tests::store` and `tests/long/store_tests`.
 #![tactic(auto)]
 
+mod answer_room;
 mod columns;
 mod drafts;
 mod edition;
@@ -13,6 +14,7 @@ mod row_marks;
 mod rows;
 mod store;
 
+pub use answer_room::AnswerRoom;
 pub use opening::OpenError;
 pub use pir_schemes::{Plan, Scheme};
 pub use snapshot_file::{Header, Snapshot, SnapshotFault, WriteFault, read_snapshot};

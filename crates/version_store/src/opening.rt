@@ -5,6 +5,7 @@ ghost use Rattle.digit_pack.specs.Layout.{IsLayout};
 ghost use Rattle.pir_schemes.specs.Plans.{plan_of};
 ghost use Rattle.snapshot_file.specs.Snapshots.{header_of, shape_of};
 ghost use Rattle.version_store.specs.Openings.{IsSound, IsOpenFault};
+ghost use Rattle.version_store.specs.Names.{open_fault_name};
 
 use digit_pack::Layout;
 use pir_schemes::Plan;
@@ -27,6 +28,21 @@ pub enum OpenError {
     /// There is no memory for what is made from the records.
     #[error("out of memory")]
     Memory,
+}
+
+impl OpenError {
+    /// Its name, as programs print it.
+    #[tactic(auto, unfolding(crate::specs::Names::open_fault_name))]
+    pub fn name(self) -> &'static str
+        ensures { result.now ≡ open_fault_name self }
+    {
+        match self {
+            OpenError::BadLayout => "BadLayout",
+            OpenError::BadVersion => "BadVersion",
+            OpenError::BadRecords => "BadRecords",
+            OpenError::Memory => "Memory",
+        }
+    }
 }
 
 impl From<AllocError> for OpenError {

@@ -7,12 +7,16 @@ ghost use Rattle.digit_pack.specs.Packed.{packed};
 ghost use Rattle.pir_schemes.specs.Plans.{IsPlan, fits, digits_at};
 ghost use Rattle.pir_schemes.specs.Parts.{part_of};
 ghost use Rattle.pir_schemes.specs.Retrievals.{hint_matrix, server_hint, query_count, answer_words};
+ghost use Rattle.hint_update.specs.Logs.{ReachesBack, lists_since, AreRowsOf};
 ghost use Rattle.version_store.specs.Editions.{version_shape};
 ghost use Rattle.snapshot_file.specs.Snapshots.{header_of, shape_of};
 ghost use Rattle.version_store.specs.Openings.{IsSound, IsOpenFault, held_of, header_of_held, bytes_of_records, snapshot_of};
+ghost use Rattle.version_store.specs.Rooms.{scheme_answered, IsAnswerRoom};
 ghost use Rattle.std.specs.Io.KnownBytes.{Appends};
-ghost use Rattle.version_store.specs.Histories.{StoreState, History, StandsFor, opened, after_edit, published, held_edited, held_published, delta_rows, held_rows};
+ghost use Rattle.version_store.specs.Histories.{StoreState, History, StandsFor, opened, after_edit, published, held_edited, held_published, delta_rows, kept_log};
+ghost use Rattle.version_store.specs.Names.{edit_fault_name, publish_fault_name};
 
+use crate::answer_room::AnswerRoom;
 use crate::drafts::Changes;
 use crate::edition::Edition;
 use crate::opening::{OpenError, plan_in, sizes_of};
@@ -42,6 +46,20 @@ pub enum EditError {
     Memory,
 }
 
+impl EditError {
+    /// Its name, as programs print it.
+    #[tactic(auto, unfolding(crate::specs::Names::edit_fault_name))]
+    pub fn name(self) -> &'static str
+        ensures { result.now ≡ edit_fault_name self }
+    {
+        match self {
+            EditError::BadIndex => "BadIndex",
+            EditError::BadLength => "BadLength",
+            EditError::Memory => "Memory",
+        }
+    }
+}
+
 /// Why a publication is refused: the first cause in the order of the variants.
 #[derive(Clone, Copy, Debug, PartialEq, Eq, Error)]
 pub enum PublishError {
@@ -54,6 +72,20 @@ pub enum PublishError {
     /// There is no memory for the publication.
     #[error("out of memory")]
     Memory,
+}
+
+impl PublishError {
+    /// Its name, as programs print it.
+    #[tactic(auto, unfolding(crate::specs::Names::publish_fault_name))]
+    pub fn name(self) -> &'static str
+        ensures { result.now ≡ publish_fault_name self }
+    {
+        match self {
+            PublishError::NothingToPublish => "NothingToPublish",
+            PublishError::VersionsUsedUp => "VersionsUsedUp",
+            PublishError::Memory => "Memory",
+        }
+    }
 }
 
 impl From<AllocError> for EditError {
@@ -279,8 +311,10 @@ impl<K: Kernel> Store<K> {
     /// `None` exactly when `version` is neither the current one nor one of the 16 before it that this store
     /// has seen. Only refused memory gives an `Err`.
     pub fn delta_since(&self, version: u64) -> Result<Option<Vec<u32>>, AllocError>
-        ensures rows { IfOk result (λ found.
-            option_map (λ rows. rows.items) found ≡ held_rows self.now version) }
+        ensures none { IfOk result (λ found. IsNone found ↔
+            ¬ ReachesBack (kept_log self.now) version) }
+        ensures rows { IfOk result (λ found. IfSome found (λ rows.
+            AreRowsOf (lists_since (kept_log self.now) version) rows.items)) }
         ensures history { (h : History) → StandsFor self.now h → IfOk result (λ found.
             option_map (λ rows. rows.items) found ≡ delta_rows self.now.edition.plan h version) }
         ensures inside { IfOk result (λ found. IfSome found (λ rows.
@@ -289,14 +323,37 @@ impl<K: Kernel> Store<K> {
         self.log.rows_since(version)
     }
 
+    /// Memory for the answer to a scheme's query on the current version. It is taken by sizes alone, before a
+    /// query is looked at. Only refused memory gives an `Err`.
+    pub fn answer_room(&self, scheme: Scheme) -> Result<AnswerRoom, AllocError>
+        ensures scheme { IfOk result (λ room. scheme_answered room ≡ scheme) }
+        ensures sizes { IfOk result (λ room.
+            IsAnswerRoom (version_shape self.now.edition) self.now.edition.plan.dimension room) }
+    {
+        self.edition.answer_room(self.alloc, scheme)
+    }
+
+    /// The answer to the words of a query on the current version, in the scheme that the room is for. It takes no
+    /// memory.
+    pub fn answer_in(&self, room: AnswerRoom, words: &[u32]) -> Vec<u32>
+        requires words { length words.now ≡
+            query_count (scheme_answered room) (version_shape self.now.edition) }
+        requires sizes { IsAnswerRoom (version_shape self.now.edition) self.now.edition.plan.dimension room }
+        ensures { result.items ≡ answer_words (scheme_answered room) self.now.edition.plan
+            self.now.edition.records words.now }
+    {
+        self.edition.answer_in(room, words)
+    }
+
     /// The answer to the words of a scheme's query on the current version. Only refused memory gives an
-    /// `Err`.
+    /// `Err`, and then no word was looked at.
     pub fn answer(&self, scheme: Scheme, words: &[u32]) -> Result<Vec<u32>, AllocError>
         requires { length words.now ≡ query_count scheme (version_shape self.now.edition) }
         ensures { IfOk result (λ v.
             v.items ≡ answer_words scheme self.now.edition.plan self.now.edition.records words.now) }
     {
-        self.edition.answer(self.alloc, scheme, words)
+        let room = self.answer_room(scheme)?;
+        Ok(self.answer_in(room, words))
     }
 
     /// The answer to the words of a SimplePIR query: a word for each digit row.

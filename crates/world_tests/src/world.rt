@@ -6,56 +6,30 @@ use pir_world::{Step, StepFault, World};
 use std::alloc::AllocError;
 use std::process::Abort;
 use std::test::Fail;
-use version_store::{OpenError, Snapshot};
+use test_support::TWO_RECORDS;
+use version_store::{Header, OpenError, Snapshot};
 
 mod refused_memory;
 mod texts;
 
-/// A store of records of one byte.
-#[derive(Clone, Copy)]
-struct Sizes {
-    groups: u16,
-    count: u32,
-    dimension: u16,
-    version: u64,
-}
-
 /// More bytes than ever wait.
 const ALL: usize = 1_000_000;
 
-/// Two records, 0a and c8.
-const TWO: Sizes = Sizes {
-    groups: 1,
-    count: 2,
-    dimension: 1,
-    version: 1,
-};
-
-/// The store of these sizes, whose records are 0a and c8 in turn.
-fn snapshot(rt: &impl AllocGlobal, sizes: Sizes) -> Result<Snapshot, AllocError> {
+/// The store of this header, whose records are 0a and c8 in turn.
+fn snapshot(rt: &impl AllocGlobal, header: Header) -> Result<Snapshot, AllocError> {
     let mut records = Vec::new(rt.alloc());
-    for i in 0..sizes.count {
+    for i in 0..header.count {
         records.push(if i % 2 == 0 { 0x0a } else { 0xc8 })?;
     }
-    Ok(Snapshot {
-        width: 8,
-        record_len: 1,
-        groups: sizes.groups,
-        count: sizes.count,
-        dimension: sizes.dimension,
-        version: sizes.version,
-        seed: [0; 32],
-        publisher: [0; 32],
-        records,
-    })
+    Ok(header.with_records(records))
 }
 
 /// A world with two clients, whose seeds are 32 bytes 11 and 32 bytes 22.
-fn world<K: Kernel>(rt: &impl AllocGlobal, kernel: K, sizes: Sizes) -> Result<World<K>, Fail> {
+fn world<K: Kernel>(rt: &impl AllocGlobal, kernel: K, header: Header) -> Result<World<K>, Fail> {
     let mut seeds = Vec::new(rt.alloc());
     seeds.push([0x11; 32])?;
     seeds.push([0x22; 32])?;
-    Ok(World::new(rt.alloc(), kernel, snapshot(rt, sizes)?, seeds)?)
+    Ok(World::new(rt.alloc(), kernel, snapshot(rt, header)?, seeds)?)
 }
 
 /// Makes a step. It has no clause, so that no test carries those of all its steps.
@@ -102,26 +76,32 @@ fn is_let_in<K: Kernel>(rt: &impl Abort, world: &mut World<K>) -> Result<(), Fai
 
 #[test]
 fn a_client_is_let_in(rt: HostRuntime) -> Result<(), Fail> {
-    is_let_in(&rt, &mut world(&rt, Plain, TWO)?)?;
-    is_let_in(&rt, &mut world(&rt, Lanes, TWO)?)
+    is_let_in(&rt, &mut world(&rt, Plain, TWO_RECORDS)?)?;
+    is_let_in(&rt, &mut world(&rt, Lanes, TWO_RECORDS)?)
 }
 
 #[test]
 fn refused_worlds(rt: HostRuntime) -> Result<(), Fail> {
-    for (sizes, fault) in [
+    for (header, fault) in [
         (
-            Sizes {
+            Header {
                 dimension: 1025,
-                ..TWO
+                ..TWO_RECORDS
             },
             OpenError::BadLayout,
         ),
-        (Sizes { version: 0, ..TWO }, OpenError::BadVersion),
+        (
+            Header {
+                version: 0,
+                ..TWO_RECORDS
+            },
+            OpenError::BadVersion,
+        ),
     ] {
         let opened = World::new(
             rt.alloc(),
             Plain,
-            snapshot(&rt, sizes)?,
+            snapshot(&rt, header)?,
             Vec::new(rt.alloc()),
         );
         assert!(rt; opened.err() == Some(fault));

@@ -17,16 +17,16 @@ loop-r-preserved g c =
     let n : ℕ = length c.args.factors.now in
     let s0 : WordMatrix = g.S.DigitStore.digits c.args.server_hint.now in
     let s : WordMatrix = g.S.DigitStore.digits c.loop-r.server_hint in
-    let s' : WordMatrix = g.S.DigitStore.digits c.replace_digits.new.server_hint in
-    let factors : List ℕ = c.replace_digits.new.factors in
+    let s' : WordMatrix = g.S.DigitStore.digits c.replace_column.new.server_hint in
+    let factors : List ℕ = c.replace_column.new.factors in
     let long : length c.loop-r.factors ≡ n = c.loop-r.auto.factors in
     let writes : ℕ → Type 0 = λ n. WritesRun w hint s s' start n r in
-    let is : factors ≡ run_changes w hint s start n r = c.replace_digits.ensures.factors ∙ ap (λ n. run_changes w hint s start n r) long in
+    let is : factors ≡ run_changes w hint s start n r = c.replace_column.ensures.factors ∙ ap (λ n. run_changes w hint s start n r) long in
     let as_long : length factors ≡ n = ap length is ∙ length-list_of n _ in
     let change : ℕ → ℕ = λ k. (word_digit_at w (row hint (start + k)) r + (2 ^ 32 - entry s r (start + k))) % 2 ^ 32 in
     one_of_run r s0 s s' c.args.client_hint.now c.loop-r.client_hint c.args.a2.now hint w start n (λ k. slice_index factors k) c.add_changes.new.out
     c.loop-r.invariant (omega (arith, c.loop-r-test.true, c.rows-r-end.ensures.value)) (omega (arith, c.requires.run, c.requires.server_cols))
-    c.requires.client_rows (subst writes long c.replace_digits.ensures.server)
+    c.requires.client_rows (subst writes long c.replace_column.ensures.server)
     (λ k l. ap (λ (x : List ℕ). slice_index x k) is ∙ at-list_of n change k l)
     (c.add_changes.ensures
     ∙ ap (λ (x : List ℕ). plus_rows x (length factors) (λ k. slice_index factors k) c.args.a2.now start) c.row_mut.ensures.value

@@ -3,7 +3,7 @@
 //! request of these tests in turn.
 
 use super::*;
-use memory_io::Output;
+use test_support::Output;
 
 // A reader's greeting, its ask for the hint, and its leave.
 const SAID: &[u8] = &[
@@ -92,7 +92,7 @@ fn is_served<K: Kernel>(
 }
 
 fn try_server<K: Kernel>(alloc: Global, kernel: K) -> Option<ServerCore<K>> {
-    let snapshot = STORE.with_records([10u8, 200].to_vec(alloc).ok()?);
+    let snapshot = TWO_RECORDS.with_records(RECORDS.to_vec(alloc).ok()?);
     Some(ServerCore::new(alloc, Store::open(alloc, kernel, snapshot).ok()?))
 }
 

@@ -125,7 +125,7 @@ fn try_server<K: Kernel>(alloc: Global, kernel: K) -> Option<ServerCore<K>> {
 fn started<K: Kernel>(alloc: Global, kernel: K) -> Result<ServerCore<K>, Fail> {
     match try_server(alloc, kernel) {
         Some(made) => Ok(made),
-        None => server(alloc, kernel, RECORDS, 1),
+        None => server(alloc, kernel, &RECORDS, 1),
     }
 }
 

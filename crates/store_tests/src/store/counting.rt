@@ -47,7 +47,7 @@ fn neighbours<'a>(alloc: Global, kernel: Counting<'a>) -> Result<Store<Counting<
     let header = Header {
         groups: 8,
         count: 64,
-        ..super::STORE
+        ..super::TWO_RECORDS
     };
     let snapshot = header.with_records([7u8; 64].to_vec(alloc)?);
     let store = super::open(alloc, kernel, snapshot)?;

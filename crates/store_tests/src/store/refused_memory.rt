@@ -31,7 +31,7 @@ pub(crate) fn seven_records<K: Kernel>(
         groups: 2,
         count: 7,
         dimension: 5,
-        ..STORE
+        ..TWO_RECORDS
     };
     let Ok(bytes) = seven_times_three(alloc, is_changed) else {
         return Err(OpenError::Memory);

@@ -89,14 +89,14 @@ fn ends_retrieved<K: Kernel>(world: &World<K>) -> bool {
 fn try_world<K: Kernel>(rt: &impl AllocGlobal, kernel: K) -> Option<World<K>> {
     let mut seeds = Vec::new(rt.alloc());
     seeds.push([0x11; 32]).ok()?;
-    World::new(rt.alloc(), kernel, snapshot(rt, TWO).ok()?, seeds).ok()
+    World::new(rt.alloc(), kernel, snapshot(rt, TWO_RECORDS).ok()?, seeds).ok()
 }
 
 // A world of two records, made again where memory was refused.
 fn started<K: Kernel>(rt: &impl AllocGlobal, kernel: K) -> Result<World<K>, Fail> {
     match try_world(rt, kernel) {
         Some(made) => Ok(made),
-        None => world(rt, kernel, TWO),
+        None => world(rt, kernel, TWO_RECORDS),
     }
 }
 

@@ -9,7 +9,7 @@ fn a_million_records(rt: HostRuntime) -> Result<(), Fail> {
     let header = Header {
         groups: 256,
         count: COUNT,
-        ..store_header()
+        ..TWO_RECORDS
     };
     let mut records = Vec::new(rt.alloc());
     for k in 0..COUNT {

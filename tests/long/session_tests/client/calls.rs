@@ -1,7 +1,7 @@
 //! Each call's bytes and refusals.
 
 use super::*;
-use client_core::ServerInfo;
+use client_core::{Plan, ServerInfo};
 
 fn edits_and_publishes<K: Kernel>(
     rt: &(impl Abort + AllocGlobal),
@@ -192,17 +192,17 @@ fn after_a_fault_every_call_fails_on<K: Kernel>(
 
 // What a store is known as once its Welcome came.
 fn info_of(store: Store, version: u64, count: u32) -> Option<ServerInfo> {
-    let layout = Layout::new(
-        u32::from(store.width),
-        usize::from(store.record_len),
-        usize::from(store.groups),
-        count as usize,
-    );
+    let plan = Plan {
+        width: store.width,
+        record_len: store.record_len,
+        groups: store.groups,
+        dimension: store.dimension,
+        seed: ZEROS,
+    };
     Some(ServerInfo {
         version,
-        layout: layout.ok()?,
-        dimension: usize::from(store.dimension),
-        seed: ZEROS,
+        count,
+        plan,
     })
 }
 

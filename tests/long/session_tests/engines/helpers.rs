@@ -5,7 +5,7 @@ ghost use Rattle.std.specs.Prelude.{◌≤◌, length};
 use super::*;
 use client_core::Scheme;
 use connection_io::Connection;
-pub use memory_io::Input;
+pub use test_support::Input;
 use server_core::SessionError;
 use session_engines::{converse_over, serve_over};
 use std::io;

@@ -7,6 +7,7 @@ use super::*;
 use client_core::{Event, Scheme};
 use connection_io::{Connection, ReadFailed, WriteFailed};
 use frame_codec::{Frame, Words, write_frame};
+use version_store::Header;
 
 // A server at the other end: it is fed what is written, and its replies are there to be read.
 #[derive(Drop)]
@@ -55,14 +56,10 @@ fn large_server<K: Kernel>(
     kernel: K,
 ) -> Result<ServerCore<K>, Fail> {
     let header = Header {
-        width: 8,
         record_len,
-        groups: 1,
         count,
         dimension,
-        version: 1,
-        seed: [0; 32],
-        publisher: PUBLISHER,
+        ..TWO_RECORDS
     };
     let bytes = records(alloc, count as usize, usize::from(record_len))?;
     let store = Store::open(alloc, kernel, header.with_records(bytes))?;

@@ -55,7 +55,7 @@ fn changed_rows_are_given_on<K: Kernel>(
     alloc: Global,
     kernel: K,
 ) -> Result<(), Fail> {
-    let mut server = server(alloc, kernel, RECORDS, 1)?;
+    let mut server = server(alloc, kernel, &RECORDS, 1)?;
     for (asked, reported) in DELTAS {
         check(rt, alloc, &mut server, 0, asked, reported)?;
     }
@@ -73,7 +73,7 @@ fn a_client_sends_no_no_delta_on<K: Kernel>(
     alloc: Global,
     kernel: K,
 ) -> Result<(), Fail> {
-    let mut server = server(alloc, kernel, RECORDS, 1)?;
+    let mut server = server(alloc, kernel, &RECORDS, 1)?;
     check(rt, alloc, &mut server, 0, &[NO_DELTA], &[REFUSED, &[1]])
 }
 
@@ -96,7 +96,7 @@ fn equal_bytes_change_no_row_on<K: Kernel>(
     alloc: Global,
     kernel: K,
 ) -> Result<(), Fail> {
-    let mut server = server(alloc, kernel, RECORDS, 1)?;
+    let mut server = server(alloc, kernel, &RECORDS, 1)?;
     let asked = [GREETING, ONES, EDIT_TO_EQUAL, PUBLISH];
     let said = [WELCOME, ZEROS, DONE_1, DONE_2];
     check(rt, alloc, &mut server, 0, &asked, &said)?;
@@ -111,14 +111,9 @@ fn changed_server<K: Kernel>(
     changed: usize,
 ) -> Result<ServerCore<K>, Fail> {
     let header = Header {
-        width: 8,
-        record_len: 1,
         groups: 2000,
         count: 2000,
-        dimension: 1,
-        version: 1,
-        seed: [0; 32],
-        publisher: PUBLISHER,
+        ..TWO_RECORDS
     };
     let snapshot = header.with_records(vec![in alloc; 0u8; 2000]?);
     let mut server = ServerCore::new(alloc, Store::open(alloc, kernel, snapshot)?);

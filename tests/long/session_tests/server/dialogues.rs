@@ -64,7 +64,7 @@ fn a_stream_can_be_cut_anywhere_on<K: Kernel>(
     let wanted = joined(alloc, &[WELCOME, ZEROS, HINT_PART, NO_ROWS, ANSWER])?;
     for cut in 0..=stream.len() {
         let (piece, later) = stream.split_at(cut);
-        let mut server = server(alloc, kernel, RECORDS, 1)?;
+        let mut server = server(alloc, kernel, &RECORDS, 1)?;
         let mut out = Vec::new(alloc);
         feed(&mut server, 0, piece, &mut out)?;
         feed(&mut server, 0, later, &mut out)?;
@@ -86,7 +86,7 @@ fn a_stream_can_come_byte_by_byte_on<K: Kernel>(
 ) -> Result<(), Fail> {
     let stream = joined(alloc, &[GREETING, ZEROS, HINT_ASK, DELTA_ASK, QUERY, BYE])?;
     let wanted = joined(alloc, &[WELCOME, ZEROS, HINT_PART, NO_ROWS, ANSWER])?;
-    let mut server = server(alloc, kernel, RECORDS, 1)?;
+    let mut server = server(alloc, kernel, &RECORDS, 1)?;
     let mut out = Vec::new(alloc);
     for byte in stream.chunks(1) {
         feed(&mut server, 0, byte, &mut out)?;
@@ -140,8 +140,8 @@ const REFUSALS: Dialogue = &[
 
 #[test]
 fn refusals_come_in_this_order(rt: HostRuntime) -> Result<(), Fail> {
-    refusals_come_in_this_order_on(&rt, rt.alloc(), &mut server(rt.alloc(), Plain, RECORDS, 1)?)?;
-    refusals_come_in_this_order_on(&rt, rt.alloc(), &mut server(rt.alloc(), Lanes, RECORDS, 1)?)
+    refusals_come_in_this_order_on(&rt, rt.alloc(), &mut server(rt.alloc(), Plain, &RECORDS, 1)?)?;
+    refusals_come_in_this_order_on(&rt, rt.alloc(), &mut server(rt.alloc(), Lanes, &RECORDS, 1)?)
 }
 
 fn refusals_come_in_this_order_on<K: Kernel>(
@@ -173,7 +173,7 @@ fn hints_and_answers_of_double_pir_on<K: Kernel>(
     alloc: Global,
     kernel: K,
 ) -> Result<(), Fail> {
-    let mut server = server(alloc, kernel, RECORDS, 1)?;
+    let mut server = server(alloc, kernel, &RECORDS, 1)?;
     let stream = joined(alloc, &[GREETING, ZEROS, DOUBLE_HINT_ASK, DOUBLE_QUERY])?;
     let mut out = Vec::new(alloc);
     feed(&mut server, 0, &stream, &mut out)?;
@@ -274,12 +274,12 @@ fn the_last_version_is_served_and_not_followed(rt: HostRuntime) -> Result<(), Fa
     the_last_version_is_served_and_not_followed_on(
         &rt,
         rt.alloc(),
-        &mut server(rt.alloc(), Plain, RECORDS, u64::MAX)?,
+        &mut server(rt.alloc(), Plain, &RECORDS, u64::MAX)?,
     )?;
     the_last_version_is_served_and_not_followed_on(
         &rt,
         rt.alloc(),
-        &mut server(rt.alloc(), Lanes, RECORDS, u64::MAX)?,
+        &mut server(rt.alloc(), Lanes, &RECORDS, u64::MAX)?,
     )
 }
 
@@ -306,12 +306,12 @@ fn a_session_is_served_beside_closed_ones(rt: HostRuntime) -> Result<(), Fail> {
     a_session_is_served_beside_closed_ones_on(
         &rt,
         rt.alloc(),
-        &mut server(rt.alloc(), Plain, RECORDS, 1)?,
+        &mut server(rt.alloc(), Plain, &RECORDS, 1)?,
     )?;
     a_session_is_served_beside_closed_ones_on(
         &rt,
         rt.alloc(),
-        &mut server(rt.alloc(), Lanes, RECORDS, 1)?,
+        &mut server(rt.alloc(), Lanes, &RECORDS, 1)?,
     )
 }
 
@@ -337,12 +337,12 @@ fn a_query_is_served_when_its_last_byte_comes(rt: HostRuntime) -> Result<(), Fai
     a_query_is_served_when_its_last_byte_comes_on(
         &rt,
         rt.alloc(),
-        &mut server(rt.alloc(), Plain, RECORDS, 1)?,
+        &mut server(rt.alloc(), Plain, &RECORDS, 1)?,
     )?;
     a_query_is_served_when_its_last_byte_comes_on(
         &rt,
         rt.alloc(),
-        &mut server(rt.alloc(), Lanes, RECORDS, 1)?,
+        &mut server(rt.alloc(), Lanes, &RECORDS, 1)?,
     )
 }
 
@@ -377,12 +377,12 @@ fn a_session_is_open_until_it_is_closed(rt: HostRuntime) -> Result<(), Fail> {
     a_session_is_open_until_it_is_closed_on(
         &rt,
         rt.alloc(),
-        &mut server(rt.alloc(), Plain, RECORDS, 1)?,
+        &mut server(rt.alloc(), Plain, &RECORDS, 1)?,
     )?;
     a_session_is_open_until_it_is_closed_on(
         &rt,
         rt.alloc(),
-        &mut server(rt.alloc(), Lanes, RECORDS, 1)?,
+        &mut server(rt.alloc(), Lanes, &RECORDS, 1)?,
     )
 }
 
@@ -408,12 +408,12 @@ fn a_long_frame_that_never_comes_holds_up_nobody(rt: HostRuntime) -> Result<(), 
     a_long_frame_that_never_comes_holds_up_nobody_on(
         &rt,
         rt.alloc(),
-        &mut server(rt.alloc(), Plain, RECORDS, 1)?,
+        &mut server(rt.alloc(), Plain, &RECORDS, 1)?,
     )?;
     a_long_frame_that_never_comes_holds_up_nobody_on(
         &rt,
         rt.alloc(),
-        &mut server(rt.alloc(), Lanes, RECORDS, 1)?,
+        &mut server(rt.alloc(), Lanes, &RECORDS, 1)?,
     )
 }
 
@@ -437,12 +437,12 @@ fn a_thousand_sessions_are_opened_and_left(rt: HostRuntime) -> Result<(), Fail> 
     a_thousand_sessions_are_opened_and_left_on(
         &rt,
         rt.alloc(),
-        &mut server(rt.alloc(), Plain, RECORDS, 1)?,
+        &mut server(rt.alloc(), Plain, &RECORDS, 1)?,
     )?;
     a_thousand_sessions_are_opened_and_left_on(
         &rt,
         rt.alloc(),
-        &mut server(rt.alloc(), Lanes, RECORDS, 1)?,
+        &mut server(rt.alloc(), Lanes, &RECORDS, 1)?,
     )
 }
 
@@ -504,8 +504,8 @@ fn an_empty_piece_says_nothing_on<K: Kernel>(
 
 #[test]
 fn the_server_edits_its_store(rt: HostRuntime) -> Result<(), Fail> {
-    the_server_edits_its_store_on(&rt, rt.alloc(), &mut server(rt.alloc(), Plain, RECORDS, 1)?)?;
-    the_server_edits_its_store_on(&rt, rt.alloc(), &mut server(rt.alloc(), Lanes, RECORDS, 1)?)
+    the_server_edits_its_store_on(&rt, rt.alloc(), &mut server(rt.alloc(), Plain, &RECORDS, 1)?)?;
+    the_server_edits_its_store_on(&rt, rt.alloc(), &mut server(rt.alloc(), Lanes, &RECORDS, 1)?)
 }
 
 fn the_server_edits_its_store_on<K: Kernel>(

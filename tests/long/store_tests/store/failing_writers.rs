@@ -2,7 +2,7 @@
 
 use super::stores::*;
 use super::*;
-use memory_io::Output;
+use test_support::Output;
 use version_store::WriteFault;
 
 #[test]

@@ -2,6 +2,7 @@
 
 use super::refused_memory::seven_records;
 use super::*;
+use test_support::PUBLISHER;
 
 // The fault of opening a snapshot.
 fn refusal<K: Kernel>(
@@ -42,7 +43,7 @@ fn reports_its_hints<K: Kernel>(rt: &impl Abort, store: &Store<K>) {
 }
 
 fn reports_its_header<K: Kernel>(rt: &impl Abort, store: &Store<K>) {
-    assert_eq!(rt; store.header(), STORE);
+    assert_eq!(rt; store.header(), TWO_RECORDS);
 }
 
 // All that a store reports.
@@ -113,23 +114,23 @@ fn refuses_by_the_first_cause<K: Kernel>(
     let two = [10u8, 200];
     let three = [10u8, 200, 3];
     let alloc = rt.alloc();
-    assert_eq!(rt; refusal(alloc, kernel, STORE, &two)?, None);
+    assert_eq!(rt; refusal(alloc, kernel, TWO_RECORDS, &two)?, None);
     for header in [
         Header {
             dimension: 1025,
-            ..STORE
+            ..TWO_RECORDS
         },
         Header {
             dimension: 0,
             version: 0,
-            ..STORE
+            ..TWO_RECORDS
         },
         Header {
             width: 11,
             version: 0,
-            ..STORE
+            ..TWO_RECORDS
         },
-        Header { groups: 0, ..STORE },
+        Header { groups: 0, ..TWO_RECORDS },
     ] {
         assert_eq!(rt;
             refusal(alloc, kernel, header, &three)?,
@@ -138,7 +139,7 @@ fn refuses_by_the_first_cause<K: Kernel>(
     }
     let none = Header {
         version: 0,
-        ..STORE
+        ..TWO_RECORDS
     };
     assert_eq!(rt;
         refusal(alloc, kernel, none, &two)?,
@@ -149,11 +150,11 @@ fn refuses_by_the_first_cause<K: Kernel>(
         Some(OpenError::BadVersion)
     );
     assert_eq!(rt;
-        refusal(alloc, kernel, STORE, &three)?,
+        refusal(alloc, kernel, TWO_RECORDS, &three)?,
         Some(OpenError::BadRecords)
     );
     assert_eq!(rt;
-        refusal(alloc, kernel, STORE, &[])?,
+        refusal(alloc, kernel, TWO_RECORDS, &[])?,
         Some(OpenError::BadRecords)
     );
     Ok(())

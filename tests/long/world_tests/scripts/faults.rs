@@ -1,7 +1,7 @@
 //! Readers and writers that take a byte at a time, or fail.
 
 use super::*;
-use memory_io::{Input, Output};
+use test_support::{Input, Output};
 use rehearsal::RehearseFault;
 
 #[test]

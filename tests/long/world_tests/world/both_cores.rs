@@ -29,9 +29,9 @@ enum Call {
 fn opened<K: Kernel>(
     rt: &impl AllocGlobal,
     kernel: K,
-    sizes: Sizes,
+    header: Header,
 ) -> Result<ServerCore<K>, Fail> {
-    let store = Store::open(rt.alloc(), kernel, snapshot(rt, sizes)?)?;
+    let store = Store::open(rt.alloc(), kernel, snapshot(rt, header)?)?;
     Ok(ServerCore::new(rt.alloc(), store))
 }
 
@@ -149,7 +149,7 @@ fn shapes_of_the_two<K: Kernel>(
     kernel: K,
 ) -> Result<(), Fail> {
     let alloc = rt.alloc();
-    let mut server = opened(rt, kernel, TWO)?;
+    let mut server = opened(rt, kernel, TWO_RECORDS)?;
     let mut first = reader(alloc, &mut server, 0, 0x11, kernel)?;
     let mut second = reader(alloc, &mut server, 1, 0x22, kernel)?;
     settle(rt, &mut server, &mut first, Call::Hello)?;
@@ -241,13 +241,13 @@ fn hint_of_two_parts<K: Kernel>(
     rt: &(impl Abort + AllocGlobal),
     kernel: K,
 ) -> Result<(), Fail> {
-    let sizes = Sizes {
+    let header = Header {
         groups: 66,
         count: 66,
         dimension: 1024,
-        version: 1,
+        ..TWO_RECORDS
     };
-    let mut server = opened(rt, kernel, sizes)?;
+    let mut server = opened(rt, kernel, header)?;
     let mut one = reader(rt.alloc(), &mut server, 0, 0x11, kernel)?;
     cut_between_parts(rt, &mut server, &mut one)?;
     moved_by_two_rows(rt, &mut server, &mut one)
@@ -261,13 +261,12 @@ fn the_last_sync_is_one_delta_of_two_rows(rt: HostRuntime) -> Result<(), Fail> {
 
 fn goes_on_by_parts<K: Kernel>(rt: &(impl Abort + AllocGlobal), kernel: K) -> Result<(), Fail> {
     let alloc = rt.alloc();
-    let sizes = Sizes {
+    let header = Header {
         groups: 2000,
         count: 2000,
-        dimension: 1,
-        version: 1,
+        ..TWO_RECORDS
     };
-    let mut server = opened(rt, kernel, sizes)?;
+    let mut server = opened(rt, kernel, header)?;
     let mut one = reader(alloc, &mut server, 0, 0x11, kernel)?;
     settle(rt, &mut server, &mut one, Call::Hello)?;
     settle(rt, &mut server, &mut one, Call::Sync(Scheme::Simple))?;

@@ -64,7 +64,7 @@ struct Hand<K: Kernel> {
 }
 
 fn opened_hand<K: Kernel>(rt: &impl AllocGlobal, kernel: K) -> Result<Hand<K>, Fail> {
-    let store = Store::open(rt.alloc(), kernel, snapshot(rt, TWO)?)?;
+    let store = Store::open(rt.alloc(), kernel, snapshot(rt, TWO_RECORDS)?)?;
     let mut server = ServerCore::new(rt.alloc(), store);
     server.open_session(0)?;
     Ok(Hand {
@@ -224,12 +224,12 @@ fn script<K: Kernel>(
 fn a_world_is_its_cores_driven_by_hand(rt: HostRuntime) -> Result<(), Fail> {
     script(
         &rt,
-        &mut world(&rt, Plain, TWO)?,
+        &mut world(&rt, Plain, TWO_RECORDS)?,
         &mut opened_hand(&rt, Plain)?,
     )?;
     script(
         &rt,
-        &mut world(&rt, Lanes, TWO)?,
+        &mut world(&rt, Lanes, TWO_RECORDS)?,
         &mut opened_hand(&rt, Lanes)?,
     )
 }

@@ -16,7 +16,7 @@ fn crowd<K: Kernel>(rt: &impl AllocGlobal, kernel: K) -> Result<World<K>, Fail> 
         seed[1] = (client / 256 % 256) as u8;
         seeds.push(seed)?;
     }
-    Ok(World::new(rt.alloc(), kernel, snapshot(rt, TWO)?, seeds)?)
+    Ok(World::new(rt.alloc(), kernel, snapshot(rt, TWO_RECORDS)?, seeds)?)
 }
 
 /// All say hello, before the first greeting comes to the server. They are welcomed from the last on.

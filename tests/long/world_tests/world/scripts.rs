@@ -153,14 +153,14 @@ pub fn cut_and_whole<K: Kernel>(
 fn a_query_of_simple_pir_cut_by_a_publication(rt: HostRuntime) -> Result<(), Fail> {
     cut_and_whole(
         &rt,
-        &mut world(&rt, Plain, TWO)?,
+        &mut world(&rt, Plain, TWO_RECORDS)?,
         Scheme::Simple,
         Scheme::Double,
         "0 welcomed 1;0 simple 1;1 welcomed 1;1 double 1;edited 1;version 2;0 stale 2;1 retrieved 1 1 c8;0 simple 2;0 retrieved 1 2 64;",
     )?;
     cut_and_whole(
         &rt,
-        &mut world(&rt, Lanes, TWO)?,
+        &mut world(&rt, Lanes, TWO_RECORDS)?,
         Scheme::Simple,
         Scheme::Double,
         "0 welcomed 1;0 simple 1;1 welcomed 1;1 double 1;edited 1;version 2;0 stale 2;1 retrieved 1 1 c8;0 simple 2;0 retrieved 1 2 64;",
@@ -171,14 +171,14 @@ fn a_query_of_simple_pir_cut_by_a_publication(rt: HostRuntime) -> Result<(), Fai
 fn a_query_of_double_pir_cut_by_a_publication(rt: HostRuntime) -> Result<(), Fail> {
     cut_and_whole(
         &rt,
-        &mut world(&rt, Plain, TWO)?,
+        &mut world(&rt, Plain, TWO_RECORDS)?,
         Scheme::Double,
         Scheme::Simple,
         "0 welcomed 1;0 double 1;1 welcomed 1;1 simple 1;edited 1;version 2;0 stale 2;1 retrieved 1 1 c8;0 double 2;0 retrieved 1 2 64;",
     )?;
     cut_and_whole(
         &rt,
-        &mut world(&rt, Lanes, TWO)?,
+        &mut world(&rt, Lanes, TWO_RECORDS)?,
         Scheme::Double,
         Scheme::Simple,
         "0 welcomed 1;0 double 1;1 welcomed 1;1 simple 1;edited 1;version 2;0 stale 2;1 retrieved 1 1 c8;0 double 2;0 retrieved 1 2 64;",
@@ -211,8 +211,8 @@ pub fn single_bytes<K: Kernel>(
 
 #[test]
 fn byte_by_byte(rt: HostRuntime) -> Result<(), Fail> {
-    single_bytes(&rt, &mut world(&rt, Plain, TWO)?)?;
-    single_bytes(&rt, &mut world(&rt, Lanes, TWO)?)
+    single_bytes(&rt, &mut world(&rt, Plain, TWO_RECORDS)?)?;
+    single_bytes(&rt, &mut world(&rt, Lanes, TWO_RECORDS)?)
 }
 
 pub fn two_parts<K: Kernel>(
@@ -241,14 +241,14 @@ pub fn two_parts<K: Kernel>(
 
 #[test]
 fn a_hint_of_two_parts_between_publications(rt: HostRuntime) -> Result<(), Fail> {
-    let sizes = Sizes {
+    let header = Header {
         groups: 66,
         count: 66,
         dimension: 1024,
-        version: 1,
+        ..TWO_RECORDS
     };
-    two_parts(&rt, &mut world(&rt, Plain, sizes)?)?;
-    two_parts(&rt, &mut world(&rt, Lanes, sizes)?)
+    two_parts(&rt, &mut world(&rt, Plain, header)?)?;
+    two_parts(&rt, &mut world(&rt, Lanes, header)?)
 }
 
 /// What a step is refused for.
@@ -281,6 +281,6 @@ pub fn refusals<K: Kernel>(
 
 #[test]
 fn refused_steps(rt: HostRuntime) -> Result<(), Fail> {
-    refusals(&rt, &mut world(&rt, Plain, TWO)?)?;
-    refusals(&rt, &mut world(&rt, Lanes, TWO)?)
+    refusals(&rt, &mut world(&rt, Plain, TWO_RECORDS)?)?;
+    refusals(&rt, &mut world(&rt, Lanes, TWO_RECORDS)?)
 }

@@ -15,15 +15,15 @@ returns-in_err-exchange-clause-transcript g c =
     rw (p.1, p.2) (last_call (Hello (replicate 32 0)) (Judges c.args.least ∷ (Calls (Sync c.args.scheme) ∷ (Calls (Ask c.args.index) ∷ []))) _ _ _ _ _
     (Err c.in_err-exchange.field-0.0) _ tt hello)
 
-pub returns-in_err-judge-clause-transcript : goal.returns-in_err-judge-clause-transcript
-returns-in_err-judge-clause-transcript g c =
-    let p = err_from_is_err_and c.from_residual-in_err-judge.result c.from_residual-in_err-judge.ensures.1 in
+pub returns-in_err-check_dimension-clause-transcript : goal.returns-in_err-check_dimension-clause-transcript
+returns-in_err-check_dimension-clause-transcript g c =
+    let p = err_from_is_err_and c.from_residual-in_err-check_dimension.result c.from_residual-in_err-check_dimension.ensures.1 in
     let hello = called (Hello (replicate 32 0)) _ _ c.hello-sent.result (Ok c.in_ok-exchange.field-0) _ _ _ _ _ c.hello-sent.ensures.accepted
     c.hello-sent.ensures.refused c.hello-sent.ensures.reader c.in_ok-exchange.ensures in
-    let looked = last_look c.args.least (Calls (Sync c.args.scheme) ∷ (Calls (Ask c.args.index) ∷ [])) _ _ _ c.in_err-judge.field-0.0 c.in_err-judge.ensures.0
-    c.in_err-judge.ensures.1 in
+    let looked = last_look c.args.least (Calls (Sync c.args.scheme) ∷ (Calls (Ask c.args.index) ∷ [])) _ _ _ c.in_err-check_dimension.field-0.0 c.in_err-check_dimension.ensures.0
+    c.in_err-check_dimension.ensures.1 in
     rw (p.1, p.2) (after_call (Hello (replicate 32 0)) (Judges c.args.least ∷ (Calls (Sync c.args.scheme) ∷ (Calls (Ask c.args.index) ∷ []))) _ _ _ _ _ _ _
-    c.in_ok-exchange.field-0 _ (Err c.in_err-judge.field-0.0) _ hello looked)
+    c.in_ok-exchange.field-0 _ (Err c.in_err-check_dimension.field-0.0) _ hello looked)
 
 pub returns-in_err-exchange-2-clause-transcript : goal.returns-in_err-exchange-2-clause-transcript
 returns-in_err-exchange-2-clause-transcript g c =
@@ -34,7 +34,7 @@ returns-in_err-exchange-2-clause-transcript g c =
     c.sync-sent.ensures.refused c.sync-sent.ensures.reader c.in_err-exchange-2.ensures in
     let ended = last_call (Sync c.args.scheme) (Calls (Ask c.args.index) ∷ []) _ _ _ _ _ (Err c.in_err-exchange-2.field-0.0) _ tt sync in
     let looked = after_look c.args.least (Calls (Sync c.args.scheme) ∷ (Calls (Ask c.args.index) ∷ [])) _ _ _ _ _ (Err c.in_err-exchange-2.field-0.0) _
-    c.in_ok-judge.ensures ended in
+    c.in_ok-check_dimension.ensures ended in
     rw (p.1, p.2) (after_call (Hello (replicate 32 0)) (Judges c.args.least ∷ (Calls (Sync c.args.scheme) ∷ (Calls (Ask c.args.index) ∷ []))) _ _ _ _ _ _ _
     c.in_ok-exchange.field-0 _ (Err c.in_err-exchange-2.field-0.0) _ hello looked)
 
@@ -49,7 +49,7 @@ returns-clause-transcript g c =
     let asked = last_call (Ask c.args.index) [] _ _ _ _ _ c.exchange-3.result _ (end c.exchange-3.result) ask in
     let synced = after_call (Sync c.args.scheme) (Calls (Ask c.args.index) ∷ []) _ _ _ _ _ _ _ c.in_ok-exchange-2.field-0 _ c.exchange-3.result _ sync asked in
     let looked = after_look c.args.least (Calls (Sync c.args.scheme) ∷ (Calls (Ask c.args.index) ∷ [])) _ _ _ _ _ c.exchange-3.result _
-    c.in_ok-judge.ensures synced in
+    c.in_ok-check_dimension.ensures synced in
     after_call (Hello (replicate 32 0)) (Judges c.args.least ∷ (Calls (Sync c.args.scheme) ∷ (Calls (Ask c.args.index) ∷ []))) _ _ _ _ _ _ _
     c.in_ok-exchange.field-0 _ c.exchange-3.result _ hello looked
 

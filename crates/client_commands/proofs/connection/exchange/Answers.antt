@@ -21,7 +21,7 @@ returns-in-Err-converse g c =
 pub returns-in-None : goal.returns-in-None
 returns-in-None g c =
     let e = c.in-Ok-converse.ensures in
-    let told = event_is_told _ c.deref.result.now c.in-Ok-converse.event None e.0 e.1 None _ (sym c.said_against.ensures ∙ c.in-None.is) e.5 in (
+    let told = event_is_told _ c.deref.result.now c.in-Ok-converse.event None e.0 e.1 None _ (sym c.failure_of_event.ensures ∙ c.in-None.is) e.5 in (
       e.0,
       e.1,
       e.2,
@@ -35,7 +35,7 @@ returns g c =
     let e = c.in-Ok-converse.ensures in
     let told =
     event_is_told _ c.deref.result.now c.in-Ok-converse.event (Some c.in-Some.failure) e.0 e.1 (g.R.Read.remaining c.converse.new.reader) _
-    (sym c.said_against.ensures ∙ c.in-Some.is) e.5 in (
+    (sym c.failure_of_event.ensures ∙ c.in-Some.is) e.5 in (
       e.0,
       e.1,
       e.2,

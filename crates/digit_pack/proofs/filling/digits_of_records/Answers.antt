@@ -27,9 +27,9 @@ loop-i-preserved g c =
     let new : WordMatrix = g.S.DigitStore.digits c.write_digits.new.digits in
     let packed : c.deref.result.now ≡ record_digits l (record_at xs i) =
     let out : List ℕ = c.pack.new.out in
-    let long : length out ≡ digits_per_record l = ap length c.pack.ensures.digits ∙ length-record_digits l c.record_of.result.now in
+    let long : length out ≡ digits_per_record l = ap length c.pack.ensures.digits ∙ length-record_digits l c.nth_record.result.now in
     c.deref.ensures.value ∙ with_items_is c.loop-i.packed out (long ∙ sym c.loop-i.invariant.room) ∙ c.pack.ensures.digits
-    ∙ ap (record_digits l) c.record_of.ensures.value in
+    ∙ ap (record_digits l) c.nth_record.ensures.value in
     let w : WritesColumn (digit_matrix l (take i xs)) new (first_row l i) (column_of l i) (record_digits l (record_at xs i)) =
     written_as (g.S.DigitStore.digits c.loop-i.store) _ new c.place-first.result.0 _ c.place-first.result.1 _ c.deref.result.now _ c.loop-i.invariant.digits
     (ap (λ p. p.0) c.place-first.ensures.value) (ap (λ p. p.1) c.place-first.ensures.value) packed c.write_digits.ensures in

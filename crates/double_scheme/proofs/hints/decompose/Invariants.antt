@@ -1,9 +1,7 @@
-use Rattle.std.proofs.Common.{◌+◌, ◌*◌}
 use Rattle.matrix_u32.specs.Matrix.{transpose}
-use Rattle.lane_kernels.specs.Digit.{split_count}
-use Rattle.digit_pack.specs.Digits.{decomposed_at}
-use Rattle.double_scheme.specs.Filled.{IsFilled}
+use Rattle.digit_pack.specs.Digits.{decomposed}
+use Rattle.simple_scheme.proofs.Rows.{HasRowsOf}
 use Rattle.double_scheme.proofs.hints.decompose.Given as goal
 
 abbrev pub invariant-loop-r : goal.invariant-loop-r
-invariant-loop-r g l = IsFilled (l.a.cols * split_count l.w) l.a.rows (l.r * l.a.rows + 0) (decomposed_at l.w (transpose l.a)) (g.S.DigitStore.digits l.store)
+invariant-loop-r g l = HasRowsOf (decomposed l.w (transpose l.a)) l.r (g.S.DigitStore.digits l.store)

@@ -11,8 +11,8 @@ use Rattle.frame_codec.proofs.payload.delta_of.Goals as goal
 pub words_of-requires : goal.words_of-requires
 words_of-requires c = rw take_rest ((length c.args.payload.now - 22) / 4, omega (arith, length-drop 22 c.args.payload.now))
 
-pub returns-then-payload-lt22-clause-none : goal.returns-then-payload-lt22-clause-none
-returns-then-payload-lt22-clause-none c =
+pub returns-then-payload-lt22-clause-reads : goal.returns-then-payload-lt22-clause-reads
+returns-then-payload-lt22-clause-reads c =
     no_stands 132 c.args.payload.now (λ h. let e =
     h.1 in elim c.then-payload-lt22.branch [
       | then-payload-lt22-via-then-payload-lt22 w ↦ omega arith
@@ -25,8 +25,8 @@ nothing_over len m n dimension e same =
     let count : (len - 22) / 4 ≡ m * (n + 1) = omega arith in
     rw (same, count) (mul-mod_left m (n + 1))
 
-pub returns-then-count-dimension-ne0-clause-none : goal.returns-then-count-dimension-ne0-clause-none
-returns-then-count-dimension-ne0-clause-none c =
+pub returns-then-count-dimension-ne0-clause-reads : goal.returns-then-count-dimension-ne0-clause-reads
+returns-then-count-dimension-ne0-clause-reads c =
     let dimension : c.u16_at-dimension.result ≡ number_in 2 (drop 20 c.args.payload.now) = rw take_rest at c.u16_at-dimension.ensures in
     no_stands 132 c.args.payload.now (λ h. c.if-count-dimension-ne0.true
     (nothing_over (length c.args.payload.now) h.0 (number_in 2 (drop 20 c.args.payload.now)) c.u16_at-dimension.result h.1 dimension))
@@ -37,8 +37,8 @@ new-requires c =
     whole_rows c.u16_at-dimension.result c.in_ok-words.words (drop 22 c.args.payload.now) ((length c.args.payload.now - 22) / 4) w
     (omega (arith, length-drop 22 c.args.payload.now)) (search rules)
 
-pub returns-clause-some : goal.returns-clause-some
-returns-clause-some c =
+pub returns-clause-reads : goal.returns-clause-reads
+returns-clause-reads c =
     let bytes : List ℕ = c.args.payload.now in
     let rows : RowList = record { dimension = c.u16_at-dimension.result; words = c.in_ok-words.words } in
     let w : word_bytes c.in_ok-words.words ≡ drop 22 c.args.payload.now = c.in_ok-words.ensures.bytes ∙ take_rest c.args.payload.now 22 in

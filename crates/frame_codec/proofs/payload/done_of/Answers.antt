@@ -2,9 +2,9 @@ use Rattle.std.proofs.Common.{arith}
 use Rattle.frame_codec.proofs.Payloads.{no_stands, is_done}
 use Rattle.frame_codec.proofs.payload.done_of.Goals as goal
 
-pub returns-then-payload-ne8-clause-none : goal.returns-then-payload-ne8-clause-none
-returns-then-payload-ne8-clause-none c = no_stands 135 c.args.payload.now (λ h. c.if-payload-ne8.true h)
+pub returns-then-payload-ne8 : goal.returns-then-payload-ne8
+returns-then-payload-ne8 c = no_stands 135 c.args.payload.now (λ h. c.if-payload-ne8.true h)
 
-pub returns-clause-some : goal.returns-clause-some
-returns-clause-some c = is_done c.args.payload.now (λ i. omega (arith, c.type_inv.payload i)) c.if-payload-ne8.false _
+pub returns : goal.returns
+returns c = is_done c.args.payload.now (λ i. omega (arith, c.type_inv.payload i)) c.if-payload-ne8.false _
     (omega (arith, c.u64_at.type_inv)) c.u64_at.ensures

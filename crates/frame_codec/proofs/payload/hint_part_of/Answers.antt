@@ -6,8 +6,8 @@ use Rattle.frame_codec.proofs.payload.hint_part_of.Goals.{then-payload-lt13-via-
 use Rattle.frame_codec.specs.Frames.{IsPayload}
 use Rattle.frame_codec.proofs.payload.hint_part_of.Goals as goal
 
-pub returns-then-payload-lt13-clause-none : goal.returns-then-payload-lt13-clause-none
-returns-then-payload-lt13-clause-none c =
+pub returns-then-payload-lt13-clause-reads : goal.returns-then-payload-lt13-clause-reads
+returns-then-payload-lt13-clause-reads c =
     no_stands 131 c.args.payload.now (λ h. let e =
     h.1 in elim c.then-payload-lt13.branch [
       | then-payload-lt13-via-then-payload-lt13 w ↦ omega arith
@@ -18,8 +18,8 @@ returns-then-payload-lt13-clause-none c =
 pub words_of-requires : goal.words_of-requires
 words_of-requires c = rw take_rest ((length c.args.payload.now - 13) / 4, omega (arith, length-drop 13 c.args.payload.now))
 
-pub returns-clause-some : goal.returns-clause-some
-returns-clause-some c =
+pub returns-clause-reads : goal.returns-clause-reads
+returns-clause-reads c =
     let version : c.u64_at.result ≡ number_in 8 (drop 1 c.args.payload.now) = rw take_rest at c.u64_at.ensures in
     let part : c.u32_at.result ≡ number_in 4 (drop 9 c.args.payload.now) = rw take_rest at c.u32_at.ensures in
     let w : word_bytes c.in_ok-words.words ≡ drop 13 c.args.payload.now = c.in_ok-words.ensures.bytes ∙ take_rest c.args.payload.now 13 in

@@ -4,11 +4,11 @@ use Rattle.frame_codec.specs.Numbers.{number_in}
 use Rattle.frame_codec.proofs.Payloads.{no_stands, is_no_delta}
 use Rattle.frame_codec.proofs.payload.no_delta_of.Goals as goal
 
-pub returns-then-payload-ne12-clause-none : goal.returns-then-payload-ne12-clause-none
-returns-then-payload-ne12-clause-none c = no_stands 136 c.args.payload.now (λ h. c.if-payload-ne12.true h)
+pub returns-then-payload-ne12 : goal.returns-then-payload-ne12
+returns-then-payload-ne12 c = no_stands 136 c.args.payload.now (λ h. c.if-payload-ne12.true h)
 
-pub returns-clause-some : goal.returns-clause-some
-returns-clause-some c =
+pub returns : goal.returns
+returns c =
     let e : c.u32_at.result ≡ number_in 4 (drop 8 c.args.payload.now) = rw take_rest at c.u32_at.ensures in
     is_no_delta c.args.payload.now (λ i. omega (arith, c.type_inv.payload i)) c.if-payload-ne12.false _ _ (omega (arith, c.u64_at.type_inv))
     (omega (arith, c.u32_at.type_inv)) c.u64_at.ensures e

@@ -3,11 +3,11 @@ use Rattle.std.proofs.Common.{arith, rules}
 use Rattle.frame_codec.specs.Frames.{IsPayload}
 use Rattle.frame_codec.proofs.payload.query_of.Goals as goal
 
-pub returns-in_default-clause-none : goal.returns-in_default-clause-none
-returns-in_default-clause-none c = no_stands 5 c.args.payload.now (λ h. (rw c.in_default.is at c.in_ok-scheme.ensures.none) h.0 h.1)
+pub returns-in_default-clause-reads : goal.returns-in_default-clause-reads
+returns-in_default-clause-reads c = no_stands 5 c.args.payload.now (λ h. (rw c.in_default.is at c.in_ok-scheme.ensures.none) h.0 h.1)
 
-pub returns-clause-some : goal.returns-clause-some
-returns-clause-some c =
+pub returns-clause-reads : goal.returns-clause-reads
+returns-clause-reads c =
     let e = rw c.in-Some.is at c.in_ok-scheme.ensures.some in
     let fits = rw c.in-Some.is at c.in_ok-scheme.ensures.fields in
     is_query c.args.payload.now c.in-Some.scheme c.in-Some.version c.in-Some.words e fits

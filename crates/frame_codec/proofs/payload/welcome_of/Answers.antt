@@ -3,11 +3,11 @@ use Rattle.std.proofs.lemmas.List.{take_rest}
 use Rattle.frame_codec.proofs.Payloads.{no_stands, is_welcome, WelcomeFields}
 use Rattle.frame_codec.proofs.payload.welcome_of.Goals as goal
 
-pub returns-then-payload-ne53-clause-none : goal.returns-then-payload-ne53-clause-none
-returns-then-payload-ne53-clause-none c = no_stands 130 c.args.payload.now (λ h. c.if-payload-ne53.true h)
+pub returns-then-payload-ne53 : goal.returns-then-payload-ne53
+returns-then-payload-ne53 c = no_stands 130 c.args.payload.now (λ h. c.if-payload-ne53.true h)
 
-pub returns-clause-some : goal.returns-clause-some
-returns-clause-some c =
+pub returns : goal.returns
+returns c =
     let fields : WelcomeFields c.args.payload.now c.u16_at.result c.u16_at-2.result c.u16_at-3.result c.u32_at.result c.u64_at.result c.u16_at-4.result
     c.copied.result = record {
       profile_is = c.u16_at.ensures;

@@ -2,11 +2,12 @@ use Rattle.std.proofs.Common.{◌≡◌, ◌≤◌, ◌+◌, ◌-◌, ◌<◌, �
 use Rattle.std.proofs.lemmas.List.{get_or-take, get_or-drop}
 use Rattle.std.proofs.lemmas.Simd.{length-chunk}
 use Rattle.matrix_u32.specs.Matrix.{entry, row}
-use Rattle.matrix_u32.proofs.Rows.{row_index, length-row, block_begin, block_row, block_end}
+use Rattle.matrix_u32.proofs.Rows.{row_index, length-row}
+use Rattle.lane_kernels.proofs.BlockSums.{added_none, added_row, added_all}
 use Rattle.lane_kernels.proofs.lanes.add_block.Goals as goal
 
 pub loop-i-init : goal.loop-i-init
-loop-i-init c = block_begin _ _ _ _ _ c.requires.so_far
+loop-i-init c = added_none _ _ _ _ _ c.requires.whole
 
 pub loop-i-preserved : goal.loop-i-preserved
 loop-i-preserved c =
@@ -24,7 +25,7 @@ loop-i-preserved c =
     let short : k < start + count - start = omega arith in
     rw (get_or-take, get_or-drop) (row_index a i (start + k) (omega arith)) in
     let new = rw (c.row_mut.ensures.value, c.row.ensures.value, long) at c.add_rows.ensures in
-    block_row a b c.loop-i.out start count i (λ k. slice_index fs k) c.add_rows.new.out (omega arith) factor new c.loop-i.invariant
+    added_row c.args.out.now a b c.loop-i.out start count i (λ k. slice_index fs k) c.add_rows.new.out (omega arith) factor new c.loop-i.invariant
 
 pub returns : goal.returns
-returns c = block_end _ _ _ c.args.start _ c.loop-i.i (omega arith) c.loop-i.invariant
+returns c = added_all _ _ _ _ c.args.start c.args.count c.loop-i.i (omega arith) c.loop-i.invariant

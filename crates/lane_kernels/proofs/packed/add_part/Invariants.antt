@@ -1,4 +1,4 @@
-use Rattle.std.proofs.Common.{◌≡◌, ℕ, ◌<◌, ◌≤◌, ◌*◌, ◌+◌, ◌%◌, ◌^◌, length, slice_index}
+use Rattle.std.proofs.Common.{◌≡◌, ℕ, ◌<◌, ◌≤◌, ◌*◌, ◌+◌, ◌%◌, ◌^◌, slice_index}
 use Rattle.matrix_u32.specs.Sum.{sum_below}
 use Rattle.lane_kernels.specs.Carried.{products_at}
 use Rattle.lane_kernels.proofs.packed.add_part.Given as goal
@@ -6,7 +6,6 @@ use Rattle.lane_kernels.proofs.packed.add_part.Given as goal
 abbrev pub invariant-loop-t : goal.invariant-loop-t
 invariant-loop-t l = record {
   done : (q : ℕ) → q < l.t * 4 → slice_index l.out q
-      ≡ sum_below (l.start + l.count) (λ t. products_at l.packed l.x (q * l.words) t) % 2 ^ 32;
-  rest : (q : ℕ) → l.t * 4 ≤ q → q < length l.out → slice_index l.out q
-      ≡ sum_below l.start (λ t. products_at l.packed l.x (q * l.words) t) % 2 ^ 32;
+      ≡ (slice_index l.fn.out q + sum_below l.count (λ t. products_at l.packed l.x (q * l.words) (l.start + t))) % 2 ^ 32;
+  rest : (q : ℕ) → l.t * 4 ≤ q → slice_index l.out q ≡ slice_index l.fn.out q;
 }

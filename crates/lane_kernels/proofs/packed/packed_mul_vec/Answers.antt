@@ -2,7 +2,7 @@ use Rattle.std.proofs.Common.{◌≡◌, ◌∙◌, arith, length}
 use Rattle.std.proofs.lemmas.Simd.{get_or-replicate}
 use Rattle.matrix_u32.proofs.Sums.{sum_below_none}
 use Rattle.matrix_u32.proofs.Products.{words_are}
-use Rattle.lane_kernels.proofs.PackedSums.{row_product}
+use Rattle.lane_kernels.proofs.PackedSums.{row_product, parts_more}
 use Rattle.lane_kernels.proofs.packed.packed_mul_vec.Goals as goal
 
 pub loop-start-init : goal.loop-start-init
@@ -10,6 +10,12 @@ loop-start-init c = record {
   within = omega arith;
   so_far =
       λ q h. rw sum_below_none (rw (c.fill.ensures.after (λ y h. h)) (get_or-replicate (length c.args.out.now) q 0 0 (omega arith)));
+}
+
+pub loop-start-preserved : goal.loop-start-preserved
+loop-start-preserved c = record {
+  within = omega arith;
+  so_far = parts_more _ _ c.loop-start.out _ _ c.loop-start.start _ c.add_part.ensures c.loop-start.invariant.so_far;
 }
 
 pub returns : goal.returns

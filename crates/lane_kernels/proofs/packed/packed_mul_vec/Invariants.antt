@@ -1,5 +1,5 @@
 use Rattle.std.proofs.Common.{◌≤◌, ◌-◌}
-use Rattle.lane_kernels.specs.Carried.{RowsSoFar}
+use Rattle.lane_kernels.proofs.PackedSums.{RowsSoFar}
 use Rattle.lane_kernels.proofs.packed.packed_mul_vec.Given as goal
 
 abbrev pub invariant-loop-start : goal.invariant-loop-start

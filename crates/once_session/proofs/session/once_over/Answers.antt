@@ -13,7 +13,7 @@ turns-init g c = record {
   before = [];
   unfinished = [];
   codec_is = c.new-codec.ensures;
-  go_on = refl;
+  begun = refl;
   count = refl;
   within = omega arith;
   going = refl;
@@ -34,7 +34,7 @@ returns g c =
       before = i.before;
       work = record { stage = c.turns.stage; unfinished = i.unfinished };
       middle = c.turns.connection;
-      go_on = i.go_on;
+      begun = i.begun;
       ends =
           (omega (arith, i.count, i.within, c.turns-test.false), refl);
     })
@@ -46,7 +46,7 @@ returns-in_default-receive g c =
       before = i.before;
       work = record { stage = c.turns.stage; unfinished = i.unfinished };
       middle = c.turns.connection;
-      go_on = i.go_on;
+      begun = i.begun;
       ends = (omega (arith, i.count, c.turns-test.true), c.in_default-receive.ensures.did);
     })
 
@@ -61,7 +61,7 @@ returns-then-n-eq0 g c =
       before = i.before;
       work = record { stage = c.turns.stage; unfinished = i.unfinished };
       middle = c.turns.connection;
-      go_on = i.go_on;
+      begun = i.begun;
       ends = end_found g.C.Connection.does c.args.turns (length i.before) (record { stage = c.turns.stage; unfinished = i.unfinished }) c.turns.connection
           c.finish.result c.finish.new.connection (omega (arith, i.count, c.turns-test.true))
           c.receive.new.connection (subst (λ (k : ℕ). g.C.Connection.does c.turns.connection (Read k []) c.receive.new.connection) room did) f.0 f.1 f.2;
@@ -79,7 +79,7 @@ returns-in-Err g c =
       before = i.before;
       work = record { stage = c.turns.stage; unfinished = i.unfinished };
       middle = c.turns.connection;
-      go_on = i.go_on;
+      begun = i.begun;
       ends = piece_failed g.C.Connection.does c.args.turns (length i.before) (record { stage = c.turns.stage; unfinished = i.unfinished }) c.turns.connection
           c.in-Err.fault c.serve_chunk.new.connection (omega (arith, i.count, c.turns-test.true))
           (record { piece = take c.in-Ok-receive.n buffer; output = t.0 }) c.serve_chunk.new.stage c.serve_chunk.new.codec c.in-Err.ensures.fault
@@ -104,7 +104,7 @@ returns-then-not-goes_on g c =
       before = i.before;
       work = record { stage = c.turns.stage; unfinished = i.unfinished };
       middle = c.turns.connection;
-      go_on = i.go_on;
+      begun = i.begun;
       ends = piece_ended g.C.Connection.does c.args.turns (length i.before) (record { stage = c.turns.stage; unfinished = i.unfinished }) c.turns.connection
           c.ended.result c.serve_chunk.new.connection (omega (arith, i.count, c.turns-test.true))
           (record { piece = take c.in-Ok-receive.n buffer; output = t.0 }) c.serve_chunk.new.stage c.serve_chunk.new.codec c.ended.ensures.well
@@ -134,8 +134,8 @@ turns-preserved g c =
       before = i.before ++ turn ∷ [];
       unfinished = w.rest;
       codec_is = w.codec_is;
-      go_on = one_more g.C.Connection.does c.args.connection.now i.before (record { stage = c.turns.stage; unfinished = i.unfinished }) c.turns.connection
-          turn (record { stage = c.serve_chunk.new.stage; unfinished = w.rest }) c.serve_chunk.new.connection i.go_on
+      begun = one_more g.C.Connection.does c.args.connection.now i.before (record { stage = c.turns.stage; unfinished = i.unfinished }) c.turns.connection
+          turn (record { stage = c.serve_chunk.new.stage; unfinished = w.rest }) c.serve_chunk.new.connection i.begun
           (record {
             takes = record {
               middle = c.receive.new.connection;

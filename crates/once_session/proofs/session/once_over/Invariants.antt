@@ -10,7 +10,7 @@ invariant-turns g l = record {
   before : List CallTurn;
   unfinished : List ℕ;
   codec_is : l.codec ≡ Some unfinished;
-  go_on : WorkGoesOn g.C.Connection.does fresh_work l.fn.connection before (record { stage = l.stage; unfinished = unfinished }) l.connection;
+  begun : WorkGoesOn g.C.Connection.does fresh_work l.fn.connection before (record { stage = l.stage; unfinished = unfinished }) l.connection;
   count : length before ≡ l.counter;
   within : l.counter ≤ l.turns;
   going : goes_on l.stage ≡ true;

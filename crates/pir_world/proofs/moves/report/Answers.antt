@@ -15,10 +15,10 @@ returns-in-None-clause-made g c = on_map c.put_events.result _ _ (λ items core 
     let e = c.args.ends.now.items in
     let at : slice_get e c.args.k ≡ Some c.index_mut.result.now =
     slice_get_read e (length e) c.args.k c.index_mut.result.now refl c.requires c.index_mut.ensures.value in
-    elim (parts_reported x core e c.args.outcomes.now.items s c.args.k c.index_mut.result.now c.take.new.self p at c.retrieval_gives_the_record.ensures seeds
+    elim (parts_reported x core e c.args.outcomes.now.items s c.args.k c.index_mut.result.now c.deliver_down.new.self p at c.retrieval_gives_the_record.ensures seeds
     c.args.most c.in-Ok.taken.out.items c.in-Ok.taken.events.items c.in-Ok.taken.fault inv c.in-Ok.ensures) [
       | inl m ↦ absurd (none_some (sym c.in-None.is ∙ m))
-      | inr t ↦ subst (λ (os : List Outcome). IsParts x core (slice_set e c.args.k c.take.new.self) os
+      | inr t ↦ subst (λ (os : List Outcome). IsParts x core (slice_set e c.args.k c.deliver_down.new.self) os
           (reported_at s c.args.k c.args.most (slice_get s.links c.args.k))) (sym items) t.1
     ]) c.put_events.ensures.items
 
@@ -28,11 +28,11 @@ returns g c = record {
       let e = c.args.ends.now.items in
       let at : slice_get e c.args.k ≡ Some c.index_mut.result.now =
       slice_get_read e (length e) c.args.k c.index_mut.result.now refl c.requires c.index_mut.ensures.value in
-      absurd (elim (parts_reported x core e c.args.outcomes.now.items s c.args.k c.index_mut.result.now c.take.new.self p at
+      absurd (elim (parts_reported x core e c.args.outcomes.now.items s c.args.k c.index_mut.result.now c.deliver_down.new.self p at
       c.retrieval_gives_the_record.ensures seeds c.args.most c.in-Ok.taken.out.items c.in-Ok.taken.events.items c.in-Ok.taken.fault inv c.in-Ok.ensures) [
         | inl m ↦ (let f : c.in-Some.fault ≡ client_fault.Memory = some_one (sym c.in-Some.is ∙ m) in let y : false ≡ true = rw f at c.if-eq.ensures in cc)
         | inr t ↦ none_some (sym t.0 ∙ c.in-Some.is)
       ]);
-  clients = length-set c.args.ends.now.items c.args.k c.take.new.self;
+  clients = length-set c.args.ends.now.items c.args.k c.deliver_down.new.self;
   none = tt;
 }

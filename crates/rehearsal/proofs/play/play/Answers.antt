@@ -1,17 +1,17 @@
 use Rattle.std.proofs.Common.{Ok, Err, refl, arith}
-use Rattle.rehearsal.specs.declared.stage.Stage.TheVariants as stage
+use Rattle.rehearsal.specs.declared.progress.Progress.TheVariants as progress
 use Rattle.rehearsal.proofs.Playing.{IsPlayed-start, IsPlayed-more, IsPlayed-stops, IsPlayed-ends}
 use Rattle.rehearsal.proofs.play.play.Goals as goal
 
 pub loop-text-init : goal.loop-text-init
 loop-text-init g c = record {
-  played = IsPlayed-start c.args.script.now stage.Start (g.W.Write.contents c.args.writer.now) refl;
+  played = IsPlayed-start c.args.script.now progress.Start (g.W.Write.contents c.args.writer.now) refl;
   room = omega arith;
 }
 
 pub returns-in-Err : goal.returns-in-Err
 returns-in-Err g c =
-    IsPlayed-stops c.args.script.now c.loop-text.rest.now c.in-Some.text.now c.in-Some.after.now c.loop-text.stage c.loop-text.number
+    IsPlayed-stops c.args.script.now c.loop-text.rest.now c.in-Some.text.now c.in-Some.after.now c.loop-text.progress c.loop-text.number
     (g.W.Write.contents c.args.writer.now) (g.W.Write.contents c.loop-text.writer) (g.W.Write.contents c.play_line.new.writer) c.in-Err.stop
     c.loop-text.invariant.played c.in-Some.ensures.0
     (c.in-Err.ensures c.loop-text.invariant.played.place c.loop-text.invariant.played.at)
@@ -21,7 +21,7 @@ loop-text-smaller g c = c.in-Some.ensures.1
 
 pub loop-text-preserved : goal.loop-text-preserved
 loop-text-preserved g c = record {
-  played = IsPlayed-more c.args.script.now c.loop-text.rest.now c.in-Some.text.now c.in-Some.after.now c.loop-text.stage c.in-Ok.next c.loop-text.number
+  played = IsPlayed-more c.args.script.now c.loop-text.rest.now c.in-Some.text.now c.in-Some.after.now c.loop-text.progress c.in-Ok.next c.loop-text.number
       (g.W.Write.contents c.args.writer.now) (g.W.Write.contents c.loop-text.writer) (g.W.Write.contents c.play_line.new.writer)
       c.loop-text.invariant.played c.in-Some.ensures.0
       (c.in-Ok.ensures c.loop-text.invariant.played.place c.loop-text.invariant.played.at);
@@ -30,14 +30,14 @@ loop-text-preserved g c = record {
 
 pub returns-in-Ok-end : goal.returns-in-Ok-end
 returns-in-Ok-end g c =
-    IsPlayed-ends c.args.script.now c.loop-text.rest.now c.loop-text.stage c.loop-text.number
+    IsPlayed-ends c.args.script.now c.loop-text.rest.now c.loop-text.progress c.loop-text.number
     (g.W.Write.contents c.args.writer.now) (g.W.Write.contents c.loop-text.writer) (Ok tt)
     c.loop-text.invariant.played c.in_default.ensures
     (c.in-Ok-end.ensures c.loop-text.invariant.played.place c.loop-text.invariant.played.at)
 
 pub returns-in-Err-end : goal.returns-in-Err-end
 returns-in-Err-end g c =
-    IsPlayed-ends c.args.script.now c.loop-text.rest.now c.loop-text.stage c.loop-text.number
+    IsPlayed-ends c.args.script.now c.loop-text.rest.now c.loop-text.progress c.loop-text.number
     (g.W.Write.contents c.args.writer.now) (g.W.Write.contents c.loop-text.writer) (Err c.in-Err-end.stop)
     c.loop-text.invariant.played c.in_default.ensures
     (c.in-Err-end.ensures c.loop-text.invariant.played.place c.loop-text.invariant.played.at)

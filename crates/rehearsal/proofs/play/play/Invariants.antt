@@ -4,7 +4,7 @@ use Rattle.rehearsal.proofs.play.play.Given as goal
 
 abbrev pub invariant-loop-text : goal.invariant-loop-text
 invariant-loop-text g l = record {
-  played : IsPlayed l.fn.script l.rest l.stage l.number (g.W.Write.contents l.fn.writer) (g.W.Write.contents l.writer);
+  played : IsPlayed l.fn.script l.rest l.progress l.number (g.W.Write.contents l.fn.writer) (g.W.Write.contents l.writer);
   room : l.number + length l.rest ≤ 1048577;
 }
 

@@ -1,6 +1,6 @@
 use Rattle.std.proofs.Common.{◌≤◌, length, subst, sym, ℕ, List}
 use Rattle.std.specs.Io.KnownBytes.{Consumes}
-use Rattle.rehearsal.specs.Stages.{ReportsEnd}
+use Rattle.rehearsal.specs.Progress.{ReportsEnd}
 use Rattle.rehearsal.proofs.Ending.{if_done, reading_done, reading_cut, playing_done, playing_cut}
 use Rattle.rehearsal.proofs.play.rehearse.Goals as goal
 

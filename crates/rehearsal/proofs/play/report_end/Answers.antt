@@ -1,6 +1,6 @@
 use Rattle.std.proofs.Common.{Err, subst}
 use Rattle.rehearsal.specs.declared.stop.Stop.{Stop}
-use Rattle.rehearsal.specs.Stages.{SaysText, last_text}
+use Rattle.rehearsal.specs.Progress.{SaysText, last_text}
 use Rattle.rehearsal.proofs.Ending.{early_done, early_memory}
 use Rattle.rehearsal.proofs.play.report_end.Goals as goal
 

@@ -11,8 +11,8 @@ turns-preserved g c =
     c.in-Ok-None.field-0-is c.in-Ok-None.ensures.turn in
     record {
       before = i.before ++ t.0 ∷ [];
-      go_on = receives_more g.C.Connection.does c.args.client.now c.args.connection.now i.before c.turns.client c.turns.connection t.0
-          c.converse_turn.new.client c.converse_turn.new.connection i.go_on t.1;
+      begun = receives_more g.C.Connection.does c.args.client.now c.args.connection.now i.before c.turns.client c.turns.connection t.0
+          c.converse_turn.new.client c.converse_turn.new.connection i.begun t.1;
       count = omega (arith, length-append i.before (t.0 ∷ []), i.count);
       within = omega (arith, c.turns-test.true);
       room = c.in-Ok-None.ensures.room;

@@ -6,7 +6,7 @@ use Rattle.session_engines.proofs.conversing.read_until_event.Given as goal
 abbrev pub invariant-turns : goal.invariant-turns
 invariant-turns g l = record {
   before : List CallTurn;
-  go_on : ConversingGoesOn g.C.Connection.does l.fn.client l.fn.connection before l.client l.connection;
+  begun : ConversingGoesOn g.C.Connection.does l.fn.client l.fn.connection before l.client l.connection;
   count : length before ≡ l.counter;
   within : l.counter ≤ l.fn.turns;
   room : length l.buffer.items ≡ 65536;

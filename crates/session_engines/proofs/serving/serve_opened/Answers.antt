@@ -11,8 +11,8 @@ turns-preserved g c =
     c.in-Ok-None.field-0-is c.in-Ok-None.ensures.turn in
     record {
       before = i.before ++ t.0 ∷ [];
-      go_on = goes_on_more g.C.Connection.does c.args.id c.args.core.now c.args.connection.now i.before c.turns.core c.turns.connection t.0
-          c.serve_turn.new.core c.serve_turn.new.connection i.go_on t.1;
+      begun = goes_on_more g.C.Connection.does c.args.id c.args.core.now c.args.connection.now i.before c.turns.core c.turns.connection t.0
+          c.serve_turn.new.core c.serve_turn.new.connection i.begun t.1;
       count = omega (arith, length-append i.before (t.0 ∷ []), i.count);
       within = omega (arith, c.turns-test.true);
       open_ = t.1.is_so;
@@ -27,7 +27,7 @@ returns-in-Err-clause-turns g c =
       before = i.before;
       core = c.turns.core;
       middle = c.turns.connection;
-      go_on = i.go_on;
+      begun = i.begun;
       ends = stops_by g.C.Connection.does c.args.id c.args.turns (length i.before) c.turns.core c.turns.connection c.in-Err.fault c.serve_turn.new.core
           c.serve_turn.new.connection (omega (arith, i.count, c.turns-test.true)) c.in-Err.ensures.turn;
     })

@@ -7,7 +7,7 @@ use Rattle.session_engines.proofs.serving.serve_opened.Given as goal
 abbrev pub invariant-turns : goal.invariant-turns
 invariant-turns g l = record {
   before : List CallTurn;
-  go_on : GoesOn g.C.Connection.does l.fn.id l.fn.core l.fn.connection before l.core l.connection;
+  begun : GoesOn g.C.Connection.does l.fn.id l.fn.core l.fn.connection before l.core l.connection;
   count : length before ≡ l.counter;
   within : l.counter ≤ l.fn.turns;
   open_ : is_open (session_of l.core.sessions l.fn.id) ≡ true;

@@ -13,7 +13,7 @@ returns-in-Err-clause-turn g c =
     (sym c.deref.ensures.value) c.in-Ok.ensures.did in
     let within = subst (λ (x : List ℕ). c.in-Ok.n ≤ length x) (sym c.deref.ensures.value) c.in-Ok.ensures.within in
     let turn : CallTurn = record { piece = take c.in-Ok.n buffer; output = t.0 } in
-    faulty_turn g.C.Connection.does c.args.id c.args.core.now c.args.connection.now c.in-Err.fault turn c.serve_piece.new.core c.serve_piece.new.connection
+    faulty_turn g.C.Connection.does c.args.id c.args.core.now c.args.connection.now c.in-Err.fault turn c.answer_piece.new.core c.answer_piece.new.connection
     c.in-Err.ensures.fault
     (record {
       middle = c.receive.new.connection;
@@ -25,7 +25,7 @@ returns-in-Err-clause-turn g c =
 
 pub returns-then-is_open-clause-turn : goal.returns-then-is_open-clause-turn
 returns-then-is_open-clause-turn g c =
-    let t = c.in_default-serve_piece.ensures.served in
+    let t = c.in_default-answer_piece.ensures.served in
     let buffer : List ℕ = c.deref.result.now in
     let did = subst (λ (x : List ℕ). g.C.Connection.does c.args.connection.now (Read (length x) (take c.in-Ok.n x)) c.receive.new.connection)
     (sym c.deref.ensures.value) c.in-Ok.ensures.did in
@@ -45,7 +45,7 @@ returns-then-is_open-clause-turn g c =
 
 pub returns-else-is_open-clause-turn : goal.returns-else-is_open-clause-turn
 returns-else-is_open-clause-turn g c =
-    let t = c.in_default-serve_piece.ensures.served in
+    let t = c.in_default-answer_piece.ensures.served in
     let buffer : List ℕ = c.deref.result.now in
     let did = subst (λ (x : List ℕ). g.C.Connection.does c.args.connection.now (Read (length x) (take c.in-Ok.n x)) c.receive.new.connection)
     (sym c.deref.ensures.value) c.in-Ok.ensures.did in

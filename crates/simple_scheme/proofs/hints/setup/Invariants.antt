@@ -1,6 +1,6 @@
 use Rattle.std.proofs.Common.{◌≤◌, ◌-◌}
 use Rattle.matrix_u32.specs.Matrix.{product}
-use Rattle.simple_scheme.specs.Blocks.{HasRowsOf}
+use Rattle.simple_scheme.proofs.Rows.{HasRowsOf}
 use Rattle.simple_scheme.proofs.hints.setup.Given as goal
 
 abbrev pub invariant-loop-start : goal.invariant-loop-start

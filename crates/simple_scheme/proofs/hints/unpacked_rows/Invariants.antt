@@ -1,4 +1,5 @@
-use Rattle.simple_scheme.specs.Blocks.{rows_from, HasRowsOf}
+use Rattle.simple_scheme.specs.Blocks.{rows_from}
+use Rattle.simple_scheme.proofs.Rows.{HasRowsOf}
 use Rattle.simple_scheme.proofs.hints.unpacked_rows.Given as goal
 
 abbrev pub invariant-loop-i : goal.invariant-loop-i

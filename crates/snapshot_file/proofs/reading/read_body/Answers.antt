@@ -1,11 +1,12 @@
 use Rattle.std.proofs.Common.{◌≡◌, ◌++◌, List, [], ℕ, length, rules, sym, ap, subst, ◌∙◌}
 use Rattle.std.proofs.lemmas.List.{append-nil}
+use Rattle.std.proofs.lemmas.Result.{err_from_is_err_and}
 use Rattle.std.specs.Io.KnownBytes.{Consumes}
 use Rattle.std.proofs.KnownBytes.{Consumes-trans}
 use Rattle.sha2.specs.Sha256.{sha256}
 use Rattle.snapshot_file.specs.Verdicts.{StopsReadingAt}
 use Rattle.snapshot_file.specs.Snapshots.{header_bytes, hashed_bytes, records_len, IsSnapshot}
-use Rattle.snapshot_file.proofs.Readings.{stops_in_digest, stops_at_digest, stops_after}
+use Rattle.snapshot_file.proofs.Readings.{stops_in_records, stops_in_digest, stops_at_digest, stops_after}
 use Rattle.snapshot_file.proofs.reading.read_body.Goals as goal
 
 pub returns-in_err-digest-clause-err : goal.returns-in_err-digest-clause-err
@@ -26,7 +27,7 @@ returns-then-ne-clause-err g c =
     let len : length c.in_ok-records.records.items ≡ records_len c.args.header.now = c.in_ok-records.ensures.ok.0 ∙ c.records_len.ensures in
     let is : IsSnapshot c.args.header.now c.in_ok-records.records.items = record { header = c.requires.header; accepted = c.requires.accepted; len = len } in
     let same : c.digest_of.result ≡ sha256 (hashed_bytes c.args.header.now c.in_ok-records.records.items) =
-    cc (c.digest_of.ensures, c.deref.ensures.value, c.deref-2.ensures.value, c.in-Ok.ensures) in
+    cc (c.digest_of.ensures, c.deref.ensures.value, c.deref-2.ensures.value, c.in_ok-prefix.ensures) in
     let other : ¬ (c.in_ok-digest.digest ≡ c.digest_of.result) = search rules in (
       c.in_ok-records.records.items ++ c.in_ok-digest.digest,
       Consumes-trans _ _ _ _ _ c.in_ok-records.ensures.ok.1 c.in_ok-digest.ensures.ok.1,
@@ -39,7 +40,7 @@ returns-in_err-read_end-clause-err g c =
     let len : length c.in_ok-records.records.items ≡ records_len c.args.header.now = c.in_ok-records.ensures.ok.0 ∙ c.records_len.ensures in
     let is : IsSnapshot c.args.header.now c.in_ok-records.records.items = record { header = c.requires.header; accepted = c.requires.accepted; len = len } in
     let same : c.digest_of.result ≡ sha256 (hashed_bytes c.args.header.now c.in_ok-records.records.items) =
-    cc (c.digest_of.ensures, c.deref.ensures.value, c.deref-2.ensures.value, c.in-Ok.ensures) in
+    cc (c.digest_of.ensures, c.deref.ensures.value, c.deref-2.ensures.value, c.in_ok-prefix.ensures) in
     let right : c.in_ok-digest.digest ≡ c.digest_of.result = search rules in
     let h : (read : List ℕ) × Consumes (g.R.Read.remaining c.args.reader.now) (g.R.Read.remaining c.read_end.new.reader) read
     × StopsReadingAt c.in_err-read_end.field-0.0 (header_bytes c.args.header.now ++ read) (g.R.Read.remaining c.read_end.new.reader) = (
@@ -55,7 +56,7 @@ returns-clause-ok g c =
     let len : length c.in_ok-records.records.items ≡ records_len c.args.header.now = c.in_ok-records.ensures.ok.0 ∙ c.records_len.ensures in
     let is : IsSnapshot c.args.header.now c.in_ok-records.records.items = record { header = c.requires.header; accepted = c.requires.accepted; len = len } in
     let same : c.digest_of.result ≡ sha256 (hashed_bytes c.args.header.now c.in_ok-records.records.items) =
-    cc (c.digest_of.ensures, c.deref.ensures.value, c.deref-2.ensures.value, c.in-Ok.ensures) in
+    cc (c.digest_of.ensures, c.deref.ensures.value, c.deref-2.ensures.value, c.in_ok-prefix.ensures) in
     let right : c.in_ok-digest.digest ≡ c.digest_of.result = search rules in
     let encoded : (c.in_ok-records.records.items ++ c.in_ok-digest.digest) ++ [] ≡ c.in_ok-records.records.items
     ++ sha256 (hashed_bytes c.args.header.now c.in_ok-records.records.items) =
@@ -63,4 +64,14 @@ returns-clause-ok g c =
       is,
       subst (Consumes _ _) encoded (Consumes-trans _ _ _ _ _ (Consumes-trans _ _ _ _ _ c.in_ok-records.ensures.ok.1 c.in_ok-digest.ensures.ok.1) e.0),
       e.1,
+    )
+
+pub returns-in_err-records-clause-err : goal.returns-in_err-records-clause-err
+returns-in_err-records-clause-err g c =
+    let p = err_from_is_err_and c.from_residual-in_err-records.result c.from_residual-in_err-records.ensures.1 in
+    let e = c.in_err-records.ensures.err in
+    rw (p.1, p.2) (
+      e.0,
+      e.1,
+      stops_in_records c.in_err-records.field-0.0 c.args.header.now e.0 _ c.requires.header c.requires.accepted (rw c.records_len.ensures at e.2),
     )

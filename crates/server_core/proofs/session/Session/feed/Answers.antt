@@ -15,8 +15,8 @@ pub returns-in-Ok-clause-fed : goal.returns-in-Ok-clause-fed
 returns-in-Ok-clause-fed g c h s =
     let frames : List Frame = c.feed-read.ensures.0 in
     let seen : c.deref.result.now ≡ frames = c.deref.ensures.value ∙ c.feed-read.ensures.1 ∙ rw c.new-frames.ensures.items refl in
-    let served : ServedFrames (setting_of c.args.store.now) h c.self.inside.standing frames c.feed-read.result c.serve_piece.new.store c.in-Ok.standing
-    c.args.out.now.items c.serve_piece.new.out.items = rw (← seen) (c.in-Ok.ensures.ok h s) in
+    let served : ServedFrames (setting_of c.args.store.now) h c.self.inside.standing frames c.feed-read.result c.serve_completed.new.store c.in-Ok.standing
+    c.args.out.now.items c.serve_completed.new.out.items = rw (← seen) (c.in-Ok.ensures.ok h s) in
     rw (← c.self.view_is) (fed_well (setting_of c.args.store.now) h (record { standing = c.self.inside.standing; unfinished = c.self.inside.reader })
-    c.args.piece.now tt c.serve_piece.new.store c.in-Ok.standing c.feed-read.new.self c.args.out.now.items c.serve_piece.new.out.items c.feed-read.result
+    c.args.piece.now tt c.serve_completed.new.store c.in-Ok.standing c.feed-read.new.self c.args.out.now.items c.serve_completed.new.out.items c.feed-read.result
     frames (sym c.is_closed.ensures ∙ c.if-is_closed.false) c.feed-read.ensures.2 served)

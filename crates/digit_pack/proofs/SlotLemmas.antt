@@ -1,0 +1,91 @@
+-- What is in a slot.
+use Rattle.std.proofs.Common.{◌≡◌, ◌∙◌, ap, sym, refl, ℕ, zero, suc, ◌+◌, ◌-◌, ◌/◌, ◌%◌, ◌^◌, ◌<◌, ◌≤◌, ◌++◌, true, List, [], ◌∷◌, length, take, drop, replicate, nat_le, nat_eq, arith}
+use Rattle.std.specs.Int.{w16, from_le_bytes}
+use Rattle.std.specs.List.{list_all}
+use Rattle.std.proofs.Math.Seq.{take-append_seam, drop-append_seam}
+use Rattle.std.proofs.lemmas.Bool.{and_parts, and_from, leb-true, le-leb, eqb-true}
+use Rattle.std.proofs.lemmas.List.{length-append, length-replicate, length-take-le, length-drop, take-append-drop, drop-drop}
+use Rattle.std.proofs.lemmas.List.Elements.{All-append, All-cons, All-head, All-tail, All-replicate}
+use Rattle.std.proofs.lemmas.Nat.{from_le_bytes-to_le_bytes_2}
+use Rattle.digit_pack.specs.Slots.{slot_of, is_slot}
+use Rattle.digit_pack.specs.Laws.{FillsAndReads, SlotsHoldTheirRecords, SlotsAreThoseFilled}
+
+-- ---- zeros
+
+zeros_pass : (n : ℕ) → list_all (nat_eq 0) (replicate n 0) ≡ true
+zeros_pass zero = refl
+zeros_pass (suc n) = zeros_pass n
+
+passed_zeros : (xs : List ℕ) → list_all (nat_eq 0) xs ≡ true → xs ≡ replicate (length xs) 0
+passed_zeros [] e = refl
+passed_zeros (x ∷ xs) e =
+    let p = and_parts (nat_eq 0 x) (list_all (nat_eq 0) xs) e in
+    rw (sym (eqb-true 0 x p.0)) (ap (λ (ys : List ℕ). 0 ∷ ys) (passed_zeros xs p.1))
+
+after_two : (n : ℕ) (xs : List ℕ) → drop (n + 2) xs ≡ drop n (drop 2 xs)
+after_two n xs = ap (λ (k : ℕ). drop k xs) (omega arith) ∙ sym (drop-drop n 2 xs)
+
+-- ---- what fills a slot
+
+module _ (len : ℕ) (bytes : List ℕ) (fits : length bytes + 2 ≤ len) (short : length bytes < 2 ^ 16) where
+  abbrev padding : List ℕ
+  padding = replicate (len - (length bytes + 2)) 0
+
+  abbrev rest : List ℕ
+  rest = bytes ++ padding
+
+  rest_len : length rest ≡ len - 2
+  rest_len = omega (arith, length-append bytes padding, length-replicate {A = ℕ} (len - (length bytes + 2)) 0, fits)
+
+  number_is : from_le_bytes w16 (take 2 (slot_of len bytes)) ≡ length bytes
+  number_is = from_le_bytes-to_le_bytes_2 (length bytes) short
+
+  accepted : is_slot (slot_of len bytes) ≡ true
+  unfolding is_slot
+  accepted = rw number_is
+      (and_from (nat_le (length bytes + 2) (length (slot_of len bytes))) (list_all (nat_eq 0) (drop (length bytes + 2) (slot_of len bytes)))
+      (le-leb (length bytes + 2) (length (slot_of len bytes)) (omega (arith, rest_len, fits)))
+      (rw (after_two (length bytes) (slot_of len bytes), drop-append_seam bytes padding) (zeros_pass (len - (length bytes + 2)))))
+
+  pub fills : FillsAndReads len bytes
+  fills = record {
+    size = omega (arith, rest_len, fits);
+    accepted = accepted;
+    same = ap (λ (n : ℕ). take n rest) number_is ∙ take-append_seam bytes padding;
+    each = λ small.
+        All-cons (λ b. b < 2 ^ 8) (length bytes % 256) (length bytes / 256 % 256 ∷ rest) (omega arith)
+        (All-cons (λ b. b < 2 ^ 8) (length bytes / 256 % 256) rest (omega arith)
+        (All-append (λ b. b < 2 ^ 8) bytes padding small
+        (All-replicate (λ b. b < 2 ^ 8) (len - (length bytes + 2)) 0 (omega arith))));
+  }
+
+pub fills_and_reads : SlotsHoldTheirRecords
+fills_and_reads len bytes fits short = fills len bytes fits short
+
+-- ---- what is accepted
+
+pub slot_is_filled : SlotsAreThoseFilled
+unfolding is_slot
+slot_is_filled [] small e =
+    let n : ℕ = from_le_bytes w16 [] in
+    absurd (omega (arith, leb-true (n + 2) 0 (and_parts (nat_le (n + 2) 0) (list_all (nat_eq 0) (drop (n + 2) [])) e).0))
+slot_is_filled (x ∷ []) small e =
+    let n : ℕ = from_le_bytes w16 (x ∷ []) in
+    absurd (omega (arith, leb-true (n + 2) 1 (and_parts (nat_le (n + 2) 1) (list_all (nat_eq 0) (drop (n + 2) (x ∷ []))) e).0))
+slot_is_filled (x ∷ y ∷ more) small e =
+    let n : ℕ = from_le_bytes w16 (x ∷ y ∷ []) in
+    let p = and_parts (nat_le (n + 2) (length (x ∷ y ∷ more))) (list_all (nat_eq 0) (drop (n + 2) (x ∷ y ∷ more))) e in
+    let room : n + 2 ≤ length more + 2 = omega (arith, leb-true (n + 2) (length (x ∷ y ∷ more)) p.0) in
+    let len : length (take n more) ≡ n = length-take-le n more (omega (arith, room)) in
+    let zeros : drop n more ≡ replicate (length more - n) 0 =
+    passed_zeros (drop n more) (ap (list_all (nat_eq 0)) (sym (after_two n (x ∷ y ∷ more))) ∙ p.1)
+    ∙ ap (λ (k : ℕ). replicate k 0) (length-drop n more) in
+    let low : x < 256 = All-head (λ b. b < 2 ^ 8) x (y ∷ more) small in
+    let high : y < 256 = All-head (λ b. b < 2 ^ 8) y more (All-tail (λ b. b < 2 ^ 8) x (y ∷ more) small) in
+    let size : ℕ = length (take n more) in
+    let left : length (x ∷ y ∷ more) - (size + 2) ≡ length more - n = omega (arith, len) in
+    let body : take n more ++ replicate (length (x ∷ y ∷ more) - (size + 2)) 0 ≡ more =
+    ap (λ (k : ℕ). take n more ++ replicate k 0) left ∙ ap (λ (zs : List ℕ). take n more ++ zs) (sym zeros) ∙ take-append-drop n more in
+    let first : size % 256 ≡ x = omega (arith, len, low) in
+    let second : size / 256 % 256 ≡ y = omega (arith, len, low, high) in
+    sym (rw (first, second, body) refl)

@@ -1,0 +1,18 @@
+-- Slots: a record of its own length in a fixed number of bytes.
+use Rattle.std.specs.Prelude.{ℕ, ◌+◌, ◌-◌, ◌++◌, List, length, take, drop, replicate, Bool, nat_le, nat_eq, ◌&&◌}
+use Rattle.std.specs.List.{list_all}
+use Rattle.std.specs.Int.{w16, to_le_bytes, from_le_bytes}
+
+-- the slot of so many bytes that holds a record: the record's length in two bytes, the lower one first; the record; zeros
+abbrev pub slot_of : ℕ → List ℕ → List ℕ
+slot_of len bytes = to_le_bytes w16 (length bytes) ++ (bytes ++ replicate (len - (length bytes + 2)) 0)
+
+-- whether bytes are the slot of a record: the length that they begin with leaves room for it, and zeros follow
+unfoldable pub is_slot : List ℕ → Bool
+is_slot slot =
+    nat_le (from_le_bytes w16 (take 2 slot) + 2) (length slot)
+    && list_all (nat_eq 0) (drop (from_le_bytes w16 (take 2 slot) + 2) slot)
+
+-- the record in a slot
+abbrev pub content_of : List ℕ → List ℕ
+content_of slot = take (from_le_bytes w16 (take 2 slot)) (drop 2 slot)

@@ -1,0 +1,55 @@
+//! Slots: a record of its own length in a fixed number of bytes, so that records of different lengths take the same room.
+
+ghost use Rattle.std.specs.Prelude.{◌≡◌, ◌+◌, ◌^◌, ◌<◌, ◌≤◌, ◌↔◌, IsOk, IfOk, IsTrue, true, length, take, drop, nat_eq};
+ghost use Rattle.std.specs.List.{list_all};
+ghost use Rattle.digit_pack.specs.Slots.{slot_of, is_slot, content_of};
+
+use thiserror::Error;
+
+/// Bytes that are no slot: fewer than two, a length that is more than what follows it, or a byte after the record that
+/// is not 0.
+#[derive(Clone, Copy, Debug, PartialEq, Eq, Error)]
+#[error("the bytes are no slot")]
+pub struct BadSlot;
+
+/// Writes a record into a slot: its length in two bytes, the lower one first, its bytes, and zeros. It takes no memory.
+pub fn fill_slot(bytes: &[u8], slot: &mut [u8])
+    requires fits { length bytes.now + 2 ≤ length slot.old }
+    requires short { length bytes.now < 2 ^ 16 }
+    ensures { slot.new ≡ slot_of (length slot.old) bytes.now }
+{
+    let (len, rest) = slot.split_at_mut(2);
+    len.copy_from_slice(&(bytes.len() as u16).to_le_bytes());
+    let (record, padding) = rest.split_at_mut(bytes.len());
+    record.copy_from_slice(bytes);
+    padding.fill(0);
+}
+
+/// The length of the record in a slot, which stands after the slot's first two bytes. It takes no memory.
+///
+/// # Errors
+///
+/// `BadSlot` exactly when no record fills these bytes so.
+#[tactic(auto, unfolding(crate::specs::Slots::is_slot))]
+pub fn read_slot(slot: &[u8]) -> Result<usize, BadSlot>
+    ensures slot { IsOk result ↔ (is_slot slot.now ≡ true) }
+    ensures record { IfOk result (λ len. (len + 2 ≤ length slot.now)
+        × (content_of slot.now ≡ take len (drop 2 slot.now))) }
+{
+    if slot.len() < 2 {
+        return Err(BadSlot);
+    }
+    let len = usize::from(u16::from_le_bytes([slot[0], slot[1]]));
+    let end = len + 2;
+    if slot.len() < end || !is_zero(&slot[end..]) {
+        return Err(BadSlot);
+    }
+    Ok(len)
+}
+
+// Whether all bytes are 0.
+fn is_zero(bytes: &[u8]) -> bool
+    ensures { result ≡ list_all (nat_eq 0) bytes.now }
+{
+    bytes.iter().all(|byte| *byte == 0)
+}

@@ -1,0 +1,111 @@
+//! The memory that queries are made in.
+
+ghost use Rattle.std.specs.Prelude.{◌≡◌, ◌^◌, ◌<◌, ◌≤◌, IfOk};
+ghost use Rattle.pir_schemes.specs.Plans.{IsPlan, shape_at};
+ghost use Rattle.pir_schemes.specs.Retrievals.{query_words};
+ghost use Rattle.pir_schemes.specs.Rooms.{scheme_asked, IsSchemeRoom};
+
+use crate::plan::{Plan, SecretSeed};
+use crate::scheme::Scheme;
+use digit_pack::Layout;
+use matrix_u32::{Kernel, Matrix};
+use seed_expand::expand;
+use std::alloc::{AllocError, Global};
+use std::marker::Model;
+
+// What the schemes do not have in common. In DoublePIR the second public matrix comes first.
+#[derive(Drop)]
+enum SchemeRoom {
+    Simple(simple_scheme::QueryRoom),
+    Double(Matrix, double_scheme::QueryRoom),
+}
+
+/// The memory that a query is made in, with the public matrices of a plan. It is taken for a scheme, a plan and a
+/// count of records: no index, number or secret seed is known where it is refused.
+///
+/// A contract sees it as these three.
+#[derive(Drop)]
+pub struct QueryRoom {
+    plan: Plan,
+    count: usize,
+    a1: Matrix,
+    words: SchemeRoom,
+}
+
+impl Model for QueryRoom {
+    ghost use Rattle.pir_schemes.specs.Rooms.{Asking, IsQueryRoom, scheme_asked};
+
+    ghost Value = { Asking };
+
+    ghost view = { λ r.
+        record { scheme = scheme_asked r.words; plan = r.plan; count = r.count } };
+
+    ghost invariant = { λ r. IsQueryRoom r.plan r.count r.a1 r.words };
+}
+
+impl QueryRoom {
+    /// Memory for a query of a scheme on `count` records. Only refused memory gives an `Err`.
+    pub fn new(
+        alloc: Global,
+        scheme: Scheme,
+        plan: &Plan,
+        count: usize,
+    ) -> Result<QueryRoom, AllocError>
+        requires { IsPlan plan.now count }
+        ensures { IfOk result (λ room.
+            room ≡ record { scheme = scheme; plan = plan.now; count = count }) }
+    {
+        // The sizes are within the limits: no refusal is left.
+        let layout = plan.layout(count).unwrap();
+        let n = usize::from(plan.dimension);
+        let a1 = expand(alloc, &plan.seed, 0, 0, layout.cols(), n)?;
+        let words = scheme_room(alloc, scheme, &plan.seed, &layout, n)?;
+        Ok(QueryRoom {
+            plan: *plan,
+            count,
+            a1,
+            words,
+        })
+    }
+
+    /// The query for record i. `number` tells which retrieval of the client's seed it is. It takes no memory.
+    #[tactic(auto, unfolding(crate::specs::Retrievals::query_words))]
+    pub fn fill<K: Kernel>(self, kernel: K, seed: &SecretSeed, number: u64, i: usize) -> Vec<u32>
+        requires number { number < 2 ^ 62 }
+        requires record { i < self.count }
+        ensures { result.items ≡ query_words self.scheme (shape_at self.plan self.count)
+            self.plan.dimension self.plan.seed seed.now number i }
+    {
+        let QueryRoom { a1, words, .. } = self;
+        let seed = seed.bytes();
+        match words {
+            SchemeRoom::Simple(room) => room.fill(kernel, seed, number, &a1, i),
+            SchemeRoom::Double(a2, room) => room.fill(kernel, seed, number, &a1, &a2, i),
+        }
+    }
+}
+
+// Memory for a query of a scheme, under public matrices of n columns from a public seed.
+fn scheme_room(
+    alloc: Global,
+    scheme: Scheme,
+    public: &[u8; 32],
+    layout: &Layout,
+    n: usize,
+) -> Result<SchemeRoom, AllocError>
+    requires { (1 ≤ n) × (n ≤ 1024) }
+    ensures scheme { IfOk result (λ room. scheme_asked room ≡ scheme) }
+    ensures room { IfOk result (IsSchemeRoom layout.now n public.now) }
+{
+    match scheme {
+        Scheme::Simple => {
+            let room = simple_scheme::QueryRoom::new(alloc, layout, n)?;
+            Ok(SchemeRoom::Simple(room))
+        }
+        Scheme::Double => {
+            let a2 = expand(alloc, public, 1, 0, layout.rows(), n)?;
+            let room = double_scheme::QueryRoom::new(alloc, layout, n, n)?;
+            Ok(SchemeRoom::Double(a2, room))
+        }
+    }
+}

@@ -1,0 +1,83 @@
+//! What hides a column or a row in an encryption.
+
+ghost use Rattle.std.specs.Prelude.{◌≡◌, ◌+◌, ◌^◌, ◌<◌, ◌≤◌, length, IfOk};
+ghost use Rattle.seed_expand.specs.Words.{words_from};
+ghost use Rattle.noise_table.specs.Noise.{noise_from};
+ghost use Rattle.regev_core.specs.Encryption.{cipher};
+ghost use Rattle.simple_scheme.specs.Rooms.{HasSize};
+
+use matrix_u32::{Kernel, Matrix};
+use noise_table::fill_noise;
+use seed_expand::{WordSource, fill_words};
+use std::alloc::{AllocError, Global};
+use std::marker::Model;
+
+/// The secret of an encryption and its noise. Its memory is taken by their sizes alone, and kept from one
+/// encryption to the next.
+#[derive(Drop)]
+pub struct Mask {
+    secret: Vec<u32>,
+    noise: Vec<i32>,
+}
+
+impl Model for Mask {
+    ghost use Rattle.simple_scheme.specs.Rooms.{Masking};
+
+    ghost Value = { Masking };
+
+    ghost view = { λ m. record { secret = m.secret.items; noise = m.noise.items } };
+}
+
+impl Mask {
+    /// Zeros, for encryptions under a matrix of so many rows and columns.
+    pub fn zeros(alloc: Global, rows: usize, cols: usize) -> Result<Mask, AllocError>
+        ensures { IfOk result (HasSize rows cols) }
+    {
+        Ok(Mask {
+            secret: vec![in alloc; 0; cols]?,
+            noise: vec![in alloc; 0; rows]?,
+        })
+    }
+
+    /// Draws the secret from a stream of the seed, from a place on, and the noise from the stream after, from a
+    /// place on.
+    pub fn draw(&mut self, seed: &[u8; 32], stream: u64, secret_at: u64, noise_at: u64)
+        requires { stream + 1 < 2 ^ 64 }
+        ensures secret { self.new.secret ≡
+            words_from seed.now stream secret_at (length self.old.secret) }
+        ensures noise { self.new.noise ≡
+            noise_from seed.now (stream + 1) noise_at (length self.old.noise) }
+        ensures size { HasSize (length self.old.noise) (length self.old.secret) self.new }
+    {
+        draw_words(seed, stream, secret_at, &mut self.secret);
+        draw_noise(seed, stream + 1, noise_at, &mut self.noise);
+    }
+
+    /// Writes the encryption of the unit vector with its 1 at `place`, in digits of w bits, under a matrix of
+    /// the mask's size.
+    pub fn encrypt<K: Kernel>(&self, kernel: K, a: &Matrix, w: u32, place: usize, out: &mut [u32])
+        requires width { (6 ≤ w) × (w ≤ 10) }
+        requires place { place < a.now.rows }
+        requires size { HasSize a.now.rows a.now.cols self.now }
+        requires room { length out.old ≡ a.now.rows }
+        ensures { out.new ≡ cipher w a.now self.now.secret self.now.noise place }
+    {
+        regev_core::encrypt(kernel, a, &self.secret, &self.noise, place, w, out);
+    }
+}
+
+// Fills a slice with the words of a stream of the seed, from a place on.
+fn draw_words(seed: &[u8; 32], stream: u64, place: u64, out: &mut [u32])
+    ensures { out.new ≡ words_from seed.now stream place (length out.old) }
+{
+    seed_expand::source_gives_words();
+    fill_words(&mut WordSource::at(seed, stream, place), out);
+}
+
+// Fills a slice with the noise of a stream of the seed, from a place on.
+fn draw_noise(seed: &[u8; 32], stream: u64, place: u64, out: &mut [i32])
+    ensures { out.new ≡ noise_from seed.now stream place (length out.old) }
+{
+    seed_expand::source_gives_words();
+    fill_noise(&mut WordSource::at(seed, stream, place), out);
+}

@@ -1,0 +1,14 @@
+-- What faults are called where they are printed.
+use Rattle.std.specs.Prelude.{ℕ, List, codes}
+use Rattle.snapshot_file.specs.declared.snapshot.SnapshotFault.{SnapshotFault}
+use Rattle.snapshot_file.specs.declared.snapshot.SnapshotFault.TheVariants as snapshot
+
+-- the name of what is no snapshot
+unfoldable pub snapshot_fault_name : SnapshotFault → List ℕ
+snapshot_fault_name snapshot.NotSnapshot = codes "NotSnapshot"
+snapshot_fault_name snapshot.BadLayout = codes "BadLayout"
+snapshot_fault_name snapshot.Short = codes "Short"
+snapshot_fault_name snapshot.BadDigest = codes "BadDigest"
+snapshot_fault_name snapshot.TrailingBytes = codes "TrailingBytes"
+snapshot_fault_name snapshot.Read = codes "Read"
+snapshot_fault_name snapshot.Memory = codes "Memory"
