@@ -10,8 +10,8 @@ import tempfile
 
 from client import CallRefused, Client
 from formats import (
-    BYE, DOUBLE, EDIT, HELLO, KINDS, LOAD, PUBLISH, QUERY, SIMPLE, Layout, Reader, answer_count, frame, hint_count, is_layout, query_count,
-    snapshot_bytes, snapshot_fault,
+    BYE, DOUBLE, EDIT, FORMS, HELLO, LAST_FORM, LOAD, PUBLISH, QUERY, SIMPLE, WELCOME, Layout, answer_count, frame, hint_count,
+    is_layout, query_count, snapshot_bytes, snapshot_fault,
 )  # fmt: skip
 from script import rehearse
 from server import Session, Store, once
@@ -43,7 +43,7 @@ class Streams:
     def stream(self, chance, store):
         session = Session(store)
         key = chance.choice((READER, KEY, KEY))
-        data = frame(HELLO, 1, key) if chance.random() < 0.85 else b""
+        data = frame(HELLO, chance.choice((store.layout.form, LAST_FORM)), key) if chance.random() < 0.85 else b""
         session.feed(data)
         for _ in range(chance.randint(0, 6)):
             more = random_frame(chance, store)
@@ -89,16 +89,20 @@ class Streams:
 
 
 class Orders(Streams):
-    """Every order of three frames of every kind, in sessions of one store."""
+    """Every order of three frames of every kind, in sessions of a store of each form."""
 
     name = "orders"
 
     def all_cases(self):
-        store = small_store()
+        for layout in (Layout(8, 1, 1, 2), Layout(8, 3, 1, 2, 2)):
+            yield from self.cases(Store(layout, 1, 1, bytes(32), hashlib.sha256(KEY).digest(), [b"\x0a", b"\xc8"]))
+
+    def cases(self, store):
+        form, asked = store.layout.form, range(query_count(DOUBLE, store.layout))
         frames = [
-            frame(HELLO, 1, READER), frame(HELLO, 1, KEY), frame(HELLO, 9, READER), frame(HELLO, 1, bytes([2]) * 32),
+            frame(HELLO, form, READER), frame(HELLO, 2, KEY), frame(HELLO, form - 1, READER), frame(HELLO, 2, bytes([2]) * 32),
             frame(3, SIMPLE, 1, 0), frame(3, DOUBLE, 2, 0), frame(4, 1), frame(4, 9), frame(QUERY, SIMPLE, 1, rest=[1, 2]),
-            frame(QUERY, DOUBLE, 2, rest=[1, 2, 3]), frame(QUERY, SIMPLE, 1, rest=[1]), frame(EDIT, 0, rest=b"\5"), frame(EDIT, 2, rest=b"\5"),
+            frame(QUERY, DOUBLE, 2, rest=asked), frame(QUERY, SIMPLE, 1, rest=[1]), frame(EDIT, 0, rest=b"\5"), frame(EDIT, 2, rest=b"\5"),
             frame(PUBLISH), frame(BYE), frame(LOAD, 1, 1, 8, rest=b"ab"), frame(0x87, 1), b"\0\0\0\0\x7f", b"\1\0\0\0\x8f",
         ]  # fmt: skip
         streams = [[a + b + c] for a in frames for b in frames for c in frames]
@@ -106,16 +110,13 @@ class Orders(Streams):
             yield {"opening": file_of(store), "parts": streams[at : at + 500]}
 
 
-def small_store():
-    return Store(Layout(8, 1, 1, 2), 1, 1, bytes(32), hashlib.sha256(KEY).digest(), [b"\x0a", b"\xc8"])
-
-
 def store_of(data):
     """The store of a snapshot."""
     width, record_len, groups = data[8], int.from_bytes(data[9:11], "little"), int.from_bytes(data[11:13], "little")
     count, n, version = (int.from_bytes(data[a:b], "little") for a, b in ((13, 17), (17, 19), (19, 27)))
-    records = [data[91 + i * record_len : 91 + (i + 1) * record_len] for i in range(count)]
-    return Store(Layout(width, record_len, groups, count), n, version, data[27:59], data[59:91], records)
+    layout = Layout(width, record_len, groups, count, FORMS[data[:8]])
+    records = [layout.content(data[91 + i * record_len : 91 + (i + 1) * record_len]) for i in range(count)]
+    return Store(layout, n, version, data[27:59], data[59:91], records)
 
 
 def spoken(port, parts, closes):
@@ -188,6 +189,8 @@ class Replies:
 
     def replies(self, chance, store, right):
         """The pieces that come for a frame of the client."""
+        if right[4] == WELCOME and chance.random() < 0.1:
+            return [of_other_form(right)]
         if chance.random() < 0.75:
             return [right]
         kind = chance.randrange(5)
@@ -232,6 +235,11 @@ class Replies:
             finally:
                 asking.kill()
         return fault or compared(conversation.end, (said.decode(), told.decode(), asking.returncode))
+
+
+def of_other_form(welcome):
+    """A Welcome that tells of the other form: the records of a store of form 1 are mostly no slots."""
+    return welcome[:5] + bytes([3 - welcome[5]]) + welcome[6:]
 
 
 def altered(chance, right):
@@ -322,12 +330,12 @@ class Conversation:
 
 
 class Scripts:
-    """Random scripts of a world, and damaged ones."""
+    """Random scripts of a world of form 1, and damaged ones."""
 
     name = "scripts"
 
     def case(self, chance):
-        store = random_store(chance, READER)
+        store = random_store(chance, READER, forms=(1,))
         layout = store.layout
         sizes = [near(chance, value, 300) if chance.random() < 0.1 else value for value in (layout.width, layout.record_len, layout.groups, store.n)]
         lines = [" ".join(map(str, ["world", *sizes])), f"seed {store.seed.hex()}"]
@@ -367,13 +375,14 @@ class Scripts:
 
 
 class Snapshots:
-    """Snapshot files, whole and damaged, as `pir_server show` prints them."""
+    """Snapshot files, whole and damaged, as `pir_server show` prints them and `pir_server migrate` moves them to form 2."""
 
     name = "snapshots"
 
     def case(self, chance):
-        data = file_of(random_store(chance, hashlib.sha256(KEY).digest(), last=True))
-        kind = chance.randrange(5)
+        publisher = hashlib.sha256(KEY).digest()
+        data = file_of(random_store(chance, publisher, last=True) if chance.random() < 0.8 else wide_store(chance, publisher))
+        kind = chance.randrange(8)
         if kind == 0:
             at = chance.randrange(27)
             data = data[:at] + bytes([chance.randrange(256)]) + data[at + 1 :]
@@ -381,19 +390,64 @@ class Snapshots:
             data = damaged(chance, data)
         elif kind == 2:
             data = data[: chance.randrange(len(data))]
-        if kind == 0 and chance.random() < 0.7:
+        elif kind == 3:
+            at = chance.randrange(91, len(data) - 32)
+            data = data[:at] + bytes([near(chance, data[at] ^ 1, 255)]) + data[at + 1 :]
+        elif kind == 4:
+            data = (b"PIRSNAP2" if FORMS[data[:8]] == 1 else b"PIRSNAP1") + data[8:]
+        if kind in (0, 3, 4) and chance.random() < 0.7:
             data = data[:-32] + hashlib.sha256(data[:-32]).digest()
-        return {"parts": [data]}
+        if chance.random() < 0.1:
+            data += b"\0"
+        return {"command": chance.choice(("show", "migrate")), "parts": [data]}
 
     def difference(self, case, programs):
         data = b"".join(case["parts"])
-        with tempfile.NamedTemporaryFile() as file:
-            file.write(data)
-            file.flush()
-            done = subprocess.run([programs[0], "show", "--file", file.name], capture_output=True, text=True, timeout=SECONDS)
-        fault = snapshot_fault(data)
-        wanted = ("", f"fault: {fault}\n", 3) if fault else ("".join(f"{line}\n" for line in shown(store_of(data))), "", 0)
-        return compared(wanted, (done.stdout, done.stderr, done.returncode))
+        with tempfile.TemporaryDirectory() as room:
+            path, out = os.path.join(room, "store"), os.path.join(room, "out")
+            with open(path, "wb") as file:
+                file.write(data)
+            words = [case["command"], "--file", path, *(["--out", out] if case["command"] == "migrate" else [])]
+            done = subprocess.run([programs[0], *words], capture_output=True, text=True, timeout=SECONDS)
+            left = None
+            if os.path.exists(out):
+                with open(out, "rb") as file:
+                    left = file.read()
+        wanted = self.migrated(data) if case["command"] == "migrate" else self.shown(data)
+        return compared(wanted, (done.stdout, done.stderr, done.returncode, left))
+
+    def shown(self, data):
+        if fault := snapshot_fault(data):
+            return "", f"fault: {fault}\n", 3, None
+        return "".join(f"{line}\n" for line in description(store_of(data))), "", 0, None
+
+    def migrated(self, data):
+        fault = snapshot_fault(data) or migrate_fault(store_of(data).layout)
+        if fault:
+            return "", f"fault: {fault}\n", 3, None
+        store = store_of(data)
+        return f"migrated {store.layout.count} {store.version()}\n", "", 0, file_of(of_form_two(store))
+
+
+def wide_store(chance, publisher):
+    """A store of form 1 with records of which some have no room for a length beside them."""
+    widest = ((8, 254, 1), (8, 255, 1), (8, 256, 1), (8, 62, 64), (8, 63, 64), (8, 64, 64), (10, 3, 1000), (10, 4, 1000))
+    width, record_len, groups = chance.choice(widest)
+    records = [chance.randbytes(record_len) for _ in range(chance.randint(1, 3))]
+    return Store(Layout(width, record_len, groups, len(records)), 1, 1, bytes(32), publisher, records)
+
+
+def migrate_fault(layout):
+    """The name of the fault with which the records of a layout are not moved to form 2, or None."""
+    if layout.form != 1:
+        return "NotFormOne"
+    return None if is_layout(layout.width, layout.record_len + 2, layout.groups, layout.count) else "TooWide"
+
+
+def of_form_two(store):
+    """The same records in slots."""
+    layout = Layout(store.layout.width, store.layout.record_len + 2, store.layout.groups, store.layout.count, 2)
+    return Store(layout, store.n, store.first, store.seed, store.publisher, store.versions[0])
 
 
 def is_certain(layout, terms):
@@ -401,7 +455,8 @@ def is_certain(layout, terms):
     return 27 * ((1 << layout.width) - 1) * terms < layout.delta // 2
 
 
-def shown(store):
+def description(store):
+    """The lines that `show` prints."""
     layout, n = store.layout, store.n
     yield from (f"version {store.version()}", f"records {layout.count} of {layout.record_len} bytes", f"width {layout.width}")
     yield from (f"groups {layout.groups}", f"digits {layout.rows} rows {layout.cols} columns", f"dimension {n}")

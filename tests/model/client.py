@@ -1,10 +1,9 @@
 """A client's side of a session by docs/FORMATS.md: its calls, what it takes as a reply, and what comes of it."""
 from formats import (
-    ANSWER, DELTA, DELTA_ASK, DONE, EDIT, HELLO, HINT_ASK, HINT_PART, MOST_DELTA_ROWS, NO_DELTA, PUBLISH, QUERY, REFUSED, SIMPLE, STALE,
-    WELCOME, Layout, Reader, answer_count, frame, is_layout, part_count, query_of, read_answer,
+    ANSWER, DELTA, DELTA_ASK, DONE, EDIT, HELLO, HINT_ASK, HINT_PART, LAST_FORM, MOST_DELTA_ROWS, NO_DELTA, PUBLISH, QUERY, REFUSED,
+    SIMPLE, STALE, WELCOME, Layout, Reader, answer_count, frame, is_form, is_layout, part_count, query_of, read_answer,
 )  # fmt: skip
 
-PROFILE = 1
 NUMBERS = 1 << 62
 SCHEMES = ("simple", "double")
 
@@ -47,7 +46,7 @@ class Client:
             raise CallRefused("AlreadyWelcome")
         self.free()
         self.call = ("hello",)
-        return frame(HELLO, PROFILE, key)
+        return frame(HELLO, LAST_FORM, key)
 
     def sync(self, scheme):
         self.begin(True)
@@ -120,10 +119,10 @@ class Client:
     def in_hello(self, kind, fields):
         if kind != WELCOME:
             raise BadReply
-        profile, width, record_len, groups, count, version, n, seed = fields
-        if profile != PROFILE or not is_layout(width, record_len, groups, count) or not 1 <= n <= 1024 or version == 0:
+        form, width, record_len, groups, count, version, n, seed = fields
+        if not is_form(form, record_len) or not is_layout(width, record_len, groups, count) or not 1 <= n <= 1024 or version == 0:
             raise BadWelcome
-        self.layout = Layout(width, record_len, groups, count)
+        self.layout = Layout(width, record_len, groups, count, form)
         self.version, self.n, self.public_seed = version, n, seed
         return self.ended("welcomed", version)
 
@@ -132,7 +131,7 @@ class Client:
         old = self.layout
         if version == 0 or not is_layout(old.width, old.record_len, old.groups, count):
             raise BadReply
-        self.version, self.layout = version, Layout(old.width, old.record_len, old.groups, count)
+        self.version, self.layout = version, old.with_count(count)
 
     def stale(self, asked, version, count):
         if version == asked:
@@ -187,7 +186,7 @@ class Client:
         record = read_answer(scheme, self.layout, self.n, self.hint, self.seed, number, index, fields[2])
         if record is None:
             return self.ended("unreadable", index, version)
-        return self.ended("retrieved", index, version, record.hex())
+        return self.ended("retrieved", index, version, record.hex() or "-")
 
     def in_change(self, kind, fields):
         if kind != DONE:

@@ -1,4 +1,4 @@
-"""Records, digits, words, both schemes, frames and snapshots by docs/FORMATS.md, in the plainest way.
+"""Records and their slots, digits, words, both schemes, frames and snapshots by docs/FORMATS.md, in the plainest way.
 
 Nothing here is fast: hints are made from scratch, matrices are lists of lists.
 """
@@ -11,6 +11,8 @@ PART_WORDS = 65_536
 MOST_PAYLOAD = 16_777_216
 MOST_DELTA_ROWS = 1024
 SIMPLE, DOUBLE = 0, 1
+# The highest form that there is, which is the profile of a client that knows all of them.
+LAST_FORM = 2
 LIMITS = [
     2043, 6079, 9970, 13630, 16990, 20001, 22633, 24879, 26749, 28269, 29474, 30407, 31111, 31630,
     32003, 32265, 32445, 32565, 32643, 32693, 32724, 32743, 32754, 32760, 32764, 32766, 32767,
@@ -81,30 +83,66 @@ def public_matrix(seed, number, rows, n):
 # ---- records
 
 
-class Layout:
-    """Where the digits of records stand."""
+def slot_of(record, size):
+    """A record of at most size - 2 bytes in a slot of so many: its length, the record, zeros."""
+    return struct.pack("<H", len(record)) + record + bytes(size - 2 - len(record))
 
-    def __init__(self, width, record_len, groups, count):
-        self.width, self.record_len, self.groups, self.count = width, record_len, groups, count
+
+def content_of(slot):
+    """The record in a slot; None where the bytes are no slot."""
+    record = slot[2 : 2 + int.from_bytes(slot[:2], "little")]
+    return record if len(slot) >= 2 and slot_of(record, len(slot)) == slot else None
+
+
+def is_form(form, record_len):
+    """Whether there is a form of this number whose places may have so many bytes: a slot has two for the length."""
+    return form == 1 or form == 2 and record_len >= 2
+
+
+def fits(form, record_len, record):
+    """Whether a place of so many bytes takes a record."""
+    return len(record) == record_len if form == 1 else len(record) + 2 <= record_len
+
+
+class Layout:
+    """Where the digits of records stand, and the form of the bytes that they are the digits of: the records themselves in
+    form 1, slots of R bytes in form 2."""
+
+    def __init__(self, width, record_len, groups, count, form=1):
+        self.width, self.record_len, self.groups, self.count, self.form = width, record_len, groups, count, form
         self.digits = -(-8 * record_len // width)
         self.rows = groups * self.digits
         self.cols = -(-count // groups)
         self.delta = 1 << (32 - width)
         self.split = -(-32 // width)
 
+    def with_count(self, count):
+        return Layout(self.width, self.record_len, self.groups, count, self.form)
+
+    def fits(self, record):
+        return fits(self.form, self.record_len, record)
+
+    def stored(self, record):
+        """The bytes that stand for a record."""
+        return record if self.form == 1 else slot_of(record, self.record_len)
+
+    def content(self, stored):
+        """The record that bytes stand for; None where they stand for none."""
+        return stored if self.form == 1 else content_of(stored)
+
     def matrix(self, records):
         matrix = [[0] * self.cols for _ in range(self.rows)]
         for index, record in enumerate(records):
-            number = int.from_bytes(record, "little")
+            number = int.from_bytes(self.stored(record), "little")
             for digit in range(self.digits):
                 row = self.digits * (index % self.groups) + digit
                 matrix[row][index // self.groups] = number >> (self.width * digit) & (1 << self.width) - 1
         return matrix
 
     def record(self, digits):
-        """The bytes of these digits; None where a bit past the last byte is set."""
+        """The record of these digits; None where a bit past the last byte is set, or the bytes stand for no record."""
         number = sum(digit << (self.width * place) for place, digit in enumerate(digits))
-        return number.to_bytes(self.record_len, "little") if number >> 8 * self.record_len == 0 else None
+        return self.content(number.to_bytes(self.record_len, "little")) if number >> 8 * self.record_len == 0 else None
 
     def first_row(self, index):
         return self.digits * (index % self.groups)
@@ -311,25 +349,33 @@ class Reader:
 
 # ---- snapshots
 
+# The form of the records in a snapshot that begins so.
+FORMS = {b"PIRSNAP1": 1, b"PIRSNAP2": 2}
+
 
 def snapshot_bytes(layout, n, version, seed, publisher, records):
     sizes = (layout.width, layout.record_len, layout.groups, layout.count, n, version)
-    body = b"PIRSNAP1" + struct.pack("<BHHIHQ", *sizes) + seed + publisher + b"".join(records)
+    stored = b"".join(layout.stored(record) for record in records)
+    body = f"PIRSNAP{layout.form}".encode() + struct.pack("<BHHIHQ", *sizes) + seed + publisher + stored
     return body + hashlib.sha256(body).digest()
 
 
 def snapshot_fault(data):
     """The name of the fault with which a snapshot is refused, or None."""
-    if len(data) < 8 or data[:8] != b"PIRSNAP1":
+    if data[:8] not in FORMS:
         return "Short" if len(data) < 8 else "NotSnapshot"
     if len(data) < 91:
         return "Short"
-    width, record_len, groups, count, n, version = struct.unpack("<BHHIHQ", data[8:27])
-    if not is_layout(width, record_len, groups, count) or not 1 <= n <= 1024 or version == 0:
+    form, (width, record_len, groups, count, n, version) = FORMS[data[:8]], struct.unpack("<BHHIHQ", data[8:27])
+    if not is_form(form, record_len) or not is_layout(width, record_len, groups, count) or not 1 <= n <= 1024 or version == 0:
         return "BadLayout"
     end = 91 + count * record_len
     if len(data) < end + 32:
         return "Short"
     if hashlib.sha256(data[:end]).digest() != data[end : end + 32]:
         return "BadDigest"
-    return "TrailingBytes" if len(data) > end + 32 else None
+    if len(data) > end + 32:
+        return "TrailingBytes"
+    layout = Layout(width, record_len, groups, count, form)
+    stored = (data[at : at + record_len] for at in range(91, end, record_len))
+    return "BadSlot" if any(layout.content(place) is None for place in stored) else None

@@ -2,11 +2,11 @@
 import hashlib
 
 from formats import (
-    ANSWER, BYE, DELTA, DELTA_ASK, DONE, DOUBLE, EDIT, HELLO, HINT_ASK, HINT_PART, LOAD, MOST_DELTA_ROWS, NO_DELTA, PART_WORDS,
-    PUBLISH, QUERY, REFUSED, SIMPLE, STALE, WELCOME, Hints, Layout, Reader, delta_rows, frame, is_layout, part_count, query_count,
+    ANSWER, BYE, DELTA, DELTA_ASK, DONE, DOUBLE, EDIT, HELLO, HINT_ASK, HINT_PART, LAST_FORM, LOAD, MOST_DELTA_ROWS, NO_DELTA,
+    PART_WORDS, PUBLISH, QUERY, REFUSED, SIMPLE, STALE, WELCOME, Hints, Layout, Reader, delta_rows, frame, is_layout, part_count,
+    query_count,
 )  # fmt: skip
 
-PROFILE = 1
 LAST_VERSION = (1 << 64) - 1
 MOST_LISTS = 16
 
@@ -31,7 +31,7 @@ class Store:
         """The name of the refusal, or None."""
         if index >= self.layout.count:
             return "BadIndex"
-        if len(data) != self.layout.record_len:
+        if not self.layout.fits(data):
             return "BadLength"
         self.draft[index], self.edited = data, True
         return None
@@ -89,7 +89,8 @@ class Session:
         return self.refused(1)
 
     def hello(self, profile, key):
-        if profile != PROFILE:
+        layout = self.store.layout
+        if not layout.form <= profile <= LAST_FORM:
             return self.refused(3)
         if key == bytes(32):
             self.standing = "reader"
@@ -97,9 +98,8 @@ class Session:
             self.standing = "publisher"
         else:
             return self.refused(4)
-        layout = self.store.layout
         sizes = (layout.width, layout.record_len, layout.groups, layout.count)
-        return frame(WELCOME, PROFILE, *sizes, self.store.version(), self.store.n, self.store.seed)
+        return frame(WELCOME, layout.form, *sizes, self.store.version(), self.store.n, self.store.seed)
 
     def not_current(self, scheme, version):
         """The refusals that a HintAsk and a Query have in common."""

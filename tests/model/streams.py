@@ -10,13 +10,26 @@ KINDS_OF_REPLIES = (WELCOME, HINT_PART, DELTA, ANSWER, STALE, DONE, NO_DELTA, RE
 U32, U64 = (1 << 32) - 1, (1 << 64) - 1
 
 
-def random_store(chance, publisher, last=False):
+def random_store(chance, publisher, last=False, forms=(1, 2)):
     """A small store. With `last` its version may be one of the last."""
-    width, record_len = chance.choice((6, 7, 8, 8, 9, 10)), chance.choice((1, 1, 2, 3))
+    form, width = chance.choice(forms), chance.choice((6, 7, 8, 8, 9, 10))
+    record_len = chance.choice((1, 1, 2, 3) if form == 1 else (2, 3, 3, 4, 5))
     groups, count, n = chance.randint(1, 3), chance.randint(1, 7), chance.choice((1, 1, 2, 3))
-    records = [chance.randbytes(record_len) for _ in range(count)]
+    layout = Layout(width, record_len, groups, count, form)
+    records = [random_record(chance, layout) for _ in range(count)]
     version = chance.choice((U64, U64 - 1)) if last and chance.random() < 0.1 else chance.choice((1, 1, 7))
-    return Store(Layout(width, record_len, groups, count), n, version, chance.randbytes(1) * 32, publisher, records)
+    return Store(layout, n, version, chance.randbytes(1) * 32, publisher, records)
+
+
+def random_record(chance, layout):
+    """A record that fits."""
+    return chance.randbytes(layout.record_len if layout.form == 1 else chance.randint(0, layout.record_len - 2))
+
+
+def random_edit(chance, layout):
+    """The bytes of an edit, mostly of a length that fits."""
+    record = random_record(chance, layout)
+    return record if chance.random() < 0.75 else chance.randbytes(near(chance, layout.record_len, 9))
 
 
 def near(chance, value, most):
@@ -38,7 +51,7 @@ def random_ask(chance, store):
     kind = chance.choice((HELLO, HINT_ASK, HINT_ASK, DELTA_ASK, DELTA_ASK, QUERY, QUERY, QUERY, EDIT, EDIT, EDIT, PUBLISH, PUBLISH, BYE))
     if kind == HELLO:
         key = chance.choice((bytes(32), bytes(32), KEY, bytes([2]) * 32))
-        return frame(HELLO, near(chance, 1, 65_535), key)
+        return frame(HELLO, near(chance, chance.choice((1, 2, 2)), 65_535), key)
     if kind == HINT_ASK:
         return frame(kind, scheme, version, near(chance, 0, U32))
     if kind == DELTA_ASK:
@@ -48,7 +61,7 @@ def random_ask(chance, store):
     if kind == EDIT:
         index = chance.randrange(layout.count) if chance.random() < 0.9 else near(chance, layout.count, U32)
         same = chance.random() < 0.2 and index < layout.count
-        return frame(kind, index, rest=store.draft[index] if same else chance.randbytes(near(chance, layout.record_len, 9)))
+        return frame(kind, index, rest=store.draft[index] if same else random_edit(chance, layout))
     return frame(kind)
 
 

@@ -42,15 +42,15 @@ if_reacts : (call : Call) (b : Bool) (x y : Taken) → (b ≡ true → ReactsTo 
 if_reacts call true x y p q = p refl
 if_reacts call false x y p q = q
 
-welcome_reacts : (call : Call) (c : ClientState) (profile : ℕ) (plan : Plan) (count version : ℕ) →
-    ReactsTo call (takes_welcome call c profile plan count version)
-welcome_reacts Idle c profile plan count version = tt
-welcome_reacts (Hello key) c profile plan count version = if_reacts (Hello key) (is_accepted_welcome profile plan count version) _ _ (λ _. tt) tt
-welcome_reacts (Sync s v p) c profile plan count version = tt
-welcome_reacts (Delta since) c profile plan count version = tt
-welcome_reacts (Ask i x v m) c profile plan count version = tt
-welcome_reacts (Edit i b) c profile plan count version = tt
-welcome_reacts Publish c profile plan count version = tt
+welcome_reacts : (call : Call) (c : ClientState) (plan : Plan) (count version : ℕ) →
+    ReactsTo call (takes_welcome call c plan count version)
+welcome_reacts Idle c plan count version = tt
+welcome_reacts (Hello key) c plan count version = if_reacts (Hello key) (is_accepted_welcome plan count version) _ _ (λ _. tt) tt
+welcome_reacts (Sync s v p) c plan count version = tt
+welcome_reacts (Delta since) c plan count version = tt
+welcome_reacts (Ask i x v m) c plan count version = tt
+welcome_reacts (Edit i b) c plan count version = tt
+welcome_reacts Publish c plan count version = tt
 
 -- the number of the next part says nothing of the end
 next_part : (s : Scheme) (v p q : ℕ) (e : Event) → Ends (Sync s v q) e → Ends (Sync s v p) e
@@ -198,7 +198,7 @@ refused_reacts Publish c code = tt
 
 reacts : (c : ClientState) (f : Frame) → ReactsTo c.call (reaction_to_reply c f)
 reacts c (frame.Welcome profile width record_len groups count version dimension seed) =
-    welcome_reacts c.call c profile (plan_given width record_len groups dimension seed) count version
+    welcome_reacts c.call c (plan_given profile width record_len groups dimension seed) count version
 reacts c (frame.HintPart scheme version part words) = part_reacts c.call c scheme version part words
 reacts c (frame.Answer scheme version words) = answer_reacts c.call c scheme version words
 reacts c (frame.Stale version count) = stale_reacts c.call c version count

@@ -34,16 +34,16 @@ either : (c : ClientState) (b : Bool) (x y : Taken) → Stays c x.state → Stay
 either c true x y p q = p
 either c false x y p q = q
 
-welcome_stays : (k : Call) (c : ClientState) (profile : ℕ) (plan : Plan) (count version : ℕ) → IsNoSync k → IsNoSync c.call →
-    Stays c (takes_welcome k c profile plan count version).state
-welcome_stays Idle c profile plan count version a calm = failed_stays c calm
-welcome_stays (Hello key) c profile plan count version a calm =
+welcome_stays : (k : Call) (c : ClientState) (plan : Plan) (count version : ℕ) → IsNoSync k → IsNoSync c.call →
+    Stays c (takes_welcome k c plan count version).state
+welcome_stays Idle c plan count version a calm = failed_stays c calm
+welcome_stays (Hello key) c plan count version a calm =
     either c _ _ _ (ended_stays c (record c { known = Some (record { version = version; count = count; plan = plan }) }) refl) (failed_stays c calm)
-welcome_stays (Sync s v p) c profile plan count version a calm = absurd a
-welcome_stays (Delta since) c profile plan count version a calm = absurd a
-welcome_stays (Ask i x v m) c profile plan count version a calm = failed_stays c calm
-welcome_stays (Edit i b) c profile plan count version a calm = failed_stays c calm
-welcome_stays Publish c profile plan count version a calm = failed_stays c calm
+welcome_stays (Sync s v p) c plan count version a calm = absurd a
+welcome_stays (Delta since) c plan count version a calm = absurd a
+welcome_stays (Ask i x v m) c plan count version a calm = failed_stays c calm
+welcome_stays (Edit i b) c plan count version a calm = failed_stays c calm
+welcome_stays Publish c plan count version a calm = failed_stays c calm
 
 part_stays : (k : Call) (c : ClientState) (scheme version part : ℕ) (words : List ℕ) → IsNoSync k → IsNoSync c.call →
     Stays c (takes_part k c scheme version part words).state
@@ -124,7 +124,7 @@ refused_stays Publish c code a calm = ended_stays c c refl
 
 takes_stays : (c : ClientState) (f : Frame) → IsNoSync c.call → Stays c (reaction_to_reply c f).state
 takes_stays c (frame.Welcome profile width record_len groups count version dimension seed) calm =
-    welcome_stays c.call c profile (plan_given width record_len groups dimension seed) count version calm calm
+    welcome_stays c.call c (plan_given profile width record_len groups dimension seed) count version calm calm
 takes_stays c (frame.HintPart scheme version part words) calm = part_stays c.call c scheme version part words calm calm
 takes_stays c (frame.Answer scheme version words) calm = answer_stays c.call c scheme version words calm calm
 takes_stays c (frame.Stale version count) calm = stale_stays c.call c version count calm calm

@@ -94,7 +94,7 @@ stale_leads s k c v p version count e false h = bad_part s k c v p (frame.Stale 
 leads : (s : Scheme) (k : ServerInfo) (c : ClientState) (v p : ℕ) (f : Frame) → c.known ≡ Some k → c.call ≡ Sync s v p → Leads s k c v p f
 leads s k c v p (frame.Welcome profile width record_len groups count version dimension seed) e a =
     bad_part s k c v p (frame.Welcome profile width record_len groups count version dimension seed)
-    (ap (λ (x : Call). takes_welcome x c profile (plan_given width record_len groups dimension seed) count version) a)
+    (ap (λ (x : Call). takes_welcome x c (plan_given profile width record_len groups dimension seed) count version) a)
 leads s k c v p (frame.HintPart scheme version part words) e a =
     part_leads s k c v p scheme version part words
     (ap (λ (x : Call). takes_part x c scheme version part words) a ∙ ap (λ (x : Option ServerInfo). takes_asked_part x s c v p scheme version part words) e)
@@ -116,7 +116,7 @@ leads s k c v p f e a = bad_part s k c v p f refl
 -- an idle client takes no frame
 idle_bad : (c : ClientState) (f : Frame) → c.call ≡ Idle → reaction_to_reply c f ≡ faulty c BadReply
 idle_bad c (frame.Welcome profile width record_len groups count version dimension seed) a =
-    ap (λ (x : Call). takes_welcome x c profile (plan_given width record_len groups dimension seed) count version) a
+    ap (λ (x : Call). takes_welcome x c (plan_given profile width record_len groups dimension seed) count version) a
 idle_bad c (frame.HintPart scheme version part words) a = ap (λ (x : Call). takes_part x c scheme version part words) a
 idle_bad c (frame.Answer scheme version words) a = ap (λ (x : Call). takes_answer x c scheme version words) a
 idle_bad c (frame.Stale version count) a = ap (λ (x : Call). takes_stale x c version count) a

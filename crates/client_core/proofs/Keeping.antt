@@ -12,7 +12,8 @@ use Rattle.pir_schemes.specs.declared.scheme.Scheme.TheVariants.{Simple, Double}
 use Rattle.pir_schemes.specs.Schemes.{scheme_byte}
 use Rattle.pir_schemes.specs.Parts.{part_len}
 use Rattle.pir_schemes.specs.declared.plan.Plan.{Plan}
-use Rattle.pir_schemes.specs.Plans.{shape_at, is_profile}
+use Rattle.digit_pack.specs.Slots.{is_form}
+use Rattle.pir_schemes.specs.Plans.{shape_at}
 use Rattle.pir_schemes.specs.Retrievals.{hint_rows, hint_len}
 use Rattle.client_core.specs.declared.state.ClientState.{ClientState}
 use Rattle.client_core.specs.declared.state.ServerInfo.{ServerInfo}
@@ -50,21 +51,21 @@ no_hint (Some j) hint key parts k a b = absurd a
 reported : ℕ → Plan → ℕ → ServerInfo
 reported version plan count = record { version = version; count = count; plan = plan }
 
-welcome_known : (profile : ℕ) (plan : Plan) (count version : ℕ) → is_accepted_welcome profile plan count version ≡ true → IsKnown (reported version plan count)
+welcome_known : (plan : Plan) (count version : ℕ) → is_accepted_welcome plan count version ≡ true → IsKnown (reported version plan count)
 unfolding reported
-welcome_known profile plan count version h =
-    let a = and_parts (is_profile profile) (is_layout (shape_at plan count) && ((nat_le 1 plan.dimension && nat_le plan.dimension 1024) && nat_lt 0 version)) h in
+welcome_known plan count version h =
+    let a = and_parts (is_form plan.form plan.record_len) (is_layout (shape_at plan count) && ((nat_le 1 plan.dimension && nat_le plan.dimension 1024) && nat_lt 0 version)) h in
     let b = and_parts (is_layout (shape_at plan count)) ((nat_le 1 plan.dimension && nat_le plan.dimension 1024) && nat_lt 0 version) a.1 in
     let d = and_parts (nat_le 1 plan.dimension && nat_le plan.dimension 1024) (nat_lt 0 version) b.1 in
     let e = and_parts (nat_le 1 plan.dimension) (nat_le plan.dimension 1024) d.0 in
-    record { layout = layout_means (shape_at plan count) b.0; low = leb-true 1 plan.dimension e.0; high = leb-true plan.dimension 1024 e.1 }
+    record { form = a.0; layout = layout_means (shape_at plan count) b.0; low = leb-true 1 plan.dimension e.0; high = leb-true plan.dimension 1024 e.1 }
 
-welcomed_keeps : (c : ClientState) (key : List ℕ) (profile : ℕ) (plan : Plan) (count version : ℕ) → IsState c → CallFits (Hello key) c.known c.parts
-    → is_accepted_welcome profile plan count version ≡ true → Keeps c (record c { known = Some (reported version plan count); call = Idle })
-welcomed_keeps c key profile plan count version s fits is = record {
+welcomed_keeps : (c : ClientState) (key : List ℕ) (plan : Plan) (count version : ℕ) → IsState c → CallFits (Hello key) c.known c.parts
+    → is_accepted_welcome plan count version ≡ true → Keeps c (record c { known = Some (reported version plan count); call = Idle })
+welcomed_keeps c key plan count version s fits is = record {
   good = record {
     number = s.number;
-    known = welcome_known profile plan count version is;
+    known = welcome_known plan count version is;
     hint = no_hint c.known c.hint key c.parts (reported version plan count) fits s.hint;
     call = tt;
     delta = tt;
@@ -72,21 +73,21 @@ welcomed_keeps c key profile plan count version s fits is = record {
   number = refl;
 }
 
-welcome_keeps : (call : Call) (c : ClientState) (profile : ℕ) (plan : Plan) (count version : ℕ) → IsState c → CallFits call c.known c.parts →
-    Keeps c (takes_welcome call c profile plan count version).state
+welcome_keeps : (call : Call) (c : ClientState) (plan : Plan) (count version : ℕ) → IsState c → CallFits call c.known c.parts →
+    Keeps c (takes_welcome call c plan count version).state
 unfolding reported
-welcome_keeps Idle c profile plan count version s fits = faulty_keeps c s
-welcome_keeps (Hello key) c profile plan count version s fits =
-    if_keeps c (is_accepted_welcome profile plan count version)
+welcome_keeps Idle c plan count version s fits = faulty_keeps c s
+welcome_keeps (Hello key) c plan count version s fits =
+    if_keeps c (is_accepted_welcome plan count version)
     (ended (record c { known = Some (reported version plan count) }) (Welcomed version))
     (faulty c BadWelcome)
-    (welcomed_keeps c key profile plan count version s fits)
+    (welcomed_keeps c key plan count version s fits)
     (λ _. faulty_keeps c s)
-welcome_keeps (Sync x v p) c profile plan count version s fits = faulty_keeps c s
-welcome_keeps (Delta since) c profile plan count version s fits = faulty_keeps c s
-welcome_keeps (Ask i x v m) c profile plan count version s fits = faulty_keeps c s
-welcome_keeps (Edit i b) c profile plan count version s fits = faulty_keeps c s
-welcome_keeps Publish c profile plan count version s fits = faulty_keeps c s
+welcome_keeps (Sync x v p) c plan count version s fits = faulty_keeps c s
+welcome_keeps (Delta since) c plan count version s fits = faulty_keeps c s
+welcome_keeps (Ask i x v m) c plan count version s fits = faulty_keeps c s
+welcome_keeps (Edit i b) c plan count version s fits = faulty_keeps c s
+welcome_keeps Publish c plan count version s fits = faulty_keeps c s
 
 -- ---- HintPart
 
@@ -176,7 +177,7 @@ same_rows k version count (Some h) fits = (fits.0 ∙ rows_stay h.scheme k count
 current_known : (k : ServerInfo) (version count : ℕ) → IsKnown k → is_current k version count ≡ true → IsKnown (with_current k version count)
 current_known k version count old h =
     let b = and_parts (nat_lt 0 version) (is_layout (shape_at k.plan count)) h in
-    record { layout = layout_means (shape_at k.plan count) b.1; low = old.low; high = old.high }
+    record { form = old.form; layout = layout_means (shape_at k.plan count) b.1; low = old.low; high = old.high }
 
 stale_known : (k : ServerInfo) (asked version count : ℕ) → IsKnown k → (not (version == asked) && is_current k version count) ≡ true →
     IsKnown (with_current k version count)
@@ -297,7 +298,7 @@ refused_keeps Publish c code s = ended_keeps c s
 
 pub takes_keeps : (c : ClientState) (f : Frame) → IsState c → Keeps c (reaction_to_reply c f).state
 takes_keeps c (frame.Welcome profile width record_len groups count version dimension seed) s =
-    welcome_keeps c.call c profile (plan_given width record_len groups dimension seed) count version s s.call
+    welcome_keeps c.call c (plan_given profile width record_len groups dimension seed) count version s s.call
 takes_keeps c (frame.HintPart scheme version part words) s = part_keeps c.call c scheme version part words s s.call
 takes_keeps c (frame.Answer scheme version words) s = answer_keeps c.call c scheme version words s
 takes_keeps c (frame.Stale version count) s = stale_keeps c.call c version count s

@@ -22,15 +22,15 @@ either : (n : ℕ) (b : Bool) (x y : Taken) → x.state.number ≡ n → y.state
 either n true x y p q = p
 either n false x y p q = q
 
-welcome_number : (k : Call) (c : ClientState) (profile : ℕ) (plan : Plan) (count version : ℕ) →
-    (takes_welcome k c profile plan count version).state.number ≡ c.number
-welcome_number call.Idle c profile plan count version = refl
-welcome_number (call.Hello key) c profile plan count version = either c.number _ _ _ refl refl
-welcome_number (call.Sync s v p) c profile plan count version = refl
-welcome_number (call.Delta since) c profile plan count version = refl
-welcome_number (call.Ask i x v m) c profile plan count version = refl
-welcome_number (call.Edit i b) c profile plan count version = refl
-welcome_number call.Publish c profile plan count version = refl
+welcome_number : (k : Call) (c : ClientState) (plan : Plan) (count version : ℕ) →
+    (takes_welcome k c plan count version).state.number ≡ c.number
+welcome_number call.Idle c plan count version = refl
+welcome_number (call.Hello key) c plan count version = either c.number _ _ _ refl refl
+welcome_number (call.Sync s v p) c plan count version = refl
+welcome_number (call.Delta since) c plan count version = refl
+welcome_number (call.Ask i x v m) c plan count version = refl
+welcome_number (call.Edit i b) c plan count version = refl
+welcome_number call.Publish c plan count version = refl
 
 asked_part_number : (known : Option ServerInfo) (s : Scheme) (c : ClientState) (v p scheme version part : ℕ) (words : List ℕ) →
     (takes_asked_part known s c v p scheme version part words).state.number ≡ c.number
@@ -124,7 +124,7 @@ refused_number call.Publish c code = refl
 
 pub takes_number : (c : ClientState) (f : Frame) → (reaction_to_reply c f).state.number ≡ c.number
 takes_number c (frame.Welcome profile width record_len groups count version dimension seed) =
-    welcome_number c.call c profile (plan_given width record_len groups dimension seed) count version
+    welcome_number c.call c (plan_given profile width record_len groups dimension seed) count version
 takes_number c (frame.HintPart scheme version part words) = part_number c.call c scheme version part words
 takes_number c (frame.Answer scheme version words) = answer_number c.call c scheme version words
 takes_number c (frame.Stale version count) = stale_number c.call c version count

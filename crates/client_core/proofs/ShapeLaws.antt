@@ -90,15 +90,15 @@ either : (b : Bool) (x y : Taken) (v w : Reacted) → reacted x ≡ v → reacte
 either true x y v w p q = p
 either false x y v w p q = q
 
-welcome_reacts : (k : Call) (c : ClientState) (profile : ℕ) (plan : Plan) (count version : ℕ) →
-    reacted (takes_welcome k c profile plan count version) ≡ after_welcome (awaited k) (outline c) profile plan count version
-welcome_reacts call.Idle c profile plan count version = refl
-welcome_reacts (call.Hello key) c profile plan count version = either (is_accepted_welcome profile plan count version) _ _ _ _ refl refl
-welcome_reacts (call.Sync s v p) c profile plan count version = refl
-welcome_reacts (call.Delta since) c profile plan count version = refl
-welcome_reacts (call.Ask i s v m) c profile plan count version = refl
-welcome_reacts (call.Edit i b) c profile plan count version = refl
-welcome_reacts call.Publish c profile plan count version = refl
+welcome_reacts : (k : Call) (c : ClientState) (plan : Plan) (count version : ℕ) →
+    reacted (takes_welcome k c plan count version) ≡ after_welcome (awaited k) (outline c) plan count version
+welcome_reacts call.Idle c plan count version = refl
+welcome_reacts (call.Hello key) c plan count version = either (is_accepted_welcome plan count version) _ _ _ _ refl refl
+welcome_reacts (call.Sync s v p) c plan count version = refl
+welcome_reacts (call.Delta since) c plan count version = refl
+welcome_reacts (call.Ask i s v m) c plan count version = refl
+welcome_reacts (call.Edit i b) c plan count version = refl
+welcome_reacts call.Publish c plan count version = refl
 
 next_asked : (s : Scheme) (k : ServerInfo) (c : ClientState) (v p : ℕ) (words : List ℕ) →
     reacted (more_parts s k c v p words) ≡ after_good_part s k (outline c) v p (length words)
@@ -218,7 +218,7 @@ refused_reacts call.Publish c code = refl
 
 reply_reacts : (c : ClientState) (f : Frame) → reacted (reaction_to_reply c f) ≡ after_reply (outline c) (blank_reply f)
 reply_reacts c (frame.Welcome profile width record_len groups count version dimension seed) =
-    welcome_reacts c.call c profile (plan_given width record_len groups dimension seed) count version
+    welcome_reacts c.call c (plan_given profile width record_len groups dimension seed) count version
 reply_reacts c (frame.HintPart scheme version part words) = part_reacts c.call c scheme version part words
 reply_reacts c (frame.Answer scheme version words) = answer_reacts c.call c scheme version words
 reply_reacts c (frame.Stale version count) = stale_reacts c.call c version count

@@ -10,7 +10,8 @@ use Rattle.pir_schemes.specs.declared.scheme.Scheme.TheVariants.{Simple}
 use Rattle.pir_schemes.specs.Schemes.{scheme_byte}
 use Rattle.pir_schemes.specs.Parts.{part_len}
 use Rattle.pir_schemes.specs.declared.plan.Plan.{Plan}
-use Rattle.pir_schemes.specs.Plans.{shape_at, is_profile, record_of}
+use Rattle.digit_pack.specs.Slots.{is_form}
+use Rattle.pir_schemes.specs.Plans.{shape_at, record_of}
 use Rattle.pir_schemes.specs.Retrievals.{hint_rows, hint_len, answer_count, reading}
 use Rattle.client_core.specs.declared.state.ClientState.{ClientState}
 use Rattle.client_core.specs.declared.state.ServerInfo.{ServerInfo}
@@ -41,8 +42,9 @@ ended c e = record { state = record c { call = Idle }; reaction = Reports e }
 -- ---- Welcome
 
 -- the plan that a Welcome gives
-abbrev pub plan_given : ℕ → ℕ → ℕ → ℕ → List ℕ → Plan
-plan_given width record_len groups dimension seed = record {
+abbrev pub plan_given : ℕ → ℕ → ℕ → ℕ → ℕ → List ℕ → Plan
+plan_given profile width record_len groups dimension seed = record {
+  form = profile;
   width = width;
   record_len = record_len;
   groups = groups;
@@ -50,22 +52,22 @@ plan_given width record_len groups dimension seed = record {
   seed = seed;
 }
 
--- a Welcome that a client accepts: a plan's profile, a layout and a dimension within the limits, a version
-abbrev pub is_accepted_welcome : ℕ → Plan → ℕ → ℕ → Bool
-is_accepted_welcome profile p count version =
-    is_profile profile && (is_layout (shape_at p count) && ((nat_le 1 p.dimension && nat_le p.dimension 1024) && nat_lt 0 version))
+-- a Welcome that a client accepts: a form that there is, a layout and a dimension within the limits, a version
+abbrev pub is_accepted_welcome : Plan → ℕ → ℕ → Bool
+is_accepted_welcome p count version =
+    is_form p.form p.record_len && (is_layout (shape_at p count) && ((nat_le 1 p.dimension && nat_le p.dimension 1024) && nat_lt 0 version))
 
 -- what it tells is known from then on
-abbrev pub welcomed : ClientState → ℕ → Plan → ℕ → ℕ → Taken
-welcomed c profile p count version =
-    if is_accepted_welcome profile p count version
+abbrev pub welcomed : ClientState → Plan → ℕ → ℕ → Taken
+welcomed c p count version =
+    if is_accepted_welcome p count version
     then ended (record c { known = Some (record { version = version; count = count; plan = p }) }) (Welcomed version)
     else faulty c BadWelcome
 
 -- it answers hello alone
-abbrev pub takes_welcome : Call → ClientState → ℕ → Plan → ℕ → ℕ → Taken
-takes_welcome (Hello key) c profile p count version = welcomed c profile p count version
-takes_welcome _ c profile p count version = faulty c BadReply
+abbrev pub takes_welcome : Call → ClientState → Plan → ℕ → ℕ → Taken
+takes_welcome (Hello key) c p count version = welcomed c p count version
+takes_welcome _ c p count version = faulty c BadReply
 
 -- ---- HintPart
 
@@ -230,7 +232,7 @@ takes_refused _ c code = ended c (Refused code)
 -- what a frame leads to; the kinds that no reply has, and those that answer no call yet, are bad
 abbrev pub reaction_to_reply : ClientState → Frame → Taken
 reaction_to_reply c (frame.Welcome profile width record_len groups count version dimension seed) =
-    takes_welcome c.call c profile (plan_given width record_len groups dimension seed) count version
+    takes_welcome c.call c (plan_given profile width record_len groups dimension seed) count version
 reaction_to_reply c (frame.HintPart scheme version part words) = takes_part c.call c scheme version part words
 reaction_to_reply c (frame.Answer scheme version words) = takes_answer c.call c scheme version words
 reaction_to_reply c (frame.Stale version count) = takes_stale c.call c version count

@@ -75,7 +75,7 @@ blank_call Publish = BlankPublish
 
 -- a reply: its kind, its versions and its counts; the numbers of a Delta's rows; and a Welcome whole
 pub data BlankReply : Type 0 where
-  BlankWelcome : (profile : ℕ) (plan : Plan) (count version : ℕ) → BlankReply
+  BlankWelcome : (plan : Plan) (count version : ℕ) → BlankReply
   BlankPart : (scheme version part count : ℕ) → BlankReply
   BlankDelta : (since now count dimension : ℕ) (numbers : List ℕ) → BlankReply
   BlankAnswer : (scheme version count : ℕ) → BlankReply
@@ -88,7 +88,7 @@ pub data BlankReply : Type 0 where
 -- a reply without its words
 abbrev pub blank_reply : Frame → BlankReply
 blank_reply (frame.Welcome profile width record_len groups count version dimension seed) =
-    BlankWelcome profile (plan_given width record_len groups dimension seed) count version
+    BlankWelcome (plan_given profile width record_len groups dimension seed) count version
 blank_reply (frame.HintPart scheme version part words) = BlankPart scheme version part (length words)
 blank_reply (frame.Delta since now count rows) = BlankDelta since now count rows.dimension (row_numbers rows)
 blank_reply (frame.Answer scheme version words) = BlankAnswer scheme version (length words)
@@ -216,11 +216,11 @@ abbrev pub ends : Outline → Reacted
 ends x = record { outline = record x { call = NoReply }; sends = [] }
 
 -- a Welcome answers hello alone
-abbrev pub after_welcome : Awaited → Outline → ℕ → Plan → ℕ → ℕ → Reacted
-after_welcome AWelcome x profile p count version =
-    if is_accepted_welcome profile p count version
+abbrev pub after_welcome : Awaited → Outline → Plan → ℕ → ℕ → Reacted
+after_welcome AWelcome x p count version =
+    if is_accepted_welcome p count version
     then ends (record x { known = Some (record { version = version; count = count; plan = p }) }) else fails x
-after_welcome _ x profile p count version = fails x
+after_welcome _ x p count version = fails x
 
 -- the last part ends a sync, and after another the next part is asked for
 abbrev pub after_good_part : Scheme → ServerInfo → Outline → ℕ → ℕ → ℕ → Reacted
@@ -309,7 +309,7 @@ after_refused _ x = ends x
 
 -- what a reply leads to, by its kind
 abbrev pub after_reply : Outline → BlankReply → Reacted
-after_reply x (BlankWelcome profile plan count version) = after_welcome x.call x profile plan count version
+after_reply x (BlankWelcome plan count version) = after_welcome x.call x plan count version
 after_reply x (BlankPart scheme version part count) = after_part x.call x scheme version part count
 after_reply x (BlankAnswer scheme version count) = after_answer x.call x scheme version count
 after_reply x (BlankStale version count) = after_stale x.call x version count

@@ -19,7 +19,7 @@ use crate::state::{Call, CallFault, ClientFault, ClientState, Event, ServerInfo}
 use crate::taking::take_replies;
 use frame_codec::{Bytes, Bytes32, Frame, Reader};
 use matrix_u32::Kernel;
-use pir_schemes::{PROFILE, Scheme};
+use pir_schemes::{CLIENT_PROFILE, Scheme};
 use std::alloc::Global;
 use std::marker::Model;
 
@@ -104,7 +104,7 @@ impl<K: Kernel> ClientCore<K> {
     {
         may_hello(&self.state)?;
         let frame = Frame::Hello {
-            profile: PROFILE,
+            profile: CLIENT_PROFILE,
             key: Bytes32::copied(&key),
         };
         let bytes = encoded(self.alloc, &frame)?;
@@ -235,8 +235,8 @@ impl<K: Kernel> ClientCore<K> {
     /// Takes the next piece of the server's stream.
     ///
     /// Each frame that is whole now is taken as the reply to the outstanding call. `BadWelcome` where a
-    /// Welcome has another profile than 1, sizes beyond the limits or version 0; `BadReply` where a reply
-    /// is none that the outstanding call can have, where no call is outstanding, and where the bytes are no
+    /// Welcome has a profile that is no form of these records, sizes beyond the limits or version 0; `BadReply` where
+    /// a reply is none that the outstanding call can have, where no call is outstanding, and where the bytes are no
     /// frame; `Memory` where memory was refused; `Failed` where an earlier feed had a fault. After each of
     /// them every call answers `Failed`.
     pub fn feed(&mut self, piece: &[u8]) -> Fed

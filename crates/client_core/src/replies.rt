@@ -25,8 +25,7 @@ use crate::state::{Call, ClientFault, ClientState, Event, Hint, Reaction, Server
 use frame_codec::{Bytes, Words};
 use matrix_u32::{Kernel, Matrix};
 use pir_schemes::{
-    PROFILE, Plan, RecoverError, Scheme, SecretSeed, answer_count, hint_len, hint_rows, part_len,
-    recover,
+    Plan, RecoverError, Scheme, SecretSeed, answer_count, hint_len, hint_rows, part_len, recover,
 };
 use std::alloc::{AllocError, Global};
 use std::mem;
@@ -60,21 +59,20 @@ fn has_layout(plan: &Plan, count: u32) -> bool
 /// A Welcome answers hello alone.
 pub(crate) fn take_welcome(
     state: &mut ClientState,
-    profile: u16,
     plan: &Plan,
     count: u32,
     version: u64,
 ) -> Reaction
     ensures state { state.new ≡
-        (takes_welcome state.old.call state.old profile plan.now count version).state }
+        (takes_welcome state.old.call state.old plan.now count version).state }
     ensures reaction { result ≡
-        (takes_welcome state.old.call state.old profile plan.now count version).reaction }
+        (takes_welcome state.old.call state.old plan.now count version).reaction }
 {
     match &state.call {
         Call::Hello { .. } => {}
         _ => return fails(state, ClientFault::BadReply),
     }
-    if profile != PROFILE || !has_layout(plan, count) {
+    if !plan.has_form() || !has_layout(plan, count) {
         return fails(state, ClientFault::BadWelcome);
     }
     if plan.dimension < 1 || plan.dimension > 1024 || version == 0 {

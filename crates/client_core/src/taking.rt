@@ -42,13 +42,14 @@ fn take_frame<K: Kernel>(
             seed,
         } => {
             let plan = Plan {
+                form: *profile,
                 width: *width,
                 record_len: *record_len,
                 groups: *groups,
                 dimension: *dimension,
                 seed: seed.to_array(),
             };
-            Ok(take_welcome(state, *profile, &plan, *count, *version))
+            Ok(take_welcome(state, &plan, *count, *version))
         }
         Frame::HintPart {
             scheme,

@@ -1,8 +1,9 @@
 -- What is in a slot.
-use Rattle.std.proofs.Common.{◌≡◌, ◌∙◌, ap, sym, refl, ℕ, zero, suc, ◌+◌, ◌-◌, ◌/◌, ◌%◌, ◌^◌, ◌<◌, ◌≤◌, ◌++◌, true, List, [], ◌∷◌, length, take, drop, replicate, nat_le, nat_eq, arith}
+use Rattle.std.proofs.Common.{◌≡◌, ◌∙◌, ap, sym, refl, ℕ, zero, suc, ◌+◌, ◌-◌, ◌/◌, ◌%◌, ◌^◌, ◌<◌, ◌≤◌, ◌++◌, true, List, [], ◌∷◌, length, take, drop, replicate, nat_le, nat_eq, arith, Bool, false, slice_index_or}
 use Rattle.std.specs.Int.{w16, from_le_bytes}
 use Rattle.std.specs.List.{list_all}
 use Rattle.std.proofs.Math.Seq.{take-append_seam, drop-append_seam}
+use Rattle.std.proofs.Math.Bool.{and-false}
 use Rattle.std.proofs.lemmas.Bool.{and_parts, and_from, leb-true, le-leb, eqb-true}
 use Rattle.std.proofs.lemmas.List.{length-append, length-replicate, length-take-le, length-drop, take-append-drop, drop-drop}
 use Rattle.std.proofs.lemmas.List.Elements.{All-append, All-cons, All-head, All-tail, All-replicate}
@@ -24,6 +25,17 @@ passed_zeros (x ∷ xs) e =
 
 after_two : (n : ℕ) (xs : List ℕ) → drop (n + 2) xs ≡ drop n (drop 2 xs)
 after_two n xs = ap (λ (k : ℕ). drop k xs) (omega arith) ∙ sym (drop-drop n 2 xs)
+
+-- ---- all of a list
+
+pub each_passes : (f : List ℕ → Bool) (xs : List (List ℕ)) → ((k : ℕ) → k < length xs → f (slice_index_or xs k []) ≡ true) → list_all f xs ≡ true
+each_passes f [] h = refl
+each_passes f (x ∷ xs) h = and_from (f x) (list_all f xs) (h 0 (omega arith)) (each_passes f xs (λ k lt. h (suc k) (omega arith)))
+
+pub one_fails : (f : List ℕ → Bool) (xs : List (List ℕ)) (k : ℕ) → k < length xs → f (slice_index_or xs k []) ≡ false → list_all f xs ≡ false
+one_fails f [] k lt e = absurd (omega arith)
+one_fails f (x ∷ xs) zero lt e = rw e refl
+one_fails f (x ∷ xs) (suc k) lt e = rw (one_fails f xs k (omega arith) e) (and-false (f x))
 
 -- ---- what fills a slot
 
@@ -58,6 +70,12 @@ module _ (len : ℕ) (bytes : List ℕ) (fits : length bytes + 2 ≤ len) (short
         (All-append (λ b. b < 2 ^ 8) bytes padding small
         (All-replicate (λ b. b < 2 ^ 8) (len - (length bytes + 2)) 0 (omega arith))));
   }
+
+pub slot_size : (len : ℕ) (bytes : List ℕ) → length bytes + 2 ≤ len → length (slot_of len bytes) ≡ len
+slot_size len bytes fits = omega (arith, rest_len_of len bytes fits, fits)
+  where
+    rest_len_of : (len : ℕ) (bytes : List ℕ) → length bytes + 2 ≤ len → length (bytes ++ replicate (len - (length bytes + 2)) 0) ≡ len - 2
+    rest_len_of len bytes fits = omega (arith, length-append bytes (replicate (len - (length bytes + 2)) 0), length-replicate {A = ℕ} (len - (length bytes + 2)) 0, fits)
 
 pub fills_and_reads : SlotsHoldTheirRecords
 fills_and_reads len bytes fits short = fills len bytes fits short

@@ -1,7 +1,12 @@
 -- Slots: a record of its own length in a fixed number of bytes.
-use Rattle.std.specs.Prelude.{ℕ, ◌+◌, ◌-◌, ◌++◌, List, length, take, drop, replicate, Bool, nat_le, nat_eq, ◌&&◌}
+use Rattle.std.specs.Prelude.{ℕ, ◌+◌, ◌-◌, ◌++◌, List, length, take, drop, replicate, Bool, nat_le, nat_eq, ◌==◌, ◌&&◌, ◌||◌}
 use Rattle.std.specs.List.{list_all}
 use Rattle.std.specs.Int.{w16, to_le_bytes, from_le_bytes}
+
+-- A form that there is, for records of so many bytes. In form 1 they have these bytes and no others; in form 2 each has a
+-- length of its own, and the bytes are those of its slot, which has two at least.
+unfoldable pub is_form : ℕ → ℕ → Bool
+is_form form record_len = (form == 1) || ((form == 2) && nat_le 2 record_len)
 
 -- the slot of so many bytes that holds a record: the record's length in two bytes, the lower one first; the record; zeros
 abbrev pub slot_of : ℕ → List ℕ → List ℕ

@@ -23,5 +23,5 @@ pub use layout::{
 };
 pub use packed3::Packed3;
 pub use packing::{join_word, pack_bytes, split_count, split_word, word_digit};
-pub use slots::{BadSlot, fill_slot, read_slot};
+pub use slots::{BadSlot, are_slots, fill_slot, read_slot, slot_record, write_slot};
 pub use store::{DigitStore, Flat};

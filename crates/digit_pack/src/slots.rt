@@ -1,9 +1,12 @@
 //! Slots: a record of its own length in a fixed number of bytes, so that records of different lengths take the same room.
 
-ghost use Rattle.std.specs.Prelude.{◌≡◌, ◌+◌, ◌^◌, ◌<◌, ◌≤◌, ◌↔◌, IsOk, IfOk, IsTrue, true, length, take, drop, nat_eq};
+ghost use Rattle.std.specs.Prelude.{◌≡◌, ◌+◌, ◌*◌, ◌^◌, ◌<◌, ◌≤◌, ◌↔◌, IsOk, IfOk, IsTrue, true, length, take, drop, nat_eq, slice_set};
 ghost use Rattle.std.specs.List.{list_all};
+ghost use Rattle.digit_pack.specs.Layout.{records_in};
 ghost use Rattle.digit_pack.specs.Slots.{slot_of, is_slot, content_of};
 
+use crate::filling::nth_record;
+use crate::layout::Layout;
 use thiserror::Error;
 
 /// Bytes that are no slot: fewer than two, a length that is more than what follows it, or a byte after the record that
@@ -45,6 +48,49 @@ pub fn read_slot(slot: &[u8]) -> Result<usize, BadSlot>
         return Err(BadSlot);
     }
     Ok(len)
+}
+
+/// The record in a slot. It takes no memory.
+pub fn slot_record(slot: &[u8]) -> &[u8]
+    requires { is_slot slot.now ≡ true }
+    ensures { result.now ≡ content_of slot.now }
+{
+    // A record fills these bytes: no refusal is left.
+    let len = read_slot(slot).unwrap();
+    &slot[2..2 + len]
+}
+
+/// Writes another record into the slot of record i, of slots that stand one after another in `bytes`, and changes no
+/// other. It takes no memory.
+pub fn write_slot(layout: &Layout, bytes: &mut [u8], i: usize, written: &[u8])
+    requires count { length bytes.old ≡ layout.now.count * layout.now.record_len }
+    requires index { i < layout.now.count }
+    requires fits { length written.now + 2 ≤ layout.now.record_len }
+    ensures { records_in layout.now bytes.new ≡ slice_set (records_in layout.now bytes.old) i
+        (slot_of layout.now.record_len written.now) }
+{
+    let len = layout.record_len();
+    fill_slot(written, &mut bytes[i * len..i * len + len]);
+}
+
+/// Whether the bytes of each record are a slot, of records that stand one after another in `bytes`. It takes no memory.
+pub fn are_slots(layout: &Layout, bytes: &[u8]) -> bool
+    requires { length bytes.now ≡ layout.now.count * layout.now.record_len }
+    ensures { result ≡ list_all is_slot (records_in layout.now bytes.now) }
+{
+    for i in 0..layout.count() {
+        if !is_slot(nth_record(layout, bytes, i)) {
+            return false;
+        }
+    }
+    true
+}
+
+// Whether a record fills these bytes.
+fn is_slot(bytes: &[u8]) -> bool
+    ensures { result ≡ is_slot bytes.now }
+{
+    read_slot(bytes).is_ok()
 }
 
 // Whether all bytes are 0.

@@ -13,4 +13,6 @@ mod once;
 #[cfg(test)]
 mod room;
 #[cfg(test)]
+mod slots;
+#[cfg(test)]
 mod snapshots;

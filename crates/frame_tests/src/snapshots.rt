@@ -45,7 +45,7 @@ fn make_output(alloc: Global, most: usize, room: usize) -> Output {
 }
 
 // The fault of an input that is all there at once.
-fn fault(alloc: Global, bytes: &[u8]) -> Option<SnapshotFault> {
+pub(crate) fn fault(alloc: Global, bytes: &[u8]) -> Option<SnapshotFault> {
     read_snapshot(
         alloc,
         &mut Input {
@@ -254,7 +254,7 @@ fn a_reader_that_fails_at_each_byte(rt: HostRuntime) -> Result<(), Fail> {
     }
     // what is judged before the read that fails
     assert_eq!(rt;
-        fault_failing(rt.alloc(), b"PIRSNAP2"),
+        fault_failing(rt.alloc(), b"PIRSNAP3"),
         Some(SnapshotFault::NotSnapshot)
     );
     let layout = with_bytes(rt.alloc(), 8, &[5])?;
@@ -332,6 +332,10 @@ fn faults_are_printed(rt: HostRuntime) -> Result<(), Fail> {
         (
             SnapshotFault::TrailingBytes,
             "there are bytes after the snapshot",
+        ),
+        (
+            SnapshotFault::BadSlot,
+            "a record of the snapshot is no slot",
         ),
         (SnapshotFault::Read, "the snapshot could not be read"),
         (SnapshotFault::Memory, "out of memory"),

@@ -42,6 +42,7 @@ fn publications(rt: &HostRuntime, turns: u32, store: &mut Store<Lanes>) -> Optio
 /// which stand one after another, and prints how long it took. None where memory or the clock is refused.
 pub fn time_neighbours(rt: &HostRuntime, sizes: BenchSizes) -> Option<()> {
     let header = Header {
+        form: 1,
         width: 8,
         record_len: 1,
         groups: sizes.side,
@@ -72,6 +73,7 @@ fn neighbours(rt: &HostRuntime, sizes: BenchSizes, store: &mut Store<Lanes>) -> 
 // Records of 80 bytes in `side` columns.
 fn header_of(sizes: BenchSizes) -> Header {
     Header {
+        form: 1,
         width: 10,
         record_len: RECORD_LEN,
         groups: sizes.groups,

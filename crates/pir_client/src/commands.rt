@@ -7,7 +7,7 @@ use crate::command_line::{KEY_TAKES, SEED_TAKES, Task, task_of};
 use crate::failures::failure_of;
 use client_commands::{get, publish, put};
 use command_words::{Failure, program_words};
-use rehearsal::{RehearseFault, rehearse};
+use rehearsal::{RehearseFault, rehearse, shown_bytes};
 use session_core::{ClientCore, Lanes, Scheme};
 use std::io;
 use std::net::{Ipv4Addr, TcpStream};
@@ -130,7 +130,7 @@ fn get_record(
         index,
     )
     .map_err(failure_of)?;
-    let record = hex::encode(rt.alloc(), got.bytes.as_slice())?;
+    let record = shown_bytes(rt.alloc(), got.bytes.as_slice())?;
     let index = got.index;
     let version = got.version;
     printed(println!(rt; "retrieved {index} {version} {record}"))?;

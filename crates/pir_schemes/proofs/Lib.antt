@@ -2,3 +2,4 @@ pub mod Lengths
 pub mod Quiet
 pub mod Sizes
 pub mod Places
+pub mod SlotLists

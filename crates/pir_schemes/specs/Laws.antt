@@ -6,11 +6,11 @@ use Rattle.simple_scheme.specs.declared.records.RecoverError.{RecoverError}
 use Rattle.simple_scheme.specs.declared.records.RecoverError.TheVariants.{BadLength, BadDigits, Memory}
 use Rattle.matrix_u32.specs.Matrix.{WordMatrix, IsWhole}
 use Rattle.noise_table.specs.Margin.{delta, IsCertain}
-use Rattle.digit_pack.specs.Layout.{Shape, IsShape, IsRecord, digit_rows, digit_cols, column_of, first_row, record_at}
+use Rattle.digit_pack.specs.Layout.{Shape, IsShape, digit_rows, digit_cols, column_of, first_row, record_at}
 use Rattle.pir_schemes.specs.declared.scheme.Scheme.{Scheme}
 use Rattle.pir_schemes.specs.declared.scheme.Scheme.TheVariants.{Simple, Double}
 use Rattle.pir_schemes.specs.declared.plan.Plan.{Plan}
-use Rattle.pir_schemes.specs.Plans.{shape_at, record_of}
+use Rattle.pir_schemes.specs.Plans.{IsPlan, IsRecordOf, shape_at, record_of}
 use Rattle.pir_schemes.specs.Retrievals.{
   hint_rows,
   hint_matrix,
@@ -62,8 +62,7 @@ IsCertainOf Double l = IsCertain l.width (digit_cols l) × IsCertain l.width (di
 -- shape always
 abbrev pub RetrievalGivesTheRecord : Type 0
 RetrievalGivesTheRecord = (s : Scheme) (p : Plan) (records : List (List ℕ)) (seed : List ℕ) (number i : ℕ) →
-    IsShape (shape_at p (length records)) → i < length records →
-    IsRecord (shape_at p (length records)) (record_at records i) →
+    IsPlan p (length records) → i < length records → IsRecordOf p (record_at records i) →
     IsQuietOf s p records seed number i ⊎ IsCertainOf s (shape_at p (length records)) →
     let l = shape_at p (length records) in
     let asked = query_words s l p.dimension p.seed seed number i in

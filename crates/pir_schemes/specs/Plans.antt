@@ -1,18 +1,20 @@
 -- What stays the same in every version of some records, and how a version's records stand in digits.
-use Rattle.std.specs.Prelude.{◌≤◌, ◌^◌, ◌*◌, ℕ, List, length, Bool, Option, Some, None, ◌==◌, nat_lt, if◌then◌else◌}
+use Rattle.std.specs.Prelude.{◌≡◌, ◌≤◌, ◌<◌, ◌^◌, ◌*◌, ◌+◌, ℕ, List, All, length, map, Bool, true, Option, Some, None, ◌==◌, ◌&&◌, ◌||◌, nat_lt, nat_le, if◌then◌else◌}
 use Rattle.matrix_u32.specs.Matrix.{WordMatrix}
 use Rattle.seed_expand.specs.Words.{public_rows}
 use Rattle.digit_pack.specs.Digits.{digits_of, number_of}
 use Rattle.pir_schemes.specs.declared.plan.Plan.{Plan}
-use Rattle.digit_pack.specs.Layout.{Shape, IsLayout, shape, digit_rows, digit_cols, digit_matrix}
+use Rattle.digit_pack.specs.Layout.{Shape, IsLayout, shape, digit_rows, digit_cols, digit_matrix, records_in}
+use Rattle.digit_pack.specs.Slots.{is_form, slot_of, is_slot, content_of}
 
 -- the shape of a version with so many records
 abbrev pub shape_at : Plan → ℕ → Shape
 shape_at p count = shape p.width p.record_len p.groups count
 
--- the plan of a shape, a dimension and a public seed
-abbrev pub plan_of : Shape → ℕ → List ℕ → Plan
-plan_of l dimension seed = record {
+-- the plan of a form, a shape, a dimension and a public seed
+abbrev pub plan_of : ℕ → Shape → ℕ → List ℕ → Plan
+plan_of form l dimension seed = record {
+  form = form;
   width = l.width;
   record_len = l.record_len;
   groups = l.groups;
@@ -22,29 +24,51 @@ plan_of l dimension seed = record {
 
 -- a plan and a count of records within every limit
 pub record IsPlan (p : Plan) (count : ℕ) : Type 0 where
+  pub form : is_form p.form p.record_len ≡ true
   pub layout : IsLayout (shape_at p count)
   pub low : 1 ≤ p.dimension
   pub high : p.dimension ≤ 1024
 
 -- the profile that a server of this plan speaks
 abbrev pub profile_of : Plan → ℕ
-profile_of p = 1
+profile_of p = p.form
 
--- whether a number is the profile of a plan
-abbrev pub is_profile : ℕ → Bool
-is_profile profile = profile == 1
-
--- the profile that a client asks for in its greeting
+-- the profile that a client asks for in its greeting: both forms are known to it
 abbrev pub client_profile : ℕ
-client_profile = 1
+client_profile = 2
 
--- whether bytes can be a record
-abbrev pub fits : Plan → List ℕ → Bool
-fits p bytes = length bytes == p.record_len
+-- whether a server of this plan accepts a greeting in a profile: a client of profile 1 knows form 1 alone
+abbrev pub accepts_profile : Plan → ℕ → Bool
+accepts_profile p profile = (profile == 2) || ((profile == 1) && (p.form == 1))
+
+-- whether bytes can be a record: in form 2 two bytes of the slot are for their number
+unfoldable pub fits : Plan → List ℕ → Bool
+fits p bytes = if p.form == 2 then nat_le (length bytes + 2) p.record_len else length bytes == p.record_len
+
+-- bytes that can be a record of a plan
+pub record IsRecordOf (p : Plan) (bytes : List ℕ) : Type 0 where
+  pub fits : fits p bytes ≡ true
+  pub each : All (λ b. b < 2 ^ 8) bytes
+
+-- the bytes that stand in the digits for a record
+unfoldable pub slot : Plan → List ℕ → List ℕ
+slot p bytes = if p.form == 2 then slot_of p.record_len bytes else bytes
+
+-- whether a record has these bytes in the digits
+unfoldable pub is_slot_of : Plan → List ℕ → Bool
+is_slot_of p bytes = if p.form == 2 then is_slot bytes else true
+
+-- the record that has these bytes in the digits
+unfoldable pub content : Plan → List ℕ → List ℕ
+content p bytes = if p.form == 2 then content_of bytes else bytes
 
 -- the bytes that stand in the digits, a list for each record
 abbrev pub slots : Plan → List (List ℕ) → List (List ℕ)
-slots p records = records
+slots p records = map (slot p) records
+
+-- the records whose bytes in the digits stand one after another
+abbrev pub records_held : Plan → ℕ → List ℕ → List (List ℕ)
+records_held p count bytes = map (content p) (records_in (shape_at p count) bytes)
 
 -- the digit matrix of a version
 abbrev pub digits_at : Plan → List (List ℕ) → WordMatrix
@@ -58,7 +82,12 @@ first_public l n public = public_rows public 0 0 (digit_cols l) n
 abbrev pub second_public : Shape → ℕ → List ℕ → WordMatrix
 second_public l n public = public_rows public 1 0 (digit_rows l) n
 
--- the record that an answer's digits write; none where they set a bit past its last byte
+-- the bytes that an answer's digits write
+abbrev pub bytes_written : Plan → List ℕ → List ℕ
+bytes_written p digits = digits_of 8 p.record_len (number_of p.width digits)
+
+-- the record that an answer's digits write; none where they set a bit past its last byte, or their bytes are no record's
 unfoldable pub record_of : Plan → List ℕ → Option (List ℕ)
 record_of p digits =
-    if nat_lt (number_of p.width digits) (2 ^ (8 * p.record_len)) then Some (digits_of 8 p.record_len (number_of p.width digits)) else None
+    if nat_lt (number_of p.width digits) (2 ^ (8 * p.record_len)) && is_slot_of p (bytes_written p digits)
+    then Some (content p (bytes_written p digits)) else None

@@ -17,6 +17,7 @@ mod plan;
 mod query_room;
 mod retrievals;
 mod scheme;
+mod slots;
 
 pub use certainty::is_certain;
 pub use counts::{answer_count, hint_len, hint_rows, query_count};
@@ -24,5 +25,5 @@ pub use parts::{DELTA_ROWS, PART_WORDS, part_len, part_words};
 pub use plan::{Plan, SecretSeed};
 pub use query_room::QueryRoom;
 pub use retrievals::recover;
-pub use scheme::{PROFILE, Scheme};
+pub use scheme::{CLIENT_PROFILE, Scheme};
 pub use simple_scheme::RecoverError;

@@ -1,9 +1,10 @@
 //! What stays the same in every version of some records, and what a client keeps to itself.
 
-ghost use Rattle.std.specs.Prelude.{◌≡◌, ◌≤◌, ℕ, List, IfOk, IfErr};
+ghost use Rattle.std.specs.Prelude.{◌≡◌, ℕ, List, IfOk, IfErr};
 ghost use Rattle.digit_pack.specs.Layout.{IsLayout, IsLayoutFault};
-ghost use Rattle.pir_schemes.specs.Plans.{shape_at, plan_of};
+ghost use Rattle.pir_schemes.specs.Plans.{accepts_profile, shape_at};
 
+use crate::scheme::CLIENT_PROFILE;
 use digit_pack::{Layout, LayoutError};
 use std::marker::Model;
 
@@ -11,6 +12,8 @@ use std::marker::Model;
 /// queries and answers have, and with the records of a version what these words are.
 #[derive(Clone, Copy, Debug, PartialEq, Eq)]
 pub struct Plan {
+    /// 1 where all records have one length, 2 where each has its own and stands in a slot.
+    pub form: u16,
     /// How many bits a digit has.
     pub width: u8,
     /// How many bytes a record has.
@@ -24,18 +27,12 @@ pub struct Plan {
 }
 
 impl Plan {
-    /// The plan of records of these sizes, with public matrices of `dimension` columns from the words of `seed`.
-    pub fn of(layout: &Layout, dimension: usize, seed: &[u8; 32]) -> Plan
-        requires { dimension ≤ 1024 }
-        ensures { result ≡ plan_of layout.now dimension seed.now }
+    /// Whether a server of this plan accepts a greeting in a profile. A client of profile 1 knows records of one length
+    /// alone.
+    pub fn accepts_profile(&self, profile: u16) -> bool
+        ensures { result ≡ accepts_profile self.now profile }
     {
-        Plan {
-            width: layout.width() as u8,
-            record_len: layout.record_len() as u16,
-            groups: layout.groups() as u16,
-            dimension: dimension as u16,
-            seed: *seed,
-        }
+        profile == CLIENT_PROFILE || profile == 1 && self.form == 1
     }
 
     /// The sizes of `count` records. They are accepted exactly within the limits; else the first cause is named, in

@@ -1,12 +1,13 @@
 //! The reading of answers, by scheme.
 
-ghost use Rattle.std.specs.Prelude.{◌≡◌, ◌^◌, ◌<◌, ◌≤◌};
-ghost use Rattle.pir_schemes.specs.Plans.{IsPlan, shape_at};
+ghost use Rattle.std.specs.Prelude.{◌≡◌, ◌^◌, ◌<◌, ◌≤◌, IfOk, IfErr, true, false};
+ghost use Rattle.pir_schemes.specs.Plans.{IsPlan, shape_at, content, is_slot_of};
 ghost use Rattle.pir_schemes.specs.Retrievals.{hint_rows};
 ghost use Rattle.pir_schemes.specs.Laws.{ReadsRecordOf};
 
 use crate::plan::{Plan, SecretSeed};
 use crate::scheme::Scheme;
+use digit_pack::read_slot;
 use matrix_u32::{Kernel, Matrix};
 use simple_scheme::RecoverError;
 use std::alloc::Global;
@@ -14,7 +15,8 @@ use std::alloc::Global;
 /// The record that an answer gives for record i of `count` records of the plan, under the hint of its version.
 ///
 /// `BadLength` exactly when the answer hasn't the scheme's count of words, `BadDigits` exactly when it has and
-/// its digits set a bit past the record's last byte; `Memory` only where it has its words.
+/// its digits set a bit past the record's last byte, or their bytes are no slot where the plan has slots; `Memory` only
+/// where it has its words.
 #[tactic(auto, unfolding(crate::specs::Retrievals::reading, crate::specs::Plans::record_of))]
 pub fn recover<K: Kernel>(
     alloc: Global,
@@ -38,12 +40,32 @@ pub fn recover<K: Kernel>(
     // The sizes are within the limits: no refusal is left.
     let layout = plan.layout(count).unwrap();
     let seed = seed.bytes();
-    match scheme {
+    let bytes = match scheme {
         Scheme::Simple => {
-            simple_scheme::recover(alloc, kernel, seed, number, hint, &layout, i, answer)
+            simple_scheme::recover(alloc, kernel, seed, number, hint, &layout, i, answer)?
         }
         Scheme::Double => {
-            double_scheme::recover(alloc, kernel, seed, number, hint, &layout, i, answer)
+            double_scheme::recover(alloc, kernel, seed, number, hint, &layout, i, answer)?
         }
+    };
+    record_in(plan, bytes)
+}
+
+// The record whose bytes in the digits these are. It takes no memory.
+#[tactic(auto, unfolding(crate::specs::Plans::content, crate::specs::Plans::is_slot_of))]
+fn record_in(plan: &Plan, mut bytes: Vec<u8>) -> Result<Vec<u8>, RecoverError>
+    ensures record { IfOk result (λ given. (is_slot_of plan.now bytes.items ≡ true)
+        × (given.items ≡ content plan.now bytes.items)) }
+    ensures refused { IfErr result (λ e. (e ≡ RecoverError.BadDigits)
+        × (is_slot_of plan.now bytes.items ≡ false)) }
+{
+    if plan.form != 2 {
+        return Ok(bytes);
     }
+    let Ok(len) = read_slot(&bytes) else {
+        return Err(RecoverError::BadDigits);
+    };
+    bytes.copy_within(2..2 + len, 0);
+    bytes.truncate(len);
+    Ok(bytes)
 }

@@ -1,10 +1,11 @@
-//! The two schemes, and the profile in which both ends speak.
+//! The two schemes, and the profile that a client asks for.
 
 ghost use Rattle.std.specs.Prelude.{◌≡◌};
 ghost use Rattle.pir_schemes.specs.Schemes.{scheme_byte, scheme_of_byte};
 
-/// The profile that a client asks for and that a server speaks.
-pub const PROFILE: u16 = 1;
+/// The profile that a client asks for in its greeting: both forms are known to it. A server speaks the profile of its
+/// form.
+pub const CLIENT_PROFILE: u16 = 2;
 
 /// Which scheme a hint, a query or an answer belongs to.
 #[derive(Clone, Copy, Debug, PartialEq, Eq)]

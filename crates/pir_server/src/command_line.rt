@@ -54,11 +54,22 @@ pub struct Serving<'a> {
     pub connections: u32,
 }
 
+/// What `migrate` is to move into slots.
+#[derive(Clone, Copy)]
+pub struct Migrating<'a> {
+    /// The snapshot file of form 1.
+    pub file: &'a str,
+    /// The file that is written.
+    pub out: &'a str,
+}
+
 /// What the words ask for.
 #[derive(Clone, Copy)]
 pub enum Task<'a> {
     /// A snapshot file of records on standard input.
     Make(Making<'a>),
+    /// A snapshot file of the same records in slots.
+    Migrate(Migrating<'a>),
     /// What the snapshot file of this name holds.
     Show(&'a str),
     /// A snapshot file served over connections.
@@ -107,6 +118,25 @@ fn make_command<'a>(alloc: Global) -> Result<Command<'a>, AllocError> {
 
 const MAKE_EXAMPLE: &str =
     "Prints 'made COUNT 1', COUNT being how many records there are. Secrets will have 1024 words.\n\nExample, two records of one byte:\n  printf '\\012\\310' | pir_server make --out two.pir --width 8 --record 1 --groups 1 \\\n    --seed 0000000000000000000000000000000000000000000000000000000000000000 \\\n    --key 0101010101010101010101010101010101010101010101010101010101010101";
+
+// The command `migrate`.
+fn migrate_command<'a>(alloc: Global) -> Result<Command<'a>, AllocError> {
+    Command::new(alloc, "migrate")
+        .about(
+            "Makes a snapshot file of the same records in slots, so that each may have a length of its own",
+        )
+        .after_help(MIGRATE_EXAMPLE)
+        .arg(option(
+            alloc,
+            "file",
+            "FILE",
+            "The snapshot file of form 1; it stays as it is, unless --out names it",
+        ))?
+        .arg(option(alloc, "out", "FILE", "The snapshot file to write"))
+}
+
+const MIGRATE_EXAMPLE: &str =
+    "Prints 'migrated COUNT VERSION'. A slot has two bytes more than the record had: its length. Version, seed and the\npublisher's key stay; hints of the old file are of no use with the new one.\n\nExample: pir_server migrate --file two.pir --out slots.pir";
 
 // The command `show`.
 fn show_command<'a>(alloc: Global) -> Result<Command<'a>, AllocError> {
@@ -170,6 +200,7 @@ fn whole_command<'a>(alloc: Global) -> Result<Command<'a>, AllocError> {
         .about("A server of private information retrieval on this machine")
         .after_help(EXIT_STATUSES)
         .subcommand(make_command(alloc)?)?
+        .subcommand(migrate_command(alloc)?)?
         .subcommand(show_command(alloc)?)?
         .subcommand(serve_command(alloc)?)?
         .subcommand(once_command(alloc))
@@ -179,7 +210,7 @@ fn whole_command<'a>(alloc: Global) -> Result<Command<'a>, AllocError> {
 const VERSION: &str = "0.1.0";
 
 const EXIT_STATUSES: &str =
-    "Without a command: once.\n\nA value @FILE of --seed or --key is read from that file; one on the command line itself stands in the list of\nprocesses, for other users of this machine to see.\n\nExit status: 0 done, 2 a bad command line, 3 a fault, 4 out of memory.\n\nA fault is one line on standard error, 'fault: NAME':\n  File           a file can't be opened or made\n  Read, Write    reading or writing failed\n  BadRecords     the input of make is not whole records, or too many bytes\n  BadLayout      no store has these sizes\n  NotSnapshot, Short, BadDigest, TrailingBytes   a file that is no whole snapshot\n  Connect        the port can't be listened on\n  BadInput       the input of once can't be served; its last reply is Refused 1\n  TurnsUsedUp    more reads than a session has\n  Memory         memory was refused (status 4)";
+    "Without a command: once.\n\nA value @FILE of --seed or --key is read from that file; one on the command line itself stands in the list of\nprocesses, for other users of this machine to see.\n\nExit status: 0 done, 2 a bad command line, 3 a fault, 4 out of memory.\n\nA fault is one line on standard error, 'fault: NAME':\n  File           a file can't be opened or made\n  Read, Write    reading or writing failed\n  BadRecords     the input of make is not whole records, or too many bytes\n  BadLayout      no store has these sizes\n  NotSnapshot, Short, BadDigest, TrailingBytes, BadSlot   a file that is no whole snapshot\n  NotFormOne     the records that migrate is to move stand in slots already\n  TooWide        no store has records of two bytes more\n  Connect        the port can't be listened on\n  BadInput       the input of once can't be served; its last reply is Refused 1\n  TurnsUsedUp    more reads than a session has\n  Memory         memory was refused (status 4)";
 
 // What the words of `make` ask for.
 fn making_of<'a>(found: &ArgMatches<'a>) -> Result<Making<'a>, BadLine<'a>> {
@@ -190,6 +221,14 @@ fn making_of<'a>(found: &ArgMatches<'a>) -> Result<Making<'a>, BadLine<'a>> {
         groups: number_at(found, "groups", u64::from(u16::MAX), GROUPS_TAKES)? as u16,
         seed: seed_at(found, "seed", SEED_TAKES)?,
         key: key_at(found, "key", KEY_TAKES)?,
+    })
+}
+
+// What the words of `migrate` ask for.
+fn migrating_of<'a>(found: &ArgMatches<'a>) -> Result<Migrating<'a>, BadLine<'a>> {
+    Ok(Migrating {
+        file: text_at(found, "file", FILE_TAKES)?,
+        out: text_at(found, "out", OUT_TAKES)?,
     })
 }
 
@@ -212,6 +251,9 @@ pub fn task_of<'a>(alloc: Global, words: &'a [String]) -> Result<Task<'a>, BadLi
     let matches = whole_command(alloc)?.try_get_matches_from(words)?;
     if let Some(found) = matches.subcommand_matches("make") {
         return Ok(Task::Make(making_of(found)?));
+    }
+    if let Some(found) = matches.subcommand_matches("migrate") {
+        return Ok(Task::Migrate(migrating_of(found)?));
     }
     if let Some(found) = matches.subcommand_matches("show") {
         return Ok(Task::Show(text_at(found, "file", FILE_TAKES)?));

@@ -1,6 +1,7 @@
 //! The commands, and how each ends.
 
-use crate::command_line::{Making, Task, task_of};
+use crate::command_line::{Making, Migrating, Task, task_of};
+use crate::files::{Content, moved_of, write_file};
 use crate::making::make;
 use crate::serving::serve_file;
 use crate::showing::show;
@@ -34,6 +35,7 @@ pub fn run(rt: &HostRuntime) -> u8 {
 fn done(rt: &HostRuntime, task: Task<'_>) -> Result<(), Failure> {
     match task {
         Task::Make(making) => make_file(rt, &making),
+        Task::Migrate(migrating) => migrate_file(rt, &migrating),
         Task::Show(file) => show(rt, file),
         Task::Serve(serving) => serve_file(rt, &serving),
         Task::Once => serve_once(rt),
@@ -44,6 +46,23 @@ fn done(rt: &HostRuntime, task: Task<'_>) -> Result<(), Failure> {
 fn make_file(rt: &HostRuntime, making: &Making<'_>) -> Result<(), Failure> {
     let count = make(rt, making)?;
     match println!(rt; "made {count} 1") {
+        Ok(()) => Ok(()),
+        Err(_) => Err(Failure::Fault("Write")),
+    }
+}
+
+// Moves the records of a snapshot file into slots, and tells how many there are and their version.
+fn migrate_file(rt: &HostRuntime, migrating: &Migrating<'_>) -> Result<(), Failure> {
+    let moved = moved_of(rt, migrating.file)?;
+    let header = moved.header();
+    let content = Content::Records {
+        header: &header,
+        bytes: &moved.records,
+    };
+    write_file(rt, migrating.out, &content)?;
+    let count = header.count;
+    let version = header.version;
+    match println!(rt; "migrated {count} {version}") {
         Ok(()) => Ok(()),
         Err(_) => Err(Failure::Fault("Write")),
     }

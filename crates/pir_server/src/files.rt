@@ -4,8 +4,8 @@ ghost use Rattle.std.specs.Prelude.{◌≤◌, IfOk};
 
 use command_words::Failure;
 use session_core::{
-    Header, Lanes, OpenError, Snapshot, SnapshotFault, Store, WriteFault, read_snapshot,
-    write_snapshot, write_snapshot_bytes,
+    Header, Lanes, MigrateError, OpenError, Snapshot, SnapshotFault, Store, WriteFault, migrate,
+    read_snapshot, write_snapshot, write_snapshot_bytes,
 };
 use std::fs;
 use std::fs::File;
@@ -46,6 +46,21 @@ pub fn header_of(rt: &HostRuntime, name: &str) -> Result<Header, Failure>
     ensures { IfOk result (λ h. h.dimension ≤ 1024) }
 {
     Ok(snapshot_of(rt, name)?.header())
+}
+
+/// The snapshot in a file, with its records moved into slots.
+///
+/// # Errors
+///
+/// In this order: `File`, the refusals of the snapshot, `NotFormOne`, `TooWide`.
+pub fn moved_of(rt: &HostRuntime, name: &str) -> Result<Snapshot, Failure> {
+    let Ok(mut file) = File::open(rt, name) else {
+        return Err(NO_FILE);
+    };
+    match read_snapshot(rt.alloc(), &mut file) {
+        Ok(snapshot) => migrate(rt.alloc(), &snapshot).map_err(migrate_failure),
+        Err(fault) => Err(snapshot_failure(fault)),
+    }
 }
 
 // The snapshot in a file.
@@ -138,6 +153,14 @@ fn write_new(rt: &HostRuntime, name: &str, content: &Content<'_>) -> Result<(), 
 fn snapshot_failure(fault: SnapshotFault) -> Failure {
     match fault {
         SnapshotFault::Memory => Failure::Memory,
+        fault => Failure::Fault(fault.name()),
+    }
+}
+
+// The failure that refused slots are.
+fn migrate_failure(fault: MigrateError) -> Failure {
+    match fault {
+        MigrateError::Memory => Failure::Memory,
         fault => Failure::Fault(fault.name()),
     }
 }

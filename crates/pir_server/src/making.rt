@@ -96,6 +96,7 @@ fn header_of(making: &Making<'_>, keys: &Keys, bytes: usize) -> Header
         bytes / record_len
     };
     Header {
+        form: 1,
         width: making.width,
         record_len: making.record_len,
         groups: making.groups,

@@ -2,7 +2,7 @@
 use Rattle.std.proofs.Common.{◌≡◌, ◌≢◌, ℕ, ◌+◌, ◌^◌, ◌<◌, All, Bool, true, false, List, [], ◌∷◌, ◌++◌, length, Option, Some, None, refl, sym, ap, subst, ◌∙◌, arith, inl, inr}
 use Rattle.std.specs.Prelude.{nat_lt, ◌==◌, slice_get, slice_set}
 use Rattle.std.specs.List.{AllByRecursion}
-use Rattle.std.proofs.lemmas.Bool.{cases_eq, cond_both, eqb-true}
+use Rattle.std.proofs.lemmas.Bool.{cases_eq, cond_both}
 use Rattle.pir_schemes.specs.Plans.{fits}
 use Rattle.pir_schemes.specs.Laws.{RetrievalGivesTheRecord}
 use Rattle.version_store.specs.Histories.{History, current_version, after_edit, published}
@@ -103,7 +103,7 @@ module _ (x : Setting) (seeds : List (List ℕ)) (s : State) (inv : WorldInvaria
   edit_inv i bytes small =
       cond_both (nat_lt i (length s.history.draft)) _ _ (λ t. WorldInvariant x seeds t)
       (λ t. cond_both (fits x.plan bytes) _ _ (λ t. WorldInvariant x seeds t)
-      (λ u. at_history (after_edit i bytes s.history) (Edited i) (good_edited x s.history i bytes (record { len = eqb-true _ _ u; each = small }) inv.history)
+      (λ u. at_history (after_edit i bytes s.history) (Edited i) (good_edited x s.history i bytes (record { fits = u; each = small }) inv.history)
       (λ v records p. p) tt (λ j. tt) tt)
       (λ u. at_history s.history (EditRefused i _) inv.history (same_history s.history) tt (λ j. tt) tt))
       (λ t. at_history s.history (EditRefused i _) inv.history (same_history s.history) tt (λ j. tt) tt)

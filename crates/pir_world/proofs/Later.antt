@@ -5,11 +5,11 @@ use Rattle.std.specs.List.{AllByRecursion}
 use Rattle.std.proofs.lemmas.Bool.{cases_lt, le-ltb}
 use Rattle.std.proofs.lemmas.Option.{slice_get_within}
 use Rattle.std.proofs.lemmas.List.{length-set}
-use Rattle.digit_pack.specs.Layout.{IsRecord, record_at}
+use Rattle.digit_pack.specs.Layout.{record_at}
 use Rattle.pir_schemes.specs.declared.scheme.Scheme.{Scheme}
 use Rattle.pir_schemes.specs.Schemes.{scheme_of_byte}
 use Rattle.pir_schemes.specs.declared.plan.Plan.{Plan}
-use Rattle.pir_schemes.specs.Plans.{shape_at}
+use Rattle.pir_schemes.specs.Plans.{IsRecordOf}
 use Rattle.frame_codec.specs.declared.frame.Frame.{Frame}
 use Rattle.frame_codec.specs.declared.frame.Frame.TheVariants.{Query}
 use Rattle.version_store.specs.Histories.{History, current_version, records_of, after_edit, published}
@@ -79,29 +79,24 @@ good_published x h g = record {
   even = λ v records p. elim (version_cases h v records p) [ inl q ↦ g.even v records q | inr e ↦ ap length e ];
 }
 
--- what a record is doesn't depend on how many there are
-pub recount : (p : Plan) (n m : ℕ) (bytes : List ℕ) → IsRecord (shape_at p n) bytes → IsRecord (shape_at p m) bytes
-recount p n m bytes r = record { len = r.len; each = r.each }
+record_set : (p : Plan) (records : List (List ℕ)) (i j : ℕ) (bytes : List ℕ) → IsRecordOf p bytes →
+    IsRecordOf p (record_at records j) → IsRecordOf p (record_at (slice_set records i bytes) j)
+record_set p [] i j bytes new old = old
+record_set p (r ∷ rs) zero zero bytes new old = new
+record_set p (r ∷ rs) zero (suc j) bytes new old = old
+record_set p (r ∷ rs) (suc i) zero bytes new old = old
+record_set p (r ∷ rs) (suc i) (suc j) bytes new old = record_set p rs i j bytes new old
 
-record_set : (p : Plan) (n : ℕ) (records : List (List ℕ)) (i j : ℕ) (bytes : List ℕ) → IsRecord (shape_at p n) bytes →
-    IsRecord (shape_at p n) (record_at records j) → IsRecord (shape_at p n) (record_at (slice_set records i bytes) j)
-record_set p n [] i j bytes new old = old
-record_set p n (r ∷ rs) zero zero bytes new old = new
-record_set p n (r ∷ rs) zero (suc j) bytes new old = old
-record_set p n (r ∷ rs) (suc i) zero bytes new old = old
-record_set p n (r ∷ rs) (suc i) (suc j) bytes new old = record_set p n rs i j bytes new old
-
-edited_records : (p : Plan) (records : List (List ℕ)) (i : ℕ) (bytes : List ℕ) → IsRecord (shape_at p (length records)) bytes → AreRecords p records →
+edited_records : (p : Plan) (records : List (List ℕ)) (i : ℕ) (bytes : List ℕ) → IsRecordOf p bytes → AreRecords p records →
     AreRecords p (slice_set records i bytes)
 edited_records p records i bytes fits r =
     let n = length-set records i bytes in
     record {
       plan = rw n r.plan;
-      each = λ j lt. recount p (length records) (length (slice_set records i bytes)) _
-          (record_set p (length records) records i j bytes fits (r.each j (omega (arith, lt, n))));
+      each = λ j lt. record_set p records i j bytes fits (r.each j (omega (arith, lt, n)));
     }
 
-pub good_edited : (x : Setting) (h : History) (i : ℕ) (bytes : List ℕ) → IsRecord (shape_at x.plan (length h.draft)) bytes → GoodHistory x h →
+pub good_edited : (x : Setting) (h : History) (i : ℕ) (bytes : List ℕ) → IsRecordOf x.plan bytes → GoodHistory x h →
     GoodHistory x (after_edit i bytes h)
 good_edited x h i bytes fits g = record {
   first = g.first;

@@ -1,11 +1,10 @@
 -- A world as it begins, and so every run.
-use Rattle.std.proofs.Common.{◌≡◌, ℕ, zero, suc, ◌-◌, ◌*◌, ◌^◌, ◌<◌, ◌≤◌, List, [], ◌∷◌, length, map, take, drop, Option, Some, refl, sym, ap, subst, ◌∙◌, arith}
+use Rattle.std.proofs.Common.{◌≡◌, ℕ, zero, suc, ◌-◌, ◌<◌, List, [], ◌∷◌, length, map, Option, Some, refl, sym, ap, subst, ◌∙◌, arith}
 use Rattle.std.specs.Prelude.{slice_get}
-use Rattle.std.proofs.lemmas.List.{length-take, length-drop}
-use Rattle.std.proofs.lemmas.List.Elements.{All-take, All-drop}
-use Rattle.std.proofs.Math.Nat.{mul-le-mul_right}
-use Rattle.matrix_u32.proofs.Products.{at-list_of_any, length-list_of}
-use Rattle.digit_pack.specs.Layout.{IsRecord, records_in, record_at}
+use Rattle.std.proofs.lemmas.List.{length-map}
+use Rattle.matrix_u32.proofs.Products.{length-list_of}
+use Rattle.digit_pack.specs.Layout.{records_in}
+use Rattle.pir_schemes.specs.Plans.{content, records_held}
 use Rattle.pir_schemes.specs.Laws.{RetrievalGivesTheRecord}
 use Rattle.frame_codec.specs.declared.frame.Frame.{Frame}
 use Rattle.snapshot_file.specs.declared.snapshot.Header.{Header}
@@ -17,7 +16,8 @@ use Rattle.pir_world.specs.Earlier.{HasEarlier}
 use Rattle.pir_world.specs.Headlines.{IsOpening, EveryRunIsRight}
 use Rattle.pir_world.specs.Invariants.{AreRecords, LinkInvariant, LogInvariant, WorldInvariant}
 use Rattle.version_store.specs.Histories.{StoreState, StandsFor, opened}
-use Rattle.version_store.specs.Openings.{held_of}
+use Rattle.version_store.specs.Openings.{held_of, plan_held}
+use Rattle.version_store.proofs.Slotted.{held_is, held_slots}
 use Rattle.server_core.specs.Cores.{Core, session_of}
 use Rattle.server_core.specs.Serving.{setting_of}
 use Rattle.server_core.specs.Sessions.{Session, new_session}
@@ -38,27 +38,17 @@ link_of [] k l e = absurd cc
 link_of (s ∷ seeds) zero l e = cc
 link_of (s ∷ seeds) (suc k) l e = link_of seeds k l e
 
-opening_records : (h : Header) (bytes : List ℕ) → IsOpening h bytes → AreRecords (setting_in h).plan (records_in (shape_of h) bytes)
+-- the records that a snapshot's bytes hold
+abbrev held : (h : Header) (bytes : List ℕ) → List (List ℕ)
+held h bytes = records_held (plan_held h) h.count bytes
+
+opening_records : (h : Header) (bytes : List ℕ) → IsOpening h bytes → AreRecords (plan_held h) (held h bytes)
 opening_records h bytes o =
-    let n : length (records_in (shape_of h) bytes) ≡ h.count = length-list_of h.count _ in
+    let n : length (held h bytes) ≡ h.count = length-map (records_in (shape_of h) bytes) (content (plan_held h)) ∙ length-list_of h.count _ in
     record {
-      plan = rw n (record { layout = o.sound.sizes.layout; low = o.sound.sizes.low; high = o.sound.sizes.high });
-      each =
-          λ i lt. rw n (one i (omega (arith, lt, n)));
+      plan = rw n (record { form = o.sound.sizes.form; layout = o.sound.sizes.layout; low = o.sound.sizes.low; high = o.sound.sizes.high });
+      each = λ i lt. held_is (plan_held h) (shape_of h) bytes refl o.sound.len o.bytes (held_slots h bytes o.sound.slots) i (omega (arith, lt, n));
     }
-  where
-    one : (i : ℕ) → i < h.count → IsRecord (shape_of h) (record_at (records_in (shape_of h) bytes) i)
-    one i lt =
-        let e = at-list_of_any h.count (λ (j : ℕ). take h.record_len (drop (j * h.record_len) bytes)) i [] lt in
-        let room : suc i * h.record_len ≤ h.count * h.record_len = mul-le-mul_right h.record_len lt in
-        let size : length (take h.record_len (drop (i * h.record_len) bytes)) ≡ h.record_len =
-        omega (arith, length-take h.record_len (drop (i * h.record_len) bytes), length-drop (i * h.record_len) bytes, o.sound.len, room) in
-        subst (λ (b : List ℕ). IsRecord (shape_of h) b) (sym e)
-        (record {
-          len = size;
-          each =
-              All-take (λ (b : ℕ). b < 2 ^ 8) h.record_len (drop (i * h.record_len) bytes) (All-drop (λ (b : ℕ). b < 2 ^ 8) (i * h.record_len) bytes o.bytes);
-        })
 
 pub opening_inv : (h : Header) (bytes : List ℕ) (seeds : List (List ℕ)) → IsOpening h bytes → WorldInvariant (setting_in h) seeds (opening h bytes seeds)
 opening_inv h bytes seeds o =
@@ -67,10 +57,10 @@ opening_inv h bytes seeds o =
       history = record {
         first = o.sound.version;
         versions = λ v records p. subst (λ (r : List (List ℕ)). AreRecords (setting_in h).plan r)
-            (only_one (records_in (shape_of h) bytes) records (current_version (opening h bytes seeds).history - v)
+            (only_one (held h bytes) records (current_version (opening h bytes seeds).history - v)
             (sym (records_at (opening h bytes seeds).history v p.0) ∙ p.1)) all;
         draft = all;
-        even = λ v records p. sym (ap length (only_one (records_in (shape_of h) bytes) records (current_version (opening h bytes seeds).history - v)
+        even = λ v records p. sym (ap length (only_one (held h bytes) records (current_version (opening h bytes seeds).history - v)
             (sym (records_at (opening h bytes seeds).history v p.0) ∙ p.1)));
       };
       links = λ k l e. subst (λ (m : Link). LinkInvariant (setting_in h) (opening h bytes seeds).history (seed_of seeds k) m) (link_of seeds k l e)
@@ -112,7 +102,7 @@ fresh_matched (s ∷ seeds) zero o e = rw (e (omega arith)) (fresh_end s)
 fresh_matched (s ∷ seeds) (suc k) o e = fresh_matched seeds k o (λ lt. e (omega (arith, lt)))
 
 pub opening_parts : (h : Header) (bytes : List ℕ) (seeds : List (List ℕ)) (core : Core) (ends : List Side) (os : List Outcome) → core.store ≡ held_of h bytes →
-    StandsFor core.store (opened h.version (records_in (shape_of h) bytes)) → ends ≡ map fresh_side seeds
+    StandsFor core.store (opened h.version (held h bytes)) → ends ≡ map fresh_side seeds
     → ((id : ℕ) → id < length seeds → session_of core.sessions id ≡ Some new_session) → os ≡ [] → IsParts (setting_in h) core ends os (opening h bytes seeds)
 opening_parts h bytes seeds core ends os held stands e at none = record {
   setting_is = ap (λ (s : StoreState). setting_of s) held;

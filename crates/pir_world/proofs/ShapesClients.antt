@@ -169,9 +169,9 @@ part_sends (call.Sync s v p) c scheme version part words = asked c.known
         (inl refl)
 part_sends k c scheme version part words = inl refl
 
-welcome_sends : (k : Call) (c : ClientState) (profile : ℕ) (plan : Plan) (count version : ℕ) → Sends (takes_welcome k c profile plan count version)
-welcome_sends (call.Hello key) c profile plan count version = either (is_accepted_welcome profile plan count version) _ _ (inl refl) (inl refl)
-welcome_sends k c profile plan count version = inl refl
+welcome_sends : (k : Call) (c : ClientState) (plan : Plan) (count version : ℕ) → Sends (takes_welcome k c plan count version)
+welcome_sends (call.Hello key) c plan count version = either (is_accepted_welcome plan count version) _ _ (inl refl) (inl refl)
+welcome_sends k c plan count version = inl refl
 
 answer_sends : (k : Call) (c : ClientState) (scheme version : ℕ) (words : List ℕ) → Sends (takes_answer k c scheme version words)
 answer_sends (call.Ask i s v n) c scheme version words = asked c.known c.hint
@@ -224,7 +224,7 @@ refused_sends k c code = inl refl
 
 reply_sends : (c : ClientState) (f : Frame) → Sends (reaction_to_reply c f)
 reply_sends c (frame.Welcome profile width record_len groups count version dimension seed) =
-    welcome_sends c.call c profile (plan_given width record_len groups dimension seed) count version
+    welcome_sends c.call c (plan_given profile width record_len groups dimension seed) count version
 reply_sends c (frame.HintPart scheme version part words) = part_sends c.call c scheme version part words
 reply_sends c (frame.Answer scheme version words) = answer_sends c.call c scheme version words
 reply_sends c (frame.Stale version count) = stale_sends c.call c version count

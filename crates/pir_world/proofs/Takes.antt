@@ -17,7 +17,8 @@ use Rattle.pir_schemes.specs.declared.scheme.Scheme.TheVariants.{Simple, Double}
 use Rattle.pir_schemes.specs.Schemes.{scheme_byte}
 use Rattle.pir_schemes.specs.Parts.{part_len}
 use Rattle.pir_schemes.specs.declared.plan.Plan.{Plan}
-use Rattle.pir_schemes.specs.Plans.{IsPlan, shape_at, profile_of}
+use Rattle.digit_pack.specs.Slots.{is_form}
+use Rattle.pir_schemes.specs.Plans.{IsPlan, shape_at}
 use Rattle.pir_schemes.specs.Retrievals.{hint_rows as rows_of_hint, hint_len, hint_matrix, reading}
 use Rattle.pir_schemes.specs.Laws.{RetrievalGivesTheRecord}
 use Rattle.pir_schemes.proofs.Lengths.{hint_sizes, length-answer}
@@ -86,11 +87,12 @@ pub record IsTaken (x : Setting) (seeds : List (List ℕ)) (k : ℕ) (h : Histor
 plan_accepted : (p : Plan) (n : ℕ) (l : Shape) → IsPlan p n → l ≡ shape_at p n → is_layout l ≡ true
 plan_accepted p n l ok e = rw e (layout_accepted (shape_at p n) ok.layout)
 
-welcome_good : (p : Plan) (n v : ℕ) → IsPlan p n → 0 < v → is_accepted_welcome (profile_of p) p n v ≡ true
+welcome_good : (p : Plan) (n v : ℕ) → IsPlan p n → 0 < v → is_accepted_welcome p n v ≡ true
 welcome_good p n v ok lt =
-    and_from (is_layout (shape_at p n)) _ (layout_accepted (shape_at p n) ok.layout)
+    and_from (is_form p.form p.record_len) _ ok.form
+    (and_from (is_layout (shape_at p n)) _ (layout_accepted (shape_at p n) ok.layout)
     (and_from (nat_le 1 p.dimension && nat_le p.dimension 1024) (nat_lt 0 v) (and_from _ _ (le-leb 1 p.dimension ok.low) (le-leb p.dimension 1024 ok.high))
-    (lt-ltb 0 v lt))
+    (lt-ltb 0 v lt)))
 
 matrix_same : (m : WordMatrix) (r c : ℕ) (w : List ℕ) → r ≡ m.rows → c ≡ m.cols → w ≡ m.words → record { rows = r; cols = c; words = w } ≡ m
 matrix_same m r c w a b d = rw (a, b, d) refl
@@ -146,7 +148,7 @@ module _ (law : RetrievalGivesTheRecord) (x : Setting) (seeds : List (List ℕ))
 
   welcomed : (key : List ℕ) (v : ℕ) (records : List (List ℕ)) → HasVersion h v records → st ≡ Reader →
       IsTaken x seeds k h st c (Hello key) (welcome_frame x v records)
-      (takes_welcome (Hello key) c (profile_of x.plan) x.plan (length records) v)
+      (takes_welcome (Hello key) c x.plan (length records) v)
   welcomed key v records p reader = rw (welcome_good x.plan (length records) v (plan_ok v records p) (version_positive x h v records g p)) (record {
     client = record {
       seed_is = i.seed_is;
@@ -480,10 +482,10 @@ module _ (law : RetrievalGivesTheRecord) (x : Setting) (seeds : List (List ℕ))
             answer_is = refl;
             event_is = read_is;
             quiet = λ q. read_is ∙ ap (event_read j v)
-                (law s x.plan records (seed_of seeds k) n j (shape_of_layout (shape_at x.plan (length records)) r.plan.layout) inside (r.each j inside)
+                (law s x.plan records (seed_of seeds k) n j r.plan inside (r.each j inside)
                 (inl q));
             certain = λ q. read_is ∙ ap (event_read j v)
-                (law s x.plan records (seed_of seeds k) n j (shape_of_layout (shape_at x.plan (length records)) r.plan.layout) inside (r.each j inside)
+                (law s x.plan records (seed_of seeds k) n j r.plan inside (r.each j inside)
                 (inr q));
           }
 
@@ -514,8 +516,8 @@ module _ (law : RetrievalGivesTheRecord) (x : Setting) (seeds : List (List ℕ))
       IsTaken x seeds k h st c call r (reaction_to_reply c r)
   reply_taken Idle r e a p = absurd p
   reply_taken (Hello key) r e a p =
-      rw p.1.3 (by_call (λ (q : Call). takes_welcome q c (profile_of x.plan)
-      x.plan (length p.1.1) p.1.0) (Hello key) (welcome_frame x p.1.0 p.1.1) e
+      rw p.1.3 (by_call (λ (q : Call). takes_welcome q c x.plan
+      (length p.1.1) p.1.0) (Hello key) (welcome_frame x p.1.0 p.1.1) e
       (welcomed key p.1.0 p.1.1 p.1.2 p.0))
   reply_taken (Sync s v m) r e a (inl p) =
       rw p (by_call (λ (q : Call). takes_refused q c (code_of refusal.Memory)) (Sync s v m) (refused refusal.Memory) e

@@ -2,13 +2,13 @@
 use Rattle.std.specs.Prelude.{◌≡◌, ◌≤◌, ◌<◌, ◌*◌, ◌⊎◌, ℕ, List, [], ◌∷◌, length, take, ◌++◌, true, false, Option, Some, None, slice_get}
 use Rattle.std.specs.List.{AllByRecursion, Contains}
 use Rattle.matrix_u32.specs.Matrix.{row}
-use Rattle.digit_pack.specs.Layout.{IsRecord, record_at, digit_rows}
+use Rattle.digit_pack.specs.Layout.{record_at, digit_rows}
 use Rattle.pir_schemes.specs.declared.scheme.Scheme.{Scheme}
 use Rattle.pir_schemes.specs.declared.scheme.Scheme.TheVariants.{Simple}
 use Rattle.pir_schemes.specs.Schemes.{scheme_byte}
 use Rattle.pir_schemes.specs.Retrievals.{hint_matrix}
 use Rattle.pir_schemes.specs.declared.plan.Plan.{Plan}
-use Rattle.pir_schemes.specs.Plans.{IsPlan, shape_at, profile_of}
+use Rattle.pir_schemes.specs.Plans.{IsPlan, IsRecordOf, shape_at, profile_of}
 use Rattle.frame_codec.specs.declared.frame.Frame.{Frame}
 use Rattle.frame_codec.specs.declared.frame.Frame.TheVariants as frame
 use Rattle.frame_codec.specs.declared.refusal.Refusal.TheVariants as refusal
@@ -32,7 +32,7 @@ use Rattle.pir_world.specs.Headlines.{IsRight}
 -- records within the limits of a plan, each of its bytes
 pub record AreRecords (p : Plan) (records : List (List ℕ)) : Type 0 where
   pub plan : IsPlan p (length records)
-  pub each : (i : ℕ) → i < length records → IsRecord (shape_at p (length records)) (record_at records i)
+  pub each : (i : ℕ) → i < length records → IsRecordOf p (record_at records i)
 
 -- versions of such records, as many in each, numbered from 1 or later
 pub record GoodHistory (x : Setting) (h : History) : Type 0 where

@@ -1,16 +1,15 @@
 -- Runs of a publisher, a server and clients over links that carry frames byte by byte.
 use Rattle.std.specs.Prelude.{◌≡◌, ◌<◌, ◌+◌, ◌-◌, ◌^◌, ◌⊎◌, ℕ, List, [], ◌∷◌, ◌++◌, length, min, map, replicate, All, Bool, true, false, Option, Some, None, slice_set, slice_get, nat_lt, nat_le, ◌==◌, cond, is_some, if◌then◌else◌, option_to_list}
 use Rattle.std.specs.List.{flat_map}
-use Rattle.digit_pack.specs.Layout.{records_in}
 use Rattle.pir_schemes.specs.declared.scheme.Scheme.{Scheme}
 use Rattle.pir_schemes.specs.Schemes.{scheme_byte}
-use Rattle.pir_schemes.specs.Plans.{plan_of, fits}
+use Rattle.pir_schemes.specs.Plans.{fits, records_held}
 use Rattle.frame_codec.specs.declared.frame.Frame.{Frame}
 use Rattle.frame_codec.specs.declared.frame.Frame.TheVariants as frame
 use Rattle.frame_codec.specs.declared.refusal.Refusal.TheVariants as refusal
 use Rattle.frame_codec.specs.Frames.{encoding}
 use Rattle.snapshot_file.specs.declared.snapshot.Header.{Header}
-use Rattle.snapshot_file.specs.Snapshots.{shape_of}
+use Rattle.version_store.specs.Openings.{plan_held}
 use Rattle.version_store.specs.declared.store.EditError.TheVariants as edit_error
 use Rattle.version_store.specs.declared.store.PublishError.TheVariants as publish_error
 use Rattle.version_store.specs.Histories.{History, opened, current_version, after_edit, published}
@@ -278,8 +277,8 @@ fresh_link seed = record { client = fresh seed 0; standing = Stranger; up = sile
 
 -- what a snapshot fixes for every version
 abbrev pub setting_in : Header → Setting
-setting_in h = record { plan = plan_of (shape_of h) h.dimension h.seed; publisher = h.publisher }
+setting_in h = record { plan = plan_held h; publisher = h.publisher }
 
 -- one version of some records, with a client for each seed
 abbrev pub opening : Header → List ℕ → List (List ℕ) → State
-opening h records seeds = record { history = opened h.version (records_in (shape_of h) records); links = map fresh_link seeds; log = [] }
+opening h records seeds = record { history = opened h.version (records_held (plan_held h) h.count records); links = map fresh_link seeds; log = [] }

@@ -81,6 +81,7 @@ sized_move sizes _ = Bad
 -- what it is opened with: version 1, and no publisher
 abbrev pub header_of_filling : Filling → Header
 header_of_filling f = record {
+  form = 1;
   width = f.sizes.width;
   record_len = f.sizes.record_len;
   groups = f.sizes.groups;

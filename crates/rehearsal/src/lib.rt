@@ -15,5 +15,5 @@ mod progress;
 mod stop;
 
 pub use input::SCRIPT_LIMIT;
-pub use outcome::outcome_line;
+pub use outcome::{outcome_line, shown_bytes};
 pub use play::{RehearseFault, rehearse};

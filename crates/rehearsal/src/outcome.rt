@@ -93,7 +93,7 @@ fn retrieved_line(
 
 /// A record's bytes in hex, or a dash where there are none.
 #[tactic(auto, unfolding(crate::specs::Texts::shown_bytes))]
-fn shown_bytes(alloc: Global, bytes: &[u8]) -> Result<String, AllocError>
+pub fn shown_bytes(alloc: Global, bytes: &[u8]) -> Result<String, AllocError>
     ensures { IfOk result (λ text. string_bytes text ≡ shown_bytes bytes.now) }
 {
     if bytes.is_empty() {

@@ -198,6 +198,7 @@ impl Opening {
             clients,
         } = self;
         let snapshot = Snapshot {
+            form: 1,
             width: sizes.width,
             record_len: sizes.record_len,
             groups: sizes.groups,

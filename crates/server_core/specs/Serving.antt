@@ -11,7 +11,7 @@ use Rattle.pir_schemes.specs.declared.scheme.Scheme.TheVariants.{Simple}
 use Rattle.pir_schemes.specs.Schemes.{scheme_byte, scheme_of_byte}
 use Rattle.pir_schemes.specs.Parts.{part_of, is_part_of}
 use Rattle.pir_schemes.specs.declared.plan.Plan.{Plan}
-use Rattle.pir_schemes.specs.Plans.{shape_at, profile_of, fits}
+use Rattle.pir_schemes.specs.Plans.{shape_at, profile_of, accepts_profile, fits}
 use Rattle.pir_schemes.specs.Retrievals.{hint_matrix, query_count, answer_count, answer_words}
 use Rattle.version_store.specs.Histories.{StoreState, History, StandsFor, current_version, after_edit, published, delta_rows}
 use Rattle.frame_codec.specs.declared.frame.Frame.{Frame}
@@ -144,7 +144,7 @@ query_asked x h st (Some scheme) version words =
 -- What a frame leads to, in an open session: the first check that applies decides. Words of hints and answers are made from scratch.
 abbrev pub outcome_of_frame : Setting → History → Standing → Frame → Outcome
 outcome_of_frame x h st (Hello profile key) =
-    if profile == profile_of x.plan then (
+    if accepts_profile x.plan profile then (
     if is_reader_key key then welcomes x Reader h else (
     if is_publisher_key x key then welcomes x Publisher h
     else refuses refusal.BadKey st h))

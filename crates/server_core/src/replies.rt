@@ -14,7 +14,7 @@ ghost use Rattle.version_store.specs.Rooms.{scheme_answered, IsAnswerRoom};
 
 use frame_codec::{Bytes32, Frame, Refusal, Rows, Words, write_frame, write_hint_part};
 use matrix_u32::Kernel;
-use pir_schemes::{PROFILE, Scheme, answer_count};
+use pir_schemes::{Scheme, answer_count};
 use std::alloc::{AllocError, Global};
 use version_store::{AnswerRoom, Store};
 
@@ -84,7 +84,7 @@ pub fn put_welcome<K: Kernel>(store: &Store<K>, out: &mut Vec<u8>)
 {
     let layout = store.layout();
     let reply = Frame::Welcome {
-        profile: PROFILE,
+        profile: u16::from(store.form()),
         width: layout.width() as u8,
         record_len: layout.record_len() as u16,
         groups: layout.groups() as u16,

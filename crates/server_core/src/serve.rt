@@ -14,7 +14,7 @@ use crate::replies::{
 use crate::standing::Standing;
 use frame_codec::{Bytes, Bytes32, Frame, Refusal, Words};
 use matrix_u32::Kernel;
-use pir_schemes::{DELTA_ROWS, PROFILE, Scheme};
+use pir_schemes::{DELTA_ROWS, Scheme};
 use sha2::{Digest, Sha256};
 use std::alloc::{AllocError, Global};
 use version_store::{EditError, PublishError, Store};
@@ -46,7 +46,7 @@ fn serve_hello<K: Kernel>(
         Serves (setting_of store.now) h standing
         (Hello profile key.now) store.now result out.old.items out.new.items }
 {
-    if profile != PROFILE {
+    if !store.plan().accepts_profile(profile) {
         put_refused(Refusal::BadProfile, out);
         return standing;
     }

@@ -16,6 +16,7 @@ const MOST_ROUNDS: u32 = 4;
 // A server of the records 0a and c8 at version 1, for no publisher.
 fn server<K: Kernel>(alloc: Global, kernel: K) -> Result<ServerCore<K>, Fail> {
     let header = Header {
+        form: 1,
         width: 8,
         record_len: 1,
         groups: 1,

@@ -40,15 +40,15 @@ either : (c : ClientState) (b : Bool) (t u : Taken) → IsSound c t → IsSound 
 either c true t u a b = a
 either c false t u a b = b
 
-sound_welcome : (call : Call) (c : ClientState) (profile : ℕ) (plan : Plan) (count v : ℕ) → IsSound c (takes_welcome call c profile plan count v)
-sound_welcome Idle c profile plan count v = bad c client.BadReply
-sound_welcome (Hello key) c profile plan count v =
-    either c (is_accepted_welcome profile plan count v) _ (faulty c client.BadWelcome) (λ _. (refl, refl)) (bad c client.BadWelcome)
-sound_welcome (Sync s w p) c profile plan count v = bad c client.BadReply
-sound_welcome (Delta since) c profile plan count v = bad c client.BadReply
-sound_welcome (Ask i s w k) c profile plan count v = bad c client.BadReply
-sound_welcome (Edit i b) c profile plan count v = bad c client.BadReply
-sound_welcome Publish c profile plan count v = bad c client.BadReply
+sound_welcome : (call : Call) (c : ClientState) (plan : Plan) (count v : ℕ) → IsSound c (takes_welcome call c plan count v)
+sound_welcome Idle c plan count v = bad c client.BadReply
+sound_welcome (Hello key) c plan count v =
+    either c (is_accepted_welcome plan count v) _ (faulty c client.BadWelcome) (λ _. (refl, refl)) (bad c client.BadWelcome)
+sound_welcome (Sync s w p) c plan count v = bad c client.BadReply
+sound_welcome (Delta since) c plan count v = bad c client.BadReply
+sound_welcome (Ask i s w k) c plan count v = bad c client.BadReply
+sound_welcome (Edit i b) c plan count v = bad c client.BadReply
+sound_welcome Publish c plan count v = bad c client.BadReply
 
 sound_asked : (known : Option ServerInfo) (s : Scheme) (c : ClientState) (asked next scheme version part : ℕ) (words : List ℕ) →
     IsSound c (takes_asked_part known s c asked next scheme version part words)
@@ -151,7 +151,7 @@ sound c (frame.Query scheme version words) = bad c client.BadReply
 sound c (frame.Edit index bytes) = bad c client.BadReply
 sound c frame.Publish = bad c client.BadReply
 sound c frame.Bye = bad c client.BadReply
-sound c (frame.Welcome profile width record_len groups count version dimension seed) = sound_welcome c.call c profile _ count version
+sound c (frame.Welcome profile width record_len groups count version dimension seed) = sound_welcome c.call c _ count version
 sound c (frame.HintPart scheme version part words) = sound_part c.call c scheme version part words
 sound c (frame.Delta since now count rows) = sound_delta c.call c since now count rows
 sound c (frame.Answer scheme version words) = sound_answer c.call c scheme version words

@@ -16,7 +16,7 @@ mod refused_memory;
 mod texts;
 
 // A greeting but its key, and what it is answered but the seed of zeros.
-const GREETING: &[u8] = &[0x22, 0, 0, 0, 0x02, 1, 0];
+const GREETING: &[u8] = &[0x22, 0, 0, 0, 0x02, 2, 0];
 
 const WELCOME: &[u8] = &[
     0x35, 0, 0, 0, 0x82, 1, 0, 8, 1, 0, 1, 0, 2, 0, 0, 0, 1, 0, 0, 0, 0, 0, 0, 0, 1, 0,

@@ -4,3 +4,4 @@ pub mod Readings
 pub mod Writings
 pub mod Unique
 pub mod Stages
+pub mod Migrating

@@ -6,39 +6,41 @@ use Rattle.sha2.specs.Sha256.{sha256}
 use Rattle.snapshot_file.specs.declared.snapshot.Header.{Header}
 use Rattle.snapshot_file.specs.declared.snapshot.SnapshotFault.{SnapshotFault}
 use Rattle.snapshot_file.specs.declared.snapshot.SnapshotFault.TheVariants as faults
-use Rattle.snapshot_file.specs.Snapshots.{magic, header_bytes, hashed_bytes, snapshot_bytes, records_len, IsHeader, IsAccepted, IsSnapshot}
-use Rattle.snapshot_file.specs.Verdicts.{IsUnfinished, HasBadDigest, EndsBelow, EndsKept, EndsAfter, StopsReadingAt, MayRefuse}
+use Rattle.snapshot_file.specs.Snapshots.{magic, IsForm, IsMagic, header_bytes, hashed_bytes, snapshot_bytes, records_len, IsHeader, IsAccepted, IsFile}
+use Rattle.snapshot_file.specs.Verdicts.{IsUnfinished, HasBadDigest, HasBadSlot, EndsBelow, EndsKept, EndsAfter, StopsReadingAt, MayRefuse}
 
 -- the input ended, or failed, in the fields
-pub stops_in_fields : (fault : SnapshotFault) (first part : List ℕ) (left : Option (List ℕ)) → first ≡ magic → EndsBelow 83 fault part left →
+pub stops_in_fields : (fault : SnapshotFault) (form : ℕ) (first part : List ℕ) (left : Option (List ℕ)) → IsForm form → first ≡ magic form → EndsBelow 83 fault part left →
     StopsReadingAt fault (first ++ part) left
-stops_in_fields faults.Short first part left e d = (inr (inl (part, ap (λ (x : List ℕ). x ++ part) e, d.0)), d.1)
-stops_in_fields faults.Read first part left e d = inl (inr (inl (part, ap (λ (x : List ℕ). x ++ part) e, d)))
-stops_in_fields faults.NotSnapshot first part left e d = absurd d
-stops_in_fields faults.BadLayout first part left e d = absurd d
-stops_in_fields faults.BadDigest first part left e d = absurd d
-stops_in_fields faults.TrailingBytes first part left e d = absurd d
-stops_in_fields faults.Memory first part left e d = absurd d
+stops_in_fields faults.Short form first part left f e d = (inr (inl (form, part, f, ap (λ (x : List ℕ). x ++ part) e, d.0)), d.1)
+stops_in_fields faults.Read form first part left f e d = inl (inr (inl (form, part, f, ap (λ (x : List ℕ). x ++ part) e, d)))
+stops_in_fields faults.NotSnapshot form first part left f e d = absurd d
+stops_in_fields faults.BadLayout form first part left f e d = absurd d
+stops_in_fields faults.BadDigest form first part left f e d = absurd d
+stops_in_fields faults.TrailingBytes form first part left f e d = absurd d
+stops_in_fields faults.Memory form first part left f e d = absurd d
+stops_in_fields faults.BadSlot form first part left f e d = absurd d
 
--- after the header, and not yet after the records
+-- the input ended, or failed, in the records, or there was no memory for them
 in_records : (h : Header) (part : List ℕ) → IsHeader h → IsAccepted h → length part < records_len h → IsUnfinished (header_bytes h ++ part)
-in_records h part is good lt = inr (inr (h, part, (is, good, refl), omega (arith, lt)))
+in_records h part header accepted lt = inr (inr (h, part, (header, accepted, refl), omega (arith, lt)))
 
 pub stops_in_records : (fault : SnapshotFault) (h : Header) (part : List ℕ) (left : Option (List ℕ)) → IsHeader h → IsAccepted h →
     EndsKept (records_len h) fault part left → StopsReadingAt fault (header_bytes h ++ part) left
-stops_in_records faults.Short h part left is good d = (in_records h part is good d.0, d.1)
-stops_in_records faults.Read h part left is good d = inl (in_records h part is good d)
-stops_in_records faults.Memory h part left is good d = (h, part, (is, good, refl))
-stops_in_records faults.NotSnapshot h part left is good d = absurd d
-stops_in_records faults.BadLayout h part left is good d = absurd d
-stops_in_records faults.BadDigest h part left is good d = absurd d
-stops_in_records faults.TrailingBytes h part left is good d = absurd d
+stops_in_records faults.Short h part left header accepted d = (in_records h part header accepted d.0, d.1)
+stops_in_records faults.Read h part left header accepted d = inl (in_records h part header accepted d)
+stops_in_records faults.Memory h part left header accepted d = (h, part, (header, accepted, refl))
+stops_in_records faults.NotSnapshot h part left header accepted d = absurd d
+stops_in_records faults.BadLayout h part left header accepted d = absurd d
+stops_in_records faults.BadDigest h part left header accepted d = absurd d
+stops_in_records faults.TrailingBytes h part left header accepted d = absurd d
+stops_in_records faults.BadSlot h part left header accepted d = absurd d
 
 -- after the records, and not yet after the digest
-in_digest : (h : Header) (records part : List ℕ) → IsSnapshot h records → length part < 32 → IsUnfinished (header_bytes h ++ (records ++ part))
+in_digest : (h : Header) (records part : List ℕ) → IsFile h records → length part < 32 → IsUnfinished (header_bytes h ++ (records ++ part))
 in_digest h records part is lt = inr (inr (h, records ++ part, (is.header, is.accepted, refl), omega (arith, length-append records part, is.len)))
 
-pub stops_in_digest : (fault : SnapshotFault) (h : Header) (records part : List ℕ) (left : Option (List ℕ)) → IsSnapshot h records →
+pub stops_in_digest : (fault : SnapshotFault) (h : Header) (records part : List ℕ) (left : Option (List ℕ)) → IsFile h records →
     EndsBelow 32 fault part left
     → StopsReadingAt fault (header_bytes h ++ (records ++ part)) left
 stops_in_digest faults.Short h records part left is d = (in_digest h records part is d.0, d.1)
@@ -48,8 +50,9 @@ stops_in_digest faults.BadLayout h records part left is d = absurd d
 stops_in_digest faults.BadDigest h records part left is d = absurd d
 stops_in_digest faults.TrailingBytes h records part left is d = absurd d
 stops_in_digest faults.Memory h records part left is d = absurd d
+stops_in_digest faults.BadSlot h records part left is d = absurd d
 
-pub stops_at_digest : (h : Header) (records digest : List ℕ) → IsSnapshot h records → length digest ≡ 32 → ¬ (digest ≡ sha256 (hashed_bytes h records))
+pub stops_at_digest : (h : Header) (records digest : List ℕ) → IsFile h records → length digest ≡ 32 → ¬ (digest ≡ sha256 (hashed_bytes h records))
     → HasBadDigest (header_bytes h ++ (records ++ digest)) []
 stops_at_digest h records digest is len wrong =
     (h, records, digest, is, len, wrong, sym (append_assoc (header_bytes h) records digest) ∙ sym (append-nil (hashed_bytes h records ++ digest)))
@@ -61,7 +64,7 @@ joined h records digest part e =
     sym (append_assoc (header_bytes h) (records ++ digest) part)
     ∙ ap (λ (x : List ℕ). x ++ part) (sym (append_assoc (header_bytes h) records digest) ∙ ap (λ (x : List ℕ). hashed_bytes h records ++ x) e)
 
-pub stops_after : (fault : SnapshotFault) (h : Header) (records digest part : List ℕ) (left : Option (List ℕ)) → IsSnapshot h records →
+pub stops_after : (fault : SnapshotFault) (h : Header) (records digest part : List ℕ) (left : Option (List ℕ)) → IsFile h records →
     digest ≡ sha256 (hashed_bytes h records)
     → EndsAfter fault part → StopsReadingAt fault (header_bytes h ++ ((records ++ digest) ++ part)) left
 stops_after faults.TrailingBytes h records digest part left is e d =
@@ -73,19 +76,21 @@ stops_after faults.NotSnapshot h records digest part left is e d = absurd d
 stops_after faults.BadLayout h records digest part left is e d = absurd d
 stops_after faults.BadDigest h records digest part left is e d = absurd d
 stops_after faults.Memory h records digest part left is e d = absurd d
+stops_after faults.BadSlot h records digest part left is e d = absurd d
 
 -- what is after the bytes at which reading stopped
 more : (read prefix rest ys : List ℕ) → read ≡ prefix ++ rest → read ++ ys ≡ prefix ++ (rest ++ ys)
 more read prefix rest ys e = ap (λ (x : List ℕ). x ++ ys) e ∙ append_assoc prefix rest ys
 
 answered : (fault : SnapshotFault) (read ys : List ℕ) → StopsReadingAt fault read (Some ys) → MayRefuse fault (read ++ ys)
-answered faults.NotSnapshot read ys s = (omega (arith, length-append read ys, s.0), λ e. s.1 (sym (take_at read ys 8 s.0) ∙ e))
+answered faults.NotSnapshot read ys s = (omega (arith, length-append read ys, s.0), λ m. s.1 (subst IsMagic (take_at read ys 8 s.0) m))
 answered faults.BadLayout read ys s = (ys, (s.0, s.1, s.2, more read (header_bytes s.0) [] ys s.3))
 answered faults.Short read ys s = subst IsUnfinished (sym (ap (λ (x : List ℕ). read ++ x) s.1 ∙ append-nil read)) s.0
 answered faults.BadDigest read ys s = (ys, (s.0, s.1, s.2, s.3, s.4, s.5, more read (hashed_bytes s.0 s.1 ++ s.2) [] ys s.6))
 answered faults.TrailingBytes read ys s = (s.0, ys, (s.1.0, s.1.1, s.1.2, more read (snapshot_bytes s.1.0 s.1.1) (s.0 ∷ []) ys s.1.3))
 answered faults.Read read ys s = tt
 answered faults.Memory read ys s = (s.0, s.1 ++ ys, (s.2.0, s.2.1, more read (header_bytes s.0) s.1 ys s.2.2))
+answered faults.BadSlot read ys s = subst HasBadSlot (sym (ap (λ (x : List ℕ). read ++ x) s.1 ∙ append-nil read)) s.0
 
 pub answers_fault : (fault : SnapshotFault) (a b : Option (List ℕ)) (read : List ℕ) → Consumes a b read → StopsReadingAt fault read b →
     IfSome a (λ bytes. MayRefuse fault bytes)
@@ -99,6 +104,7 @@ pub kept_more : (fault : SnapshotFault) (before part : List ℕ) (wanted : ℕ) 
 kept_more faults.Short before part wanted left lt d = (omega (arith, length-append before part, d.0), d.1)
 kept_more faults.Read before part wanted left lt d = omega (arith, length-append before part)
 kept_more faults.Memory before part wanted left lt d = tt
+kept_more faults.BadSlot before part wanted left lt d = absurd d
 kept_more faults.NotSnapshot before part wanted left lt d = absurd d
 kept_more faults.BadLayout before part wanted left lt d = absurd d
 kept_more faults.BadDigest before part wanted left lt d = absurd d

@@ -1,13 +1,13 @@
 -- That no input has two verdicts: how far it is good, stage by stage.
-use Rattle.std.proofs.Common.{◌≡◌, ℕ, zero, suc, ◌+◌, ◌-◌, ◌<◌, ◌≤◌, List, [], ◌∷◌, ◌++◌, length, take, Result, Ok, Err, inl, inr, refl, sym, ap, subst, ◌∙◌, append_assoc, arith}
+use Rattle.std.proofs.Common.{◌≡◌, ℕ, zero, suc, ◌+◌, ◌-◌, ◌<◌, ◌≤◌, List, [], ◌∷◌, ◌++◌, length, take, true, false, Result, Ok, Err, inl, inr, refl, sym, ap, subst, ◌∙◌, append_assoc, arith}
 use Rattle.std.proofs.lemmas.List.{length-append, length-take, append-nil, take_at}
 use Rattle.std.proofs.lemmas.Bool.{cases_lt}
 use Rattle.sha2.specs.Sha256.{sha256}
 use Rattle.snapshot_file.specs.declared.snapshot.Header.{Header}
 use Rattle.snapshot_file.specs.declared.snapshot.SnapshotFault.{SnapshotFault}
 use Rattle.snapshot_file.specs.declared.snapshot.SnapshotFault.TheVariants as faults
-use Rattle.snapshot_file.specs.Snapshots.{magic, header_bytes, hashed_bytes, snapshot_bytes, records_len, IsHeader, IsAccepted, IsSnapshot}
-use Rattle.snapshot_file.specs.Verdicts.{EndsInHeader, HasHeader, EndsAfterHeader, HasBadHeader, HasBadDigest, HasSnapshot, HasSnapshotFault, IsVerdict}
+use Rattle.snapshot_file.specs.Snapshots.{magic, IsForm, IsMagic, header_bytes, hashed_bytes, snapshot_bytes, records_len, has_slots, IsHeader, IsAccepted, IsFile, IsSnapshot}
+use Rattle.snapshot_file.specs.Verdicts.{EndsInHeader, HasHeader, EndsAfterHeader, HasBadHeader, HasBadDigest, HasBadSlot, HasFile, HasSnapshotFault, IsVerdict}
 use Rattle.snapshot_file.proofs.Headers.{length-header, length-magic, header_fields}
 use Rattle.snapshot_file.proofs.Unique.{cut_prefix, one_header, same_records, one_snapshot, length-sha256}
 
@@ -15,28 +15,37 @@ use Rattle.snapshot_file.proofs.Unique.{cut_prefix, one_header, same_records, on
 abbrev Reached : ℕ → List ℕ → Type 0
 Reached zero bytes = Unit {0}
 Reached (suc zero) bytes = 8 ≤ length bytes
-Reached (suc (suc zero)) bytes = take 8 bytes ≡ magic
-Reached (suc (suc (suc zero))) bytes = (take 8 bytes ≡ magic) × (91 ≤ length bytes)
+Reached (suc (suc zero)) bytes = IsMagic (take 8 bytes)
+Reached (suc (suc (suc zero))) bytes = IsMagic (take 8 bytes) × (91 ≤ length bytes)
 Reached (suc (suc (suc (suc zero)))) bytes = (h : Header) × (rest : List ℕ) × HasHeader bytes h rest
 Reached (suc (suc (suc (suc (suc zero))))) bytes = (h : Header) × (rest : List ℕ) × HasHeader bytes h rest × (records_len h + 32 ≤ length rest)
-Reached (suc (suc (suc (suc (suc (suc zero)))))) bytes = (rest : List ℕ) × HasSnapshot bytes rest
-Reached (suc (suc (suc (suc (suc (suc (suc zero))))))) bytes = HasSnapshot bytes []
+Reached (suc (suc (suc (suc (suc (suc zero)))))) bytes = (rest : List ℕ) × HasFile bytes rest
+Reached (suc (suc (suc (suc (suc (suc (suc zero))))))) bytes = HasFile bytes []
+Reached (suc (suc (suc (suc (suc (suc (suc (suc zero)))))))) bytes = (h : Header) × (records : List ℕ) × IsSnapshot h records × (bytes ≡ snapshot_bytes h records)
 Reached _ bytes = ⊥
 
 record StopsAfter (n : ℕ) (bytes : List ℕ) : Type 0 where
   reached : Reached n bytes
   last : ¬ Reached (suc n) bytes
 
+is_magic : (form : ℕ) (bytes : List ℕ) → IsForm form → bytes ≡ magic form → IsMagic bytes
+is_magic form bytes (inl a) e = inl (e ∙ ap magic a)
+is_magic form bytes (inr a) e = inr (e ∙ ap magic a)
+
+magic_len : (bytes : List ℕ) → IsMagic bytes → length bytes ≡ 8
+magic_len bytes (inl e) = ap length e ∙ length-magic 1
+magic_len bytes (inr e) = ap length e ∙ length-magic 2
+
 -- what stands at the beginning of a header
-prefix_of_header : (h : Header) (rest bytes : List ℕ) → IsHeader h → bytes ≡ header_bytes h ++ rest → (take 8 bytes ≡ magic) × (91 ≤ length bytes)
+prefix_of_header : (h : Header) (rest bytes : List ℕ) → IsHeader h → bytes ≡ header_bytes h ++ rest → IsMagic (take 8 bytes) × (91 ≤ length bytes)
 prefix_of_header h rest bytes is e =
     let fields = header_fields h is in
-    let split : bytes ≡ magic ++ (fields.0 ++ rest) = e ∙ ap (λ (x : List ℕ). x ++ rest) fields.1 ∙ append_assoc magic fields.0 rest in
+    let split : bytes ≡ magic h.form ++ (fields.0 ++ rest) = e ∙ ap (λ (x : List ℕ). x ++ rest) fields.1 ∙ append_assoc (magic h.form) fields.0 rest in
     let len = length-header h is in
-    (ap (take 8) split ∙ take_at magic (fields.0 ++ rest) 8 length-magic, omega (arith, ap length e, length-append (header_bytes h) rest))
+    (is_magic h.form (take 8 bytes) is.form (ap (take 8) split ∙ take_at (magic h.form) (fields.0 ++ rest) 8 (length-magic h.form)), omega (arith, ap length e, length-append (header_bytes h) rest))
 
 -- a snapshot has a header, and enough bytes after it
-rest_of_snapshot : (bytes end : List ℕ) → HasSnapshot bytes end → (h : Header) × (rest : List ℕ) × HasHeader bytes h rest × (records_len h + 32 ≤ length rest)
+rest_of_snapshot : (bytes end : List ℕ) → HasFile bytes end → (h : Header) × (rest : List ℕ) × HasHeader bytes h rest × (records_len h + 32 ≤ length rest)
 rest_of_snapshot bytes end p =
     let digest : List ℕ = sha256 (hashed_bytes p.0 p.1) in
     let e : bytes ≡ header_bytes p.0 ++ (p.1 ++ (sha256 (hashed_bytes p.0 p.1) ++ end)) =
@@ -51,12 +60,13 @@ rest_of_snapshot bytes end p =
 
 back : (n : ℕ) (bytes : List ℕ) → Reached (suc n) bytes → Reached n bytes
 back zero bytes p = tt
-back (suc zero) bytes p = omega (arith, length-take 8 bytes, ap length p, length-magic)
+back (suc zero) bytes p = omega (arith, length-take 8 bytes, magic_len (take 8 bytes) p)
 back (suc (suc zero)) bytes p = p.0
 back (suc (suc (suc zero))) bytes p = prefix_of_header p.0 p.1 bytes p.2.0 p.2.2
 back (suc (suc (suc (suc zero)))) bytes p = (p.0, p.1, p.2)
 back (suc (suc (suc (suc (suc zero))))) bytes p = rest_of_snapshot bytes p.0 p.1
 back (suc (suc (suc (suc (suc (suc zero)))))) bytes p = ([], p)
+back (suc (suc (suc (suc (suc (suc (suc zero))))))) bytes p = (p.0, p.1, p.2.file, p.3 ∙ sym (append-nil (snapshot_bytes p.0 p.1)))
 back _ bytes p = absurd p
 
 -- ---- each verdict ends at one stage
@@ -87,12 +97,13 @@ fault_after (suc (suc zero)) = faults.Short
 fault_after (suc (suc (suc zero))) = faults.BadLayout
 fault_after (suc (suc (suc (suc zero)))) = faults.Short
 fault_after (suc (suc (suc (suc (suc zero))))) = faults.BadDigest
-fault_after _ = faults.TrailingBytes
+fault_after (suc (suc (suc (suc (suc (suc zero)))))) = faults.TrailingBytes
+fault_after _ = faults.BadSlot
 
 ends_in_header : (bytes : List ℕ) → EndsInHeader bytes → StopsAfter 2 bytes
 ends_in_header bytes p = record {
-  reached = ap (take 8) p.1 ∙ take_at magic p.0 8 length-magic;
-  last = λ q. absurd (omega (arith, ap length p.1, length-append magic p.0, length-magic, p.2, q.1));
+  reached = is_magic p.0 (take 8 bytes) p.2 (ap (take 8) p.3 ∙ take_at (magic p.0) p.1 8 (length-magic p.0));
+  last = λ q. absurd (omega (arith, ap length p.3, length-append (magic p.0) p.1, length-magic p.0, p.4, q.1));
 }
 
 bad_header : (bytes rest : List ℕ) → HasBadHeader bytes rest → StopsAfter 3 bytes
@@ -110,8 +121,8 @@ ends_after bytes p = record {
 }
 
 -- after the same header and records there is the same digest
-digest_of_snapshot : (bytes digest rest end : List ℕ) (h : Header) (records : List ℕ) → IsSnapshot h records → length digest ≡ 32
-    → bytes ≡ hashed_bytes h records ++ (digest ++ rest) → HasSnapshot bytes end → digest ≡ sha256 (hashed_bytes h records)
+digest_of_snapshot : (bytes digest rest end : List ℕ) (h : Header) (records : List ℕ) → IsFile h records → length digest ≡ 32
+    → bytes ≡ hashed_bytes h records ++ (digest ++ rest) → HasFile bytes end → digest ≡ sha256 (hashed_bytes h records)
 digest_of_snapshot bytes digest rest end h records is len e q =
     let whole : hashed_bytes q.0 q.1 ++ (sha256 (hashed_bytes q.0 q.1) ++ end) ≡ hashed_bytes h records ++ (digest ++ rest) =
     sym (q.3 ∙ append_assoc (hashed_bytes q.0 q.1) (sha256 (hashed_bytes q.0 q.1)) end) ∙ e in
@@ -128,7 +139,7 @@ bad_digest bytes rest p =
       last = λ q. p.5 (digest_of_snapshot bytes p.2 rest q.0 p.0 p.1 p.3 p.4 apart q.1);
     }
 
-trailing : (b : ℕ) (bytes rest : List ℕ) → HasSnapshot bytes (b ∷ rest) → StopsAfter 6 bytes
+trailing : (b : ℕ) (bytes rest : List ℕ) → HasFile bytes (b ∷ rest) → StopsAfter 6 bytes
 trailing b bytes rest p = record {
   reached = (b ∷ rest, p);
   last = λ q.
@@ -136,9 +147,18 @@ trailing b bytes rest p = record {
       let none : b ∷ rest ≡ [] = same.2 in cc;
 }
 
+bad_slot : (bytes : List ℕ) → HasBadSlot bytes → StopsAfter 7 bytes
+bad_slot bytes p = record {
+  reached = (p.0, p.1, p.2, p.4 ∙ sym (append-nil (snapshot_bytes p.0 p.1)));
+  last = λ q.
+      let same = one_snapshot p.0 q.0 p.1 q.1 [] [] p.2 q.2.file (ap (λ (x : List ℕ). x ++ []) (sym p.4 ∙ q.3)) in
+      let good : has_slots p.0 p.1 ≡ true = (λ i. has_slots (same.0 i) (same.1 i)) ∙ q.2.slots in
+      let no : false ≡ true = sym p.3 ∙ good in cc;
+}
+
 record FaultStage (fault : SnapshotFault) (bytes : List ℕ) : Type 0 where
   stage : ℕ
-  early : stage < 7
+  early : stage < 8
   stops : StopsAfter stage bytes
   is : fault ≡ fault_after stage
 
@@ -156,6 +176,7 @@ stage_of_fault faults.Short bytes (inr (inl p)) = record { stage = 2; early = om
 stage_of_fault faults.Short bytes (inr (inr p)) = record { stage = 4; early = omega arith; stops = ends_after bytes p; is = refl }
 stage_of_fault faults.BadDigest bytes p = record { stage = 5; early = omega arith; stops = bad_digest bytes p.0 p.1; is = refl }
 stage_of_fault faults.TrailingBytes bytes p = record { stage = 6; early = omega arith; stops = trailing p.0 bytes p.1 p.2; is = refl }
+stage_of_fault faults.BadSlot bytes p = record { stage = 7; early = omega arith; stops = bad_slot bytes p; is = refl }
 stage_of_fault faults.Read bytes p = absurd p
 stage_of_fault faults.Memory bytes p = absurd p
 
@@ -163,13 +184,13 @@ not_both : (h : Header) (records bytes : List ℕ) (fault : SnapshotFault) → I
     HasSnapshotFault fault bytes → ⊥
 not_both h records bytes fault is e p =
     let s = stage_of_fault fault bytes p in
-    let whole : StopsAfter 7 bytes = record { reached = (h, records, is, e ∙ sym (append-nil (snapshot_bytes h records))); last = λ q. q } in
-    not_before s.stage 7 bytes s.stops whole s.early
+    let whole : StopsAfter 8 bytes = record { reached = (h, records, is, e); last = λ q. q } in
+    not_before s.stage 8 bytes s.stops whole s.early
 
 pub one_verdict : (bytes : List ℕ) (v w : Result (Header × List ℕ) SnapshotFault) → IsVerdict bytes v → IsVerdict bytes w → v ≡ w
 one_verdict bytes (Ok s) (Ok t) p q =
     let e : snapshot_bytes s.0 s.1 ++ [] ≡ snapshot_bytes t.0 t.1 ++ [] = ap (λ (x : List ℕ). x ++ []) (sym p.1 ∙ q.1) in
-    let same = one_snapshot s.0 t.0 s.1 t.1 [] [] p.0 q.0 e in
+    let same = one_snapshot s.0 t.0 s.1 t.1 [] [] p.0.file q.0.file e in
     λ i. Ok (same.0 i, same.1 i)
 one_verdict bytes (Ok s) (Err g) p q = absurd (not_both s.0 s.1 bytes g p.0 p.1 q)
 one_verdict bytes (Err f) (Ok t) p q = absurd (not_both t.0 t.1 bytes f q.0 q.1 p)

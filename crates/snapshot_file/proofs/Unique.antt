@@ -1,11 +1,11 @@
 -- That a header and a snapshot have one encoding.
-use Rattle.std.proofs.Common.{◌≡◌, ℕ, zero, suc, ◌+◌, ◌*◌, ◌^◌, ◌<◌, List, [], ◌∷◌, ◌++◌, length, slice_index, take, drop, refl, sym, ap, ◌∙◌, append_assoc, arith}
+use Rattle.std.proofs.Common.{◌≡◌, inl, inr, ℕ, zero, suc, ◌+◌, ◌*◌, ◌^◌, ◌<◌, List, [], ◌∷◌, ◌++◌, length, slice_index, take, drop, refl, sym, ap, ◌∙◌, append_assoc, arith}
 use Rattle.std.proofs.lemmas.List.{length-append, take_at, drop_at}
 use Rattle.std.specs.Int.{w32, to_be_bytes}
 use Rattle.byteorder.specs.Endian.{little_number}
 use Rattle.sha2.specs.Sha256.{sha256, digest_bytes}
 use Rattle.snapshot_file.specs.declared.snapshot.Header.{Header}
-use Rattle.snapshot_file.specs.Snapshots.{magic, number_bytes, header_bytes, hashed_bytes, snapshot_bytes, records_len, IsHeader, IsSnapshot}
+use Rattle.snapshot_file.specs.Snapshots.{magic, IsForm, number_bytes, header_bytes, hashed_bytes, snapshot_bytes, records_len, IsHeader, IsFile}
 use Rattle.snapshot_file.proofs.NumberBytes.{length-number, number_back}
 use Rattle.snapshot_file.proofs.Headers.{length-header}
 
@@ -33,9 +33,10 @@ one_byte x y e = cc
 -- ---- a header
 
 -- the headers of the same fields are the same
-same_fields : (h k : Header) → h.width ≡ k.width → h.record_len ≡ k.record_len → h.groups ≡ k.groups → h.count ≡ k.count → h.dimension ≡ k.dimension
+same_fields : (h k : Header) → h.form ≡ k.form → h.width ≡ k.width → h.record_len ≡ k.record_len → h.groups ≡ k.groups → h.count ≡ k.count → h.dimension ≡ k.dimension
     → h.version ≡ k.version → h.seed ≡ k.seed → h.publisher ≡ k.publisher → h ≡ k
-same_fields h k w r g c n v s p = λ i. record {
+same_fields h k f w r g c n v s p = λ i. record {
+  form = f i;
   width = w i;
   record_len = r i;
   groups = g i;
@@ -45,6 +46,18 @@ same_fields h k w r g c n v s p = λ i. record {
   seed = s i;
   publisher = p i;
 }
+
+-- no two forms have the same magic
+other_magic : magic 1 ≡ magic 2 → ⊥
+unfolding magic
+other_magic e =
+    let last : 49 ≡ 50 = ap (λ (bytes : List ℕ). slice_index bytes 7) e in absurd (omega (arith, last))
+
+pub one_form : (form other : ℕ) → IsForm form → IsForm other → magic form ≡ magic other → form ≡ other
+one_form form other (inl a) (inl b) e = a ∙ sym b
+one_form form other (inl a) (inr b) e = absurd (other_magic (ap magic (sym a) ∙ e ∙ ap magic b))
+one_form form other (inr a) (inl b) e = absurd (other_magic (ap magic (sym b) ∙ sym e ∙ ap magic a))
+one_form form other (inr a) (inr b) e = a ∙ sym b
 
 same_header : (h k : Header) → IsHeader h → IsHeader k → header_bytes h ≡ header_bytes k → h ≡ k
 unfolding header_bytes
@@ -58,8 +71,9 @@ same_header h k ih ik e =
     let groups = cut_back 2 _ _ (number_bytes 2 h.groups) (number_bytes 2 k.groups) (length-number 2 h.groups) (length-number 2 k.groups) count.0 in
     let record_len = cut_back 2 _ _ (number_bytes 2 h.record_len) (number_bytes 2 k.record_len) (length-number 2 h.record_len)
     (length-number 2 k.record_len) groups.0 in
-    let width = cut_back 1 magic magic (h.width ∷ []) (k.width ∷ []) refl refl record_len.0 in
+    let width = cut_back 1 (magic h.form) (magic k.form) (h.width ∷ []) (k.width ∷ []) refl refl record_len.0 in
     same_fields h k
+    (one_form h.form k.form ih.form ik.form width.0)
     (one_byte h.width k.width width.1)
     (one_number 2 h.record_len k.record_len ih.record_len ik.record_len record_len.1)
     (one_number 2 h.groups k.groups ih.groups ik.groups groups.1)
@@ -89,14 +103,14 @@ pub length-sha256 : (m : List ℕ) → length (sha256 m) ≡ 32
 unfolding sha256
 length-sha256 m = length-digest_bytes _ 8
 
-pub length-snapshot : (h : Header) (records : List ℕ) → IsSnapshot h records → length (snapshot_bytes h records) ≡ 123 + records_len h
+pub length-snapshot : (h : Header) (records : List ℕ) → IsFile h records → length (snapshot_bytes h records) ≡ 123 + records_len h
 length-snapshot h records is =
     let prefix = length-header h is.header in
     let digest = length-sha256 (hashed_bytes h records) in
     omega (arith, length-append (hashed_bytes h records) (sha256 (hashed_bytes h records)), length-append (header_bytes h) records, is.len)
 
 -- after an equal header there are equal records, and what follows is equal
-pub same_records : (h k : Header) (records others x y : List ℕ) → IsSnapshot h records → IsSnapshot k others →
+pub same_records : (h k : Header) (records others x y : List ℕ) → IsFile h records → IsFile k others →
     hashed_bytes h records ++ x ≡ hashed_bytes k others ++ y
     → (h ≡ k) × (records ≡ others) × (x ≡ y)
 same_records h k records others x y is js e =
@@ -107,7 +121,7 @@ same_records h k records others x y is js e =
     let cut = cut_prefix records others x y len prefix.1 in
     (prefix.0, cut.0, cut.1)
 
-pub one_snapshot : (h k : Header) (records others rest end : List ℕ) → IsSnapshot h records → IsSnapshot k others
+pub one_snapshot : (h k : Header) (records others rest end : List ℕ) → IsFile h records → IsFile k others
     → snapshot_bytes h records ++ rest ≡ snapshot_bytes k others ++ end → (h ≡ k) × (records ≡ others) × (rest ≡ end)
 one_snapshot h k records others rest end is js e =
     let hs = sha256 (hashed_bytes h records) in

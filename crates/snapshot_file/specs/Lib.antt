@@ -1,4 +1,5 @@
 pub mod Snapshots
+pub mod Migrations
 pub mod Verdicts
 pub mod Laws
 pub mod Names

@@ -1,5 +1,7 @@
 -- What faults are called where they are printed.
 use Rattle.std.specs.Prelude.{ℕ, List, codes}
+use Rattle.snapshot_file.specs.declared.migration.MigrateError.{MigrateError}
+use Rattle.snapshot_file.specs.declared.migration.MigrateError.TheVariants as migration
 use Rattle.snapshot_file.specs.declared.snapshot.SnapshotFault.{SnapshotFault}
 use Rattle.snapshot_file.specs.declared.snapshot.SnapshotFault.TheVariants as snapshot
 
@@ -12,3 +14,10 @@ snapshot_fault_name snapshot.BadDigest = codes "BadDigest"
 snapshot_fault_name snapshot.TrailingBytes = codes "TrailingBytes"
 snapshot_fault_name snapshot.Read = codes "Read"
 snapshot_fault_name snapshot.Memory = codes "Memory"
+snapshot_fault_name snapshot.BadSlot = codes "BadSlot"
+
+-- the name of why records are not moved into slots
+unfoldable pub migrate_error_name : MigrateError → List ℕ
+migrate_error_name migration.NotFormOne = codes "NotFormOne"
+migrate_error_name migration.TooWide = codes "TooWide"
+migrate_error_name migration.Memory = codes "Memory"

@@ -1,8 +1,10 @@
 -- The bytes of a snapshot: a header of 91 bytes, the records, and the digest of both.
-use Rattle.std.specs.Prelude.{◌≡◌, ◌<◌, ◌≤◌, ◌*◌, ◌^◌, ℕ, List, [], ◌∷◌, ◌++◌, length, codes}
+use Rattle.std.specs.Prelude.{◌≡◌, ◌⊎◌, ◌<◌, ◌≤◌, ◌*◌, ◌^◌, ◌==◌, ℕ, List, [], ◌∷◌, ◌++◌, length, Bool, true, if◌then◌else◌, codes}
+use Rattle.std.specs.List.{list_all}
 use Rattle.byteorder.specs.Endian.{little_bytes}
 use Rattle.sha2.specs.Sha256.{sha256}
-use Rattle.digit_pack.specs.Layout.{Shape, shape, IsLayout}
+use Rattle.digit_pack.specs.Layout.{Shape, shape, IsLayout, records_in}
+use Rattle.digit_pack.specs.Slots.{is_form, is_slot}
 use Rattle.snapshot_file.specs.declared.snapshot.Header.{Header}
 use Rattle.snapshot_file.specs.declared.snapshot.Snapshot.{Snapshot}
 
@@ -10,13 +12,22 @@ use Rattle.snapshot_file.specs.declared.snapshot.Snapshot.{Snapshot}
 unfoldable pub number_bytes : ℕ → ℕ → List ℕ
 number_bytes n x = little_bytes n x
 
--- what every snapshot begins with, in ASCII
-unfoldable pub magic : List ℕ
-magic = codes "PIRSNAP1"
+-- what every snapshot of a form begins with, in ASCII
+unfoldable pub magic : ℕ → List ℕ
+magic form = if form == 2 then codes "PIRSNAP2" else codes "PIRSNAP1"
+
+-- the forms that there are: in form 1 all records have one length, in form 2 each has its own and stands in a slot
+abbrev pub IsForm : ℕ → Type 0
+IsForm form = (form ≡ 1) ⊎ (form ≡ 2)
+
+-- what a snapshot begins with
+abbrev pub IsMagic : List ℕ → Type 0
+IsMagic bytes = (bytes ≡ magic 1) ⊎ (bytes ≡ magic 2)
 
 -- the fields of a snapshot but its records
 abbrev pub header_of : Snapshot → Header
 header_of s = record {
+  form = s.form;
   width = s.width;
   record_len = s.record_len;
   groups = s.groups;
@@ -38,7 +49,7 @@ records_len h = h.count * h.record_len
 -- the magic, the fields in their order, each number as its bytes
 unfoldable pub header_bytes : Header → List ℕ
 header_bytes h =
-    magic
+    magic h.form
     ++ (h.width ∷ [])
     ++ number_bytes 2 h.record_len
     ++ number_bytes 2 h.groups
@@ -58,6 +69,7 @@ snapshot_bytes h records = hashed_bytes h records ++ sha256 (hashed_bytes h reco
 
 -- the fields are numbers of their types
 pub record IsHeader (h : Header) : Type 0 where
+  pub form : IsForm h.form
   pub width : h.width < 2 ^ 8
   pub record_len : h.record_len < 2 ^ 16
   pub groups : h.groups < 2 ^ 16
@@ -67,14 +79,24 @@ pub record IsHeader (h : Header) : Type 0 where
   pub seed : length h.seed ≡ 32
   pub publisher : length h.publisher ≡ 32
 
--- a layout within its limits, a dimension of 1 to 1024, a version from 1 on
+-- a layout within its limits, slots of two bytes or more, a dimension of 1 to 1024, a version from 1 on
 pub record IsAccepted (h : Header) : Type 0 where
+  pub form : is_form h.form h.record_len ≡ true
   pub layout : IsLayout (shape_of h)
   pub dimension : (1 ≤ h.dimension) × (h.dimension ≤ 1024)
   pub version : 1 ≤ h.version
 
--- a header that a reader takes, and the bytes of its records
-pub record IsSnapshot (h : Header) (records : List ℕ) : Type 0 where
+-- a header that a reader takes, and as many bytes as its records have
+pub record IsFile (h : Header) (records : List ℕ) : Type 0 where
   pub header : IsHeader h
   pub accepted : IsAccepted h
   pub len : length records ≡ records_len h
+
+-- in form 2 the bytes of each record are a slot
+unfoldable pub has_slots : Header → List ℕ → Bool
+has_slots h records = if h.form == 2 then list_all is_slot (records_in (shape_of h) records) else true
+
+-- a file whose slots are good
+pub record IsSnapshot (h : Header) (records : List ℕ) : Type 0 where
+  pub file : IsFile h records
+  pub slots : has_slots h records ≡ true

@@ -1,15 +1,15 @@
 -- What a reader makes of its input, by cases in the order in which the bytes are judged.
-use Rattle.std.specs.Prelude.{◌≡◌, ◌<◌, ◌≤◌, ◌+◌, ◌⊎◌, ℕ, List, [], ◌∷◌, ◌++◌, length, take, Option, Result, Ok, Err}
+use Rattle.std.specs.Prelude.{◌≡◌, ◌<◌, ◌≤◌, ◌+◌, ◌⊎◌, ℕ, List, [], ◌∷◌, ◌++◌, length, take, false, Option, Result, Ok, Err}
 use Rattle.std.specs.Io.KnownBytes.{IsAtEnd}
 use Rattle.sha2.specs.Sha256.{sha256}
 use Rattle.snapshot_file.specs.declared.snapshot.Header.{Header}
 use Rattle.snapshot_file.specs.declared.snapshot.SnapshotFault.{SnapshotFault}
 use Rattle.snapshot_file.specs.declared.snapshot.SnapshotFault.TheVariants as faults
-use Rattle.snapshot_file.specs.Snapshots.{magic, header_bytes, hashed_bytes, snapshot_bytes, records_len, IsHeader, IsAccepted, IsSnapshot}
+use Rattle.snapshot_file.specs.Snapshots.{magic, header_bytes, hashed_bytes, snapshot_bytes, records_len, has_slots, IsForm, IsMagic, IsHeader, IsAccepted, IsFile, IsSnapshot}
 
--- the magic and a part of the other fields
+-- the magic of a form and a part of the other fields
 abbrev pub EndsInHeader : List ℕ → Type 0
-EndsInHeader bytes = (fields : List ℕ) × (bytes ≡ magic ++ fields) × (length fields < 83)
+EndsInHeader bytes = (form : ℕ) × (fields : List ℕ) × IsForm form × (bytes ≡ magic form ++ fields) × (length fields < 83)
 
 -- an accepted header, and bytes after it
 abbrev pub HasHeader : List ℕ → Header → List ℕ → Type 0
@@ -29,22 +29,27 @@ HasBadHeader bytes rest = (h : Header) × IsHeader h × (¬ IsAccepted h) × (by
 
 -- header and records with another digest than theirs, and bytes after it
 abbrev pub HasBadDigest : List ℕ → List ℕ → Type 0
-HasBadDigest bytes rest = (h : Header) × (records : List ℕ) × (digest : List ℕ) × IsSnapshot h records × (length digest ≡ 32)
+HasBadDigest bytes rest = (h : Header) × (records : List ℕ) × (digest : List ℕ) × IsFile h records × (length digest ≡ 32)
     × (¬ (digest ≡ sha256 (hashed_bytes h records))) × (bytes ≡ hashed_bytes h records ++ digest ++ rest)
 
--- a whole snapshot, and bytes after it
-abbrev pub HasSnapshot : List ℕ → List ℕ → Type 0
-HasSnapshot bytes rest = (h : Header) × (records : List ℕ) × IsSnapshot h records × (bytes ≡ snapshot_bytes h records ++ rest)
+-- a whole file, its slots not judged, and bytes after it
+abbrev pub HasFile : List ℕ → List ℕ → Type 0
+HasFile bytes rest = (h : Header) × (records : List ℕ) × IsFile h records × (bytes ≡ snapshot_bytes h records ++ rest)
+
+-- a whole file with a bad slot
+abbrev pub HasBadSlot : List ℕ → Type 0
+HasBadSlot bytes = (h : Header) × (records : List ℕ) × IsFile h records × (has_slots h records ≡ false) × (bytes ≡ snapshot_bytes h records)
 
 -- the fault of a whole input, where nothing keeps it from being read
 abbrev pub HasSnapshotFault : SnapshotFault → List ℕ → Type 0
-HasSnapshotFault faults.NotSnapshot bytes = (8 ≤ length bytes) × ¬ (take 8 bytes ≡ magic)
+HasSnapshotFault faults.NotSnapshot bytes = (8 ≤ length bytes) × ¬ IsMagic (take 8 bytes)
 HasSnapshotFault faults.BadLayout bytes = (rest : List ℕ) × HasBadHeader bytes rest
 HasSnapshotFault faults.Short bytes = IsUnfinished bytes
 HasSnapshotFault faults.BadDigest bytes = (rest : List ℕ) × HasBadDigest bytes rest
-HasSnapshotFault faults.TrailingBytes bytes = (b : ℕ) × (rest : List ℕ) × HasSnapshot bytes (b ∷ rest)
+HasSnapshotFault faults.TrailingBytes bytes = (b : ℕ) × (rest : List ℕ) × HasFile bytes (b ∷ rest)
 HasSnapshotFault faults.Read bytes = ⊥
 HasSnapshotFault faults.Memory bytes = ⊥
+HasSnapshotFault faults.BadSlot bytes = HasBadSlot bytes
 
 -- what a whole input is: a snapshot of this header and these records, or its fault
 abbrev pub IsVerdict : List ℕ → Result (Header × List ℕ) SnapshotFault → Type 0
@@ -61,16 +66,19 @@ MayRefuse faults.BadDigest bytes = HasSnapshotFault faults.BadDigest bytes
 MayRefuse faults.TrailingBytes bytes = HasSnapshotFault faults.TrailingBytes bytes
 MayRefuse faults.Read bytes = Unit {0}
 MayRefuse faults.Memory bytes = (h : Header) × (rest : List ℕ) × HasHeader bytes h rest
+MayRefuse faults.BadSlot bytes = HasSnapshotFault faults.BadSlot bytes
 
--- what had been read when reading stopped, and what was left: a fault is reported with the first byte that makes it
+-- what had been read when reading stopped, and what was left: a fault is reported with the first byte that makes it, and a bad
+-- slot at the end of the input
 abbrev pub StopsReadingAt : SnapshotFault → List ℕ → Option (List ℕ) → Type 0
-StopsReadingAt faults.NotSnapshot read left = (length read ≡ 8) × ¬ (read ≡ magic)
+StopsReadingAt faults.NotSnapshot read left = (length read ≡ 8) × ¬ IsMagic read
 StopsReadingAt faults.BadLayout read left = HasBadHeader read []
 StopsReadingAt faults.Short read left = IsUnfinished read × IsAtEnd left
 StopsReadingAt faults.BadDigest read left = HasBadDigest read []
-StopsReadingAt faults.TrailingBytes read left = (b : ℕ) × HasSnapshot read (b ∷ [])
-StopsReadingAt faults.Read read left = IsUnfinished read ⊎ HasSnapshot read []
+StopsReadingAt faults.TrailingBytes read left = (b : ℕ) × HasFile read (b ∷ [])
+StopsReadingAt faults.Read read left = IsUnfinished read ⊎ HasFile read []
 StopsReadingAt faults.Memory read left = (h : Header) × (rest : List ℕ) × HasHeader read h rest
+StopsReadingAt faults.BadSlot read left = HasBadSlot read × IsAtEnd left
 
 -- what came before so many bytes were there: the input ended, or a read failed
 abbrev pub EndsBelow : ℕ → SnapshotFault → List ℕ → Option (List ℕ) → Type 0

@@ -1,8 +1,8 @@
 //! A header's bytes, and the digest of a header and its records.
 
-ghost use Rattle.std.specs.Prelude.{◌≡◌, ◌≤◌, ◌++◌, length, take, IfOk};
+ghost use Rattle.std.specs.Prelude.{◌≡◌, ◌≤◌, ◌++◌, length, take, IfOk, IfSome, IfNone};
 ghost use Rattle.sha2.specs.Sha256.{sha256};
-ghost use Rattle.snapshot_file.specs.Snapshots.{magic, header_bytes, IsHeader};
+ghost use Rattle.snapshot_file.specs.Snapshots.{magic, header_bytes, IsForm, IsMagic, IsHeader};
 
 use crate::snapshot::Header;
 use byteorder::{ByteOrder, LittleEndian};
@@ -18,12 +18,30 @@ pub const FIELDS_LEN: usize = 83;
 /// How many bytes the digest has.
 pub const DIGEST_LEN: usize = 32;
 
-/// What every snapshot begins with.
+/// What every snapshot of a form begins with.
 #[tactic(auto, unfolding(crate::specs::Snapshots::magic))]
-pub fn magic_bytes() -> [u8; MAGIC_LEN]
-    ensures { result ≡ magic }
+pub fn magic_bytes(form: u8) -> [u8; MAGIC_LEN]
+    ensures { result ≡ magic form }
 {
-    *b"PIRSNAP1"
+    if form == 2 {
+        *b"PIRSNAP2"
+    } else {
+        *b"PIRSNAP1"
+    }
+}
+
+/// The form of a snapshot that begins with these bytes.
+pub fn form_of(first: [u8; MAGIC_LEN]) -> Option<u8>
+    ensures found { IfSome result (λ form. IsForm form × (first ≡ magic form)) }
+    ensures none { IfNone result (¬ IsMagic first) }
+{
+    if first == magic_bytes(1) {
+        return Some(1);
+    }
+    if first == magic_bytes(2) {
+        return Some(2);
+    }
+    None
 }
 
 /// The bytes of a header.
@@ -32,7 +50,7 @@ pub fn header_bytes(alloc: Global, header: &Header) -> Result<Vec<u8>, AllocErro
     ensures { IfOk result (λ bytes. bytes.items ≡ header_bytes header.now) }
 {
     let mut bytes = Vec::with_capacity(alloc, MAGIC_LEN + FIELDS_LEN)?;
-    bytes.extend_from_slice(&magic_bytes())?;
+    bytes.extend_from_slice(&magic_bytes(header.form))?;
     bytes.extend_from_slice(&[header.width])?;
     bytes.extend_from_slice(&header.record_len.to_le_bytes())?;
     bytes.extend_from_slice(&header.groups.to_le_bytes())?;
@@ -54,13 +72,15 @@ fn first_32(bytes: &[u8]) -> [u8; 32]
     first
 }
 
-/// The header whose fields these bytes are: each number has no other encoding.
-pub fn header_in(fields: &[u8]) -> Header
-    requires { length fields.now ≡ 83 }
-    ensures bytes { header_bytes result ≡ magic ++ fields.now }
+/// The header of a form whose fields these bytes are: each number has no other encoding.
+pub fn header_in(form: u8, fields: &[u8]) -> Header
+    requires form { IsForm form }
+    requires len { length fields.now ≡ 83 }
+    ensures bytes { header_bytes result ≡ magic form ++ fields.now }
     ensures header { IsHeader result }
 {
     Header {
+        form,
         width: fields[0],
         record_len: LittleEndian::read_u16(&fields[1..]),
         groups: LittleEndian::read_u16(&fields[3..]),

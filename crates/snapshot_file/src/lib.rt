@@ -9,10 +9,12 @@
 
 mod header;
 pub mod laws;
+mod migration;
 mod reading;
 mod snapshot;
 mod writing;
 
+pub use migration::{MigrateError, migrate};
 pub use reading::read_snapshot;
 pub use snapshot::{Header, MAX_DIMENSION, Snapshot, SnapshotFault, WriteFault};
 pub use writing::write_snapshot_bytes;

@@ -31,12 +31,13 @@ ghost use Rattle.snapshot_file.specs.Snapshots.{
   records_len,
   IsHeader,
   IsAccepted,
+  IsFile,
   IsSnapshot,
 };
 ghost use Rattle.snapshot_file.specs.Verdicts.{EndsBelow, EndsKept, EndsAfter, StopsReadingAt, MayRefuse};
 
 use crate::header::{
-    DIGEST_LEN, FIELDS_LEN, MAGIC_LEN, digest_of, header_bytes, header_in, magic_bytes,
+    DIGEST_LEN, FIELDS_LEN, MAGIC_LEN, digest_of, form_of, header_bytes, header_in,
 };
 use crate::snapshot::{Header, Snapshot, SnapshotFault};
 use connection_io::PIECE_LEN;
@@ -83,11 +84,11 @@ fn read_header<R: Read>(reader: &mut R) -> Result<Header, SnapshotFault>
         × StopsReadingAt fault read (R.remaining reader.new)) }
 {
     let first = read_array::<MAGIC_LEN, R>(reader)?;
-    if first != magic_bytes() {
+    let Some(form) = form_of(first) else {
         return Err(SnapshotFault::NotSnapshot);
-    }
+    };
     let fields = read_array::<FIELDS_LEN, R>(reader)?;
-    let header = header_in(&fields);
+    let header = header_in(form, &fields);
     if !header.is_accepted() {
         return Err(SnapshotFault::BadLayout);
     }
@@ -193,7 +194,7 @@ fn read_body<R: Read>(
 ) -> Result<Vec<u8>, SnapshotFault>
     requires header { IsHeader header.now }
     requires accepted { IsAccepted header.now }
-    ensures ok { IfOk result (λ records. IsSnapshot header.now records.items
+    ensures ok { IfOk result (λ records. IsFile header.now records.items
         × Consumes (R.remaining reader.old) (R.remaining reader.new)
         (records.items ++ sha256 (hashed_bytes header.now records.items))
         × IsAtEnd (R.remaining reader.new)) }
@@ -214,7 +215,7 @@ fn read_body<R: Read>(
 
 /// Reads a snapshot, which must be the whole input. Each fault is answered with the first byte that makes
 /// it: `NotSnapshot` with byte 8, `BadLayout` with byte 91, `BadDigest` with the last byte of the digest,
-/// `TrailingBytes` with the byte after it; `Short` where the input ends before that. `Read` is answered
+/// `TrailingBytes` with the byte after it; `Short` where the input ends before that, and `BadSlot` at its end. `Read` is answered
 /// where a read fails, an interrupted one too, and `Memory` only after an accepted header. What is
 /// reserved never passes 64 KiB and a small multiple of the bytes that came.
 pub fn read_snapshot<R: Read>(alloc: Global, reader: &mut R) -> Result<Snapshot, SnapshotFault>
@@ -232,5 +233,8 @@ pub fn read_snapshot<R: Read>(alloc: Global, reader: &mut R) -> Result<Snapshot,
 {
     let header = read_header(reader)?;
     let records = read_body(alloc, reader, &header)?;
+    if !header.has_slots(&records) {
+        return Err(SnapshotFault::BadSlot);
+    }
     Ok(header.with_records(records))
 }

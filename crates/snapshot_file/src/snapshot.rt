@@ -1,12 +1,13 @@
 //! What a snapshot holds, and why one can't be read or written.
 
-ghost use Rattle.std.specs.Prelude.{◌≡◌, ◌↔◌, IsTrue, IfOk, IfErr};
+ghost use Rattle.std.specs.Prelude.{◌≡◌, ◌↔◌, IsTrue, IfOk, IfErr, length};
 ghost use Rattle.digit_pack.specs.Layout.{IsLayout, IsLayoutFault};
-ghost use Rattle.snapshot_file.specs.Snapshots.{header_of, shape_of, records_len, IsAccepted};
+ghost use Rattle.digit_pack.specs.Slots.{is_form};
+ghost use Rattle.snapshot_file.specs.Snapshots.{header_of, shape_of, records_len, has_slots, IsAccepted};
 ghost use Rattle.snapshot_file.specs.Names.{snapshot_fault_name};
 
 use connection_io::WriteFailed;
-use digit_pack::{Layout, LayoutError};
+use digit_pack::{Layout, LayoutError, are_slots};
 use std::alloc::AllocError;
 use thiserror::Error;
 
@@ -16,6 +17,8 @@ pub const MAX_DIMENSION: u16 = 1024;
 /// The fields of a snapshot but its records.
 #[derive(Clone, Copy, Debug, PartialEq, Eq)]
 pub struct Header {
+    /// 1 where all records have one length, 2 where each has its own and stands in a slot.
+    pub form: u8,
     /// How many bits a digit has, 6 to 10 in a snapshot that is read.
     pub width: u8,
     /// How many bytes a record has.
@@ -38,6 +41,8 @@ pub struct Header {
 /// [`Header`], and the bytes of the records one after another, record 0 first.
 #[derive(Drop)]
 pub struct Snapshot {
+    /// 1 where all records have one length, 2 where each has its own and stands in a slot.
+    pub form: u8,
     /// How many bits a digit has.
     pub width: u8,
     /// How many bytes a record has.
@@ -61,10 +66,11 @@ pub struct Snapshot {
 /// Why an input is no snapshot, or could not be read.
 #[derive(Clone, Copy, Debug, PartialEq, Eq, Error)]
 pub enum SnapshotFault {
-    /// The first 8 bytes are not `PIRSNAP1`.
+    /// The first 8 bytes are neither `PIRSNAP1` nor `PIRSNAP2`.
     #[error("not a snapshot")]
     NotSnapshot,
-    /// The header's layout is refused, its dimension is not in 1 to [`MAX_DIMENSION`], or its version is 0.
+    /// The header's layout is refused, its records have one byte in form 2, its dimension is not in 1 to
+    /// [`MAX_DIMENSION`], or its version is 0.
     #[error("the snapshot's layout, dimension or version is outside the limits")]
     BadLayout,
     /// The input ends in the header, the records or the digest.
@@ -82,6 +88,9 @@ pub enum SnapshotFault {
     /// There is no memory, which is wanted only after an accepted header.
     #[error("out of memory")]
     Memory,
+    /// The bytes of a record are no slot, in form 2. All else is as it should be.
+    #[error("a record of the snapshot is no slot")]
+    BadSlot,
 }
 
 impl From<AllocError> for SnapshotFault {
@@ -108,6 +117,7 @@ impl SnapshotFault {
             SnapshotFault::TrailingBytes => "TrailingBytes",
             SnapshotFault::Read => "Read",
             SnapshotFault::Memory => "Memory",
+            SnapshotFault::BadSlot => "BadSlot",
         }
     }
 }
@@ -152,6 +162,7 @@ impl Header {
         let seed = self.seed;
         let publisher = self.publisher;
         Snapshot {
+            form: self.form,
             width: self.width,
             record_len: self.record_len,
             groups: self.groups,
@@ -185,12 +196,36 @@ impl Header {
         )
     }
 
-    /// Whether a reader takes it: a layout within its limits, a dimension in 1 to [`MAX_DIMENSION`], and
-    /// a version that is not 0.
+    /// Whether there is such a form, of records of so many bytes: 1, or 2 where a record has two bytes at least.
+    #[tactic(auto, unfolding(digit_pack::specs::Slots::is_form))]
+    pub fn has_form(&self) -> bool
+        ensures { result ≡ is_form self.now.form self.now.record_len }
+    {
+        self.form == 1 || self.form == 2 && self.record_len >= 2
+    }
+
+    /// Whether the bytes of each record are a slot, where the form has slots.
+    #[tactic(auto, unfolding(crate::specs::Snapshots::has_slots))]
+    pub fn has_slots(&self, records: &[u8]) -> bool
+        requires layout { IsLayout (shape_of self.now) }
+        requires len { length records.now ≡ records_len self.now }
+        ensures { result ≡ has_slots self.now records.now }
+    {
+        if self.form != 2 {
+            return true;
+        }
+        // The sizes are within the limits: no refusal is left.
+        let layout = self.layout().unwrap();
+        are_slots(&layout, records)
+    }
+
+    /// Whether a reader takes it: a form that there is, a layout within its limits, a dimension in 1 to
+    /// [`MAX_DIMENSION`], and a version that is not 0.
     pub fn is_accepted(&self) -> bool
         ensures { IsTrue result ↔ IsAccepted self.now }
     {
-        self.layout().is_ok()
+        self.has_form()
+            && self.layout().is_ok()
             && self.dimension >= 1
             && self.dimension <= MAX_DIMENSION
             && self.version != 0
@@ -203,6 +238,7 @@ impl Snapshot {
         ensures { result ≡ header_of self.now }
     {
         Header {
+            form: self.form,
             width: self.width,
             record_len: self.record_len,
             groups: self.groups,

@@ -200,4 +200,5 @@ fn a_store_is_written_and_read_back(rt: HostRuntime) -> Result<(), Fail> {
 fn the_laws_can_be_called() {
     laws::each_run_stands();
     laws::unchanged_rows_stay();
+    laws::migrated_records_stay();
 }

@@ -11,6 +11,7 @@ pub const PUBLISHER: [u8; 32] = [
 /// The header of two records of one byte: digits of eight bits, one record to a column, secrets of one word, a seed of
 /// zeros, version 1. Other stores of tests are written as what they have in place of it.
 pub const TWO_RECORDS: Header = Header {
+    form: 1,
     width: 8,
     record_len: 1,
     groups: 1,

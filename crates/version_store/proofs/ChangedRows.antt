@@ -1,7 +1,7 @@
 -- The rows that changed, as they are marked.
 use Rattle.std.proofs.Common.{◌≡◌, ℕ, ◌+◌, ◌*◌, ◌/◌, ◌%◌, ◌<◌, ◌≤◌, zero, suc, arith, ap, ◌∙◌, sym, refl, inl, inr, List, [], ◌∷◌, ◌++◌, length, filter, Bool, true, false, not, cond, get_or-set_other, append-nil}
 use Rattle.std.proofs.lemmas.Bool.{cases_eq, cases_lt}
-use Rattle.std.proofs.lemmas.List.{length-set, length-replicate, get_or-replicate, get_or_past}
+use Rattle.std.proofs.lemmas.List.{length-set, length-replicate, get_or-replicate, get_or_past, get_or-map, map-set}
 use Rattle.std.proofs.lemmas.List.FromFn.{get_or-range_with_len, length-range_with_len}
 use Rattle.std.proofs.lemmas.List.Elements.{All-filter, All-from_get_or, filter-append}
 use Rattle.std.specs.Prelude.{slice_index, slice_index_or, slice_set, nat_eq, All, replicate}
@@ -14,7 +14,7 @@ use Rattle.lane_kernels.specs.Digit.{digit}
 use Rattle.digit_pack.specs.Digits.{number_of}
 use Rattle.digit_pack.specs.Layout.{Shape, digit_matrix, digit_at, digit_rows, digit_cols, digits_per_record, record_at}
 use Rattle.pir_schemes.specs.declared.plan.Plan.{Plan}
-use Rattle.pir_schemes.specs.Plans.{shape_at, digits_at}
+use Rattle.pir_schemes.specs.Plans.{shape_at, digits_at, slot, slots}
 use Rattle.version_store.specs.Deltas.{differs_at, changed_rows}
 use Rattle.version_store.specs.Editions.{Records, MarksChanges, is_marked, marked_rows}
 
@@ -43,29 +43,32 @@ settled_digits l a b i bytes same r p e =
           ∙ row_index (digit_matrix l a) r j q
     ])
 
-settled_records : (p : Plan) (a b : List (List ℕ)) (i : ℕ) (bytes : List ℕ) → length b ≡ length a → record_at b i ≡ record_at a i →
+settled_records : (p : Plan) (a b : List (List ℕ)) (i : ℕ) (bytes : List ℕ) → length b ≡ length a → i < length b → record_at b i ≡ record_at a i →
     (r : ℕ) → r < (digits_at p a).rows → row (digits_at p (slice_set b i bytes)) r ≡ row (digits_at p a) r → row (digits_at p b) r ≡ row (digits_at p a) r
-settled_records p a b i bytes long same r below e =
+settled_records p a b i bytes long inside same r below e =
     let l : Shape = shape_at p (length a) in
-    let here : digits_at p b ≡ digit_matrix l b = ap (λ n. digit_matrix (shape_at p n) b) long in
-    let there : digits_at p (slice_set b i bytes) ≡ digit_matrix l (slice_set b i bytes) =
-    ap (λ n. digit_matrix (shape_at p n) (slice_set b i bytes)) (length-set b i bytes ∙ long) in
+    let here : digits_at p b ≡ digit_matrix l (slots p b) = ap (λ n. digit_matrix (shape_at p n) (slots p b)) long in
+    let there : digits_at p (slice_set b i bytes) ≡ digit_matrix l (slice_set (slots p b) i (slot p bytes)) =
+    ap (λ n. digit_matrix (shape_at p n) (slots p (slice_set b i bytes))) (length-set b i bytes ∙ long)
+    ∙ ap (digit_matrix l) (map-set (slot p) b i bytes) in
+    let alike : record_at (slots p b) i ≡ record_at (slots p a) i =
+    get_or-map (slot p) b i [] [] inside ∙ ap (slot p) same ∙ sym (get_or-map (slot p) a i [] [] (omega (arith, inside, long))) in
     ap (λ (m : WordMatrix). row m r) here
-    ∙ settled_digits l a b i bytes same r below (ap (λ (m : WordMatrix). row m r) (sym there) ∙ e)
+    ∙ settled_digits l (slots p a) (slots p b) i (slot p bytes) alike r below (ap (λ (m : WordMatrix). row m r) (sym there) ∙ e)
 
 pub settled : (first between last : Records) (i : ℕ) (bytes : List ℕ) → between ≡ record first { records = between.records } →
-    last ≡ record between { records = slice_set between.records i bytes } → length between.records ≡ length first.records →
+    last ≡ record between { records = slice_set between.records i bytes } → length between.records ≡ length first.records → i < length between.records →
     record_at between.records i ≡ record_at first.records i → (r : ℕ) → r < (digits_at first.plan first.records).rows →
     row (digits_at last.plan last.records) r ≡ row (digits_at first.plan first.records) r →
     row (digits_at between.plan between.records) r ≡ row (digits_at first.plan first.records) r
-settled first between last i bytes is changed long same r below e =
+settled first between last i bytes is changed long inside same r below e =
     let p : Plan = first.plan in
     let plan : between.plan ≡ p = ap (λ (x : Records). x.plan) is in
     let old : List (List ℕ) = between.records in
     let end : digits_at last.plan last.records ≡ digits_at p (slice_set old i bytes) =
     ap (λ (x : Records). digits_at x.plan x.records) changed ∙ ap (λ q. digits_at q (slice_set old i bytes)) plan in
     ap (λ q. row (digits_at q old) r) plan
-    ∙ settled_records p first.records old i bytes long same r below (ap (λ (m : WordMatrix). row m r) (sym end) ∙ e)
+    ∙ settled_records p first.records old i bytes long inside same r below (ap (λ (m : WordMatrix). row m r) (sym end) ∙ e)
 
 -- ---- marked rows are the changed ones
 filter_same : (p q : ℕ → Bool) (a n : ℕ) → ((r : ℕ) → a ≤ r → r < a + n → p r ≡ q r) → filter p (range_with_len a n) ≡ filter q (range_with_len a n)

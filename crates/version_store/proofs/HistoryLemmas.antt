@@ -2,14 +2,12 @@
 use Rattle.std.proofs.Common.{◌≡◌, ℕ, ◌+◌, arith, ap, ◌∙◌, sym, refl, List, [], ◌∷◌, length, take, lit≤, Option, Some, None}
 use Rattle.std.proofs.lemmas.List.{take-take}
 use Rattle.std.specs.Prelude.{slice_set}
-use Rattle.digit_pack.specs.Layout.{records_in}
 use Rattle.snapshot_file.specs.declared.snapshot.Header.{Header}
-use Rattle.snapshot_file.specs.Snapshots.{shape_of}
 use Rattle.digit_pack.specs.Layout.{digit_rows}
 use Rattle.pir_schemes.specs.declared.plan.Plan.{Plan}
-use Rattle.pir_schemes.specs.Plans.{shape_at, digits_at}
+use Rattle.pir_schemes.specs.Plans.{shape_at, digits_at, records_held}
 use Rattle.version_store.specs.Deltas.{changed_rows, changes_of}
-use Rattle.version_store.specs.Openings.{held_of}
+use Rattle.version_store.specs.Openings.{held_of, plan_held}
 use Rattle.version_store.specs.Histories.{StoreState, History, StandsFor, current_version, delta_rows, opened, after_edit, published, held_edited, held_published, Change, history_after, held_after}
 use Rattle.version_store.proofs.LoggedRows.{rows_logged, history_rows, held_rows, rows_as_logged}
 
@@ -51,7 +49,7 @@ publish_stands old new e h s =
           ∙ sym (ap (λ t. t.log) e);
     }
 
-pub open_stands : (s : StoreState) (h : Header) (bytes : List ℕ) → s ≡ held_of h bytes → StandsFor s (opened h.version (records_in (shape_of h) bytes))
+pub open_stands : (s : StoreState) (h : Header) (bytes : List ℕ) → s ≡ held_of h bytes → StandsFor s (opened h.version (records_held (plan_held h) h.count bytes))
 unfolding changes_of
 open_stands s h bytes e = record {
   version = omega (arith, ap (λ t. t.version) e);

@@ -12,3 +12,5 @@ pub mod DoubleLemmas
 pub mod BroughtForward
 pub mod NamedRows
 pub mod OneRow
+pub mod Slotted
+pub mod Migrated

@@ -1,11 +1,12 @@
 -- The records of one version, and what is made from them.
-use Rattle.std.specs.Prelude.{◌≡◌, ℕ, ◌*◌, ◌<◌, ◌≤◌, List, length, filter, Bool, false, slice_index_or}
-use Rattle.std.specs.List.{range_with_len}
+use Rattle.std.specs.Prelude.{◌≡◌, ℕ, ◌*◌, ◌<◌, ◌≤◌, List, length, filter, Bool, true, false, slice_index_or}
+use Rattle.std.specs.List.{range_with_len, list_all}
 use Rattle.matrix_u32.specs.Matrix.{WordMatrix, IsWhole, row, product}
 use Rattle.digit_pack.specs.Layout.{Shape, IsLayout, records_in}
 use Rattle.pir_schemes.specs.declared.scheme.Scheme.TheVariants.{Simple, Double}
 use Rattle.pir_schemes.specs.declared.plan.Plan.{Plan}
-use Rattle.pir_schemes.specs.Plans.{shape_at, digits_at, first_public, second_public}
+use Rattle.pir_schemes.specs.Plans.{is_slot_of, records_held, slots, shape_at, digits_at, first_public, second_public}
+use Rattle.digit_pack.specs.Slots.{is_form}
 use Rattle.pir_schemes.specs.Retrievals.{hint_matrix, server_hint}
 use Rattle.hint_update.specs.Updates.{AreHintsOf}
 
@@ -18,16 +19,20 @@ pub record Records : Type 0 where
 abbrev pub version_shape : Records → Shape
 version_shape e = shape_at e.plan (length e.records)
 
--- bytes of records, with the first public matrix, the digits and the SimplePIR hint that are made from them
+-- bytes that records have in the digits, with the first public matrix, the digits and the SimplePIR hint that are made
+-- from the records
 pub record IsMade (p : Plan) (l : Shape) (bytes : List ℕ) (a1 digits hint : WordMatrix) : Type 0 where
+  pub form : is_form p.form p.record_len ≡ true
   pub layout : IsLayout l
   pub sizes : shape_at p l.count ≡ l
   pub low : 1 ≤ p.dimension
   pub high : p.dimension ≤ 1024
   pub count : length bytes ≡ l.count * l.record_len
+  pub good : list_all (is_slot_of p) (records_in l bytes) ≡ true
+  pub slots_are : slots p (records_held p l.count bytes) ≡ records_in l bytes
   pub public_is : a1 ≡ first_public l p.dimension p.seed
-  pub digits_are : digits ≡ digits_at p (records_in l bytes)
-  pub hint_is : hint ≡ hint_matrix Simple p (records_in l bytes)
+  pub digits_are : digits ≡ digits_at p (records_held p l.count bytes)
+  pub hint_is : hint ≡ hint_matrix Simple p (records_held p l.count bytes)
 
 -- a version's second public matrix, and both hints of DoublePIR that are made from its records
 pub record IsMadeTwice (e : Records) (a2 server client : WordMatrix) : Type 0 where

@@ -2,11 +2,15 @@
 use Rattle.std.specs.Prelude.{◌≡◌, ◌<◌, ℕ, List, length, false, Some, nat_eq}
 use Rattle.std.specs.List.{list_any}
 use Rattle.matrix_u32.specs.Matrix.{row}
-use Rattle.digit_pack.specs.Layout.{digit_rows}
+use Rattle.digit_pack.specs.Layout.{IsLayout, digit_rows}
 use Rattle.pir_schemes.specs.declared.scheme.Scheme.TheVariants.{Simple}
 use Rattle.pir_schemes.specs.declared.plan.Plan.{Plan}
-use Rattle.pir_schemes.specs.Plans.{shape_at}
+use Rattle.pir_schemes.specs.Plans.{shape_at, records_held}
 use Rattle.pir_schemes.specs.Retrievals.{hint_matrix}
+use Rattle.snapshot_file.specs.declared.snapshot.Header.{Header}
+use Rattle.snapshot_file.specs.Migrations.{in_slots, AreInSlots}
+use Rattle.snapshot_file.specs.Snapshots.{shape_of}
+use Rattle.version_store.specs.Openings.{IsSound, plan_held}
 use Rattle.version_store.specs.Histories.{StoreState, History, StandsFor, Change, history_after, held_after, records_of, delta_rows}
 
 -- after any accepted edits and publications a store stands for its history after them
@@ -19,3 +23,10 @@ UnchangedRowsStay = (p : Plan) (h : History) (since : ℕ) (rows : List ℕ) (re
     → delta_rows p h since ≡ Some rows → records_of h since ≡ Some records
     → (r : ℕ) → r < digit_rows (shape_at p (length h.current)) → list_any (nat_eq r) rows ≡ false
     → row (hint_matrix Simple p records) r ≡ row (hint_matrix Simple p h.current) r
+
+-- a snapshot of form 1 that was moved into slots is one that a store is opened with, and holds the same records
+abbrev pub MigratedRecordsStay : Type 0
+MigratedRecordsStay = (h : Header) (records moved : List ℕ) → IsSound h records → h.form ≡ 1 → IsLayout (shape_of (in_slots h)) →
+    AreInSlots h records moved →
+    IsSound (in_slots h) moved
+    × (records_held (plan_held (in_slots h)) h.count moved ≡ records_held (plan_held h) h.count records)

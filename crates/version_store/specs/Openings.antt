@@ -1,16 +1,19 @@
 -- What a store can be opened with.
-use Rattle.std.specs.Prelude.{◌≡◌, ◌≤◌, ℕ, List, [], length, false}
-use Rattle.digit_pack.specs.Layout.{IsLayout, records_in}
+use Rattle.std.specs.Prelude.{◌≡◌, ◌≤◌, ℕ, List, [], length, true, false}
+use Rattle.digit_pack.specs.Layout.{IsLayout}
 use Rattle.snapshot_file.specs.declared.snapshot.Header.{Header}
 use Rattle.std.specs.List.{flat_map}
-use Rattle.snapshot_file.specs.Snapshots.{shape_of, records_len, snapshot_bytes}
+use Rattle.snapshot_file.specs.Snapshots.{shape_of, records_len, has_slots, snapshot_bytes}
+use Rattle.digit_pack.specs.Slots.{is_form}
 use Rattle.version_store.specs.declared.opening.OpenError.{OpenError}
 use Rattle.version_store.specs.declared.opening.OpenError.TheVariants.{BadLayout, BadVersion, BadRecords, Memory}
-use Rattle.pir_schemes.specs.Plans.{plan_of}
+use Rattle.pir_schemes.specs.declared.plan.Plan.{Plan}
+use Rattle.pir_schemes.specs.Plans.{plan_of, records_held, slots}
 use Rattle.version_store.specs.Histories.{StoreState}
 
--- a layout within its limits, and a dimension of 1 to 1024
+-- a form that there is, a layout within its limits, and a dimension of 1 to 1024
 pub record HasSizes (h : Header) : Type 0 where
+  pub form : is_form h.form h.record_len ≡ true
   pub layout : IsLayout (shape_of h)
   pub low : 1 ≤ h.dimension
   pub high : h.dimension ≤ 1024
@@ -20,20 +23,25 @@ pub record IsSound (h : Header) (records : List ℕ) : Type 0 where
   pub sizes : HasSizes h
   pub version : 1 ≤ h.version
   pub len : length records ≡ records_len h
+  pub slots : has_slots h records ≡ true
 
 -- the first cause that stands
 abbrev pub IsOpenFault : Header → List ℕ → OpenError → Type 0
 IsOpenFault h records BadLayout = ¬ HasSizes h
 IsOpenFault h records BadVersion = HasSizes h × (h.version ≡ 0)
-IsOpenFault h records BadRecords = HasSizes h × (1 ≤ h.version) × ¬ (length records ≡ records_len h)
+IsOpenFault h records BadRecords = HasSizes h × (1 ≤ h.version) × ¬ ((length records ≡ records_len h) × (has_slots h records ≡ true))
 IsOpenFault h records Memory = IsSound h records
+
+-- what a snapshot says of every version
+abbrev pub plan_held : Header → Plan
+plan_held h = plan_of h.form (shape_of h) h.dimension h.seed
 
 -- what a store of a snapshot holds: its records as the only version, and as the draft
 abbrev pub held_of : Header → List ℕ → StoreState
 held_of h records = record {
   version = h.version;
-  edition = record { plan = plan_of (shape_of h) h.dimension h.seed; records = records_in (shape_of h) records };
-  draft = records_in (shape_of h) records;
+  edition = record { plan = plan_held h; records = records_held (plan_held h) h.count records };
+  draft = records_held (plan_held h) h.count records;
   marked = false;
   publisher = h.publisher;
   log = [];
@@ -42,6 +50,7 @@ held_of h records = record {
 -- the fields of a snapshot of what a store holds
 abbrev pub header_of_held : StoreState → Header
 header_of_held s = record {
+  form = s.edition.plan.form;
   width = s.edition.plan.width;
   record_len = s.edition.plan.record_len;
   groups = s.edition.plan.groups;
@@ -52,10 +61,10 @@ header_of_held s = record {
   publisher = s.publisher;
 }
 
--- the bytes of records, one after another
+-- the bytes of slots, one after another
 abbrev pub bytes_of_records : List (List ℕ) → List ℕ
 bytes_of_records records = flat_map (λ bytes. bytes) records
 
 -- the snapshot of a store's current version
 abbrev pub snapshot_of : StoreState → List ℕ
-snapshot_of s = snapshot_bytes (header_of_held s) (bytes_of_records s.edition.records)
+snapshot_of s = snapshot_bytes (header_of_held s) (bytes_of_records (slots s.edition.plan s.edition.records))

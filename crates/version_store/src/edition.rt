@@ -1,9 +1,11 @@
 //! One version's records, with everything that is made from them.
 
-ghost use Rattle.std.specs.Prelude.{◌≡◌, [], ◌*◌, ◌<◌, ◌≤◌, IfOk, length};
+ghost use Rattle.std.specs.Prelude.{◌≡◌, [], ◌*◌, ◌<◌, ◌≤◌, IfOk, true, length};
+ghost use Rattle.std.specs.List.{list_all};
+ghost use Rattle.digit_pack.specs.Slots.{is_form};
 ghost use Rattle.digit_pack.specs.Layout.{digit_rows, digit_cols, digits_per_record, record_at, records_in};
 ghost use Rattle.digit_pack.specs.Packed.{packed};
-ghost use Rattle.pir_schemes.specs.Plans.{IsPlan, shape_at, digits_at};
+ghost use Rattle.pir_schemes.specs.Plans.{IsPlan, is_slot_of, records_held, shape_at, slots, digits_at};
 ghost use Rattle.pir_schemes.specs.Retrievals.{hint_matrix, server_hint, query_count, answer_words};
 ghost use Rattle.version_store.specs.Drafts.{draft_of, FitRecords};
 ghost use Rattle.version_store.specs.Editions.{Records, version_shape, MarksChanges};
@@ -55,9 +57,13 @@ impl<K: Kernel> Edition<K> {
     ) -> Result<Edition<K>, AllocError>
         requires sizes { shape_at plan layout.count ≡ layout }
         requires dimension { (1 ≤ plan.dimension) × (plan.dimension ≤ 1024) }
+        requires form { is_form plan.form plan.record_len ≡ true }
         requires count { length bytes.items ≡ layout.count * layout.record_len }
-        ensures { IfOk result (λ e.
-            e ≡ record { plan = plan; records = records_in layout bytes.items }) }
+        requires slots { list_all (is_slot_of plan) (records_in layout bytes.items) ≡ true }
+        ensures { IfOk result (λ e. e ≡ record {
+          plan = plan;
+          records = records_held plan layout.count bytes.items;
+        }) }
     {
         let layer = FirstLayer::open(alloc, kernel, plan, layout, bytes)?;
         let layout = layer.layout();
@@ -97,15 +103,14 @@ impl<K: Kernel> Edition<K> {
     /// The bytes of record i.
     pub fn record(&self, i: usize) -> &[u8]
         requires { i < length self.now.records }
-        ensures value { result.now ≡ record_at self.now.records i }
-        ensures count { length result.now ≡ self.now.plan.record_len }
+        ensures { result.now ≡ record_at self.now.records i }
     {
         self.layer.record(i)
     }
 
-    /// The bytes of all records, record 0 first.
+    /// The bytes that all records have in the digits, record 0 first.
     pub fn bytes(&self) -> &[u8]
-        ensures { result.now ≡ bytes_of_records self.now.records }
+        ensures { result.now ≡ bytes_of_records (slots self.now.plan self.now.records) }
     {
         self.layer.bytes()
     }

@@ -1,14 +1,16 @@
 //! The records of one version, with what SimplePIR makes from them.
 
-ghost use Rattle.std.specs.Prelude.{◌≡◌, ◌*◌, ◌<◌, ◌≤◌, IfOk, length, slice_set};
+ghost use Rattle.std.specs.Prelude.{◌≡◌, ◌*◌, ◌<◌, ◌≤◌, IfOk, true, length, slice_set};
+ghost use Rattle.std.specs.List.{list_all};
+ghost use Rattle.digit_pack.specs.Slots.{is_form};
 ghost use Rattle.digit_pack.specs.Layout.{IsLayout, digit_rows, digit_cols, digits_per_record, record_at, records_in};
-ghost use Rattle.pir_schemes.specs.Plans.{IsPlan, shape_at, digits_at};
+ghost use Rattle.pir_schemes.specs.Plans.{IsPlan, fits, is_slot_of, records_held, shape_at, slots, digits_at};
 ghost use Rattle.pir_schemes.specs.Retrievals.{hint_matrix, answer_words};
 ghost use Rattle.version_store.specs.Editions.{Records, version_shape, MarksChanges};
 ghost use Rattle.version_store.specs.Openings.{bytes_of_records};
 
 use crate::columns::replace_digits;
-use digit_pack::{DigitStore, Layout, Packed3, digits_of_records, nth_record, pack, write_record};
+use digit_pack::{DigitStore, Layout, Packed3, digits_of_records, nth_record, pack};
 use matrix_u32::{Kernel, Matrix};
 use pir_schemes::{Plan, Scheme};
 use seed_expand::expand;
@@ -31,14 +33,14 @@ pub struct FirstLayer {
 }
 
 impl Model for FirstLayer {
-    ghost use Rattle.digit_pack.specs.Layout.{records_in};
+    ghost use Rattle.pir_schemes.specs.Plans.{records_held};
     ghost use Rattle.version_store.specs.Editions.{Records, IsMade};
 
     ghost Value = { Records };
 
     ghost view = { λ e. record {
       plan = e.plan;
-      records = records_in e.layout e.bytes.items;
+      records = records_held e.plan e.layout.count e.bytes.items;
     } };
 
     ghost invariant = { λ e. IsMade e.plan e.layout e.bytes.items e.a1 e.digits e.hint };
@@ -56,9 +58,13 @@ impl FirstLayer {
     ) -> Result<FirstLayer, AllocError>
         requires sizes { shape_at plan layout.count ≡ layout }
         requires dimension { (1 ≤ plan.dimension) × (plan.dimension ≤ 1024) }
+        requires form { is_form plan.form plan.record_len ≡ true }
         requires count { length bytes.items ≡ layout.count * layout.record_len }
-        ensures { IfOk result (λ e.
-            e ≡ record { plan = plan; records = records_in layout bytes.items }) }
+        requires slots { list_all (is_slot_of plan) (records_in layout bytes.items) ≡ true }
+        ensures { IfOk result (λ e. e ≡ record {
+          plan = plan;
+          records = records_held plan layout.count bytes.items;
+        }) }
     {
         let digits: Digits = digits_of_records(alloc, &layout, &bytes)?;
         let dimension = usize::from(plan.dimension);
@@ -94,15 +100,14 @@ impl FirstLayer {
     /// The bytes of record i.
     pub fn record(&self, i: usize) -> &[u8]
         requires { i < length self.now.records }
-        ensures value { result.now ≡ record_at self.now.records i }
-        ensures count { length result.now ≡ self.now.plan.record_len }
+        ensures { result.now ≡ record_at self.now.records i }
     {
-        nth_record(&self.layout, &self.bytes, i)
+        self.plan.content(nth_record(&self.layout, &self.bytes, i))
     }
 
-    /// The bytes of all records, record 0 first.
+    /// The bytes that all records have in the digits, record 0 first.
     pub fn bytes(&self) -> &[u8]
-        ensures { result.now ≡ bytes_of_records self.now.records }
+        ensures { result.now ≡ bytes_of_records (slots self.now.plan self.now.records) }
     {
         &self.bytes
     }
@@ -147,7 +152,7 @@ impl FirstLayer {
         marks: &mut [bool],
     )
         requires index { i < length self.old.records }
-        requires len { length bytes.now ≡ self.old.plan.record_len }
+        requires fits { fits self.old.plan bytes.now ≡ true }
         requires room { length scratch.old ≡ digits_per_record (version_shape self.old) }
         requires marks { length marks.old ≡ digit_rows (version_shape self.old) }
         ensures records { self.new ≡
@@ -156,7 +161,12 @@ impl FirstLayer {
             (digits_at self.new.plan self.new.records) marks.old marks.new }
     {
         let (first, col) = self.layout.place(i);
-        pack(&self.layout, bytes, scratch);
+        self.plan.write(&self.layout, &mut self.bytes, i, bytes);
+        pack(
+            &self.layout,
+            nth_record(&self.layout, &self.bytes, i),
+            scratch,
+        );
         replace_digits(
             kernel,
             &mut self.digits,
@@ -167,6 +177,5 @@ impl FirstLayer {
             scratch,
             marks,
         );
-        write_record(&self.layout, &mut self.bytes, i, bytes);
     }
 }

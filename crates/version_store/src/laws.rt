@@ -1,7 +1,7 @@
 //! Laws of versions, over the definitions alone. A caller that calls one of these functions has its law at
 //! hand in its proof; the call costs nothing.
 
-ghost use Rattle.version_store.specs.Laws.{EachRunStands, UnchangedRowsStay};
+ghost use Rattle.version_store.specs.Laws.{EachRunStands, MigratedRecordsStay, UnchangedRowsStay};
 
 /// A store that stands for a history stands, after any accepted edits and publications, for that history
 /// after them.
@@ -13,4 +13,9 @@ pub fn each_run_stands()
 /// current one: so the rows since a version bring its hint forward.
 pub fn unchanged_rows_stay()
     ensures { UnchangedRowsStay }
+{}
+
+/// A snapshot whose records were moved into slots opens a store with the same history.
+pub fn migrated_records_stay()
+    ensures { MigratedRecordsStay }
 {}

@@ -17,5 +17,7 @@ mod store;
 pub use answer_room::AnswerRoom;
 pub use opening::OpenError;
 pub use pir_schemes::{Plan, Scheme};
-pub use snapshot_file::{Header, Snapshot, SnapshotFault, WriteFault, read_snapshot};
+pub use snapshot_file::{
+    Header, MigrateError, Snapshot, SnapshotFault, WriteFault, migrate, read_snapshot,
+};
 pub use store::{EditError, PublishError, Store, write_snapshot};

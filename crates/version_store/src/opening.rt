@@ -2,9 +2,8 @@
 
 ghost use Rattle.std.specs.Prelude.{◌≡◌, ◌≤◌, ◌↔◌, IsTrue, length, IfOk, IfErr, OnOk};
 ghost use Rattle.digit_pack.specs.Layout.{IsLayout};
-ghost use Rattle.pir_schemes.specs.Plans.{plan_of};
 ghost use Rattle.snapshot_file.specs.Snapshots.{header_of, shape_of};
-ghost use Rattle.version_store.specs.Openings.{IsSound, IsOpenFault};
+ghost use Rattle.version_store.specs.Openings.{IsSound, IsOpenFault, plan_held};
 ghost use Rattle.version_store.specs.Names.{open_fault_name};
 
 use digit_pack::Layout;
@@ -16,13 +15,14 @@ use thiserror::Error;
 /// Why a store can't be opened: the first cause in the order of the variants.
 #[derive(Clone, Copy, Debug, PartialEq, Eq, Error)]
 pub enum OpenError {
-    /// The layout is refused, or the dimension is not in 1 to 1024.
+    /// There is no such form, or it is 2 for records of one byte; the layout is refused, or the dimension is not in 1 to
+    /// 1024.
     #[error("the layout or the dimension is outside the limits")]
     BadLayout,
     /// The version is 0.
     #[error("there is no version 0")]
     BadVersion,
-    /// The bytes are not as many as the records have.
+    /// The bytes are not as many as the records have, or in form 2 those of a record are no slot.
     #[error("the records have another number of bytes")]
     BadRecords,
     /// There is no memory for what is made from the records.
@@ -57,10 +57,10 @@ impl From<AllocError> for OpenError {
 
 /// What a snapshot says of every version of its records.
 pub(crate) fn plan_in(snapshot: &Snapshot) -> Plan
-    ensures { result ≡ plan_of (shape_of (header_of snapshot.now)) snapshot.now.dimension
-        snapshot.now.seed }
+    ensures { result ≡ plan_held (header_of snapshot.now) }
 {
     Plan {
+        form: u16::from(snapshot.form),
         width: snapshot.width,
         record_len: snapshot.record_len,
         groups: snapshot.groups,
@@ -76,7 +76,11 @@ pub(crate) fn sizes_of(snapshot: &Snapshot) -> Result<Layout, OpenError>
     ensures refused { IfErr result
         (IsOpenFault (header_of snapshot.now) snapshot.now.records.items) }
 {
-    let Ok(layout) = snapshot.header().layout() else {
+    let header = snapshot.header();
+    if !header.has_form() {
+        return Err(OpenError::BadLayout);
+    }
+    let Ok(layout) = header.layout() else {
         return Err(OpenError::BadLayout);
     };
     if snapshot.dimension < 1 || snapshot.dimension > MAX_DIMENSION {
@@ -86,6 +90,9 @@ pub(crate) fn sizes_of(snapshot: &Snapshot) -> Result<Layout, OpenError>
         return Err(OpenError::BadVersion);
     }
     if snapshot.records.len() != layout.count() * layout.record_len() {
+        return Err(OpenError::BadRecords);
+    }
+    if !header.has_slots(&snapshot.records) {
         return Err(OpenError::BadRecords);
     }
     Ok(layout)

@@ -4,13 +4,14 @@ ghost use Rattle.std.specs.Prelude.{All, ℕ, ◌≡◌, ◌≢◌, ◌+◌, ◌
 ghost use Rattle.matrix_u32.specs.Matrix.{row};
 ghost use Rattle.digit_pack.specs.Layout.{digits_per_record, digit_rows, record_at, records_in};
 ghost use Rattle.digit_pack.specs.Packed.{packed};
-ghost use Rattle.pir_schemes.specs.Plans.{IsPlan, fits, digits_at};
+ghost use Rattle.pir_schemes.specs.Plans.{IsPlan, fits, records_held, slots, digits_at};
+ghost use Rattle.digit_pack.specs.Slots.{is_form};
 ghost use Rattle.pir_schemes.specs.Parts.{part_of};
 ghost use Rattle.pir_schemes.specs.Retrievals.{hint_matrix, server_hint, query_count, answer_words};
 ghost use Rattle.hint_update.specs.Logs.{ReachesBack, lists_since, AreRowsOf};
 ghost use Rattle.version_store.specs.Editions.{version_shape};
 ghost use Rattle.snapshot_file.specs.Snapshots.{header_of, shape_of};
-ghost use Rattle.version_store.specs.Openings.{IsSound, IsOpenFault, held_of, header_of_held, bytes_of_records, snapshot_of};
+ghost use Rattle.version_store.specs.Openings.{IsSound, IsOpenFault, held_of, plan_held, header_of_held, bytes_of_records, snapshot_of};
 ghost use Rattle.version_store.specs.Rooms.{scheme_answered, IsAnswerRoom};
 ghost use Rattle.std.specs.Io.KnownBytes.{Appends};
 ghost use Rattle.version_store.specs.Histories.{StoreState, History, StandsFor, opened, after_edit, published, held_edited, held_published, delta_rows, kept_log};
@@ -144,15 +145,17 @@ impl<K: Kernel> Store<K> {
     /// The store of a snapshot's records, with an empty draft; its hints are made by the schemes' `setup`. The
     /// store keeps the allocator.
     ///
-    /// `BadLayout` exactly when the layout is refused or the dimension is not in 1 to 1024; else
-    /// `BadVersion` exactly when the version is 0; else `BadRecords` exactly when the bytes are not as many
-    /// as the records have; else it is opened, or `Memory`.
+    /// `BadLayout` exactly when there is no such form, or it is 2 for records of one byte, the layout is refused or the
+    /// dimension is not in 1 to 1024; else `BadVersion` exactly when the version is 0; else `BadRecords` exactly when
+    /// the bytes are not as many as the records have, or in form 2 those of a record are no slot; else it is opened, or
+    /// `Memory`.
     pub fn open(alloc: Global, kernel: K, snapshot: Snapshot) -> Result<Store<K>, OpenError>
         ensures held { IfOk result (λ s. s ≡ held_of (header_of snapshot) snapshot.records.items) }
         ensures history { IfOk result
             (λ s. StandsFor s
             (opened snapshot.version
-            (records_in (shape_of (header_of snapshot)) snapshot.records.items))) }
+            (records_held (plan_held (header_of snapshot)) snapshot.count
+            snapshot.records.items))) }
         ensures sound { OnOk result (IsSound (header_of snapshot) snapshot.records.items) }
         ensures refused { IfErr result (IsOpenFault (header_of snapshot) snapshot.records.items) }
     {
@@ -181,6 +184,7 @@ impl<K: Kernel> Store<K> {
     {
         let plan = self.edition.plan();
         Header {
+            form: self.form(),
             width: plan.width,
             record_len: plan.record_len,
             groups: plan.groups,
@@ -192,9 +196,11 @@ impl<K: Kernel> Store<K> {
         }
     }
 
-    /// The bytes of all records in the current version, record 0 first.
+    /// The bytes that all records of the current version have in the digits, record 0 first: in form 2 those of their
+    /// slots.
     pub fn bytes(&self) -> &[u8]
-        ensures { result.now ≡ bytes_of_records self.now.edition.records }
+        ensures { result.now ≡
+            bytes_of_records (slots self.now.edition.plan self.now.edition.records) }
     {
         self.edition.bytes()
     }
@@ -219,6 +225,16 @@ impl<K: Kernel> Store<K> {
         ensures { result.now ≡ self.now.edition.plan }
     {
         self.edition.plan()
+    }
+
+    /// The form: 1 where all records have one length, 2 where each has its own.
+    pub fn form(&self) -> u8
+        ensures value { result ≡ self.now.edition.plan.form }
+        ensures there { is_form self.now.edition.plan.form self.now.edition.plan.record_len ≡ true }
+    {
+        // Called for what it says of the plan.
+        self.edition.layout();
+        self.edition.plan().form as u8
     }
 
     /// The dimension n of the public matrices, 1 to 1024.
@@ -248,8 +264,7 @@ impl<K: Kernel> Store<K> {
     /// The bytes of record i in the current version.
     pub fn bytes_of(&self, i: usize) -> &[u8]
         requires { i < length self.now.edition.records }
-        ensures value { result.now ≡ record_at self.now.edition.records i }
-        ensures count { length result.now ≡ self.now.edition.plan.record_len }
+        ensures { result.now ≡ record_at self.now.edition.records i }
     {
         self.edition.record(i)
     }
@@ -414,7 +429,7 @@ impl<K: Kernel> Store<K> {
     fn fits(&self, bytes: &[u8]) -> bool
         ensures { result ≡ fits self.now.edition.plan bytes.now }
     {
-        bytes.len() == self.edition.layout().record_len()
+        self.edition.plan().fits(bytes)
     }
 
     /// Makes the draft the current version, and answers its number.

@@ -33,7 +33,7 @@ fn hello_edit_and_publish_on<K: Kernel>(
 ) -> Result<(), Fail> {
     let mut client = newcomer(rt, 5, kernel);
     counts(rt, &client, 5);
-    let prefix = [34, 0, 0, 0, 2, 1, 0, 9, 0];
+    let prefix = [34, 0, 0, 0, 2, 2, 0, 9, 0];
     sends(rt, &mut client, Wanted::Hello(9), 39, &prefix)?;
     let frame = welcome(rt, TWO_RECORDS)?;
     feeds(rt, &mut client, frame.as_slice(), "welcomed 1 ")?;
@@ -193,6 +193,7 @@ fn after_a_fault_every_call_fails_on<K: Kernel>(
 // What a store is known as once its Welcome came.
 fn info_of(store: Store, version: u64, count: u32) -> Option<ServerInfo> {
     let plan = Plan {
+        form: store.profile,
         width: store.width,
         record_len: store.record_len,
         groups: store.groups,

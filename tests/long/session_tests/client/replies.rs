@@ -93,7 +93,12 @@ fn welcomes_of_bad_parameters_on<K: Kernel>(
 ) -> Result<(), Fail> {
     let good = TWO_RECORDS;
     let below = Store { profile: 0, ..good };
-    let above = Store { profile: 2, ..good };
+    let above = Store {
+        profile: 3,
+        record_len: 2,
+        ..good
+    };
+    let slotless = Store { profile: 2, ..good };
     let narrow = Store { width: 5, ..good };
     let wide = Store { width: 11, ..good };
     let none = Store {
@@ -107,7 +112,7 @@ fn welcomes_of_bad_parameters_on<K: Kernel>(
     let unborn = Store { version: 0, ..good };
     bad_welcomes(
         rt,
-        &[below, above, narrow, wide, none, large, unborn],
+        &[below, above, slotless, narrow, wide, none, large, unborn],
         kernel,
     )
 }

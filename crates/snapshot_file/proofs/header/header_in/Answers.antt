@@ -8,7 +8,7 @@ pub returns-clause-bytes : goal.returns-clause-bytes
 returns-clause-bytes c =
     let fields : List ℕ = c.args.fields.now in
     let bytes : (i : ℕ) → slice_index c.args.fields.now i < 256 = λ i. omega (arith, c.type_inv.fields i) in
-    header_read _ c.args.fields.now bytes c.requires refl
+    header_read _ c.args.fields.now bytes c.requires.len refl
     (c.read_u16.ensures ∙ ap (little_number 2) (take_rest c.args.fields.now 1))
     (c.read_u16-2.ensures ∙ ap (little_number 2) (take_rest c.args.fields.now 3))
     (c.read_u32.ensures ∙ ap (little_number 4) (take_rest c.args.fields.now 5))

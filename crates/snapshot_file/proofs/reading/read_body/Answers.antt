@@ -5,7 +5,7 @@ use Rattle.std.specs.Io.KnownBytes.{Consumes}
 use Rattle.std.proofs.KnownBytes.{Consumes-trans}
 use Rattle.sha2.specs.Sha256.{sha256}
 use Rattle.snapshot_file.specs.Verdicts.{StopsReadingAt}
-use Rattle.snapshot_file.specs.Snapshots.{header_bytes, hashed_bytes, records_len, IsSnapshot}
+use Rattle.snapshot_file.specs.Snapshots.{header_bytes, hashed_bytes, records_len, IsFile}
 use Rattle.snapshot_file.proofs.Readings.{stops_in_records, stops_in_digest, stops_at_digest, stops_after}
 use Rattle.snapshot_file.proofs.reading.read_body.Goals as goal
 
@@ -13,7 +13,7 @@ pub returns-in_err-digest-clause-err : goal.returns-in_err-digest-clause-err
 returns-in_err-digest-clause-err g c =
     let e = c.in_err-digest.ensures.err in
     let len : length c.in_ok-records.records.items ≡ records_len c.args.header.now = c.in_ok-records.ensures.ok.0 ∙ c.records_len.ensures in
-    let is : IsSnapshot c.args.header.now c.in_ok-records.records.items = record { header = c.requires.header; accepted = c.requires.accepted; len = len } in
+    let is : IsFile c.args.header.now c.in_ok-records.records.items = record { header = c.requires.header; accepted = c.requires.accepted; len = len } in
     let h : (read : List ℕ) × Consumes (g.R.Read.remaining c.args.reader.now) (g.R.Read.remaining c.read_array.new.reader) read
     × StopsReadingAt c.in_err-digest.field-0.0 (header_bytes c.args.header.now ++ read) (g.R.Read.remaining c.read_array.new.reader) = (
       c.in_ok-records.records.items ++ e.0,
@@ -25,7 +25,7 @@ returns-in_err-digest-clause-err g c =
 pub returns-then-ne-clause-err : goal.returns-then-ne-clause-err
 returns-then-ne-clause-err g c =
     let len : length c.in_ok-records.records.items ≡ records_len c.args.header.now = c.in_ok-records.ensures.ok.0 ∙ c.records_len.ensures in
-    let is : IsSnapshot c.args.header.now c.in_ok-records.records.items = record { header = c.requires.header; accepted = c.requires.accepted; len = len } in
+    let is : IsFile c.args.header.now c.in_ok-records.records.items = record { header = c.requires.header; accepted = c.requires.accepted; len = len } in
     let same : c.digest_of.result ≡ sha256 (hashed_bytes c.args.header.now c.in_ok-records.records.items) =
     cc (c.digest_of.ensures, c.deref.ensures.value, c.deref-2.ensures.value, c.in_ok-prefix.ensures) in
     let other : ¬ (c.in_ok-digest.digest ≡ c.digest_of.result) = search rules in (
@@ -38,7 +38,7 @@ pub returns-in_err-read_end-clause-err : goal.returns-in_err-read_end-clause-err
 returns-in_err-read_end-clause-err g c =
     let e = c.in_err-read_end.ensures.err in
     let len : length c.in_ok-records.records.items ≡ records_len c.args.header.now = c.in_ok-records.ensures.ok.0 ∙ c.records_len.ensures in
-    let is : IsSnapshot c.args.header.now c.in_ok-records.records.items = record { header = c.requires.header; accepted = c.requires.accepted; len = len } in
+    let is : IsFile c.args.header.now c.in_ok-records.records.items = record { header = c.requires.header; accepted = c.requires.accepted; len = len } in
     let same : c.digest_of.result ≡ sha256 (hashed_bytes c.args.header.now c.in_ok-records.records.items) =
     cc (c.digest_of.ensures, c.deref.ensures.value, c.deref-2.ensures.value, c.in_ok-prefix.ensures) in
     let right : c.in_ok-digest.digest ≡ c.digest_of.result = search rules in
@@ -54,7 +54,7 @@ pub returns-clause-ok : goal.returns-clause-ok
 returns-clause-ok g c =
     let e = c.in_ok-read_end.ensures.ok in
     let len : length c.in_ok-records.records.items ≡ records_len c.args.header.now = c.in_ok-records.ensures.ok.0 ∙ c.records_len.ensures in
-    let is : IsSnapshot c.args.header.now c.in_ok-records.records.items = record { header = c.requires.header; accepted = c.requires.accepted; len = len } in
+    let is : IsFile c.args.header.now c.in_ok-records.records.items = record { header = c.requires.header; accepted = c.requires.accepted; len = len } in
     let same : c.digest_of.result ≡ sha256 (hashed_bytes c.args.header.now c.in_ok-records.records.items) =
     cc (c.digest_of.ensures, c.deref.ensures.value, c.deref-2.ensures.value, c.in_ok-prefix.ensures) in
     let right : c.in_ok-digest.digest ≡ c.digest_of.result = search rules in

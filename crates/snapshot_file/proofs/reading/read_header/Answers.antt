@@ -11,15 +11,15 @@ pub returns-in_err-fields-clause-err : goal.returns-in_err-fields-clause-err
 returns-in_err-fields-clause-err g c =
     let e = c.in_err-fields.ensures.err in
     let first : List ℕ = c.in_ok-first.first in
-    let is : c.in_ok-first.first ≡ magic = search rules in
+    let is : c.in_ok-first.first ≡ magic c.in-Some.form = c.in-Some.ensures.found.1 in
     let h : (read : List ℕ) × Consumes (g.R.Read.remaining c.args.reader.now) (g.R.Read.remaining c.read_array-2.new.reader) read
     × StopsReadingAt c.in_err-fields.field-0.0 read (g.R.Read.remaining c.read_array-2.new.reader) =
-    (c.in_ok-first.first ++ e.0, Consumes-trans _ _ _ _ _ c.in_ok-first.ensures.ok.1 e.1, stops_in_fields _ c.in_ok-first.first e.0 _ is e.2) in
+    (c.in_ok-first.first ++ e.0, Consumes-trans _ _ _ _ _ c.in_ok-first.ensures.ok.1 e.1, stops_in_fields _ c.in-Some.form c.in_ok-first.first e.0 _ c.in-Some.ensures.found.0 is e.2) in
     search (rules, h)
 
 pub returns-then-not-is_accepted-clause-err : goal.returns-then-not-is_accepted-clause-err
 returns-then-not-is_accepted-clause-err g c =
-    let is : c.in_ok-first.first ≡ magic = search rules in
+    let is : c.in_ok-first.first ≡ magic c.in-Some.form = c.in-Some.ensures.found.1 in
     let h = c.header_in-header.result in
     let refused : ¬ IsAccepted c.header_in-header.result = search rules in
     let encoded : c.in_ok-first.first ++ c.in_ok-fields.fields ≡ header_bytes c.header_in-header.result ++ [] =
@@ -31,7 +31,7 @@ returns-then-not-is_accepted-clause-err g c =
 
 pub returns-clause-ok : goal.returns-clause-ok
 returns-clause-ok g c =
-    let is : c.in_ok-first.first ≡ magic = search rules in
+    let is : c.in_ok-first.first ≡ magic c.in-Some.form = c.in-Some.ensures.found.1 in
     let taken : IsAccepted c.header_in-header.result = search rules in
     let encoded : c.in_ok-first.first ++ c.in_ok-fields.fields ≡ header_bytes c.header_in-header.result =
     ap (λ (x : List ℕ). x ++ c.in_ok-fields.fields) is ∙ sym c.header_in-header.ensures.bytes in (

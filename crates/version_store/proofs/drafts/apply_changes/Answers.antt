@@ -1,6 +1,6 @@
 use Rattle.std.proofs.Common.{ap, ◌∙◌, sym, arith, refl, ◌≡◌, ◌<◌, ℕ, List, [], length, inl, inr, false, true}
 use Rattle.std.proofs.lemmas.List.{length-set, nil_from_length}
-use Rattle.std.proofs.lemmas.Bool.{cases_lt, eqb-true}
+use Rattle.std.proofs.lemmas.Bool.{cases_lt}
 use Rattle.std.specs.Prelude.{slice_set, None}
 use Rattle.digit_pack.specs.Layout.{digit_rows, digits_per_record, record_at}
 use Rattle.pir_schemes.specs.Plans.{fits, digits_at}
@@ -28,12 +28,11 @@ replace-requires-clause-index g c =
     rw c.in-Some.ensures.value at (c.loop-i.invariant.fit c.in-Some.i) in
     omega (arith, fit.0, c.loop-i.invariant.count)
 
-pub replace-requires-clause-len : goal.replace-requires-clause-len
-replace-requires-clause-len g c =
+pub replace-requires-clause-fits : goal.replace-requires-clause-fits
+replace-requires-clause-fits g c =
     let fit : (c.in-Some.i < length c.args.layer.now.records) × (fits c.args.layer.now.plan c.in-Some.bytes.items ≡ true) =
     rw c.in-Some.ensures.value at (c.loop-i.invariant.fit c.in-Some.i) in
-    ap length c.deref.ensures.value ∙ eqb-true (length c.in-Some.bytes.items) c.args.layer.now.plan.record_len fit.1
-    ∙ sym (ap (λ e. e.plan.record_len) c.loop-i.invariant.layer)
+    ap (fits c.loop-i.layer.plan) c.deref.ensures.value ∙ ap (λ (e : Records). fits e.plan c.in-Some.bytes.items) c.loop-i.invariant.layer ∙ fit.1
 
 pub replace-requires-clause-room : goal.replace-requires-clause-room
 replace-requires-clause-room g c =
@@ -69,7 +68,7 @@ loop-i-preserved g c =
           c.in-Some.bytes.items c.in-Some.ensures.updates c.loop-i.invariant.waiting k v e;
       marks = more_marked (digits_at first.plan first.records) (digits_at c.loop-i.layer.plan c.loop-i.layer.records)
           (digits_at c.replace.new.self.plan c.replace.new.self.records) c.args.marks.now c.loop-i.marks c.replace.new.marks high
-          (settled first c.loop-i.layer c.replace.new.self i c.deref.result.now c.loop-i.invariant.layer c.replace.ensures.records c.loop-i.invariant.count
+          (settled first c.loop-i.layer c.replace.new.self i c.deref.result.now c.loop-i.invariant.layer c.replace.ensures.records c.loop-i.invariant.count inside
           (c.loop-i.invariant.waiting i c.in-Some.bytes c.in-Some.ensures.value)) c.loop-i.invariant.marks c.replace.ensures.marks;
     }
 

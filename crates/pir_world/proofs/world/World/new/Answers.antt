@@ -1,7 +1,8 @@
 use Rattle.std.proofs.Common.{◌≡◌, ◌<◌, ◌^◌, All, ℕ, List, length, map, Some, refl, sym, ap, subst, ◌∙◌}
 use Rattle.std.proofs.lemmas.List.{length-map}
-use Rattle.digit_pack.specs.Layout.{records_in}
-use Rattle.snapshot_file.specs.Snapshots.{header_of, shape_of}
+use Rattle.pir_schemes.specs.Plans.{records_held}
+use Rattle.version_store.specs.Openings.{plan_held}
+use Rattle.snapshot_file.specs.Snapshots.{header_of}
 use Rattle.version_store.specs.Histories.{StoreState, StandsFor, opened}
 use Rattle.server_core.specs.Cores.{session_of}
 use Rattle.server_core.specs.Sessions.{new_session}
@@ -16,7 +17,7 @@ invariant_of-result g c =
     let bytes = c.args.snapshot.records.items in
     let seeds = c.args.seeds.items in
     let same = c.open_ends.ensures.store ∙ c.new-server.ensures.store in
-    let stands = subst (λ (s : StoreState). StandsFor s (opened c.args.snapshot.version (records_in (shape_of h) bytes))) (sym same) c.in-Ok.ensures.history in
+    let stands = subst (λ (s : StoreState). StandsFor s (opened c.args.snapshot.version (records_held (plan_held h) h.count bytes))) (sym same) c.in-Ok.ensures.history in
     let all = subst (λ (b : List ℕ). All (λ (x : ℕ). x < 2 ^ 8) b) c.as_slice.ensures.value c.copy_of-copied.ensures.bytes in
     let ends = c.in-Ok-open_ends.ensures.ends ∙ ap (λ (s : List (List ℕ)). map fresh_side s) c.as_slice-2.ensures.value in
     let at = subst (λ (s : List (List ℕ)). (id : ℕ) → id < length s →

@@ -1,10 +1,11 @@
-use Rattle.std.proofs.Common.{ap, ◌∙◌, sym, ◌≡◌, ◌*◌, ℕ, List, length}
+use Rattle.std.proofs.Common.{ap, ◌∙◌, sym, subst, ◌≡◌, ◌*◌, ℕ, List, length}
+use Rattle.pir_schemes.specs.Plans.{digits_at}
 use Rattle.matrix_u32.specs.Matrix.{WordMatrix}
 use Rattle.matrix_u32.proofs.Products.{length-list_of}
 use Rattle.lane_kernels.specs.Digit.{split_count}
 use Rattle.digit_pack.specs.Layout.{digit_rows, record_at}
 use Rattle.version_store.specs.Drafts.{draft_of, bytes_or, change_at}
-use Rattle.version_store.specs.Editions.{Records, version_shape}
+use Rattle.version_store.specs.Editions.{Records, version_shape, MarksChanges}
 use Rattle.version_store.proofs.DoubleLemmas.{server_rows, server_cols, client_rows, client_cols, version_followed}
 use Rattle.version_store.proofs.edition.Edition.apply.Goals as goal
 
@@ -52,3 +53,9 @@ invariant_of-self g c =
     c.width-w.result c.args.marks.now c.apply_changes.new.marks c.apply_changes.ensures.records long c.hint.ensures.value
     (c.requires.marks ∙ sym (ap (λ e. digit_rows (version_shape e)) c.self.view_is)) c.apply_changes.ensures.marks
     (c.width-w.ensures.value ∙ ap (λ l. l.width) c.layout.ensures.value) c.follow_rows.ensures c.self.invariant
+
+pub returns-clause-marks : goal.returns-clause-marks
+returns-clause-marks g c =
+    let from : Records → Type 0 = λ e. MarksChanges (digits_at e.plan e.records)
+    (digits_at c.apply_changes.new.layer.plan c.apply_changes.new.layer.records) c.args.marks.now c.apply_changes.new.marks in
+    subst from c.self.view_is c.apply_changes.ensures.marks

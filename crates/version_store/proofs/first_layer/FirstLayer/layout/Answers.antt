@@ -12,6 +12,7 @@ returns-clause-value c =
 pub returns-clause-plan : goal.returns-clause-plan
 returns-clause-plan c =
     subst (λ e. IsPlan e.plan (length e.records)) c.self.view_is (record {
+      form = c.self.invariant.form;
       layout = subst IsLayout (sym (shape_again c.self.inside.plan c.self.inside.layout c.self.inside.bytes.items c.self.invariant.sizes))
           c.self.invariant.layout;
       low = c.self.invariant.low;

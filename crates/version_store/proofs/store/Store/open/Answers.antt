@@ -1,15 +1,18 @@
 use Rattle.std.proofs.Common.{ap, ◌∙◌, ◌<◌, sym, subst, ℕ, List, [], false}
+use Rattle.std.specs.List.{list_all}
 use Rattle.std.proofs.lemmas.List.Elements.{All-nil}
 use Rattle.std.specs.Prelude.{All}
 use Rattle.digit_pack.specs.Layout.{Shape, digit_rows, records_in}
 use Rattle.snapshot_file.specs.declared.snapshot.Header.{Header}
 use Rattle.snapshot_file.specs.Snapshots.{header_of, shape_of}
 use Rattle.pir_schemes.specs.declared.plan.Plan.{Plan}
-use Rattle.pir_schemes.specs.Plans.{plan_of}
+use Rattle.pir_schemes.specs.Plans.{is_slot_of, records_held}
 use Rattle.version_store.specs.Drafts.{Changes, draft_of, is_some_change}
 use Rattle.hint_update.specs.Logs.{Log}
 use Rattle.version_store.specs.Editions.{Records, version_shape}
 use Rattle.version_store.specs.Histories.{StoreState}
+use Rattle.version_store.specs.Openings.{plan_held}
+use Rattle.version_store.proofs.Slotted.{held_slots}
 use Rattle.version_store.proofs.DraftLemmas.{draft-none}
 use Rattle.version_store.proofs.HistoryLemmas.{open_stands}
 use Rattle.version_store.proofs.store.Store.open.Goals as goal
@@ -27,7 +30,7 @@ pub returns-clause-held : goal.returns-clause-held
 returns-clause-held g c =
     let h : Header = header_of c.args.snapshot in
     let bytes : List ℕ = c.args.snapshot.records.items in
-    let rs : List (List ℕ) = records_in (shape_of h) bytes in
+    let rs : List (List ℕ) = records_held (plan_held h) h.count bytes in
     let made : Records → Changes → Log → StoreState = λ e cs log. record {
       version = log.version;
       edition = e;
@@ -37,21 +40,30 @@ returns-clause-held g c =
       log = log.lists;
     } in
     let none : Log = record { version = h.version; lists = [] } in
-    let of : Plan → Shape → Records = λ p l. record { plan = p; records = records_in l bytes } in
-    let plan : Plan = plan_of (shape_of h) h.dimension h.seed in
+    let of : Plan → ℕ → Records = λ p n. record { plan = p; records = records_held p n bytes } in
+    let plan : Plan = plan_held h in
     let with : List (List ℕ) → StoreState = λ d. record {
       version = h.version;
-      edition = of plan (shape_of h);
+      edition = of plan h.count;
       draft = d;
       marked = false;
       publisher = h.publisher;
       log = [];
     } in
     ap (made c.in_ok-edition.edition c.new-2.result.entries) c.in_ok-log.ensures
-    ∙ ap (λ e. made e c.new-2.result.entries none) (c.in_ok-edition.ensures ∙ ap (of c.plan_in-plan.result) c.in_ok-layout.ensures.sizes.0
-    ∙ ap (λ p. of p (shape_of h)) c.plan_in-plan.ensures)
-    ∙ ap (λ cs. made (of plan (shape_of h)) cs none) c.new-2.ensures.empty
+    ∙ ap (λ e. made e c.new-2.result.entries none) (c.in_ok-edition.ensures
+    ∙ ap (λ (l : Shape). of c.plan_in-plan.result l.count) c.in_ok-layout.ensures.sizes.0
+    ∙ ap (λ p. of p h.count) c.plan_in-plan.ensures)
+    ∙ ap (λ cs. made (of plan h.count) cs none) c.new-2.ensures.empty
     ∙ ap with (draft-none rs)
 
 pub returns-clause-history : goal.returns-clause-history
 returns-clause-history g c = open_stands _ (header_of c.args.snapshot) c.args.snapshot.records.items (returns-clause-held g c)
+
+pub open-requires-clause-slots : goal.open-requires-clause-slots
+open-requires-clause-slots g c =
+    let h : Header = header_of c.args.snapshot in
+    let bytes : List ℕ = c.args.snapshot.records.items in
+    ap (λ (l : Shape). list_all (is_slot_of c.plan_in-plan.result) (records_in l bytes)) c.in_ok-layout.ensures.sizes.0
+    ∙ ap (λ (p : Plan). list_all (is_slot_of p) (records_in (shape_of h) bytes)) c.plan_in-plan.ensures
+    ∙ held_slots h bytes c.in_ok-layout.ensures.sound.slots

@@ -1,0 +1,77 @@
+//! How a plan's records stand in the bytes that are made digits.
+
+ghost use Rattle.std.specs.Prelude.{◌≡◌, ◌*◌, ◌<◌, length, true, slice_set};
+ghost use Rattle.std.specs.List.{list_all};
+ghost use Rattle.digit_pack.specs.Layout.{records_in};
+ghost use Rattle.digit_pack.specs.Slots.{is_form};
+ghost use Rattle.pir_schemes.specs.Plans.{fits, slot, content, is_slot_of};
+
+use crate::plan::Plan;
+use digit_pack::{Layout, are_slots, slot_record, write_record, write_slot};
+
+impl Plan {
+    /// Whether there is such a form, for records of so many bytes: 1, or 2 where a record has two bytes at least.
+    #[tactic(auto, unfolding(digit_pack::specs::Slots::is_form))]
+    pub fn has_form(&self) -> bool
+        ensures { result ≡ is_form self.now.form self.now.record_len }
+    {
+        self.form == 1 || self.form == 2 && self.record_len >= 2
+    }
+
+    /// Whether bytes can be a record: in form 1 all have one length, and in form 2 a slot has room for them.
+    #[tactic(auto, unfolding(crate::specs::Plans::fits))]
+    pub fn fits(&self, bytes: &[u8]) -> bool
+        ensures { result ≡ fits self.now bytes.now }
+    {
+        let room = usize::from(self.record_len);
+        if self.form == 2 {
+            room >= 2 && bytes.len() <= room - 2
+        } else {
+            bytes.len() == room
+        }
+    }
+
+    /// The record that has these bytes in the digits.
+    #[tactic(auto, unfolding(crate::specs::Plans::content, crate::specs::Plans::is_slot_of))]
+    pub fn content<'a>(&self, bytes: &'a [u8]) -> &'a [u8]
+        requires { is_slot_of self.now bytes.now ≡ true }
+        ensures { result.now ≡ content self.now bytes.now }
+    {
+        if self.form == 2 {
+            slot_record(bytes)
+        } else {
+            bytes
+        }
+    }
+
+    /// Whether the bytes of each record are those of one, of records that stand one after another in `bytes`.
+    #[tactic(auto, using(crate::proofs::SlotLists::all_slots))]
+    pub fn has_records(&self, layout: &Layout, bytes: &[u8]) -> bool
+        requires { length bytes.now ≡ layout.now.count * layout.now.record_len }
+        ensures { result ≡ list_all (is_slot_of self.now) (records_in layout.now bytes.now) }
+    {
+        if self.form == 2 {
+            are_slots(layout, bytes)
+        } else {
+            true
+        }
+    }
+
+    /// Writes another record over record i, of records that stand one after another in `bytes`, and changes no other. It
+    /// takes no memory.
+    #[tactic(auto, unfolding(crate::specs::Plans::fits, crate::specs::Plans::slot))]
+    pub fn write(&self, layout: &Layout, bytes: &mut [u8], i: usize, written: &[u8])
+        requires len { layout.now.record_len ≡ self.now.record_len }
+        requires count { length bytes.old ≡ layout.now.count * layout.now.record_len }
+        requires index { i < layout.now.count }
+        requires fits { fits self.now written.now ≡ true }
+        ensures { records_in layout.now bytes.new ≡
+            slice_set (records_in layout.now bytes.old) i (slot self.now written.now) }
+    {
+        if self.form == 2 {
+            write_slot(layout, bytes, i, written);
+        } else {
+            write_record(layout, bytes, i, written);
+        }
+    }
+}

@@ -1,0 +1,23 @@
+-- Records of one length, moved into slots.
+use Rattle.std.specs.Prelude.{◌≡◌, ◌≢◌, ℕ, ◌+◌, List, length, map}
+use Rattle.digit_pack.specs.Layout.{IsLayout, records_in}
+use Rattle.digit_pack.specs.Slots.{slot_of}
+use Rattle.snapshot_file.specs.declared.migration.MigrateError.{MigrateError}
+use Rattle.snapshot_file.specs.declared.migration.MigrateError.TheVariants.{NotFormOne, TooWide, Memory}
+use Rattle.snapshot_file.specs.declared.snapshot.Header.{Header}
+use Rattle.snapshot_file.specs.Snapshots.{shape_of, records_len}
+
+-- the fields of the same records in slots: form 2, and two bytes more for each
+abbrev pub in_slots : Header → Header
+in_slots h = record h { form = 2; record_len = h.record_len + 2 }
+
+-- bytes in which each record has its slot
+pub record AreInSlots (h : Header) (records moved : List ℕ) : Type 0 where
+  pub len : length moved ≡ records_len (in_slots h)
+  pub each : records_in (shape_of (in_slots h)) moved ≡ map (slot_of (h.record_len + 2)) (records_in (shape_of h) records)
+
+-- the first cause that stands
+abbrev pub IsMigrateFault : Header → MigrateError → Type 0
+IsMigrateFault h NotFormOne = h.form ≢ 1
+IsMigrateFault h TooWide = (h.form ≡ 1) × ¬ IsLayout (shape_of (in_slots h))
+IsMigrateFault h Memory = (h.form ≡ 1) × IsLayout (shape_of (in_slots h))
