@@ -94,9 +94,9 @@ def spent_millis(pid):
     return (int(fields[11]) + int(fields[12])) * 1000 / os.sysconf("SC_CLK_TCK")
 
 
-def made(folder, record=RECORD, groups=GROUPS):
-    """The store's file, and its records; they may be shorter, with more groups, so that the digits are as many."""
-    count = groups * SIDE * record
+def made(folder, record=RECORD, groups=GROUPS, columns=SIDE):
+    """The store's file, and its records; they may be shorter, with more groups, so that the digits are as many, and there may be fewer columns."""
+    count = groups * columns * record
     records = b"".join(struct.pack("<Q", i * 0x9E3779B97F4A7C15 % 2**64) for i in range(count // 8))
     name = os.path.join(folder, "store.pir")
     words = ["make", "--out", name, "--width", "10", "--record", str(record), "--groups", str(groups)]

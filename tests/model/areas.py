@@ -10,12 +10,12 @@ import tempfile
 
 from client import CallRefused, Client
 from formats import (
-    BYE, DOUBLE, EDIT, FORMS, HELLO, LAST_FORM, LOAD, PUBLISH, QUERY, SIMPLE, WELCOME, Layout, answer_count, frame, hint_count,
-    is_layout, query_count, snapshot_bytes, snapshot_fault,
+    APPEND, BYE, DOUBLE, EDIT, FORMS, HELLO, LAST_FORM, LOAD, PUBLISH, QUERY, SIMPLE, WELCOME, Layout, answer_count, frame,
+    hint_count, is_layout, query_count, snapshot_bytes, snapshot_fault,
 )  # fmt: skip
 from script import rehearse
 from server import Session, Store, once
-from streams import KEY, damaged, near, pieces, random_ask, random_frame, random_store
+from streams import KEY, damaged, near, pieces, random_ask, random_edit, random_frame, random_store
 
 SECONDS = 60
 READER = bytes(32)
@@ -103,7 +103,8 @@ class Orders(Streams):
             frame(HELLO, form, READER), frame(HELLO, 2, KEY), frame(HELLO, form - 1, READER), frame(HELLO, 2, bytes([2]) * 32),
             frame(3, SIMPLE, 1, 0), frame(3, DOUBLE, 2, 0), frame(4, 1), frame(4, 9), frame(QUERY, SIMPLE, 1, rest=[1, 2]),
             frame(QUERY, DOUBLE, 2, rest=asked), frame(QUERY, SIMPLE, 1, rest=[1]), frame(EDIT, 0, rest=b"\5"), frame(EDIT, 2, rest=b"\5"),
-            frame(PUBLISH), frame(BYE), frame(LOAD, 1, 1, 8, rest=b"ab"), frame(0x87, 1), b"\0\0\0\0\x7f", b"\1\0\0\0\x8f",
+            frame(PUBLISH), frame(BYE), frame(APPEND, rest=b"\5"), frame(LOAD, 1, 1, 8, rest=b"ab"), frame(0x87, 1),
+            b"\0\0\0\0\x7f", b"\1\0\0\0\x8f",
         ]  # fmt: skip
         streams = [[a + b + c] for a in frames for b in frames for c in frames]
         for at in range(0, len(streams), 500):
@@ -176,9 +177,12 @@ class Replies:
         store = random_store(chance, hashlib.sha256(KEY).digest())
         store.edited = chance.random() < 0.5
         index = chance.randrange(store.layout.count) if chance.random() < 0.9 else near(chance, store.layout.count, (1 << 32) - 1)
-        command = chance.choice(("get", "get", "get", "put", "publish"))
+        command = chance.choice(("get", "get", "get", "put", "append", "publish"))
         scheme = chance.choice(("simple", "double"))
-        case = {"command": command, "scheme": scheme, "index": index, "number": chance.choice((0, 1, (1 << 62) - 1)), "parts": []}
+        case = {
+            "command": command, "scheme": scheme, "index": index, "number": chance.choice((0, 1, (1 << 62) - 1)),
+            "record": chance.choice((b"de", b"")), "parts": [],
+        }  # fmt: skip
         session, conversation = Session(store), Conversation(case)
         for sent in conversation:
             right = session.feed(sent)
@@ -216,7 +220,8 @@ class Replies:
     def difference(self, case, programs):
         words = {
             "get": ["--seed", "11" * 32, "--number", str(case["number"]), "--scheme", case["scheme"], "--least-dimension", "1", str(case["index"])],
-            "put": ["--key", "01" * 32, str(case["index"]), "6465"],
+            "put": ["--key", "01" * 32, str(case["index"]), case["record"].hex() or "-"],
+            "append": ["--key", "01" * 32, case["record"].hex() or "-"],
             "publish": ["--key", "01" * 32],
         }[case["command"]]
         conversation = Conversation(case)
@@ -295,7 +300,10 @@ class Conversation:
                 yield from self.exchange(client, client.ask, case["index"])
                 line = self.event
             elif case["command"] == "put":
-                yield from self.exchange(client, client.edit, case["index"], b"de")
+                yield from self.exchange(client, client.edit, case["index"], case["record"])
+                line = self.event
+            elif case["command"] == "append":
+                yield from self.exchange(client, client.append, case["record"])
                 line = self.event
             else:
                 yield from self.exchange(client, client.publish)
@@ -330,16 +338,17 @@ class Conversation:
 
 
 class Scripts:
-    """Random scripts of a world of form 1, and damaged ones."""
+    """Random scripts of a world, and damaged ones."""
 
     name = "scripts"
 
     def case(self, chance):
-        store = random_store(chance, READER, forms=(1,))
+        store = random_store(chance, READER)
         layout = store.layout
         sizes = [near(chance, value, 300) if chance.random() < 0.1 else value for value in (layout.width, layout.record_len, layout.groups, store.n)]
-        lines = [" ".join(map(str, ["world", *sizes])), f"seed {store.seed.hex()}"]
-        lines += [f"record {record.hex()}" for record in store.draft]
+        world = "world" if layout.form == 1 else "world2"
+        lines = [" ".join(map(str, [world, *sizes])), f"seed {store.seed.hex()}"]
+        lines += [f"record {record.hex() or '-'}" for record in store.draft]
         clients = chance.randint(1, 3)
         lines += [f"client {chance.randbytes(1).hex() * 32}" for _ in range(clients)]
         for _ in range(chance.randint(0, 60)):
@@ -353,11 +362,13 @@ class Scripts:
 
     def steps(self, chance, layout, clients):
         who = near(chance, chance.randrange(clients), 1 << 63) if chance.random() < 0.05 else chance.randrange(clients)
-        index = chance.randrange(layout.count) if chance.random() < 0.95 else near(chance, layout.count, (1 << 32) - 1)
+        index = chance.randrange(layout.count + 2) if chance.random() < 0.95 else near(chance, layout.count, (1 << 32) - 1)
         whole = [f"to-server {who} all", f"to-client {who} all"]
-        kind = chance.randrange(12)
+        kind = chance.randrange(13)
         if kind < 2:
-            return [f"edit {index} {chance.randbytes(max(1, near(chance, layout.record_len, 4))).hex()}"]
+            return [f"edit {index} {random_edit(chance, layout).hex() or '-'}"]
+        if kind == 12:
+            return [f"append {random_edit(chance, layout).hex() or '-'}"]
         if kind == 2:
             return ["publish"]
         if kind < 7:
@@ -458,8 +469,11 @@ def is_certain(layout, terms):
 def description(store):
     """The lines that `show` prints."""
     layout, n = store.layout, store.n
-    yield from (f"version {store.version()}", f"records {layout.count} of {layout.record_len} bytes", f"width {layout.width}")
-    yield from (f"groups {layout.groups}", f"digits {layout.rows} rows {layout.cols} columns", f"dimension {n}")
+    lengths = f"{layout.record_len} bytes"
+    if layout.form == 2:
+        lengths = f"at most {layout.record_len - 2} bytes, the longest of {max(map(len, store.draft))}"
+    yield from (f"version {store.version()}", f"form {layout.form}", f"records {layout.count} of {lengths}")
+    yield from (f"width {layout.width}", f"groups {layout.groups}", f"digits {layout.rows} rows {layout.cols} columns", f"dimension {n}")
     for name, scheme in (("simple", SIMPLE), ("double", DOUBLE)):
         sizes = (hint_count(scheme, layout, n), query_count(scheme, layout), answer_count(scheme, layout, n))
         hint, query, answer = (4 * words for words in sizes)

@@ -1,6 +1,6 @@
 """A client's side of a session by docs/FORMATS.md: its calls, what it takes as a reply, and what comes of it."""
 from formats import (
-    ANSWER, DELTA, DELTA_ASK, DONE, EDIT, HELLO, HINT_ASK, HINT_PART, LAST_FORM, MOST_DELTA_ROWS, NO_DELTA, PUBLISH, QUERY, REFUSED,
+    ANSWER, APPEND, DELTA, DELTA_ASK, DONE, EDIT, HELLO, HINT_ASK, HINT_PART, LAST_FORM, MOST_DELTA_ROWS, NO_DELTA, PUBLISH, QUERY, REFUSED,
     SIMPLE, STALE, WELCOME, Layout, Reader, answer_count, frame, is_form, is_layout, part_count, query_of, read_answer,
 )  # fmt: skip
 
@@ -80,6 +80,12 @@ class Client:
         self.free()
         self.call = ("edit",)
         return frame(EDIT, index, rest=data)
+
+    def append(self, data):
+        self.begin(True)
+        self.free()
+        self.call = ("append",)
+        return frame(APPEND, rest=data)
 
     def publish(self):
         self.begin(True)

@@ -271,18 +271,20 @@ def read_answer(scheme, layout, n, hint, seed, number, index, answer):
 
 
 def delta_rows(old, new):
-    return [row for row, (left, right) in enumerate(zip(old.digits, new.digits)) if left != right]
+    """The rows that differ; a version with fewer columns has zeros in the others."""
+    more = [0] * (new.layout.cols - old.layout.cols)
+    return [row for row, (left, right) in enumerate(zip(old.digits, new.digits)) if left + more != right]
 
 
 # ---- frames
 
-LOAD, HELLO, HINT_ASK, DELTA_ASK, QUERY, EDIT, PUBLISH, BYE = 1, 2, 3, 4, 5, 6, 7, 8
+LOAD, HELLO, HINT_ASK, DELTA_ASK, QUERY, EDIT, PUBLISH, BYE, APPEND = 1, 2, 3, 4, 5, 6, 7, 8, 9
 WELCOME, HINT_PART, DELTA, ANSWER, STALE, DONE, NO_DELTA, REFUSED = 0x82, 0x83, 0x84, 0x85, 0x86, 0x87, 0x88, 0x8F
 # The fixed part of each kind's payload, and what follows it: nothing, bytes, words or rows.
 KINDS = {
     LOAD: ("<HHB", "bytes"), HELLO: ("<H32s", ""), HINT_ASK: ("<BQI", ""), DELTA_ASK: ("<Q", ""), QUERY: ("<BQ", "words"),
-    EDIT: ("<I", "bytes"), PUBLISH: ("<", ""), BYE: ("<", ""), WELCOME: ("<HBHHIQH32s", ""), HINT_PART: ("<BQI", "words"),
-    DELTA: ("<QQIH", "rows"), ANSWER: ("<BQ", "words"), STALE: ("<QI", ""), DONE: ("<Q", ""), NO_DELTA: ("<QI", ""),
+    EDIT: ("<I", "bytes"), PUBLISH: ("<", ""), BYE: ("<", ""), APPEND: ("<", "bytes"), WELCOME: ("<HBHHIQH32s", ""),
+    HINT_PART: ("<BQI", "words"), DELTA: ("<QQIH", "rows"), ANSWER: ("<BQ", "words"), STALE: ("<QI", ""), DONE: ("<Q", ""), NO_DELTA: ("<QI", ""),
     REFUSED: ("<B", ""),
 }  # fmt: skip
 

@@ -2,7 +2,7 @@
 import re
 
 from client import CallRefused, Client
-from formats import DOUBLE, SIMPLE, Layout, is_layout
+from formats import DOUBLE, SIMPLE, Layout, fits, is_layout
 from server import Session, Store
 
 MOST_SCRIPT = 1_048_576
@@ -23,10 +23,20 @@ def number(text, bits):
     return int(text)
 
 
-def hex_bytes(text, length=None):
-    if not re.fullmatch("(?:[0-9a-fA-F]{2})+", text) or length is not None and len(text) != 2 * length:
+def hex_bytes(text):
+    if not re.fullmatch("(?:[0-9a-fA-F]{2})+", text):
         raise BadLine
     return bytes.fromhex(text)
+
+
+def seed_bytes(text):
+    if len(text) != 64:
+        raise BadLine
+    return hex_bytes(text)
+
+
+def record_bytes(text):
+    return b"" if text == "-" else hex_bytes(text)
 
 
 def most(text):
@@ -45,17 +55,21 @@ def client(text):
 
 # What the words of each step are.
 STEPS = {
-    "edit": (lambda text: number(text, 32), hex_bytes), "publish": (), "hello": (client,), "sync": (client, scheme),
-    "ask": (client, lambda text: number(text, 32)), "to-server": (client, most), "to-client": (client, most),
+    "edit": (lambda text: number(text, 32), record_bytes), "append": (record_bytes,), "publish": (), "hello": (client,),
+    "sync": (client, scheme), "ask": (client, lambda text: number(text, 32)), "to-server": (client, most), "to-client": (client, most),
 }  # fmt: skip
 
 
+# How many words follow the name of a line of the header.
+HEADER = {"world": 4, "world2": 4, "seed": 1, "record": 1, "client": 1}
+
+
 class World:
-    def __init__(self, sizes, seed, records, clients):
+    def __init__(self, form, sizes, seed, records, clients):
         width, record_len, groups, n = sizes
         if not is_layout(width, record_len, groups, len(records)) or not 1 <= n <= 1024:
             raise RefusedWorld("BadLayout")
-        self.store = Store(Layout(width, record_len, groups, len(records)), n, 1, seed, bytes(32), records)
+        self.store = Store(Layout(width, record_len, groups, len(records), form), n, 1, seed, bytes(32), records)
         self.links = [[Client(seed), Session(self.store), b"", b""] for seed in clients]
 
     def step(self, name, words):
@@ -63,6 +77,9 @@ class World:
         if name == "edit":
             refusal = self.store.edit(*words)
             return [f"edit {words[0]}: {'refused ' + refusal if refusal else 'accepted'}"]
+        if name == "append":
+            refusal = self.store.append(*words)
+            return [f"append: {'refused ' + refusal if refusal else 'accepted'}"]
         if name == "publish":
             refusal = self.store.publish()
             return [f"publish: {'refused ' + refusal if refusal else f'version {self.store.version()}'}"]
@@ -101,7 +118,7 @@ class World:
 
 class Script:
     def __init__(self):
-        self.sizes, self.seed, self.records, self.clients, self.world = None, None, [], [], None
+        self.form, self.sizes, self.seed, self.records, self.clients, self.world = None, None, None, [], [], None
 
     def take(self, line):
         """The lines that come of a line."""
@@ -114,39 +131,42 @@ class Script:
             words = [read(word) for read, word in zip(STEPS[name], words)]
             self.open()
             return self.world.step(name, words)
-        header = {"world": self.take_world, "seed": self.take_seed, "record": self.take_record, "client": self.take_client}
-        if name not in header or self.world:
+        if name not in HEADER or self.world or len(words) != HEADER[name]:
             raise BadLine
-        header[name](*words) if len(words) == (4 if name == "world" else 1) else self.bad()
+        getattr(self, f"take_{name}")(*words)
         return []
 
-    def bad(self):
-        raise BadLine
-
-    def take_world(self, *words):
+    def take_world(self, *words, form=1):
         if self.sizes:
             raise BadLine
+        self.form = form
         self.sizes = [number(word, bits) for word, bits in zip(words, (8, 16, 16, 16))]
+
+    def take_world2(self, *words):
+        self.take_world(*words, form=2)
 
     def take_seed(self, word):
         if not self.sizes or self.seed:
             raise BadLine
-        self.seed = hex_bytes(word, 32)
+        self.seed = seed_bytes(word)
 
     def take_record(self, word):
         if not self.seed or self.clients:
             raise BadLine
-        self.records.append(hex_bytes(word, self.sizes[1]))
+        record = record_bytes(word)
+        if not fits(self.form, self.sizes[1], record):
+            raise BadLine
+        self.records.append(record)
 
     def take_client(self, word):
         if not self.records or len(self.clients) == MOST_CLIENTS:
             raise BadLine
-        self.clients.append(hex_bytes(word, 32))
+        self.clients.append(seed_bytes(word))
 
     def open(self):
         if not self.clients:
             raise BadLine
-        self.world = self.world or World(self.sizes, self.seed, self.records, self.clients)
+        self.world = self.world or World(self.form, self.sizes, self.seed, self.records, self.clients)
 
 
 def rehearse(script):

@@ -2,7 +2,7 @@
 import hashlib
 
 from formats import (
-    ANSWER, BYE, DELTA, DELTA_ASK, DONE, DOUBLE, EDIT, HELLO, HINT_ASK, HINT_PART, LAST_FORM, LOAD, MOST_DELTA_ROWS, NO_DELTA,
+    ANSWER, APPEND, BYE, DELTA, DELTA_ASK, DONE, DOUBLE, EDIT, HELLO, HINT_ASK, HINT_PART, LAST_FORM, LOAD, MOST_DELTA_ROWS, NO_DELTA,
     PART_WORDS, PUBLISH, QUERY, REFUSED, SIMPLE, STALE, WELCOME, Hints, Layout, Reader, delta_rows, frame, is_layout, part_count,
     query_count,
 )  # fmt: skip
@@ -12,7 +12,7 @@ MOST_LISTS = 16
 
 
 class Store:
-    """The records of a store in all its versions, and the draft."""
+    """The records of a store in all its versions, and the draft. The layout is the current version's."""
 
     def __init__(self, layout, n, first, seed, publisher, records):
         self.layout, self.n, self.first, self.seed, self.publisher = layout, n, first, seed, publisher
@@ -24,16 +24,28 @@ class Store:
 
     def hints(self, version):
         if version not in self.made:
-            self.made[version] = Hints(self.layout, self.n, self.seed, self.versions[version - self.first])
+            records = self.versions[version - self.first]
+            self.made[version] = Hints(self.layout.with_count(len(records)), self.n, self.seed, records)
         return self.made[version]
 
     def edit(self, index, data):
         """The name of the refusal, or None."""
-        if index >= self.layout.count:
+        if index >= len(self.draft):
             return "BadIndex"
         if not self.layout.fits(data):
             return "BadLength"
         self.draft[index], self.edited = data, True
+        return None
+
+    def append(self, data):
+        """The name of the refusal, or None."""
+        layout = self.layout
+        if not layout.fits(data):
+            return "BadLength"
+        if not is_layout(layout.width, layout.record_len, layout.groups, len(self.draft) + 1):
+            return "Full"
+        self.draft.append(data)
+        self.edited = True
         return None
 
     def publish(self):
@@ -42,6 +54,7 @@ class Store:
         if self.version() == LAST_VERSION:
             return "VersionsUsedUp"
         self.versions.append(list(self.draft))
+        self.layout = self.layout.with_count(len(self.draft))
         self.edited = False
         return None
 
@@ -77,7 +90,9 @@ class Session:
         return frame(kind, self.store.version(), self.store.layout.count)
 
     def reply(self, kind, fields):
-        serve = {HELLO: self.hello, HINT_ASK: self.hint_ask, DELTA_ASK: self.delta_ask, QUERY: self.query, EDIT: self.edit}
+        serve = {
+            HELLO: self.hello, HINT_ASK: self.hint_ask, DELTA_ASK: self.delta_ask, QUERY: self.query, EDIT: self.edit, APPEND: self.append,
+        }  # fmt: skip
         if kind == BYE:
             self.closed = True
             return b""
@@ -145,6 +160,12 @@ class Session:
             return said
         refusal = self.store.edit(index, data)
         return self.refused({"BadIndex": 6, "BadLength": 7}[refusal]) if refusal else frame(DONE, self.store.version())
+
+    def append(self, data):
+        if said := self.not_publisher():
+            return said
+        refusal = self.store.append(data)
+        return self.refused({"BadLength": 7, "Full": 14}[refusal]) if refusal else frame(DONE, self.store.version())
 
     def publish(self):
         if said := self.not_publisher():

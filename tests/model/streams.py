@@ -1,7 +1,7 @@
 """Random frames, and damage done to them."""
 from formats import (
-    ANSWER, BYE, DELTA, DELTA_ASK, DONE, DOUBLE, EDIT, HELLO, HINT_ASK, HINT_PART, KINDS, LOAD, NO_DELTA, PUBLISH, QUERY, REFUSED,
-    SIMPLE, STALE, WELCOME, Layout, frame, query_count,
+    ANSWER, APPEND, BYE, DELTA, DELTA_ASK, DONE, DOUBLE, EDIT, HELLO, HINT_ASK, HINT_PART, KINDS, LOAD, NO_DELTA, PUBLISH, QUERY,
+    REFUSED, SIMPLE, STALE, WELCOME, Layout, frame, query_count,
 )  # fmt: skip
 from server import Store
 
@@ -10,9 +10,9 @@ KINDS_OF_REPLIES = (WELCOME, HINT_PART, DELTA, ANSWER, STALE, DONE, NO_DELTA, RE
 U32, U64 = (1 << 32) - 1, (1 << 64) - 1
 
 
-def random_store(chance, publisher, last=False, forms=(1, 2)):
+def random_store(chance, publisher, last=False):
     """A small store. With `last` its version may be one of the last."""
-    form, width = chance.choice(forms), chance.choice((6, 7, 8, 8, 9, 10))
+    form, width = chance.choice((1, 2)), chance.choice((6, 7, 8, 8, 9, 10))
     record_len = chance.choice((1, 1, 2, 3) if form == 1 else (2, 3, 3, 4, 5))
     groups, count, n = chance.randint(1, 3), chance.randint(1, 7), chance.choice((1, 1, 2, 3))
     layout = Layout(width, record_len, groups, count, form)
@@ -48,7 +48,8 @@ def random_ask(chance, store):
     """A frame that clients send, mostly one that fits the store."""
     layout, version = store.layout, near(chance, store.version(), U64)
     scheme = near(chance, chance.choice((SIMPLE, DOUBLE)), 255)
-    kind = chance.choice((HELLO, HINT_ASK, HINT_ASK, DELTA_ASK, DELTA_ASK, QUERY, QUERY, QUERY, EDIT, EDIT, EDIT, PUBLISH, PUBLISH, BYE))
+    changes = (EDIT, EDIT, EDIT, APPEND, APPEND, PUBLISH, PUBLISH, PUBLISH)
+    kind = chance.choice((HELLO, HINT_ASK, HINT_ASK, DELTA_ASK, DELTA_ASK, QUERY, QUERY, QUERY, *changes, BYE))
     if kind == HELLO:
         key = chance.choice((bytes(32), bytes(32), KEY, bytes([2]) * 32))
         return frame(HELLO, near(chance, chance.choice((1, 2, 2)), 65_535), key)
@@ -59,9 +60,11 @@ def random_ask(chance, store):
     if kind == QUERY:
         return frame(kind, scheme, version, rest=words(chance, query_count(scheme & 1, layout)))
     if kind == EDIT:
-        index = chance.randrange(layout.count) if chance.random() < 0.9 else near(chance, layout.count, U32)
-        same = chance.random() < 0.2 and index < layout.count
+        index = chance.randrange(len(store.draft)) if chance.random() < 0.9 else near(chance, len(store.draft), U32)
+        same = chance.random() < 0.2 and index < len(store.draft)
         return frame(kind, index, rest=store.draft[index] if same else random_edit(chance, layout))
+    if kind == APPEND:
+        return frame(kind, rest=bytes(layout.record_len) if chance.random() < 0.2 else random_edit(chance, layout))
     return frame(kind)
 
 
@@ -89,7 +92,7 @@ def damaged(chance, data):
     elif kind == 4 and len(data) > 4:
         data[:4] = chance.choice((0, 1, len(data) - 6 & U32, len(data) - 4, 16_777_216, 16_777_217, U32)).to_bytes(4, "little")
     elif kind == 5 and len(data) > 4:
-        data[4] = chance.choice((*KINDS, 0, 9, 0x7F, 0x80, 0x81, 0x89, 0x8E, 0x90, 0xFF))
+        data[4] = chance.choice((*KINDS, 0, 10, 0x7F, 0x80, 0x81, 0x89, 0x8E, 0x90, 0xFF))
     elif kind == 6:
         del data[at : at + chance.choice((1, 2, 4))]
     else:

@@ -4,7 +4,7 @@ use Rattle.std.specs.Prelude.{IfOk}
 use Rattle.client_core.specs.declared.state.ClientState.{ClientState}
 use Rattle.client_core.specs.declared.state.Event.{Event}
 use Rattle.client_core.specs.declared.state.Event.TheVariants as event
-use Rattle.client_core.specs.Calls.{Want, Ask, Edit, Publish, state_after_call}
+use Rattle.client_core.specs.Calls.{Want, Ask, Edit, Append, Publish, state_after_call}
 use Rattle.client_core.specs.Endings.{Ends}
 use Rattle.client_core.specs.Feeding.{Client}
 use Rattle.client_commands.specs.declared.fault.CommandError.{CommandError}
@@ -35,6 +35,15 @@ version_of_edit i b c (event.Refused code) done h = absurd done
 version_of_edit i b c (event.Welcomed of) done h = absurd h
 version_of_edit i b c (event.Synced scheme of) done h = absurd h
 
+version_of_addition : (bytes : List ℕ) (c : ClientState) (e : Event) → IsDone e → Ends (state_after_call (Append bytes) c).call e → IsDoneVersion e
+version_of_addition b c (event.Done of) done h = tt
+version_of_addition b c (event.Retrieved index of bytes) done h = absurd h
+version_of_addition b c (event.Unreadable index of) done h = absurd done
+version_of_addition b c (event.Stale of) done h = absurd done
+version_of_addition b c (event.Refused code) done h = absurd done
+version_of_addition b c (event.Welcomed of) done h = absurd h
+version_of_addition b c (event.Synced scheme of) done h = absurd h
+
 version_of_publication : (c : ClientState) (e : Event) → IsDone e → Ends (state_after_call Publish c).call e → IsDoneVersion e
 version_of_publication c (event.Done of) done h = tt
 version_of_publication c (event.Retrieved index of bytes) done h = absurd h
@@ -56,6 +65,13 @@ pub edit_ends : (i : ℕ) (bytes : List ℕ) (old : Client) (result : Result Eve
 edit_ends i bytes old (Ok e) read out left new x =
     version_of_edit i bytes old.state e x.answered.0 (ends (Edit i bytes) old e read out left new x)
 edit_ends i bytes old (Err failure) read out left new x = tt
+
+-- so does an append
+pub addition_ends : (bytes : List ℕ) (old : Client) (result : Result Event CommandError) (read out : List ℕ) (left : Option (List ℕ)) (new : Client)
+    → ComesTo old (Append bytes) result read out left new → IfOk result IsDoneVersion
+addition_ends bytes old (Ok e) read out left new x =
+    version_of_addition bytes old.state e x.answered.0 (ends (Append bytes) old e read out left new x)
+addition_ends bytes old (Err failure) read out left new x = tt
 
 -- so does a publication
 pub publication_ends : (old : Client) (result : Result Event CommandError) (read out : List ℕ) (left : Option (List ℕ)) (new : Client)

@@ -5,7 +5,7 @@ use Rattle.client_core.specs.declared.state.CallFault.{CallFault}
 use Rattle.client_core.specs.declared.state.Event.{Event}
 use Rattle.client_core.specs.declared.state.Event.TheVariants as event
 use Rattle.client_core.specs.States.{delta_base}
-use Rattle.client_core.specs.Calls.{Want, Hello, Sync, Ask, Edit, Publish, Accepts, Refuses}
+use Rattle.client_core.specs.Calls.{Want, Hello, Sync, Ask, Edit, Append, Publish, Accepts, Refuses}
 use Rattle.client_core.specs.Feeding.{Client}
 use Rattle.client_core.proofs.NumberLaws.{sync_number}
 use Rattle.pir_schemes.specs.declared.scheme.Scheme.{Scheme}
@@ -22,6 +22,7 @@ IsNoAsk (Hello key) = Unit {0}
 IsNoAsk (Sync scheme) = Unit {0}
 IsNoAsk (Ask i) = ⊥
 IsNoAsk (Edit i bytes) = Unit {0}
+IsNoAsk (Append bytes) = Unit {0}
 IsNoAsk Publish = Unit {0}
 
 number_after : (old new other : ClientState) → new ≡ other → other.number ≡ old.number → new.number ≡ old.number
@@ -32,6 +33,7 @@ accepted_number (Hello key) old new bytes calm a = number_after old new _ a.stat
 accepted_number (Sync scheme) old new bytes calm a = number_after old new _ a.state (sync_number (delta_base scheme old.hint) scheme old)
 accepted_number (Ask i) old new bytes calm a = absurd calm
 accepted_number (Edit i b) old new bytes calm a = number_after old new _ a.state refl
+accepted_number (Append b) old new bytes calm a = number_after old new _ a.state refl
 accepted_number Publish old new bytes calm a = number_after old new _ a.state refl
 
 refused_number : (want : Want) (old new : ClientState) (fault : CallFault) → IsNoAsk want → Refuses old want fault new → new.number ≡ old.number
@@ -40,6 +42,7 @@ refused_number (Hello key) old new fault calm (inr r) = number_after old new _ r
 refused_number (Sync scheme) old new fault calm (inr r) = number_after old new _ r.2 refl
 refused_number (Ask i) old new fault calm (inr r) = absurd calm
 refused_number (Edit i b) old new fault calm (inr r) = number_after old new _ r.2 refl
+refused_number (Append b) old new fault calm (inr r) = number_after old new _ r.2 refl
 refused_number Publish old new fault calm (inr r) = number_after old new _ r.2 refl
 
 answered_number : (called : Client) (first : List ℕ) (result : Result Event CommandError) (read out : List ℕ) (left : Option (List ℕ)) (new : Client)

@@ -7,7 +7,7 @@ use Rattle.client_core.specs.declared.state.ServerInfo.{ServerInfo}
 use Rattle.client_core.specs.declared.state.CallFault.{CallFault}
 use Rattle.client_core.specs.declared.state.Event.{Event}
 use Rattle.client_core.specs.declared.state.Event.TheVariants as event
-use Rattle.client_core.specs.Calls.{Want, Hello, Sync, Ask, Edit, Publish, Accepts, Refuses}
+use Rattle.client_core.specs.Calls.{Want, Hello, Sync, Ask, Edit, Append, Publish, Accepts, Refuses}
 use Rattle.client_core.specs.Feeding.{Client}
 use Rattle.pir_schemes.specs.declared.scheme.Scheme.{Scheme}
 use Rattle.session_engines.specs.Conversing.{Converses}
@@ -119,6 +119,10 @@ retrieval least scheme index = Calls (Hello (replicate 32 0)) ∷ (Judges least 
 -- an edit: hello with the publisher's key, edit
 abbrev pub edition : List ℕ → ℕ → List ℕ → List CommandStep
 edition key index bytes = Calls (Hello key) ∷ (Calls (Edit index bytes) ∷ [])
+
+-- the addition of a record: hello with the publisher's key, append
+abbrev pub addition : List ℕ → List ℕ → List CommandStep
+addition key bytes = Calls (Hello key) ∷ (Calls (Append bytes) ∷ [])
 
 -- a publication: hello with the publisher's key, publish
 abbrev pub publication : List ℕ → List CommandStep

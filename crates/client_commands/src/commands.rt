@@ -11,6 +11,7 @@ ghost use Rattle.client_commands.specs.Transcripts.{
   IsDoneVersion,
   retrieval,
   edition,
+  addition,
   publication,
   as_retrieved,
   as_done,
@@ -173,7 +174,60 @@ fn edit_record<K: Kernel, R: Read, W: Write>(
     exchange(alloc, client, sent, reader, writer)
 }
 
-/// Makes the edits the next version: the publisher's hello, publish. Answers the new version,
+/// Gives the server these bytes as one record more of the next version: the publisher's hello, append. Answers the
+/// current version, and spends no number. What is read and written is that of these calls, in their order, and of
+/// no other.
+///
+/// # Errors
+///
+/// As those of [`put`].
+pub fn append<K: Kernel, R: Read, W: Write>(
+    alloc: Global,
+    client: &mut ClientCore<K>,
+    reader: &mut R,
+    writer: &mut W,
+    key: [u8; 32],
+    bytes: &[u8],
+) -> Result<u64, CommandError>
+    requires { length bytes.now ≤ 65535 }
+    ensures transcript { (read : List ℕ) × (out : List ℕ)
+        × Consumes (R.remaining reader.old) (R.remaining reader.new) read
+        × Appends (W.contents writer.old) (W.contents writer.new) out
+        × Transacts client.old (addition key bytes.now) (as_done result) read out
+        (R.remaining reader.new) client.new }
+    ensures number { client.new.state.number ≡ client.old.state.number }
+{
+    match append_record(alloc, client, reader, writer, key, bytes) {
+        Ok(Event::Done(current)) => Ok(current),
+        Ok(_) => unreachable!(),
+        Err(failure) => Err(failure),
+    }
+}
+
+// The steps of an append, to the event of the last.
+fn append_record<K: Kernel, R: Read, W: Write>(
+    alloc: Global,
+    client: &mut ClientCore<K>,
+    reader: &mut R,
+    writer: &mut W,
+    key: [u8; 32],
+    bytes: &[u8],
+) -> Result<Event, CommandError>
+    requires { length bytes.now ≤ 65535 }
+    ensures transcript { (read : List ℕ) × (out : List ℕ)
+        × Consumes (R.remaining reader.old) (R.remaining reader.new) read
+        × Appends (W.contents writer.old) (W.contents writer.new) out
+        × Transacts client.old (addition key bytes.now) result read out
+        (R.remaining reader.new) client.new }
+    ensures done { IfOk result IsDoneVersion }
+{
+    let sent = client.hello(key);
+    exchange(alloc, client, sent, reader, writer)?;
+    let sent = client.append(bytes);
+    exchange(alloc, client, sent, reader, writer)
+}
+
+/// Makes the draft the next version: the publisher's hello, publish. Answers the new version,
 /// and spends no number. What is read and written is that of these calls, in their order, and of no other.
 ///
 /// # Errors

@@ -8,5 +8,5 @@ mod commands;
 mod connection;
 mod fault;
 
-pub use commands::{Retrieved, get, publish, put};
+pub use commands::{Retrieved, append, get, publish, put};
 pub use fault::CommandError;

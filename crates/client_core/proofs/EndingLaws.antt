@@ -17,7 +17,7 @@ use Rattle.client_core.specs.declared.state.ClientState.{ClientState}
 use Rattle.client_core.specs.declared.state.ServerInfo.{ServerInfo}
 use Rattle.client_core.specs.declared.state.Hint.{Hint}
 use Rattle.client_core.specs.declared.state.Call.{Call}
-use Rattle.client_core.specs.declared.state.Call.TheVariants.{Idle, Hello, Sync, Delta, Ask, Edit, Publish}
+use Rattle.client_core.specs.declared.state.Call.TheVariants.{Idle, Hello, Sync, Delta, Ask, Edit, Append, Publish}
 use Rattle.client_core.specs.declared.state.Event.{Event}
 use Rattle.client_core.specs.declared.state.Event.TheVariants.{Welcomed, Synced, Retrieved, Unreadable, Stale, Done, Refused}
 use Rattle.client_core.specs.declared.state.ClientFault.{ClientFault}
@@ -50,6 +50,7 @@ welcome_reacts (Sync s v p) c plan count version = tt
 welcome_reacts (Delta since) c plan count version = tt
 welcome_reacts (Ask i x v m) c plan count version = tt
 welcome_reacts (Edit i b) c plan count version = tt
+welcome_reacts (Append b) c plan count version = tt
 welcome_reacts Publish c plan count version = tt
 
 -- the number of the next part says nothing of the end
@@ -77,6 +78,7 @@ part_reacts (Sync s v p) c scheme version part words = asked_part_reacts c.known
 part_reacts (Delta since) c scheme version part words = tt
 part_reacts (Ask i x v m) c scheme version part words = tt
 part_reacts (Edit i b) c scheme version part words = tt
+part_reacts (Append b) c scheme version part words = tt
 part_reacts Publish c scheme version part words = tt
 
 -- a record's event is of the record and the version asked
@@ -107,6 +109,7 @@ answer_reacts (Sync s v p) c scheme version words = tt
 answer_reacts (Delta since) c scheme version words = tt
 answer_reacts (Ask i x v m) c scheme version words = answered_reacts x c.known c.hint c i v m scheme version words
 answer_reacts (Edit i b) c scheme version words = tt
+answer_reacts (Append b) c scheme version words = tt
 answer_reacts Publish c scheme version words = tt
 
 another_version : (version v : ℕ) (b : Bool) → (not (version == v) && b) ≡ true → version ≢ v
@@ -137,6 +140,7 @@ stale_reacts (Sync s v p) c version count = stale_sync_reacts c.known (record c 
 stale_reacts (Delta since) c version count = tt
 stale_reacts (Ask i x v m) c version count = stale_ask_reacts x c.known c c i v m version count
 stale_reacts (Edit i b) c version count = tt
+stale_reacts (Append b) c version count = tt
 stale_reacts Publish c version count = tt
 
 moved_reacts : (known : Option ServerInfo) (hint : Option Hint) (c : ClientState) (asked since now count : ℕ) (rows : RowList) →
@@ -153,6 +157,7 @@ delta_reacts (Sync s v p) c since now count rows = tt
 delta_reacts (Delta asked) c since now count rows = moved_reacts c.known c.hint c asked since now count rows
 delta_reacts (Ask i x v m) c since now count rows = tt
 delta_reacts (Edit i b) c since now count rows = tt
+delta_reacts (Append b) c since now count rows = tt
 delta_reacts Publish c since now count rows = tt
 
 -- a sync that goes on by parts ends as one by delta may
@@ -176,6 +181,7 @@ no_delta_reacts (Sync s v p) c version count = tt
 no_delta_reacts (Delta asked) c version count = by_parts_reacts c.known c asked version count
 no_delta_reacts (Ask i x v m) c version count = tt
 no_delta_reacts (Edit i b) c version count = tt
+no_delta_reacts (Append b) c version count = tt
 no_delta_reacts Publish c version count = tt
 
 done_reacts : (call : Call) (c : ClientState) (version : ℕ) → ReactsTo call (takes_done call c version)
@@ -185,6 +191,7 @@ done_reacts (Sync s v p) c version = tt
 done_reacts (Delta since) c version = tt
 done_reacts (Ask i x v m) c version = tt
 done_reacts (Edit i b) c version = tt
+done_reacts (Append b) c version = tt
 done_reacts Publish c version = tt
 
 refused_reacts : (call : Call) (c : ClientState) (code : ℕ) → ReactsTo call (takes_refused call c code)
@@ -194,6 +201,7 @@ refused_reacts (Sync s v p) c code = tt
 refused_reacts (Delta since) c code = tt
 refused_reacts (Ask i x v m) c code = tt
 refused_reacts (Edit i b) c code = tt
+refused_reacts (Append b) c code = tt
 refused_reacts Publish c code = tt
 
 reacts : (c : ClientState) (f : Frame) → ReactsTo c.call (reaction_to_reply c f)

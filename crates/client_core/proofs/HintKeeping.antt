@@ -9,7 +9,7 @@ use Rattle.client_core.specs.declared.state.ClientState.{ClientState}
 use Rattle.client_core.specs.declared.state.ServerInfo.{ServerInfo}
 use Rattle.client_core.specs.declared.state.Hint.{Hint}
 use Rattle.client_core.specs.declared.state.Call.{Call}
-use Rattle.client_core.specs.declared.state.Call.TheVariants.{Idle, Hello, Sync, Delta, Ask, Edit, Publish}
+use Rattle.client_core.specs.declared.state.Call.TheVariants.{Idle, Hello, Sync, Delta, Ask, Edit, Append, Publish}
 use Rattle.client_core.specs.declared.state.Event.{Event}
 use Rattle.client_core.specs.declared.state.ClientFault.{ClientFault}
 use Rattle.client_core.specs.Replies.{Taken, reaction_to_reply, plan_given, takes_welcome, takes_part, answered, takes_answer, reaction_to_stale, takes_stale, takes_delta, takes_no_delta, takes_done, takes_refused}
@@ -43,6 +43,7 @@ welcome_stays (Sync s v p) c plan count version a calm = absurd a
 welcome_stays (Delta since) c plan count version a calm = absurd a
 welcome_stays (Ask i x v m) c plan count version a calm = failed_stays c calm
 welcome_stays (Edit i b) c plan count version a calm = failed_stays c calm
+welcome_stays (Append b) c plan count version a calm = failed_stays c calm
 welcome_stays Publish c plan count version a calm = failed_stays c calm
 
 part_stays : (k : Call) (c : ClientState) (scheme version part : ℕ) (words : List ℕ) → IsNoSync k → IsNoSync c.call →
@@ -53,6 +54,7 @@ part_stays (Sync s v p) c scheme version part words a calm = absurd a
 part_stays (Delta since) c scheme version part words a calm = absurd a
 part_stays (Ask i x v m) c scheme version part words a calm = failed_stays c calm
 part_stays (Edit i b) c scheme version part words a calm = failed_stays c calm
+part_stays (Append b) c scheme version part words a calm = failed_stays c calm
 part_stays Publish c scheme version part words a calm = failed_stays c calm
 
 answered_stays : (known : Option ServerInfo) (hint : Option Hint) (c : ClientState) (i v m scheme version : ℕ) (words : List ℕ) → IsNoSync c.call →
@@ -69,6 +71,7 @@ answer_stays (Sync s v p) c scheme version words a calm = absurd a
 answer_stays (Delta since) c scheme version words a calm = absurd a
 answer_stays (Ask i x v m) c scheme version words a calm = answered_stays c.known c.hint c i v m scheme version words calm
 answer_stays (Edit i b) c scheme version words a calm = failed_stays c calm
+answer_stays (Append b) c scheme version words a calm = failed_stays c calm
 answer_stays Publish c scheme version words a calm = failed_stays c calm
 
 staled_stays : (known : Option ServerInfo) (c : ClientState) (asked version count : ℕ) → IsNoSync c.call →
@@ -83,6 +86,7 @@ stale_stays (Sync s v p) c version count a calm = absurd a
 stale_stays (Delta since) c version count a calm = absurd a
 stale_stays (Ask i x v m) c version count a calm = staled_stays c.known c v version count calm
 stale_stays (Edit i b) c version count a calm = failed_stays c calm
+stale_stays (Append b) c version count a calm = failed_stays c calm
 stale_stays Publish c version count a calm = failed_stays c calm
 
 delta_stays : (k : Call) (c : ClientState) (since now count : ℕ) (rows : RowList) → IsNoSync k → IsNoSync c.call →
@@ -93,6 +97,7 @@ delta_stays (Sync s v p) c since now count rows a calm = absurd a
 delta_stays (Delta asked) c since now count rows a calm = absurd a
 delta_stays (Ask i x v m) c since now count rows a calm = failed_stays c calm
 delta_stays (Edit i b) c since now count rows a calm = failed_stays c calm
+delta_stays (Append b) c since now count rows a calm = failed_stays c calm
 delta_stays Publish c since now count rows a calm = failed_stays c calm
 
 no_delta_stays : (k : Call) (c : ClientState) (version count : ℕ) → IsNoSync k → IsNoSync c.call → Stays c (takes_no_delta k c version count).state
@@ -102,6 +107,7 @@ no_delta_stays (Sync s v p) c version count a calm = absurd a
 no_delta_stays (Delta asked) c version count a calm = absurd a
 no_delta_stays (Ask i x v m) c version count a calm = failed_stays c calm
 no_delta_stays (Edit i b) c version count a calm = failed_stays c calm
+no_delta_stays (Append b) c version count a calm = failed_stays c calm
 no_delta_stays Publish c version count a calm = failed_stays c calm
 
 done_stays : (k : Call) (c : ClientState) (version : ℕ) → IsNoSync k → IsNoSync c.call → Stays c (takes_done k c version).state
@@ -111,6 +117,7 @@ done_stays (Sync s v p) c version a calm = absurd a
 done_stays (Delta since) c version a calm = absurd a
 done_stays (Ask i x v m) c version a calm = failed_stays c calm
 done_stays (Edit i b) c version a calm = ended_stays c c refl
+done_stays (Append b) c version a calm = ended_stays c c refl
 done_stays Publish c version a calm = ended_stays c c refl
 
 refused_stays : (k : Call) (c : ClientState) (code : ℕ) → IsNoSync k → IsNoSync c.call → Stays c (takes_refused k c code).state
@@ -120,6 +127,7 @@ refused_stays (Sync s v p) c code a calm = absurd a
 refused_stays (Delta since) c code a calm = absurd a
 refused_stays (Ask i x v m) c code a calm = ended_stays c c refl
 refused_stays (Edit i b) c code a calm = ended_stays c c refl
+refused_stays (Append b) c code a calm = ended_stays c c refl
 refused_stays Publish c code a calm = ended_stays c c refl
 
 takes_stays : (c : ClientState) (f : Frame) → IsNoSync c.call → Stays c (reaction_to_reply c f).state

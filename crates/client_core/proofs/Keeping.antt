@@ -19,13 +19,13 @@ use Rattle.client_core.specs.declared.state.ClientState.{ClientState}
 use Rattle.client_core.specs.declared.state.ServerInfo.{ServerInfo}
 use Rattle.client_core.specs.declared.state.Hint.{Hint}
 use Rattle.client_core.specs.declared.state.Call.{Call}
-use Rattle.client_core.specs.declared.state.Call.TheVariants.{Idle, Hello, Sync, Delta, Ask, Edit, Publish}
+use Rattle.client_core.specs.declared.state.Call.TheVariants.{Idle, Hello, Sync, Delta, Ask, Edit, Append, Publish}
 use Rattle.client_core.specs.declared.state.Event.TheVariants.{Welcomed}
 use Rattle.client_core.specs.declared.state.ClientFault.TheVariants.{BadWelcome, BadReply}
 use Rattle.client_core.specs.States.{IsState, IsKnown, shape_known, Keeps, KnownFits, HintFits, CallFits, is_layout}
 use Rattle.client_core.specs.Replies.{Taken, plan_given, reaction_to_reply, faulty, ended, is_accepted_welcome, takes_welcome, is_part, more_parts, takes_asked_part, takes_part, is_answer, answered, takes_answer, is_current, with_current, reaction_to_stale, takes_stale, are_ascending, row_numbers, is_delta, moved, takes_delta, goes_by_parts, takes_no_delta, takes_done, takes_refused}
 use Rattle.client_core.proofs.MovedRows.{with_rows-rows, with_rows-cols}
-use Rattle.client_core.proofs.Layouts.{layout_means}
+use Rattle.digit_pack.proofs.Layouts.{layout_means}
 
 pub faulty_keeps : (c : ClientState) → IsState c → Keeps c (record c { failed = true })
 faulty_keeps c s = record { good = record { number = s.number; known = s.known; hint = s.hint; call = s.call; delta = s.delta }; number = refl }
@@ -87,6 +87,7 @@ welcome_keeps (Sync x v p) c plan count version s fits = faulty_keeps c s
 welcome_keeps (Delta since) c plan count version s fits = faulty_keeps c s
 welcome_keeps (Ask i x v m) c plan count version s fits = faulty_keeps c s
 welcome_keeps (Edit i b) c plan count version s fits = faulty_keeps c s
+welcome_keeps (Append b) c plan count version s fits = faulty_keeps c s
 welcome_keeps Publish c plan count version s fits = faulty_keeps c s
 
 -- ---- HintPart
@@ -143,6 +144,7 @@ part_keeps (Sync x v p) c scheme version part words s fits = asked_part_keeps c.
 part_keeps (Delta since) c scheme version part words s fits = faulty_keeps c s
 part_keeps (Ask i x v m) c scheme version part words s fits = faulty_keeps c s
 part_keeps (Edit i b) c scheme version part words s fits = faulty_keeps c s
+part_keeps (Append b) c scheme version part words s fits = faulty_keeps c s
 part_keeps Publish c scheme version part words s fits = faulty_keeps c s
 
 -- ---- Answer
@@ -161,6 +163,7 @@ answer_keeps (Sync x v p) c scheme version words s = faulty_keeps c s
 answer_keeps (Delta since) c scheme version words s = faulty_keeps c s
 answer_keeps (Ask i x v m) c scheme version words s = answered_keeps c.known c.hint c i v m scheme version words s
 answer_keeps (Edit i b) c scheme version words s = faulty_keeps c s
+answer_keeps (Append b) c scheme version words s = faulty_keeps c s
 answer_keeps Publish c scheme version words s = faulty_keeps c s
 
 -- ---- Stale
@@ -210,6 +213,7 @@ stale_keeps (Sync x v p) c version count s = staled_keeps c.known c (record c { 
 stale_keeps (Delta since) c version count s = faulty_keeps c s
 stale_keeps (Ask i x v m) c version count s = staled_keeps c.known c c v version count refl s refl refl
 stale_keeps (Edit i b) c version count s = faulty_keeps c s
+stale_keeps (Append b) c version count s = faulty_keeps c s
 stale_keeps Publish c version count s = faulty_keeps c s
 
 -- ---- Delta and NoDelta
@@ -251,6 +255,7 @@ delta_keeps (Sync x v p) c since now count rows s = faulty_keeps c s
 delta_keeps (Delta asked) c since now count rows s = moved_keeps c.known c.hint c asked since now count rows refl refl s
 delta_keeps (Ask i x v m) c since now count rows s = faulty_keeps c s
 delta_keeps (Edit i b) c since now count rows s = faulty_keeps c s
+delta_keeps (Append b) c since now count rows s = faulty_keeps c s
 delta_keeps Publish c since now count rows s = faulty_keeps c s
 
 by_parts_keeps : (known : Option ServerInfo) (c : ClientState) (version count : ℕ) → c.known ≡ known → IsState c →
@@ -272,6 +277,7 @@ no_delta_keeps (Sync x v p) c version count s = faulty_keeps c s
 no_delta_keeps (Delta asked) c version count s = by_parts_keeps c.known c version count refl s
 no_delta_keeps (Ask i x v m) c version count s = faulty_keeps c s
 no_delta_keeps (Edit i b) c version count s = faulty_keeps c s
+no_delta_keeps (Append b) c version count s = faulty_keeps c s
 no_delta_keeps Publish c version count s = faulty_keeps c s
 
 -- ---- Done and Refused
@@ -283,6 +289,7 @@ done_keeps (Sync x v p) c version s = faulty_keeps c s
 done_keeps (Delta since) c version s = faulty_keeps c s
 done_keeps (Ask i x v m) c version s = faulty_keeps c s
 done_keeps (Edit i b) c version s = ended_keeps c s
+done_keeps (Append b) c version s = ended_keeps c s
 done_keeps Publish c version s = ended_keeps c s
 
 refused_keeps : (call : Call) (c : ClientState) (code : ℕ) → IsState c → Keeps c (takes_refused call c code).state
@@ -292,6 +299,7 @@ refused_keeps (Sync x v p) c code s = emptied_keeps c s
 refused_keeps (Delta since) c code s = ended_keeps c s
 refused_keeps (Ask i x v m) c code s = ended_keeps c s
 refused_keeps (Edit i b) c code s = ended_keeps c s
+refused_keeps (Append b) c code s = ended_keeps c s
 refused_keeps Publish c code s = ended_keeps c s
 
 -- ---- any frame

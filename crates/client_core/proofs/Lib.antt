@@ -1,4 +1,3 @@
-pub mod Layouts
 pub mod Queries
 pub mod MovedRows
 pub mod Keeping

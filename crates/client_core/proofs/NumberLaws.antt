@@ -12,7 +12,7 @@ use Rattle.client_core.specs.declared.state.Hint.{Hint}
 use Rattle.client_core.specs.declared.state.Call.{Call}
 use Rattle.client_core.specs.declared.state.Call.TheVariants as call
 use Rattle.client_core.specs.States.{delta_base}
-use Rattle.client_core.specs.Calls.{Want, Hello, Sync, Ask, Edit, Publish, sync_begun}
+use Rattle.client_core.specs.Calls.{Want, Hello, Sync, Ask, Edit, Append, Publish, sync_begun}
 use Rattle.client_core.specs.Replies.{Taken, plan_given, reaction_to_reply, takes_welcome, more_parts, takes_asked_part, takes_part, answered, takes_answer, reaction_to_stale, takes_stale, moved, takes_delta, goes_by_parts, takes_no_delta, takes_done, takes_refused}
 use Rattle.client_core.specs.Laws.{Happening, Accepted, TurnedDown, Lacking, Taken as Reply, Failing, after, numbers, NoNumberTwice}
 
@@ -30,6 +30,7 @@ welcome_number (call.Sync s v p) c plan count version = refl
 welcome_number (call.Delta since) c plan count version = refl
 welcome_number (call.Ask i x v m) c plan count version = refl
 welcome_number (call.Edit i b) c plan count version = refl
+welcome_number (call.Append b) c plan count version = refl
 welcome_number call.Publish c plan count version = refl
 
 asked_part_number : (known : Option ServerInfo) (s : Scheme) (c : ClientState) (v p scheme version part : ℕ) (words : List ℕ) →
@@ -45,6 +46,7 @@ part_number (call.Sync s v p) c scheme version part words = asked_part_number c.
 part_number (call.Delta since) c scheme version part words = refl
 part_number (call.Ask i x v m) c scheme version part words = refl
 part_number (call.Edit i b) c scheme version part words = refl
+part_number (call.Append b) c scheme version part words = refl
 part_number call.Publish c scheme version part words = refl
 
 answered_number : (known : Option ServerInfo) (hint : Option Hint) (c : ClientState) (i v m scheme version : ℕ) (words : List ℕ) →
@@ -60,6 +62,7 @@ answer_number (call.Sync s v p) c scheme version words = refl
 answer_number (call.Delta since) c scheme version words = refl
 answer_number (call.Ask i x v m) c scheme version words = answered_number c.known c.hint c i v m scheme version words
 answer_number (call.Edit i b) c scheme version words = refl
+answer_number (call.Append b) c scheme version words = refl
 answer_number call.Publish c scheme version words = refl
 
 staled_number : (known : Option ServerInfo) (later c : ClientState) (asked version count : ℕ) → later.number ≡ c.number →
@@ -74,6 +77,7 @@ stale_number (call.Sync s v p) c version count = staled_number c.known (record c
 stale_number (call.Delta since) c version count = refl
 stale_number (call.Ask i x v m) c version count = staled_number c.known c c v version count refl
 stale_number (call.Edit i b) c version count = refl
+stale_number (call.Append b) c version count = refl
 stale_number call.Publish c version count = refl
 
 moved_number : (known : Option ServerInfo) (hint : Option Hint) (c : ClientState) (asked since now count : ℕ) (rows : RowList) →
@@ -89,6 +93,7 @@ delta_number (call.Sync s v p) c since now count rows = refl
 delta_number (call.Delta asked) c since now count rows = moved_number c.known c.hint c asked since now count rows
 delta_number (call.Ask i x v m) c since now count rows = refl
 delta_number (call.Edit i b) c since now count rows = refl
+delta_number (call.Append b) c since now count rows = refl
 delta_number call.Publish c since now count rows = refl
 
 by_parts_number : (known : Option ServerInfo) (c : ClientState) (version count : ℕ) → (goes_by_parts known c version count).state.number ≡ c.number
@@ -102,6 +107,7 @@ no_delta_number (call.Sync s v p) c version count = refl
 no_delta_number (call.Delta asked) c version count = by_parts_number c.known c version count
 no_delta_number (call.Ask i x v m) c version count = refl
 no_delta_number (call.Edit i b) c version count = refl
+no_delta_number (call.Append b) c version count = refl
 no_delta_number call.Publish c version count = refl
 
 done_number : (k : Call) (c : ClientState) (version : ℕ) → (takes_done k c version).state.number ≡ c.number
@@ -111,6 +117,7 @@ done_number (call.Sync s v p) c version = refl
 done_number (call.Delta since) c version = refl
 done_number (call.Ask i x v m) c version = refl
 done_number (call.Edit i b) c version = refl
+done_number (call.Append b) c version = refl
 done_number call.Publish c version = refl
 
 refused_number : (k : Call) (c : ClientState) (code : ℕ) → (takes_refused k c code).state.number ≡ c.number
@@ -120,6 +127,7 @@ refused_number (call.Sync s v p) c code = refl
 refused_number (call.Delta since) c code = refl
 refused_number (call.Ask i x v m) c code = refl
 refused_number (call.Edit i b) c code = refl
+refused_number (call.Append b) c code = refl
 refused_number call.Publish c code = refl
 
 pub takes_number : (c : ClientState) (f : Frame) → (reaction_to_reply c f).state.number ≡ c.number
@@ -145,6 +153,7 @@ calmly c (Hello key) = omega arith
 calmly c (Sync scheme) = omega arith
 calmly c (Ask i) = omega arith
 calmly c (Edit i bytes) = omega arith
+calmly c (Append bytes) = omega arith
 calmly c Publish = omega arith
 
 -- the numbers are those from n on, and grow
@@ -177,6 +186,7 @@ all_above c (Accepted (Ask i) ∷ hs) =
     let a : Above (c.number + 1) (numbers (after c (Accepted (Ask i))) hs) = all_above (after c (Accepted (Ask i))) hs in
     record { from = from_more c.number (numbers (after c (Accepted (Ask i))) hs) a; grow = grow_more c.number (numbers (after c (Accepted (Ask i))) hs) a }
 all_above c (Accepted (Edit i bytes) ∷ hs) = all_above (after c (Accepted (Edit i bytes))) hs
+all_above c (Accepted (Append bytes) ∷ hs) = all_above (after c (Accepted (Append bytes))) hs
 all_above c (Accepted Publish ∷ hs) = all_above (after c (Accepted Publish)) hs
 all_above c (TurnedDown want ∷ hs) = all_above c hs
 all_above c (Lacking want ∷ hs) =

@@ -23,7 +23,7 @@ use Rattle.client_core.specs.declared.state.Call.TheVariants as call
 use Rattle.client_core.specs.declared.state.CallFault.{CallFault}
 use Rattle.client_core.specs.declared.state.CallFault.TheVariants.{NotReady, Busy, SeedUsedUp, Failed, AlreadyWelcome}
 use Rattle.client_core.specs.States.{shape_known, is_idle, is_ready, known_version, known_count, scheme_held, delta_base}
-use Rattle.client_core.specs.Calls.{Want, Hello, Sync, Ask, Edit, Publish, sync_begun, state_after_call, call_frame, call_words, refusal, spent}
+use Rattle.client_core.specs.Calls.{Want, Hello, Sync, Ask, Edit, Append, Publish, sync_begun, state_after_call, call_frame, call_words, refusal, spent}
 use Rattle.client_core.specs.Replies.{Taken, plan_given, reaction_to_reply, is_accepted_welcome, takes_welcome, is_part, more_parts, takes_asked_part, takes_part, is_answer, answered, takes_answer, is_current, with_current, reaction_to_stale, takes_stale, row_numbers, is_delta, moved, takes_delta, goes_by_parts, takes_no_delta, takes_done, takes_refused}
 use Rattle.client_core.specs.Feeding.{sends_of}
 use Rattle.client_core.specs.Laws.{Happening, Accepted, TurnedDown, Lacking, Taken as Reply, Failing, after}
@@ -64,6 +64,7 @@ call_shaped c (Ask i) whole =
     sized (call_frame (state_after_call (Ask i) c) (state_after_call (Ask i) c).call)
     ∙ ap (λ (x : ℕ). frame_shape 5 (9 + 4 * x)) (asked_length c.known c.hint c.seed c.number i)
 call_shaped c (Edit i bytes) whole = sized (frame.Edit i bytes)
+call_shaped c (Append bytes) whole = sized (frame.Append bytes)
 call_shaped c Publish whole = sized frame.Publish
 
 call_outlined : (c : ClientState) (want : Want) → outline (state_after_call want c) ≡ outline_after_call (blank_call want) (outline c)
@@ -72,6 +73,7 @@ call_outlined c (Sync scheme) =
     sync_outlined (delta_base scheme c.hint) scheme c ∙ ap (λ (x : Option ℕ). outline_of_sync x scheme (outline c)) (base_named scheme c.hint)
 call_outlined c (Ask i) = refl
 call_outlined c (Edit i bytes) = refl
+call_outlined c (Append bytes) = refl
 call_outlined c Publish = refl
 
 spent_outlined : (c : ClientState) (want : Want) → outline (spent want c) ≡ outline_spent (blank_call want) (outline c)
@@ -79,6 +81,7 @@ spent_outlined c (Hello key) = refl
 spent_outlined c (Sync scheme) = refl
 spent_outlined c (Ask i) = refl
 spent_outlined c (Edit i bytes) = refl
+spent_outlined c (Append bytes) = refl
 spent_outlined c Publish = refl
 
 -- ---- replies
@@ -98,6 +101,7 @@ welcome_reacts (call.Sync s v p) c plan count version = refl
 welcome_reacts (call.Delta since) c plan count version = refl
 welcome_reacts (call.Ask i s v m) c plan count version = refl
 welcome_reacts (call.Edit i b) c plan count version = refl
+welcome_reacts (call.Append b) c plan count version = refl
 welcome_reacts call.Publish c plan count version = refl
 
 next_asked : (s : Scheme) (k : ServerInfo) (c : ClientState) (v p : ℕ) (words : List ℕ) →
@@ -125,6 +129,7 @@ part_reacts (call.Sync s v p) c scheme version part words = asked_part_reacts c.
 part_reacts (call.Delta since) c scheme version part words = refl
 part_reacts (call.Ask i s v m) c scheme version part words = refl
 part_reacts (call.Edit i b) c scheme version part words = refl
+part_reacts (call.Append b) c scheme version part words = refl
 part_reacts call.Publish c scheme version part words = refl
 
 answered_reacts : (known : Option ServerInfo) (hint : Option Hint) (c : ClientState) (i v m scheme version : ℕ) (words : List ℕ)
@@ -141,6 +146,7 @@ answer_reacts (call.Sync s v p) c scheme version words = refl
 answer_reacts (call.Delta since) c scheme version words = refl
 answer_reacts (call.Ask i s v m) c scheme version words = answered_reacts c.known c.hint c i v m scheme version words
 answer_reacts (call.Edit i b) c scheme version words = refl
+answer_reacts (call.Append b) c scheme version words = refl
 answer_reacts call.Publish c scheme version words = refl
 
 staled_reacts : (known : Option ServerInfo) (dropped c : ClientState) (asked version count : ℕ) →
@@ -156,6 +162,7 @@ stale_reacts (call.Sync s v p) c version count = staled_reacts c.known (record c
 stale_reacts (call.Delta since) c version count = refl
 stale_reacts (call.Ask i s v m) c version count = staled_reacts c.known c c v version count
 stale_reacts (call.Edit i b) c version count = refl
+stale_reacts (call.Append b) c version count = refl
 stale_reacts call.Publish c version count = refl
 
 moved_reacts : (known : Option ServerInfo) (hint : Option Hint) (c : ClientState) (asked since now count : ℕ) (rows : RowList) →
@@ -174,6 +181,7 @@ delta_reacts (call.Sync s v p) c since now count rows = refl
 delta_reacts (call.Delta asked) c since now count rows = moved_reacts c.known c.hint c asked since now count rows
 delta_reacts (call.Ask i s v m) c since now count rows = refl
 delta_reacts (call.Edit i b) c since now count rows = refl
+delta_reacts (call.Append b) c since now count rows = refl
 delta_reacts call.Publish c since now count rows = refl
 
 by_parts_reacts : (known : Option ServerInfo) (c : ClientState) (version count : ℕ) →
@@ -196,6 +204,7 @@ no_delta_reacts (call.Sync s v p) c version count = refl
 no_delta_reacts (call.Delta asked) c version count = by_parts_reacts c.known c version count
 no_delta_reacts (call.Ask i s v m) c version count = refl
 no_delta_reacts (call.Edit i b) c version count = refl
+no_delta_reacts (call.Append b) c version count = refl
 no_delta_reacts call.Publish c version count = refl
 
 done_reacts : (k : Call) (c : ClientState) (version : ℕ) → reacted (takes_done k c version) ≡ after_done (awaited k) (outline c)
@@ -205,6 +214,7 @@ done_reacts (call.Sync s v p) c version = refl
 done_reacts (call.Delta since) c version = refl
 done_reacts (call.Ask i s v m) c version = refl
 done_reacts (call.Edit i b) c version = refl
+done_reacts (call.Append b) c version = refl
 done_reacts call.Publish c version = refl
 
 refused_reacts : (k : Call) (c : ClientState) (code : ℕ) → reacted (takes_refused k c code) ≡ after_refused (awaited k) (outline c)
@@ -214,6 +224,7 @@ refused_reacts (call.Sync s v p) c code = refl
 refused_reacts (call.Delta since) c code = refl
 refused_reacts (call.Ask i s v m) c code = refl
 refused_reacts (call.Edit i b) c code = refl
+refused_reacts (call.Append b) c code = refl
 refused_reacts call.Publish c code = refl
 
 reply_reacts : (c : ClientState) (f : Frame) → reacted (reaction_to_reply c f) ≡ after_reply (outline c) (blank_reply f)
@@ -289,6 +300,7 @@ idle_same (call.Sync s v p) = refl
 idle_same (call.Delta since) = refl
 idle_same (call.Ask i s v m) = refl
 idle_same (call.Edit i b) = refl
+idle_same (call.Append b) = refl
 idle_same call.Publish = refl
 
 ready_same : (known : Option ServerInfo) (hint : Option Hint) → is_ready known hint ≡ ready known (hint_name hint)
@@ -303,6 +315,7 @@ refused_same c (Hello key) below = rw (idle_same c.call) refl
 refused_same c (Sync scheme) below = rw (idle_same c.call) refl
 refused_same c (Ask i) below = rw (lt-ltb i (known_count c.known) below, idle_same c.call, ready_same c.known c.hint) refl
 refused_same c (Edit i bytes) below = rw (idle_same c.call) refl
+refused_same c (Append bytes) below = rw (idle_same c.call) refl
 refused_same c Publish below = rw (idle_same c.call) refl
 
 same_refusal : (c d : ClientState) (want other : Want) → IndexIsBelow want c → IndexIsBelow other d → outline c ≡ outline d →

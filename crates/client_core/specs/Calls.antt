@@ -21,13 +21,14 @@ pub data Want : Type 0 where
   Sync : (scheme : Scheme) → Want
   Ask : (index : ℕ) → Want
   Edit : (index : ℕ) (bytes : List ℕ) → Want
+  Append : (bytes : List ℕ) → Want
   Publish : Want
 
 -- the checks of hello
 abbrev pub hello_refusal : ClientState → Option CallFault
 hello_refusal c = if c.failed then Some Failed else (if is_some c.known then Some AlreadyWelcome else (if is_idle c.call then None else Some Busy))
 
--- sync, edit and publish have the same checks
+-- sync, edit, append and publish have the same checks
 abbrev pub change_refusal : ClientState → Option CallFault
 change_refusal c = if c.failed then Some Failed else (if is_some c.known then (if is_idle c.call then None else Some Busy) else Some NotReady)
 
@@ -42,6 +43,7 @@ refusal (Ask i) c =
     if nat_lt i (known_count c.known) then (
     if nat_lt c.number (2 ^ 62) then None else Some SeedUsedUp) else Some BadIndex) else Some Busy) else Some NotReady)
 refusal (Edit i bytes) c = change_refusal c
+refusal (Append bytes) c = change_refusal c
 refusal Publish c = change_refusal c
 
 -- a sync begins: by delta from a version, and the hint is kept meanwhile; or by the parts of the last version known, and it is dropped
@@ -55,6 +57,7 @@ state_after_call (Hello key) c = record c { call = call.Hello key }
 state_after_call (Sync scheme) c = sync_begun (delta_base scheme c.hint) scheme c
 state_after_call (Ask i) c = record c { call = call.Ask i (scheme_held c.hint) (known_version c.known) c.number; number = c.number + 1 }
 state_after_call (Edit i bytes) c = record c { call = call.Edit i bytes }
+state_after_call (Append bytes) c = record c { call = call.Append bytes }
 state_after_call Publish c = record c { call = call.Publish }
 
 -- the state after a call that passed its checks and found no memory: only the number of a retrieval is spent
@@ -75,6 +78,7 @@ call_frame c (call.Sync scheme version part) = frame.HintAsk (scheme_byte scheme
 call_frame c (call.Delta since) = frame.DeltaAsk since
 call_frame c (call.Ask i scheme version number) = frame.Query (scheme_byte scheme) version (call_words c.known scheme c.seed number i)
 call_frame c (call.Edit i bytes) = frame.Edit i bytes
+call_frame c (call.Append bytes) = frame.Append bytes
 call_frame c call.Publish = frame.Publish
 
 -- an accepted call: no check refuses it, and the bytes to send are its frame's

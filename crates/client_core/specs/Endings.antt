@@ -2,7 +2,7 @@
 use Rattle.std.specs.Prelude.{◌≡◌, ◌≢◌, ℕ, List, ◌∷◌, Option, false}
 use Rattle.pir_schemes.specs.declared.scheme.Scheme.TheVariants.{Simple}
 use Rattle.client_core.specs.declared.state.Call.{Call}
-use Rattle.client_core.specs.declared.state.Call.TheVariants.{Hello, Sync, Delta, Ask, Edit, Publish}
+use Rattle.client_core.specs.declared.state.Call.TheVariants.{Hello, Sync, Delta, Ask, Edit, Append, Publish}
 use Rattle.client_core.specs.declared.state.Event.{Event}
 use Rattle.client_core.specs.declared.state.Event.TheVariants.{Welcomed, Synced, Retrieved, Unreadable, Stale, Done, Refused}
 use Rattle.client_core.specs.declared.state.ClientFault.{ClientFault}
@@ -24,7 +24,9 @@ Ends (Ask i scheme asked number) (Unreadable index version) = (index ≡ i) × (
 Ends (Ask i scheme asked number) (Stale version) = version ≢ asked
 Ends (Ask i scheme asked number) (Refused code) = Unit {0}
 Ends (Edit i bytes) (Done version) = Unit {0}
+Ends (Append bytes) (Done version) = Unit {0}
 Ends (Edit i bytes) (Refused code) = Unit {0}
+Ends (Append bytes) (Refused code) = Unit {0}
 Ends Publish (Done version) = Unit {0}
 Ends Publish (Refused code) = Unit {0}
 Ends _ _ = ⊥

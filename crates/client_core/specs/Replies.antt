@@ -17,7 +17,7 @@ use Rattle.client_core.specs.declared.state.ClientState.{ClientState}
 use Rattle.client_core.specs.declared.state.ServerInfo.{ServerInfo}
 use Rattle.client_core.specs.declared.state.Hint.{Hint}
 use Rattle.client_core.specs.declared.state.Call.{Call}
-use Rattle.client_core.specs.declared.state.Call.TheVariants.{Idle, Hello, Sync, Delta, Ask, Edit, Publish}
+use Rattle.client_core.specs.declared.state.Call.TheVariants.{Idle, Hello, Sync, Delta, Ask, Edit, Append, Publish}
 use Rattle.client_core.specs.declared.state.Event.{Event}
 use Rattle.client_core.specs.declared.state.Event.TheVariants.{Welcomed, Synced, Retrieved, Unreadable, Stale, Done, Refused}
 use Rattle.client_core.specs.declared.state.ClientFault.{ClientFault}
@@ -215,9 +215,10 @@ takes_no_delta _ c version count = faulty c BadReply
 
 -- ---- Done and Refused
 
--- it answers edit and publish, whatever version it names
+-- it answers edit, append and publish, whatever version it names
 abbrev pub takes_done : Call → ClientState → ℕ → Taken
 takes_done (Edit i b) c version = ended c (Done version)
+takes_done (Append b) c version = ended c (Done version)
 takes_done Publish c version = ended c (Done version)
 takes_done _ c version = faulty c BadReply
 

@@ -22,7 +22,7 @@ use Rattle.client_core.specs.declared.state.CallFault.{CallFault}
 use Rattle.client_core.specs.declared.state.ClientFault.{ClientFault}
 use Rattle.client_core.specs.declared.state.ClientFault.TheVariants.{Memory}
 use Rattle.client_core.specs.declared.state.Event.{Event}
-use Rattle.client_core.specs.Calls.{Want, Hello, Sync, Ask, Edit, Publish, state_after_call, call_frame, refusal, Accepts, Refuses}
+use Rattle.client_core.specs.Calls.{Want, Hello, Sync, Ask, Edit, Append, Publish, state_after_call, call_frame, refusal, Accepts, Refuses}
 use Rattle.client_core.specs.Replies.{reaction_to_reply, plan_given, is_accepted_welcome, is_current, with_current, row_numbers, is_delta}
 use Rattle.client_core.specs.Feeding.{Client, sends_of, events_of, fault_of, takes_all, FeedsClient}
 use Rattle.client_core.specs.Laws.{Happening, Accepted, TurnedDown, Lacking, Taken, Failing, after}
@@ -57,12 +57,13 @@ frame_shape kind len = record { kind = kind; len = len }
 
 -- ---- calls, replies and clients, without indices, keys, seeds and words
 
--- a call: of the bytes of an edit only their count
+-- a call: of the bytes of an edit or of a record to append only their count
 pub data BlankCall : Type 0 where
   BlankHello : BlankCall
   BlankSync : (scheme : Scheme) → BlankCall
   BlankAsk : BlankCall
   BlankEdit : (count : ℕ) → BlankCall
+  BlankAppend : (count : ℕ) → BlankCall
   BlankPublish : BlankCall
 
 -- a call without its index
@@ -71,6 +72,7 @@ blank_call (Hello key) = BlankHello
 blank_call (Sync scheme) = BlankSync scheme
 blank_call (Ask i) = BlankAsk
 blank_call (Edit i bytes) = BlankEdit (length bytes)
+blank_call (Append bytes) = BlankAppend (length bytes)
 blank_call Publish = BlankPublish
 
 -- a reply: its kind, its versions and its counts; the numbers of a Delta's rows; and a Welcome whole
@@ -131,6 +133,7 @@ awaited (call.Sync scheme version part) = APart scheme version part
 awaited (call.Delta since) = ADelta since
 awaited (call.Ask i scheme version number) = AnAnswer version
 awaited (call.Edit i bytes) = ADone
+awaited (call.Append bytes) = ADone
 awaited call.Publish = ADone
 
 -- a hint's scheme and version
@@ -180,6 +183,7 @@ call_shape x BlankHello = frame_shape 2 34
 call_shape x (BlankSync scheme) = sync_shape (named_base scheme x.hint)
 call_shape x BlankAsk = frame_shape 5 (9 + 4 * asked_count x.known x.hint)
 call_shape x (BlankEdit count) = frame_shape 6 (4 + count)
+call_shape x (BlankAppend count) = frame_shape 9 count
 call_shape x BlankPublish = frame_shape 7 0
 
 -- the outline where a sync begins
@@ -193,6 +197,7 @@ outline_after_call BlankHello x = record x { call = AWelcome }
 outline_after_call (BlankSync scheme) x = outline_of_sync (named_base scheme x.hint) scheme x
 outline_after_call BlankAsk x = record x { call = AnAnswer (known_version x.known); number = x.number + 1 }
 outline_after_call (BlankEdit count) x = record x { call = ADone }
+outline_after_call (BlankAppend count) x = record x { call = ADone }
 outline_after_call BlankPublish x = record x { call = ADone }
 
 -- and after one that was refused memory: only the number of a retrieval is spent
@@ -296,7 +301,7 @@ after_stale (APart s v p) x version count = after_asked_stale x.known (record x 
 after_stale (AnAnswer v) x version count = after_asked_stale x.known x x v version count
 after_stale _ x version count = fails x
 
--- Done answers edit and publish
+-- Done answers edit, append and publish
 abbrev pub after_done : Awaited → Outline → Reacted
 after_done ADone x = ends x
 after_done _ x = fails x

@@ -10,7 +10,7 @@ use Rattle.client_core.specs.declared.state.ClientState.{ClientState}
 use Rattle.client_core.specs.declared.state.ServerInfo.{ServerInfo}
 use Rattle.client_core.specs.declared.state.Hint.{Hint}
 use Rattle.client_core.specs.declared.state.Call.{Call}
-use Rattle.client_core.specs.declared.state.Call.TheVariants.{Idle, Hello, Sync, Delta, Ask, Edit, Publish}
+use Rattle.client_core.specs.declared.state.Call.TheVariants.{Idle, Hello, Sync, Delta, Ask, Edit, Append, Publish}
 
 -- no call is outstanding
 abbrev pub is_idle : Call → Bool
@@ -82,6 +82,7 @@ CallFits (Sync scheme version part) (Some k) parts = (length parts ≡ 65536 * p
 CallFits (Delta since) known parts = Unit {0}
 CallFits (Ask index scheme version number) known parts = (index < known_count known) × (number < 2 ^ 62)
 CallFits (Edit index bytes) known parts = Unit {0}
+CallFits (Append bytes) known parts = Unit {0}
 CallFits Publish known parts = Unit {0}
 
 -- in a sync by delta the hint held is SimplePIR's, of the version asked from

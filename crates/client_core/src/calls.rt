@@ -58,7 +58,7 @@ pub(crate) fn may_hello(state: &ClientState) -> Result<(), CallFault>
     Ok(())
 }
 
-/// The checks of `sync`, `edit` and `publish`, in their order. Answers what is known.
+/// The checks of `sync`, `edit`, `append` and `publish`, in their order. Answers what is known.
 pub(crate) fn may_change(state: &ClientState) -> Result<ServerInfo, CallFault>
     ensures { MatchResult result (λ k. (change_refusal state.now ≡ None) ×
         (state.now.known ≡ Some k)) (λ e. change_refusal state.now ≡ Some e) }
@@ -162,6 +162,22 @@ pub(crate) fn edit_bytes(alloc: Global, index: u32, bytes: &[u8]) -> Result<Vec<
     };
     let frame = Frame::Edit {
         index,
+        bytes: Bytes::new(copy),
+    };
+    encoded(alloc, &frame)
+}
+
+/// The bytes of a further record.
+pub(crate) fn append_bytes(alloc: Global, bytes: &[u8]) -> Result<Vec<u8>, CallFault>
+    requires { length bytes.now ≤ 65535 }
+    ensures bytes { IfOk result (λ v. v.items ≡ encoding (Frame.Append bytes.now)) }
+    ensures frame { IfOk result (λ _. IsFrame (Frame.Append bytes.now)) }
+    ensures memory { IfErr result (λ e. e ≡ CallFault.Memory) }
+{
+    let Ok(copy) = bytes.to_vec(alloc) else {
+        return Err(CallFault::Memory);
+    };
+    let frame = Frame::Append {
         bytes: Bytes::new(copy),
     };
     encoded(alloc, &frame)

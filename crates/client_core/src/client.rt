@@ -11,8 +11,8 @@ ghost use Rattle.client_core.specs.Calls.{Want, Accepts, Refuses};
 ghost use Rattle.client_core.specs.Feeding.{Client, FeedsClient};
 
 use crate::calls::{
-    ask_room, base_of, edit_bytes, encoded, may_ask, may_change, may_hello, query_bytes, scheme_of,
-    spend_number,
+    append_bytes, ask_room, base_of, edit_bytes, encoded, may_ask, may_change, may_hello,
+    query_bytes, scheme_of, spend_number,
 };
 use crate::parts::Parts;
 use crate::state::{Call, CallFault, ClientFault, ClientState, Event, ServerInfo};
@@ -216,7 +216,31 @@ impl<K: Kernel> ClientCore<K> {
         Ok(sent)
     }
 
-    /// Asks the server to make its edits the next version. Gives the bytes to send.
+    /// Gives the server these bytes, at most 65,535, as one record more of the next version. It judges the length and
+    /// whether it has room. Gives the bytes to send.
+    ///
+    /// Refused in this order: `Failed`, `NotReady` (no Welcome came yet), `Busy`, `Memory`. A refusal changes
+    /// nothing.
+    pub fn append(&mut self, bytes: &[u8]) -> Result<Vec<u8>, CallFault>
+        requires { length bytes.now ≤ 65535 }
+        ensures accepted { IfOk result (λ sent. Accepts self.old.state
+            (Want.Append bytes.now) self.new.state sent.items) }
+        ensures refused { IfErr result
+            (λ e. Refuses self.old.state (Want.Append bytes.now) e self.new.state) }
+        ensures reader { self.new.reader ≡ self.old.reader }
+    {
+        may_change(&self.state)?;
+        let sent = append_bytes(self.alloc, bytes)?;
+        let Ok(kept) = bytes.to_vec(self.alloc) else {
+            return Err(CallFault::Memory);
+        };
+        self.state.call = Call::Append {
+            bytes: Bytes::new(kept),
+        };
+        Ok(sent)
+    }
+
+    /// Asks the server to make its edits and the records appended the next version. Gives the bytes to send.
     ///
     /// Refused in this order: `Failed`, `NotReady` (no Welcome came yet), `Busy`, `Memory`. A refusal changes
     /// nothing.

@@ -1,9 +1,8 @@
 //! What comes of a reply: a function for each kind.
 
 ghost use Rattle.std.specs.Prelude.{◌≡◌, ◌≤◌, ◌<◌, ◌*◌, ◌^◌, ◌++◌, [], length, IfOk, IfErr, OnOk, OnErr, IfSome, IfNone, MatchOption, true, false};
-ghost use Rattle.pir_schemes.specs.Plans.{shape_at};
 ghost use Rattle.pir_schemes.specs.Retrievals.{hint_rows as rows_of_hint, answer_count as words_of_answer, reading};
-ghost use Rattle.client_core.specs.States.{IsState, IsKnown, is_layout, shape_known};
+ghost use Rattle.client_core.specs.States.{IsState, IsKnown, shape_known};
 ghost use Rattle.client_core.specs.Replies.{
   faulty,
   ended,
@@ -48,14 +47,6 @@ pub(crate) fn ends(state: &mut ClientState, event: Event) -> Reaction
     Reaction::Reports(event)
 }
 
-// Whether so many records of a plan are within the limits.
-#[tactic(auto, using(crate::proofs::Layouts::layout_accepted, crate::proofs::Layouts::layout_refused))]
-fn has_layout(plan: &Plan, count: u32) -> bool
-    ensures { result ≡ is_layout (shape_at plan.now count) }
-{
-    plan.layout(count as usize).is_ok()
-}
-
 /// A Welcome answers hello alone.
 pub(crate) fn take_welcome(
     state: &mut ClientState,
@@ -72,7 +63,7 @@ pub(crate) fn take_welcome(
         Call::Hello { .. } => {}
         _ => return fails(state, ClientFault::BadReply),
     }
-    if !plan.has_form() || !has_layout(plan, count) {
+    if !plan.has_form() || !plan.has_layout(count as usize) {
         return fails(state, ClientFault::BadWelcome);
     }
     if plan.dimension < 1 || plan.dimension > 1024 || version == 0 {
@@ -312,7 +303,7 @@ pub(crate) fn current_of(known: &ServerInfo, version: u64, count: u32) -> Option
         (λ k. (is_current known.now version count ≡ true) ×
         (k ≡ with_current known.now version count)) }
 {
-    if version == 0 || !has_layout(&known.plan, count) {
+    if version == 0 || !known.plan.has_layout(count as usize) {
         return None;
     }
     Some(ServerInfo {
@@ -322,13 +313,15 @@ pub(crate) fn current_of(known: &ServerInfo, version: u64, count: u32) -> Option
     })
 }
 
-/// Done answers edit and publish, whatever version it names.
+/// Done answers edit, append and publish, whatever version it names.
 pub(crate) fn take_done(state: &mut ClientState, version: u64) -> Reaction
     ensures state { state.new ≡ (takes_done state.old.call state.old version).state }
     ensures reaction { result ≡ (takes_done state.old.call state.old version).reaction }
 {
     match &state.call {
-        Call::Edit { .. } | Call::Publish => ends(state, Event::Done(version)),
+        Call::Edit { .. } | Call::Append { .. } | Call::Publish => {
+            ends(state, Event::Done(version))
+        }
         _ => fails(state, ClientFault::BadReply),
     }
 }

@@ -79,6 +79,10 @@ pub enum Call {
         index: u32,
         bytes: Bytes,
     },
+    /// These bytes were sent as a further record.
+    Append {
+        bytes: Bytes,
+    },
     /// Publish was sent.
     Publish,
 }
@@ -115,7 +119,7 @@ pub enum Event {
     },
     /// The version asked isn't current; this one is.
     Stale(u64),
-    /// An edit or a publication is done; this version is current.
+    /// An edit, a record appended or a publication is done; this version is current.
     Done(u64),
     /// The server refused the call, for the reason that the code names.
     Refused(u8),

@@ -1,16 +1,21 @@
 -- Values of words.
-use Rattle.std.specs.Prelude.{◌≡◌, ◌≢◌, ◌≤◌, ℕ, List, length, replicate, Option, Some, None, Ok}
+use Rattle.std.specs.Prelude.{◌≡◌, ◌≢◌, ◌≤◌, ◌==◌, ℕ, List, [], length, replicate, if◌then◌else◌, Option, Some, None, Ok, codes}
 use Rattle.std.specs.List.{AllPass}
+use Rattle.std.specs.Result.{result_ok}
+use Rattle.std.specs.Str.{bytes_eq}
 use Rattle.std.specs.Str.Parse.{IsNumeral, digits_value}
 use Rattle.hex.specs.Hex.{decode_of, is_hex_digit}
 
--- how many bytes a record may be given as
-abbrev pub IsRecordLen : ℕ → Type 0
-IsRecordLen n = (1 ≤ n) × (n ≤ 65535)
+-- bytes, two hex digits each; a dash for none
+abbrev pub bytes_in : List ℕ → Option (List ℕ)
+bytes_in text =
+    if bytes_eq text (codes "-") then Some []
+    else if length text == 0 then None
+    else result_ok (decode_of text)
 
--- a text stands for no such bytes
+-- a text stands for no bytes that a record may be given as
 abbrev pub IsNoRecord : List ℕ → Type 0
-IsNoRecord text = (bytes : List ℕ) → decode_of text ≡ Ok bytes → IsRecordLen (length bytes) → ⊥
+IsNoRecord text = (bytes : List ℕ) → bytes_in text ≡ Some bytes → length bytes ≤ 65535 → ⊥
 
 -- no text was given, or it is no number up to the most
 abbrev pub IsNoNumber : ℕ → Option (List ℕ) → Type 0

@@ -15,7 +15,7 @@ pub use bad_line::BadLine;
 pub use failure::Failure;
 pub use options::{number_at, option, text_at, word};
 pub use secrets::{Secret, key_at, seed_at};
-pub use words::{bytes32_from_hex, decimal, publisher_key, record_bytes};
+pub use words::{bytes_from_hex, bytes32_from_hex, decimal, publisher_key, record_bytes};
 
 #[cfg(test)]
 mod tests;

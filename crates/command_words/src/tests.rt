@@ -78,7 +78,8 @@ fn check(rt: &impl Abort, alloc: Global, text: &str, wanted: Option<&[u8]>) -> R
 fn records_are_pairs_of_digits(rt: HostRuntime) -> Result<(), Fail> {
     check(&rt, rt.alloc(), "64", Some(&[100]))?;
     check(&rt, rt.alloc(), "0aFF", Some(&[10, 255]))?;
-    for text in ["", "6", "6g", "-", "0x64", " 64"] {
+    check(&rt, rt.alloc(), "-", Some(&[]))?;
+    for text in ["", "6", "6g", "--", "-64", "64-", "0x64", " 64"] {
         check(&rt, rt.alloc(), text, None)?;
     }
     Ok(())

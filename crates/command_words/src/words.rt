@@ -1,16 +1,19 @@
 //! Words as values.
 
-ghost use Rattle.std.specs.Prelude.{◌≡◌, ◌≢◌, ◌↔◌, ◌<◌, ◌≤◌, ◌^◌, ◌*◌, length, replicate, SomeIff, IsSome, IfSome, MatchOption, IfOk, Ok};
+ghost use Rattle.std.specs.Prelude.{◌≡◌, ◌≢◌, ◌↔◌, ◌<◌, ◌≤◌, ◌^◌, ◌*◌, length, replicate, SomeIff, IsSome, IfSome, MatchOption, IfOk, Ok, Some, None};
 ghost use Rattle.std.specs.List.{AllPass};
 ghost use Rattle.std.specs.Str.Parse.{IsNumeral, digits_value};
 ghost use Rattle.hex.specs.Hex.{decode_of, is_hex_digit};
-ghost use Rattle.command_words.specs.Values.{IsNoRecord, IsRecordLen};
+ghost use Rattle.command_words.specs.Values.{IsNoRecord, bytes_in};
 
 use hex::{FromHex, FromHexError};
 use std::alloc::{AllocError, Global};
 
 /// The most bytes that a word of hex digits may stand for.
 const MAX_RECORD_BYTES: usize = 65_535;
+
+/// The word for no bytes, which hex digits can't write as a word.
+const NO_BYTES: &str = "-";
 
 /// A number of decimal digits alone: no sign, but leading zeros are as good as none.
 pub fn decimal(text: &str) -> Option<u64>
@@ -46,18 +49,28 @@ pub fn publisher_key(text: &str) -> Option<[u8; 32]>
     Some(key)
 }
 
-/// 1 to 65,535 bytes as two hex digits each. Only refused memory gives an `Err`.
-pub fn record_bytes(alloc: Global, text: &str) -> Result<Option<Vec<u8>>, AllocError>
-    ensures { IfOk result (λ found. MatchOption found (IsNoRecord text.now)
-        (λ bytes. (decode_of text.now ≡ Ok bytes.items) × IsRecordLen (length bytes.items))) }
+/// Bytes as two hex digits each, or `-` where there are none. Only refused memory gives an `Err`.
+pub fn bytes_from_hex(alloc: Global, text: &str) -> Result<Option<Vec<u8>>, AllocError>
+    ensures { IfOk result (λ found. MatchOption found (bytes_in text.now ≡ None)
+        (λ bytes. bytes_in text.now ≡ Some bytes.items)) }
 {
-    let bytes = match hex::decode(alloc, text) {
-        Ok(bytes) => bytes,
-        Err(FromHexError::OutOfMemory) => return Err(AllocError),
-        Err(_) => return Ok(None),
-    };
-    if bytes.is_empty() || bytes.len() > MAX_RECORD_BYTES {
+    if text == NO_BYTES {
+        return Ok(Some(Vec::new(alloc)));
+    }
+    if text.is_empty() {
         return Ok(None);
     }
-    Ok(Some(bytes))
+    match hex::decode(alloc, text) {
+        Ok(bytes) => Ok(Some(bytes)),
+        Err(FromHexError::OutOfMemory) => Err(AllocError),
+        Err(_) => Ok(None),
+    }
+}
+
+/// A record's bytes, at most 65,535. Only refused memory gives an `Err`.
+pub fn record_bytes(alloc: Global, text: &str) -> Result<Option<Vec<u8>>, AllocError>
+    ensures { IfOk result (λ found. MatchOption found (IsNoRecord text.now)
+        (λ bytes. (bytes_in text.now ≡ Some bytes.items) × (length bytes.items ≤ 65535))) }
+{
+    Ok(bytes_from_hex(alloc, text)?.filter(|bytes| bytes.len() <= MAX_RECORD_BYTES))
 }

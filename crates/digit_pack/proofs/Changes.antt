@@ -13,7 +13,7 @@ use Rattle.digit_pack.specs.Layout.{Shape, IsShape, digit_matrix, digit_at, digi
 use Rattle.digit_pack.specs.Laws.{IsPlaceOf, RecordChange}
 use Rattle.digit_pack.proofs.Records.{entry-record}
 
-zero_digit : (w t : ℕ) → digit w 0 t ≡ 0
+pub zero_digit : (w t : ℕ) → digit w 0 t ≡ 0
 unfolding digit
 zero_digit w t = ap (λ k. k % 2 ^ w) (zero-div (2 ^ (w * t))) ∙ mod-eq_of_lt (pow_pos w)
 

@@ -8,3 +8,4 @@ pub mod RecordLemmas
 pub mod Triples
 pub mod Layouts
 pub mod SlotLemmas
+pub mod WiderRows

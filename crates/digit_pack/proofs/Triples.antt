@@ -6,13 +6,13 @@ use Rattle.std.proofs.lemmas.Bool.Decides.{nat_tests}
 use Rattle.std.proofs.lemmas.List.{length-set, get_or-replicate, length-replicate, get_or_past}
 use Rattle.std.proofs.lemmas.List.Elements.{All-from_get_or}
 use Rattle.std.specs.Prelude.{slice_index, slice_set, All}
-use Rattle.matrix_u32.specs.Matrix.{WordMatrix, IsWhole, entry, with_entry}
+use Rattle.matrix_u32.specs.Matrix.{WordMatrix, IsWhole, entry, with_entry, entry_or_zero}
 use Rattle.matrix_u32.proofs.Rows.{if_here, if_elsewhere}
 use Rattle.matrix_u32.proofs.Changes.{matrix_by_entries, entry_kept, entry_set}
 use Rattle.matrix_u32.proofs.Products.{at-list_of, length-list_of, words_are, entry-matrix_of}
 use Rattle.lane_kernels.specs.Digit.{digit}
 use Rattle.lane_kernels.specs.Packed.{packed_cols, unpacked}
-use Rattle.digit_pack.specs.Packed.{packed, packed_word, entry_or_zero, IsPacked, IsReplaced}
+use Rattle.digit_pack.specs.Packed.{packed, packed_word, IsPacked, IsReplaced}
 use Rattle.digit_pack.proofs.DigitSums.{digit-lt}
 
 pub in_row : (j cols : ℕ) → j < cols → j / 3 < packed_cols cols
@@ -38,13 +38,13 @@ third_of a b c t e p q r = rw e (omega arith)
 pub record IsSmall (m : WordMatrix) : Type 0 where
   pub each : (i j : ℕ) → i < m.rows → j < m.cols → entry m i j < 1024
 
-within : (m : WordMatrix) (i j : ℕ) → j < m.cols → entry_or_zero m i j ≡ entry m i j
+pub within : (m : WordMatrix) (i j : ℕ) → j < m.cols → entry_or_zero m i j ≡ entry m i j
 within m i j l = grind (arith, nat_tests)
 
-past : (m : WordMatrix) (i j : ℕ) → m.cols ≤ j → entry_or_zero m i j ≡ 0
+pub past : (m : WordMatrix) (i j : ℕ) → m.cols ≤ j → entry_or_zero m i j ≡ 0
 past m i j l = grind (arith, nat_tests)
 
-small_or_zero : (m : WordMatrix) (i j : ℕ) → IsSmall m → i < m.rows → entry_or_zero m i j < 1024
+pub small_or_zero : (m : WordMatrix) (i j : ℕ) → IsSmall m → i < m.rows → entry_or_zero m i j < 1024
 small_or_zero m i j s p = ⊎_elim (λ l. omega (arith, within m i j l, s.each i j p l)) (λ g. omega (arith, past m i j g)) (cases_lt j m.cols)
 
 pub packed_word-lt : (m : WordMatrix) (i u : ℕ) → IsSmall m → i < m.rows → packed_word m i u < 2 ^ 30
@@ -202,7 +202,7 @@ set_packed m words i j v k w whole s same p q ke h =
     (cases_eq t k))
 
 -- ---- zeros
-zero_at : (n k : ℕ) → slice_index (replicate n 0) k ≡ 0
+pub zero_at : (n k : ℕ) → slice_index (replicate n 0) k ≡ 0
 zero_at n k = ⊎_elim (λ l. get_or-replicate n k 0 0 l) (λ g. get_or_past (replicate n 0) k 0 (omega (arith, length-replicate {A = ℕ} n 0))) (cases_lt k n)
 
 pub zeros_packed : (rows cols n : ℕ) → n ≡ packed_cols cols →

@@ -1,5 +1,5 @@
 -- Laws of digits.
-use Rattle.std.specs.Prelude.{◌≡◌, true, slice_set, ℕ, ◌+◌, ◌*◌, ◌/◌, ◌^◌, ◌<◌, ◌≤◌, List, length, All}
+use Rattle.std.specs.Prelude.{◌≡◌, ◌↔◌, true, slice_set, ℕ, ◌+◌, ◌*◌, ◌/◌, ◌^◌, ◌<◌, ◌≤◌, List, length, All}
 use Rattle.matrix_u32.specs.Matrix.{WordMatrix, entry}
 use Rattle.lane_kernels.specs.Digit.{digit, split_count}
 use Rattle.digit_pack.specs.Slots.{slot_of, is_slot, content_of}
@@ -66,17 +66,13 @@ ReplacedRecordChangesItsPlace = (l : Shape) (records : List (List ℕ)) (i : ℕ
 abbrev pub DigitsAreSmall : Type 0
 DigitsAreSmall = (w number t : ℕ) → digit w number t < 2 ^ w
 
--- a slot has its length, and the record in it is the one that fills it
-pub record FillsAndReads (len : ℕ) (bytes : List ℕ) : Type 0 where
-  pub size : length (slot_of len bytes) ≡ len
-  pub accepted : is_slot (slot_of len bytes) ≡ true
-  pub same : content_of (slot_of len bytes) ≡ bytes
-  pub each : All (λ b. b < 2 ^ 8) bytes → All (λ b. b < 2 ^ 8) (slot_of len bytes)
+-- a slot that a record fills: the slot has room for the record, and two bytes can write the record's length
+pub record IsFilledBy (slot bytes : List ℕ) : Type 0 where
+  pub fits : length bytes + 2 ≤ length slot
+  pub short : length bytes < 2 ^ 16
+  pub same : slot ≡ slot_of (length slot) bytes
 
--- of every record that fits
-abbrev pub SlotsHoldTheirRecords : Type 0
-SlotsHoldTheirRecords = (len : ℕ) (bytes : List ℕ) → length bytes + 2 ≤ len → length bytes < 2 ^ 16 → FillsAndReads len bytes
-
--- and what is accepted as a slot is what the record in it fills
+-- bytes are a slot, and a record is the one in it, exactly when the record fills it
 abbrev pub SlotsAreThoseFilled : Type 0
-SlotsAreThoseFilled = (slot : List ℕ) → All (λ b. b < 2 ^ 8) slot → is_slot slot ≡ true → slot ≡ slot_of (length slot) (content_of slot)
+SlotsAreThoseFilled = (slot bytes : List ℕ) → All (λ b. b < 2 ^ 8) slot →
+    ((is_slot slot ≡ true) × (content_of slot ≡ bytes)) ↔ IsFilledBy slot bytes

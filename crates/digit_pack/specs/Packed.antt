@@ -1,12 +1,8 @@
 -- Three digits of 10 bits in a word.
-use Rattle.std.specs.Prelude.{◌≡◌, ℕ, ◌+◌, ◌*◌, ◌/◌, ◌%◌, ◌^◌, ◌<◌, ◌≤◌, ◌==◌, List, nat_lt, if◌then◌else◌}
+use Rattle.std.specs.Prelude.{◌≡◌, ℕ, ◌+◌, ◌*◌, ◌/◌, ◌%◌, ◌^◌, ◌<◌, ◌≤◌, ◌==◌, List, if◌then◌else◌}
 use Rattle.matrix_u32.specs.Sum.{list_of}
-use Rattle.matrix_u32.specs.Matrix.{WordMatrix, entry, most_words}
+use Rattle.matrix_u32.specs.Matrix.{WordMatrix, entry_or_zero, most_words}
 use Rattle.lane_kernels.specs.Packed.{packed_cols, unpacked}
-
--- columns past the last count as 0
-abbrev pub entry_or_zero : WordMatrix → ℕ → ℕ → ℕ
-entry_or_zero a i j = if nat_lt j a.cols then entry a i j else 0
 
 -- word t of row r is the sum of the digits in columns 3 t + u, times 2 ^ (10 u), for u from 0 to 2
 abbrev pub packed_word : WordMatrix → ℕ → ℕ → ℕ

@@ -11,7 +11,6 @@ ghost use Rattle.digit_pack.specs.Laws.{
   UnusedSlotsAreZero,
   ReplacedRecordChangesItsPlace,
   DigitsAreSmall,
-  SlotsHoldTheirRecords,
   SlotsAreThoseFilled,
 };
 
@@ -60,12 +59,8 @@ pub fn digits_are_small()
     ensures { DigitsAreSmall }
 {}
 
-/// A slot has its length, and the record in it is the one that fills it.
-pub fn slots_hold_their_records()
-    ensures { SlotsHoldTheirRecords }
-{}
-
-/// Bytes that are accepted as a slot are what the record in them fills.
+/// `read_slot` accepts exactly the slots that `fill_slot` writes: a record is read from a slot where it fills the slot,
+/// and there alone.
 pub fn slots_are_those_filled()
     ensures { SlotsAreThoseFilled }
 {}

@@ -16,6 +16,7 @@ mod packed3;
 mod packing;
 mod slots;
 mod store;
+mod widening;
 
 pub use filling::{digits_of_records, nth_record, write_digits, write_record};
 pub use layout::{

@@ -4,9 +4,10 @@ ghost use Rattle.std.specs.Prelude.{◌≡◌, ◌+◌, ◌*◌, ◌/◌, ◌^�
 ghost use Rattle.lane_kernels.specs.Packed.{packed_cols};
 ghost use Rattle.digit_pack.specs.Packed.{packed, IsReplaced};
 
-use crate::store::DigitStore;
+use crate::store::{DigitStore, judge_size};
+use crate::widening::widened_words;
 use lane_kernels::packed_mul_vec;
-use matrix_u32::{Kernel, MAX_WORDS, MatrixError};
+use matrix_u32::{Kernel, MatrixError};
 use std::alloc::Global;
 use std::marker::Model;
 
@@ -16,6 +17,7 @@ use std::marker::Model;
 /// the other bits are 0. It never holds more than 33,554,432 digits.
 #[derive(Drop)]
 pub struct Packed3 {
+    alloc: Global,
     rows: usize,
     cols: usize,
     words: Vec<u32>,
@@ -78,12 +80,14 @@ impl DigitStore for Packed3 {
     ghost digits = { λ s. s };
 
     fn zeros(alloc: Global, rows: usize, cols: usize) -> Result<Packed3, MatrixError> {
-        match rows.checked_mul(cols) {
-            Some(count) if count <= MAX_WORDS => {}
-            _ => return Err(MatrixError::TooLarge),
-        }
+        judge_size(rows, cols)?;
         match vec![in alloc; 0; rows * row_words(cols)] {
-            Ok(words) => Ok(Packed3 { rows, cols, words }),
+            Ok(words) => Ok(Packed3 {
+                alloc,
+                rows,
+                cols,
+                words,
+            }),
             Err(_) => Err(MatrixError::Memory),
         }
     }
@@ -104,6 +108,22 @@ impl DigitStore for Packed3 {
     fn set(&mut self, i: usize, j: usize, digit: u32) {
         let at = word_place(self.rows, self.cols, self.words.len(), i, j);
         self.words[at] = replaced(self.words[at], j % 3, digit);
+    }
+
+    /// It takes memory only where a row becomes more words.
+    fn grow(&mut self, cols: usize) -> Result<(), MatrixError> {
+        judge_size(self.rows, cols)?;
+        let (from, to) = (row_words(self.cols), row_words(cols));
+        if from == to {
+            self.cols = cols;
+            return Ok(());
+        }
+        let Ok(words) = widened_words(self.alloc, &self.words, self.rows, from, to) else {
+            return Err(MatrixError::Memory);
+        };
+        self.words = words;
+        self.cols = cols;
+        Ok(())
     }
 
     fn mul_vec<K: Kernel>(&self, _kernel: K, x: &[u32], out: &mut [u32]) {

@@ -1,9 +1,10 @@
 //! Stores of digits.
 
-ghost use Rattle.std.specs.Prelude.{◌≡◌, ◌<◌, ◌≤◌, ◌*◌, ◌⊎◌, IfOk, IfErr, length};
-ghost use Rattle.matrix_u32.specs.Matrix.{WordMatrix, IsWhole, entry, times_vector, with_entry, zero_matrix};
+ghost use Rattle.std.specs.Prelude.{◌≡◌, ◌<◌, ◌≤◌, ◌*◌, ◌⊎◌, ◌↔◌, IfOk, IfErr, IsErrOf, IsOk, OnOk, OnErr, length};
+ghost use Rattle.matrix_u32.specs.Matrix.{WordMatrix, IsWhole, entry, times_vector, widened, with_entry, zero_matrix};
 
-use matrix_u32::{Kernel, Matrix, MatrixError};
+use crate::widening::widened_words;
+use matrix_u32::{Kernel, MAX_WORDS, Matrix, MatrixError};
 use std::alloc::Global;
 use std::marker::Model;
 
@@ -44,6 +45,21 @@ pub trait DigitStore: Sized + Drop {
         requires small { digit < 1024 }
         ensures { digits self.new ≡ with_entry (digits self.old) i j digit };
 
+    /// Adds columns of zeros after the last one, up to `cols` columns; all digits that there were stay.
+    ///
+    /// `TooLarge` exactly when there would be more than 33,554,432 digits, judged before any memory is asked for; else
+    /// `Memory`, where that is refused. After a refusal all is as it was. As many columns as there are give `Ok`, and
+    /// take no memory.
+    fn grow(&mut self, cols: usize) -> Result<(), MatrixError>
+        requires { (digits self.old).cols ≤ cols }
+        ensures grown { OnOk result (digits self.new ≡ widened (digits self.old) cols) }
+        ensures too_large { IsErrOf result MatrixError.TooLarge
+            ↔ (33554432 < (digits self.old).rows * cols) }
+        ensures cause { IfErr result (λ e.
+            (e ≡ MatrixError.TooLarge) ⊎ (e ≡ MatrixError.Memory)) }
+        ensures refused { OnErr result (digits self.new ≡ digits self.old) }
+        ensures same { (digits self.old).cols ≡ cols → IsOk result };
+
     /// Writes the digits times x into `out`, whatever it held.
     fn mul_vec<K: Kernel>(&self, kernel: K, x: &[u32], out: &mut [u32])
         requires x_fits { length x.now ≡ (digits self.now).cols }
@@ -51,9 +67,22 @@ pub trait DigitStore: Sized + Drop {
         ensures { out.new ≡ times_vector (digits self.now) x.now };
 }
 
+/// Judges whether a store may have so many digits. It takes no memory.
+pub fn judge_size(rows: usize, cols: usize) -> Result<(), MatrixError>
+    ensures fits { OnOk result (rows * cols ≤ 33554432) }
+    ensures refused { IfErr result (λ e.
+        (e ≡ MatrixError.TooLarge) × (33554432 < rows * cols)) }
+{
+    match rows.checked_mul(cols) {
+        Some(count) if count <= MAX_WORDS => Ok(()),
+        _ => Err(MatrixError::TooLarge),
+    }
+}
+
 /// A store with one digit in each word. A contract sees it as its matrix of digits.
 #[derive(Drop)]
 pub struct Flat {
+    alloc: Global,
     matrix: Matrix,
 }
 
@@ -70,7 +99,7 @@ impl DigitStore for Flat {
 
     fn zeros(alloc: Global, rows: usize, cols: usize) -> Result<Flat, MatrixError> {
         let matrix = Matrix::zeros(alloc, rows, cols)?;
-        Ok(Flat { matrix })
+        Ok(Flat { alloc, matrix })
     }
 
     fn rows(&self) -> usize {
@@ -87,6 +116,20 @@ impl DigitStore for Flat {
 
     fn set(&mut self, i: usize, j: usize, digit: u32) {
         self.matrix.set(i, j, digit);
+    }
+
+    fn grow(&mut self, cols: usize) -> Result<(), MatrixError> {
+        let old = &self.matrix;
+        let (rows, from) = (old.rows(), old.cols());
+        judge_size(rows, cols)?;
+        if from == cols {
+            return Ok(());
+        }
+        let Ok(words) = widened_words(self.alloc, old.words(), rows, from, cols) else {
+            return Err(MatrixError::Memory);
+        };
+        self.matrix = Matrix::from_words(rows, cols, words)?;
+        Ok(())
     }
 
     fn mul_vec<K: Kernel>(&self, kernel: K, x: &[u32], out: &mut [u32]) {

@@ -4,7 +4,7 @@ use Rattle.std.specs.Prelude.{MatchBool, ◌==◌}
 use Rattle.std.proofs.lemmas.List.{length-append, append-nil, nil_from_length, length-drop, drop-drop, drop_more}
 use Rattle.std.proofs.lemmas.List.Elements.{All-from_get_or}
 use Rattle.frame_codec.specs.declared.frame.Frame.{Frame}
-use Rattle.frame_codec.specs.declared.frame.Frame.TheVariants.{Load, Hello, HintAsk, DeltaAsk, Query, Edit, Publish, Bye, Welcome, HintPart, Delta, Answer, Stale, Done, NoDelta, Refused}
+use Rattle.frame_codec.specs.declared.frame.Frame.TheVariants.{Load, Hello, HintAsk, DeltaAsk, Query, Edit, Publish, Bye, Append, Welcome, HintPart, Delta, Answer, Stale, Done, NoDelta, Refused}
 use Rattle.frame_codec.specs.Numbers.{number_bytes, number_in, word_bytes}
 use Rattle.frame_codec.specs.Rows.{RowList, HasWholeRows}
 use Rattle.frame_codec.specs.Frames.{kind_of, payload_of, HasFields, Stands, IsPayload, payload_size}
@@ -21,6 +21,7 @@ HasLength k p =
     MatchBool (k == 6) (4 ≤ length p) (
     MatchBool (k == 7) (length p ≡ 0) (
     MatchBool (k == 8) (length p ≡ 0) (
+    MatchBool (k == 9) (Unit {0}) (
     MatchBool (k == 130) (length p ≡ 53) (
     MatchBool (k == 131) ((m : ℕ) × (length p ≡ 13 + 4 * m)) (
     MatchBool (k == 132) ((m : ℕ) × (length p ≡ 22 + 4 * (m * (number_in 2 (drop 20 p) + 1)))) (
@@ -28,7 +29,7 @@ HasLength k p =
     MatchBool (k == 134) (length p ≡ 12) (
     MatchBool (k == 135) (length p ≡ 8) (
     MatchBool (k == 136) (length p ≡ 12) (
-    length p ≡ 1)))))))))))))))
+    length p ≡ 1))))))))))))))))
 
 -- a scheme, a version and words
 pub scheme_words_length : (scheme version : ℕ) (words : List ℕ) → length (scheme ∷ (number_bytes 8 version ++ word_bytes words)) ≡ 9 + 4 * length words
@@ -52,6 +53,7 @@ payload_sized (DeltaAsk since) = length-number 8 since
 payload_sized (Edit index bytes) = omega (arith, length-append (number_bytes 4 index) bytes, length-number 4 index)
 payload_sized Publish = refl
 payload_sized Bye = refl
+payload_sized (Append bytes) = refl
 payload_sized (Welcome profile width record_len groups count version dimension seed) = omega (arith, length-append {A = ℕ}, length-number)
 payload_sized (HintPart scheme version part words) =
     omega (
@@ -92,6 +94,7 @@ length-payload (DeltaAsk since) fits = payload_sized (DeltaAsk since)
 length-payload (Edit index bytes) fits = omega (arith, payload_sized (Edit index bytes))
 length-payload Publish fits = payload_sized Publish
 length-payload Bye fits = payload_sized Bye
+length-payload (Append bytes) fits = tt
 length-payload (Welcome profile width record_len groups count version dimension seed) fits =
     omega (arith, payload_sized (Welcome profile width record_len groups count version dimension seed), fits.7)
 length-payload (HintPart scheme version part words) fits = (length words, payload_sized (HintPart scheme version part words))
@@ -275,6 +278,10 @@ pub is_bye : (bytes : List ℕ) → length bytes ≡ 0 → Stands 8 bytes Bye
 unfolding payload_of
 is_bye bytes e = record { kind = refl; payload = sym (nil_from_length bytes e); fields = tt }
 
+pub is_append : (bytes content : List ℕ) → content ≡ bytes → All (λ b. b < 2 ^ 8) content → Stands 9 bytes (Append content)
+unfolding payload_of
+is_append bytes content e all = record { kind = refl; payload = e; fields = all }
+
 pub is_answer : (bytes : List ℕ) (scheme version : ℕ) (words : List ℕ) → scheme ∷ (number_bytes 8 version ++ word_bytes words) ≡ bytes →
     HasFields (Answer scheme version words) → Stands 133 bytes (Answer scheme version words)
 unfolding payload_of
@@ -336,6 +343,9 @@ has_edit bytes fits le = (
   Edit (number_in 4 bytes) (drop 4 bytes),
   is_edit bytes fits le _ _ (number_in-lt 4 bytes fits (omega arith)) refl refl (bytes_after 4 bytes fits),
 )
+
+pub has_append : (bytes : List ℕ) → IsBytes bytes → IsPayload 9 bytes
+has_append bytes fits = (Append bytes, is_append bytes bytes refl (bytes_after 0 bytes fits))
 
 pub has_hint_part : (bytes : List ℕ) → IsBytes bytes → (n : ℕ) → length bytes ≡ 13 + 4 * n → IsPayload 131 bytes
 has_hint_part bytes fits n len =

@@ -6,7 +6,7 @@ use Rattle.std.proofs.lemmas.List.{append-nil}
 use Rattle.std.proofs.lemmas.List.Concat.{flat_map-cons}
 use Rattle.std.proofs.lemmas.List.Elements.{recursion_from_All}
 use Rattle.frame_codec.specs.declared.frame.Frame.{Frame}
-use Rattle.frame_codec.specs.declared.frame.Frame.TheVariants.{Load, Hello, HintAsk, DeltaAsk, Query, Edit, Publish, Bye, Welcome, HintPart, Delta, Answer, Stale, Done, NoDelta, Refused}
+use Rattle.frame_codec.specs.declared.frame.Frame.TheVariants.{Load, Hello, HintAsk, DeltaAsk, Query, Edit, Publish, Bye, Append, Welcome, HintPart, Delta, Answer, Stale, Done, NoDelta, Refused}
 use Rattle.frame_codec.specs.declared.reader.ReadFault.{ReadFault}
 use Rattle.frame_codec.specs.declared.reader.ReadFault.TheVariants.{TooLong, UnknownKind, BadPayload, Memory, Failed}
 use Rattle.frame_codec.specs.Numbers.{number_bytes, number_in, word_bytes}
@@ -55,6 +55,7 @@ frame_of k p =
     else (if k == 6 then Edit (number_in 4 p) (drop 4 p)
     else (if k == 7 then Publish
     else (if k == 8 then Bye
+    else (if k == 9 then Append p
     else (if k == 130 then welcome_in p
     else (if k == 131 then HintPart (get_or p 0 0) (number_in 8 (drop 1 p)) (number_in 4 (drop 8 (drop 1 p))) (words_all (drop 4 (drop 8 (drop 1 p))))
     else (if k == 132 then delta_in p
@@ -62,7 +63,7 @@ frame_of k p =
     else (if k == 134 then Stale (number_in 8 p) (number_in 4 (drop 8 p))
     else (if k == 135 then Done (number_in 8 p)
     else (if k == 136 then NoDelta (number_in 8 p) (number_in 4 (drop 8 p))
-    else Refused (get_or p 0 0)))))))))))))))
+    else Refused (get_or p 0 0))))))))))))))))
 
 number_alone_back : (n x : ℕ) → x < 256 ^ n → number_in n (number_bytes n x) ≡ x
 number_alone_back n x h = ap (number_in n) (sym (append-nil (number_bytes n x))) ∙ number_back n x [] h
@@ -85,6 +86,7 @@ frame_back (DeltaAsk since) fits = rw (number_alone_back 8 since fits) refl
 frame_back (Edit index bytes) fits = rw (number_back 4 index bytes fits.0, drop_number 4 index bytes) refl
 frame_back Publish fits = refl
 frame_back Bye fits = refl
+frame_back (Append bytes) fits = refl
 frame_back (Welcome profile width record_len groups count version dimension seed) fits =
     let p19 : List ℕ = number_bytes 2 dimension ++ seed in
     let p11 : List ℕ = number_bytes 8 version ++ (number_bytes 2 dimension ++ seed) in

@@ -3,7 +3,7 @@ use Rattle.std.specs.Prelude.{◌≡◌, ◌<◌, ◌≤◌, ◌+◌, ◌*◌, �
 use Rattle.frame_codec.specs.Numbers.{number_bytes, word_bytes}
 use Rattle.frame_codec.specs.Rows.{HasWholeRows}
 use Rattle.frame_codec.specs.declared.frame.Frame.{Frame}
-use Rattle.frame_codec.specs.declared.frame.Frame.TheVariants.{Load, Hello, HintAsk, DeltaAsk, Query, Edit, Publish, Bye, Welcome, HintPart, Delta, Answer, Stale, Done, NoDelta, Refused}
+use Rattle.frame_codec.specs.declared.frame.Frame.TheVariants.{Load, Hello, HintAsk, DeltaAsk, Query, Edit, Publish, Bye, Append, Welcome, HintPart, Delta, Answer, Stale, Done, NoDelta, Refused}
 
 -- the byte that names a frame's kind
 abbrev pub kind_of : Frame → ℕ
@@ -15,6 +15,7 @@ kind_of (Query scheme version words) = 5
 kind_of (Edit index bytes) = 6
 kind_of Publish = 7
 kind_of Bye = 8
+kind_of (Append bytes) = 9
 kind_of (Welcome profile width record_len groups count version dimension seed) = 130
 kind_of (HintPart scheme version part words) = 131
 kind_of (Delta since now count rows) = 132
@@ -34,6 +35,7 @@ payload_of (Query scheme version words) = scheme ∷ (number_bytes 8 version ++ 
 payload_of (Edit index bytes) = number_bytes 4 index ++ bytes
 payload_of Publish = []
 payload_of Bye = []
+payload_of (Append bytes) = bytes
 payload_of (Welcome profile width record_len groups count version dimension seed) =
     number_bytes 2 profile ++
     (width ∷ (number_bytes 2 record_len
@@ -57,6 +59,7 @@ payload_size (Query scheme version words) = 9 + 4 * length words
 payload_size (Edit index bytes) = 4 + length bytes
 payload_size Publish = 0
 payload_size Bye = 0
+payload_size (Append bytes) = length bytes
 payload_size (Welcome profile width record_len groups count version dimension seed) = 21 + length seed
 payload_size (HintPart scheme version part words) = 13 + 4 * length words
 payload_size (Delta since now count rows) = 22 + 4 * length rows.words
@@ -76,6 +79,7 @@ HasFields (Query scheme version words) = (scheme < 2 ^ 8) × (version < 2 ^ 64) 
 HasFields (Edit index bytes) = (index < 2 ^ 32) × All (λ b. b < 2 ^ 8) bytes
 HasFields Publish = Unit {0}
 HasFields Bye = Unit {0}
+HasFields (Append bytes) = All (λ b. b < 2 ^ 8) bytes
 HasFields (Welcome profile width record_len groups count version dimension seed) =
     (profile < 2 ^ 16) × (width < 2 ^ 8) × (record_len < 2 ^ 16) × (groups < 2 ^ 16) × (count < 2 ^ 32) × (version < 2 ^ 64) × (dimension < 2 ^ 16)
     × (length seed ≡ 32) × All (λ b. b < 2 ^ 8) seed

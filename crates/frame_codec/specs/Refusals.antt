@@ -20,6 +20,7 @@ code_of refusal.BadPart = 10
 code_of refusal.BadQueryLength = 11
 code_of refusal.Memory = 12
 code_of refusal.BadScheme = 13
+code_of refusal.Full = 14
 
 -- the reply of a refusal
 abbrev pub refused : Refusal → Frame

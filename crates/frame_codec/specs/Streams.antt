@@ -10,7 +10,7 @@ use Rattle.frame_codec.specs.Frames.{IsFrame, encoding, payload_limit}
 -- whether a byte names a kind
 abbrev pub is_kind : ℕ → Bool
 is_kind k =
-    (k == 1) || (k == 2) || (k == 3) || (k == 4) || (k == 5) || (k == 6) || (k == 7) || (k == 8)
+    (k == 1) || (k == 2) || (k == 3) || (k == 4) || (k == 5) || (k == 6) || (k == 7) || (k == 8) || (k == 9)
     || (k == 130) || (k == 131) || (k == 132) || (k == 133) || (k == 134) || (k == 135) || (k == 136) || (k == 143)
 
 -- the payload's length that the first four bytes say

@@ -238,6 +238,10 @@ pub enum Frame {
     Publish,
     /// Kind 08: the end of a session.
     Bye,
+    /// Kind 09: a record of these bytes after the last one.
+    Append {
+        bytes: Bytes,
+    },
     /// Kind 82: the layout, the current version and the public seed.
     Welcome {
         profile: u16,

@@ -134,6 +134,16 @@ fn bye_of(payload: &[u8]) -> Option<Frame>
     Some(Frame::Bye)
 }
 
+fn append_of(alloc: Global, payload: &[u8]) -> Result<Option<Frame>, AllocError>
+    ensures reads { IfOk result (ReadsAs 9 payload.now) }
+    ensures memory { OnErr result (IsPayload 9 payload.now) }
+{
+    let bytes = Vec::from_slice(alloc, payload)?;
+    Ok(Some(Frame::Append {
+        bytes: Bytes::new(bytes),
+    }))
+}
+
 fn welcome_of(payload: &[u8]) -> Option<Frame>
     ensures { ReadsAs 130 payload.now result }
 {
@@ -261,6 +271,7 @@ pub fn decode(alloc: Global, kind: u8, payload: &[u8]) -> Result<Option<Frame>, 
         0x06 => edit_of(alloc, payload),
         0x07 => Ok(publish_of(payload)),
         0x08 => Ok(bye_of(payload)),
+        0x09 => append_of(alloc, payload),
         0x82 => Ok(welcome_of(payload)),
         0x83 => hint_part_of(alloc, payload),
         0x84 => delta_of(alloc, payload),

@@ -20,7 +20,7 @@ pub const HEADER_LEN: usize = 5;
 fn is_known_kind(kind: u8) -> bool
     ensures { result ≡ is_kind kind }
 {
-    matches!(kind, 0x01..=0x08 | 0x82..=0x88 | 0x8f)
+    matches!(kind, 0x01..=0x09 | 0x82..=0x88 | 0x8f)
 }
 
 /// The whole length of the frame at the beginning, or of a header where that isn't whole.

@@ -32,6 +32,8 @@ pub enum Refusal {
     Memory,
     /// The scheme isn't offered.
     BadScheme,
+    /// The draft has as many records as its layout allows.
+    Full,
 }
 
 impl Refusal {
@@ -53,6 +55,7 @@ impl Refusal {
             Refusal::BadQueryLength => 11,
             Refusal::Memory => 12,
             Refusal::BadScheme => 13,
+            Refusal::Full => 14,
         }
     }
 }

@@ -24,6 +24,7 @@ fn kind_number(frame: &Frame) -> u8
         Frame::Edit { .. } => 0x06,
         Frame::Publish => 0x07,
         Frame::Bye => 0x08,
+        Frame::Append { .. } => 0x09,
         Frame::Welcome { .. } => 0x82,
         Frame::HintPart { .. } => HINT_PART,
         Frame::Delta { .. } => 0x84,
@@ -50,6 +51,7 @@ impl Frame {
             Frame::DeltaAsk { .. } | Frame::Done { .. } => 8,
             Frame::Edit { bytes, .. } => 4 + bytes.as_slice().len(),
             Frame::Publish | Frame::Bye => 0,
+            Frame::Append { bytes } => bytes.as_slice().len(),
             Frame::Welcome { seed, .. } => 21 + seed.as_slice().len(),
             Frame::HintPart { words, .. } => 13 + 4 * words.as_slice().len(),
             Frame::Delta { rows, .. } => 22 + 4 * rows.as_slice().len(),
@@ -97,6 +99,7 @@ fn put_payload(out: &mut Vec<u8>, frame: &Frame)
         }
         Frame::Publish => {}
         Frame::Bye => {}
+        Frame::Append { bytes } => put(out, bytes.as_slice()),
         _ => put_reply(out, frame),
     }
 }

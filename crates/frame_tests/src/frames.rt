@@ -69,6 +69,9 @@ const REFUSED: [u8; 6] = [0x01, 0, 0, 0, 0x8f, 0x01];
 
 const BYE: [u8; 5] = [0, 0, 0, 0, 0x08];
 
+/// A record that is the byte 05.
+const APPEND: [u8; 6] = [0x01, 0, 0, 0, 0x09, 0x05];
+
 /// The frames of `each_kind` in bytes, in the order of the kinds.
 fn each_kind_encoded(alloc: Global) -> Result<Vec<u8>, Fail> {
     let mut stream = Vec::new(alloc);
@@ -81,6 +84,7 @@ fn each_kind_encoded(alloc: Global) -> Result<Vec<u8>, Fail> {
     stream.extend_from_slice(&EDIT)?;
     stream.extend_from_slice(&PUBLISH)?;
     stream.extend_from_slice(&BYE)?;
+    stream.extend_from_slice(&APPEND)?;
     stream.extend_from_slice(&WELCOME)?;
     stream.extend_from_slice(&[0; 32])?;
     stream.extend_from_slice(&HINT_PART)?;
@@ -130,6 +134,9 @@ fn push_asked(alloc: Global, frames: &mut Vec<Frame>) -> Result<(), Fail> {
     })?;
     frames.push(Frame::Publish)?;
     frames.push(Frame::Bye)?;
+    frames.push(Frame::Append {
+        bytes: Bytes::new(vec![in alloc; 0x05]?),
+    })?;
     Ok(())
 }
 
@@ -226,6 +233,7 @@ fn has_its_fields(frame: Frame) -> bool {
         } => scheme == 0 && version == 1 && words.as_slice() == [22, 16_777_249].as_slice(),
         Frame::Edit { index, bytes } => index == 0 && bytes.as_slice() == [0x64].as_slice(),
         Frame::Publish | Frame::Bye => true,
+        Frame::Append { bytes } => bytes.as_slice() == [0x05].as_slice(),
         reply => has_its_reply_fields(reply),
     }
 }
@@ -291,7 +299,7 @@ fn reads_the_fields_of_each_kind(rt: HostRuntime) -> Result<(), Fail> {
         assert!(rt; has_its_fields(frame), "frame {seen}");
         seen = u32::wrapping_add(seen, 1);
     }
-    assert_eq!(rt; seen, 16);
+    assert_eq!(rt; seen, 17);
     Ok(())
 }
 
@@ -299,7 +307,7 @@ fn reads_the_fields_of_each_kind(rt: HostRuntime) -> Result<(), Fail> {
 fn reads_the_same_frames_however_cut(rt: HostRuntime) -> Result<(), Fail> {
     let stream = each_kind_encoded(rt.alloc())?;
     let ends = [
-        12, 51, 69, 82, 104, 114, 119, 124, 182, 204, 239, 257, 274, 287, 304, 310,
+        12, 51, 69, 82, 104, 114, 119, 124, 130, 188, 210, 245, 263, 280, 293, 310, 316,
     ];
     for cut in 0..=stream.len() {
         let (piece, later) = stream.split_at(cut);
@@ -412,8 +420,8 @@ fn a_long_payload_fails_at_byte_four(rt: HostRuntime) -> Result<(), Fail> {
 #[test]
 fn an_unknown_kind_fails_at_byte_five(rt: HostRuntime) -> Result<(), Fail> {
     let known = [
-        0x01, 0x02, 0x03, 0x04, 0x05, 0x06, 0x07, 0x08, 0x82, 0x83, 0x84, 0x85, 0x86, 0x87, 0x88,
-        0x8f,
+        0x01, 0x02, 0x03, 0x04, 0x05, 0x06, 0x07, 0x08, 0x09, 0x82, 0x83, 0x84, 0x85, 0x86, 0x87,
+        0x88, 0x8f,
     ];
     for kind in 0..=255u8 {
         if !known.contains(&kind) {
@@ -472,6 +480,23 @@ fn a_bad_payload_fails_at_its_last_byte(rt: HostRuntime) -> Result<(), Fail> {
             frame.push(0x01)?;
         }
         must_fail_at_last(&rt, rt.alloc(), &frame, ReadFault::BadPayload)?;
+    }
+    Ok(())
+}
+
+#[test]
+fn an_append_may_have_no_bytes(rt: HostRuntime) -> Result<(), Fail> {
+    let stream = [0, 0, 0, 0, 0x09];
+    let mut reader = Reader::new(rt.alloc());
+    let mut frames = Vec::new(rt.alloc());
+    reader.feed(&stream, &mut frames)?;
+    assert_eq!(rt;
+        encoded(&rt, rt.alloc(), &frames)?.as_slice(),
+        stream.as_slice()
+    );
+    match frames.first() {
+        Some(Frame::Append { bytes }) => assert!(rt; bytes.as_slice().is_empty()),
+        _ => panic!(rt; "no Append"),
     }
     Ok(())
 }

@@ -7,7 +7,7 @@ use Rattle.std.proofs.lemmas.Nat.{div_below}
 use Rattle.matrix_u32.specs.Sum.{dot}
 use Rattle.matrix_u32.specs.Matrix.{WordMatrix, IsWhole, entry, row, column, product, transpose, with_entry, with_row}
 use Rattle.matrix_u32.proofs.Changes.{entry_kept, entry_set, matrix_by_entries, same-matrix_of}
-use Rattle.matrix_u32.proofs.Products.{at-list_of, length-list_of, same-list_of, entry-matrix_of, entry-product, entry-product_transposed}
+use Rattle.matrix_u32.proofs.Products.{at-list_of, length-list_of, same-list_of, entry-matrix_of, entry-product, entry-product_transposed_within}
 use Rattle.matrix_u32.proofs.Rows.{if_here, if_elsewhere, with_row-other, row_index, length-row}
 use Rattle.lane_kernels.specs.Digit.{digit, split_count}
 use Rattle.digit_pack.specs.Digits.{decomposed_at}
@@ -86,7 +86,7 @@ one_updated r s0 s c0 c a2 w col words new c' h below inside high wide tall is d
           (λ apart. other i k p apart q ∙ h.moved i k (omega arith) p q)
           (cases_eq i r);
       stays = λ i k l p q. other i k p (λ e. absurd (omega (arith, e))) q ∙ h.stays i k (omega arith) p q;
-      follows = λ e. digit_follows s h.server_whole (h.server_cols ∙ sym tall) here refl (h.follows e);
+      follows = λ e. digit_follows s h.server_whole (omega (arith, h.server_cols, tall)) here across refl (h.follows e);
     }
 
 -- all rows
@@ -112,7 +112,7 @@ all_moved r s0 s c0 c a2 w col words all high h =
     ∙ ap (λ y. (entry c0 i k + (y + (2 ^ 32 - entry s0 i col)) * entry a2 col k) % 2 ^ 32) (sym (h.written i (omega arith) (omega arith))))
 
 -- the server's hint with its new column is that of the digits with their new row
-pub server_follows : (w : ℕ) (s d a1 : WordMatrix) (i : ℕ) (digits words : List ℕ) → 0 < split_count w → d.cols ≡ a1.rows →
+pub server_follows : (w : ℕ) (s d a1 : WordMatrix) (i : ℕ) (digits words : List ℕ) → 0 < split_count w → d.cols ≤ a1.rows →
     words ≡ row (product (with_row d i digits) a1) i → s ≡ server_hint_of w d a1 →
     with_column s i (digits_of_words w words) ≡ server_hint_of w (with_row d i digits) a1
 server_follows w s d a1 i digits words some fits is h =
@@ -125,7 +125,7 @@ server_follows w s d a1 i digits words some fits is h =
     let k : ℕ = r / split_count w in
     let low : k < a1.cols = div_below r (split_count w) a1.cols some p in
     let right : entry (product (transpose a1) (transpose changed)) k j ≡ dot (row changed j) (column a1 k) =
-    entry-product_transposed a1 changed k j (sym fits) low q in
+    entry-product_transposed_within a1 changed k j fits low q in
     ⊎_elim
     (λ e.
     let inside : i < d.rows = omega (arith, e, q) in
@@ -140,11 +140,11 @@ server_follows w s d a1 i digits words some fits is h =
     same-list_of d.cols (λ c. entry d j c) (λ c. entry changed j c) (λ c l. sym (with_row-other d i j c digits q apart l)) in
     if_elsewhere j i (slice_index new r) (entry (server_hint_of w d a1) r j) apart
     ∙ entry-matrix_of (a1.cols * split_count w) d.rows (decomposed_at w (product (transpose a1) (transpose d))) r j p q
-    ∙ ap (λ x. digit w x (r % split_count w)) (entry-product_transposed a1 d k j (sym fits) low q ∙ ap (λ x. dot x (column a1 k)) kept ∙ sym right))
+    ∙ ap (λ x. digit w x (r % split_count w)) (entry-product_transposed_within a1 d k j fits low q ∙ ap (λ x. dot x (column a1 k)) kept ∙ sym right))
     (cases_eq j i))
 
 -- both hints are those of the digits with their new row
-pub both_follow : (w : ℕ) (s0 s c0 c a1 a2 d : WordMatrix) (i : ℕ) (digits words : List ℕ) → 0 < split_count w → d.cols ≡ a1.rows →
+pub both_follow : (w : ℕ) (s0 s c0 c a1 a2 d : WordMatrix) (i : ℕ) (digits words : List ℕ) → 0 < split_count w → d.cols ≤ a1.rows →
     words ≡ row (product (with_row d i digits) a1) i → s ≡ with_column s0 i (digits_of_words w words) → (c0 ≡ product s0 a2 → c ≡ product s a2) →
     AreHintsOf w d a1 a2 s0 c0 → AreHintsOf w (with_row d i digits) a1 a2 s c
 both_follow w s0 s c0 c a1 a2 d i digits words some fits is column follows made =

@@ -1,5 +1,5 @@
 -- Products after a change of one word of the left matrix.
-use Rattle.std.proofs.Common.{◌≡◌, ℕ, ◌+◌, ◌-◌, ◌*◌, ◌%◌, ◌^◌, ◌<◌, ◌==◌, if◌then◌else◌, arith, ap, ◌∙◌, sym, ⊎_elim, List, length}
+use Rattle.std.proofs.Common.{◌≡◌, ℕ, ◌+◌, ◌-◌, ◌*◌, ◌%◌, ◌^◌, ◌<◌, ◌≤◌, ◌==◌, if◌then◌else◌, arith, ap, ◌∙◌, sym, ⊎_elim, List, length}
 use Rattle.std.proofs.lemmas.Nat.{mul-mod_first}
 use Rattle.std.proofs.lemmas.Bool.{cases_eq}
 use Rattle.std.specs.Prelude.{slice_index}
@@ -15,7 +15,7 @@ pub reduced : (e m y : ℕ) → (e + (m % 2 ^ 32) * y) % 2 ^ 32 ≡ (e + m * y) 
 reduced e m y = omega (arith, mul-mod_first m y (2 ^ 32))
 
 -- row i with the difference times row j of a added
-pub row_follows : (d a : WordMatrix) (i j old new k : ℕ) → IsWhole d → a.rows ≡ d.cols → i < d.rows → j < d.cols → entry d i j ≡ old → old < 2 ^ 32 →
+pub row_follows : (d a : WordMatrix) (i j old new k : ℕ) → IsWhole d → d.cols ≤ a.rows → i < d.rows → j < d.cols → entry d i j ≡ old → old < 2 ^ 32 →
     k ≡ (new + (2 ^ 32 - old)) % 2 ^ 32 → with_row (product d a) i (plus_scaled (row (product d a) i) (row a j) k) ≡ product (with_entry d i j new) a
 row_follows d a i j old new k whole e p q is small ke =
     let change : RowChange d a i j new = row_change d a i j new whole e p q (omega arith) in

@@ -11,7 +11,7 @@ use Rattle.matrix_u32.specs.Matrix.{WordMatrix, IsWhole, entry, matrix_of, row, 
 use Rattle.matrix_u32.specs.Blocks.{plus_rows}
 use Rattle.matrix_u32.proofs.Sums.{sum_below-add, sum_same, sum_add, sum_congruent, sum_zero}
 use Rattle.matrix_u32.proofs.Changes.{entry_kept, entry_set, matrix_by_entries, same-matrix_of}
-use Rattle.matrix_u32.proofs.Products.{words_are, entry-matrix_of, entry-product, entry-product_sum, entry-product_transposed}
+use Rattle.matrix_u32.proofs.Products.{words_are, entry-matrix_of, entry-product, entry-product_sum, entry-product_transposed_within}
 use Rattle.matrix_u32.proofs.Rows.{row_index, length-row, plus_rows-index, plus_rows-length, length-written_row, written_row-same, written_row-other}
 use Rattle.lane_kernels.specs.Digit.{digit, split_count}
 use Rattle.digit_pack.specs.Digits.{decomposed_at}
@@ -248,10 +248,10 @@ run_server w s0 a1 old new hint start n some change h =
     let low : k < a1.cols = div_below r (split_count w) a1.cols some p in
     let digit_new : ℕ = word_digit_at w (row hint j) r in
     let right : entry (product (transpose a1) (transpose new)) k j ≡ dot (row new j) (column a1 k) =
-    entry-product_transposed a1 new k j (sym change.inner) low q in
+    entry-product_transposed_within a1 new k j change.inner low q in
     let same : row new j ≡ row old j → entry before r j ≡ decomposed_at w (product (transpose a1) (transpose new)) r j = λ e.
     entry-matrix_of high old.rows (decomposed_at w (product (transpose a1) (transpose old))) r j p (omega (arith, change.rows))
-    ∙ ap (λ x. digit w x t) (entry-product_transposed a1 old k j (omega (arith, change.inner, change.cols)) low (omega (arith, change.rows))
+    ∙ ap (λ x. digit w x t) (entry-product_transposed_within a1 old k j (omega (arith, change.inner, change.cols)) low (omega (arith, change.rows))
     ∙ ap (λ x. dot x (column a1 k)) (sym e) ∙ sym right) in
     elim (cases_lt j start) [
       | inl l ↦ before_run start n j digit_new (entry before r j) l ∙ same (change.before j l q)

@@ -1,4 +1,5 @@
--- What hints that are changed in place are afterwards.
+-- What hints that are changed in place are afterwards. The first public matrix may have more rows than the digits
+-- have columns: a product takes no more of them.
 use Rattle.std.specs.Prelude.{◌≡◌, ℕ, ◌+◌, ◌-◌, ◌*◌, ◌/◌, ◌%◌, ◌^◌, ◌<◌, ◌≤◌, ◌==◌, if◌then◌else◌, List, length, slice_index, Bool, nat_le, nat_lt, ◌&&◌}
 use Rattle.matrix_u32.specs.Sum.{sum_below, list_of}
 use Rattle.matrix_u32.specs.Matrix.{WordMatrix, IsWhole, entry, row, matrix_of, product, with_entry, with_row}
@@ -9,7 +10,7 @@ use Rattle.double_scheme.specs.Double.{server_hint_of, client_hint_of}
 -- the matrix with `new` in the place
 abbrev pub FollowsDigit : WordMatrix → WordMatrix → WordMatrix → ℕ → ℕ → ℕ → ℕ → Type 0
 FollowsDigit before after a1 row col old new =
-    (d : WordMatrix) → IsWhole d → d.cols ≡ a1.rows → row < d.rows → entry d row col ≡ old →
+    (d : WordMatrix) → IsWhole d → d.cols ≤ a1.rows → row < d.rows → col < d.cols → entry d row col ≡ old →
     before ≡ product d a1 → after ≡ product (with_entry d row col new) a1
 
 -- ---- DoublePIR
@@ -39,7 +40,7 @@ pub record AreHintsOf (w : ℕ) (d a1 a2 server_hint client_hint : WordMatrix) :
 -- digits in row i, whatever these are, if `words` are row i of its product with the public matrix
 abbrev pub FollowsRow : ℕ → WordMatrix → WordMatrix → WordMatrix → WordMatrix → WordMatrix → ℕ → List ℕ → Type 0
 FollowsRow w server_before server_after client_before client_after a2 i words =
-    (d a1 : WordMatrix) (digits : List ℕ) → d.cols ≡ a1.rows →
+    (d a1 : WordMatrix) (digits : List ℕ) → d.cols ≤ a1.rows →
     words ≡ row (product (with_row d i digits) a1) i →
     AreHintsOf w d a1 a2 server_before client_before → AreHintsOf w (with_row d i digits) a1 a2 server_after client_after
 
@@ -63,7 +64,7 @@ moved_by_run hint old new a2 start n =
 pub record IsRunChange (hint a1 old new : WordMatrix) (start n : ℕ) : Type 0 where
   pub rows : old.rows ≡ new.rows
   pub cols : old.cols ≡ new.cols
-  pub inner : new.cols ≡ a1.rows
+  pub inner : new.cols ≤ a1.rows
   pub before : (i : ℕ) → i < start → i < new.rows → row new i ≡ row old i
   pub run : (i : ℕ) → start ≤ i → i < start + n → row hint i ≡ row (product new a1) i
   pub after : (i : ℕ) → start + n ≤ i → i < new.rows → row new i ≡ row old i

@@ -3,7 +3,8 @@
 //! A hint is the product of a digit matrix and a public matrix. Where one digit changes, one row of the
 //! hint changes, by the difference of the digits times a row of the public matrix: that is all that is
 //! multiplied, and the hint is then, word for word, the one made from scratch. The hints of DoublePIR follow
-//! a changed row of that hint, or a run of them, in the same way.
+//! a changed row of that hint, or a run of them, in the same way. The public matrix of the digits may have
+//! more rows than these have columns: a product takes no more of them.
 //!
 //! Its tests are in `scheme_tests::updates` and `scheme_tests::logs`.
 #![tactic(auto)]

@@ -1,5 +1,5 @@
 -- Transposed products, and products after a change of one word.
-use Rattle.std.proofs.Common.{◌≡◌, ◌≢◌, ℕ, zero, suc, ◌+◌, ◌-◌, ◌*◌, ◌%◌, ◌/◌, ◌^◌, ◌<◌, arith, ap, ◌∙◌, sym, ⊎_elim, length, get_or-set_same, get_or-set_other}
+use Rattle.std.proofs.Common.{◌≡◌, ◌≢◌, ℕ, zero, suc, ◌+◌, ◌-◌, ◌*◌, ◌%◌, ◌/◌, ◌^◌, ◌<◌, ◌≤◌, arith, ap, ◌∙◌, sym, ⊎_elim, length, get_or-set_same, get_or-set_other}
 use Rattle.std.proofs.lemmas.Nat.{div_below, mod_below, same_from_place, div-add-mod'}
 use Rattle.std.proofs.lemmas.Bool.{cases_eq}
 use Rattle.std.proofs.lemmas.Nat.{mul-add-lt}
@@ -8,7 +8,7 @@ use Rattle.matrix_u32.specs.Sum.{sum_below, dot}
 use Rattle.matrix_u32.specs.Matrix.{WordMatrix, IsWhole, entry, matrix_of, row, column, product, transpose, with_entry}
 use Rattle.matrix_u32.specs.Laws.{RowChange}
 use Rattle.matrix_u32.proofs.Sums.{sum_same}
-use Rattle.matrix_u32.proofs.Products.{matrix_is, at-list_of, same-list_of, entry-product, entry-product_sum, entry-product_transposed}
+use Rattle.matrix_u32.proofs.Products.{matrix_is, at-list_of, same-list_of, entry-product, entry-product_within, entry-product_transposed}
 
 pub some_columns : (k rows cols : ℕ) → k < rows * cols → 0 < cols
 some_columns k rows zero l = absurd (omega arith)
@@ -46,24 +46,24 @@ change_mod s s' o v c m e w =
     let whole : (c + o) * m ≡ 2 ^ 32 * m = ap (λ t. t * m) w in
     omega (arith, e, whole)
 
-pub row_change : (d a : WordMatrix) (i j word : ℕ) → IsWhole d → a.rows ≡ d.cols → i < d.rows → j < d.cols → entry d i j < 2 ^ 32 → RowChange d a i j word
+pub row_change : (d a : WordMatrix) (i j word : ℕ) → IsWhole d → d.cols ≤ a.rows → i < d.rows → j < d.cols → entry d i j < 2 ^ 32 → RowChange d a i j word
 row_change d a i j word whole e p q small = record {
   same_row = λ k l.
       let inside : i * d.cols + j < length d.words = omega (arith, mul-add-lt i d.cols j d.rows p q) in
       let here : entry (with_entry d i j word) i j ≡ word = get_or-set_same d.words (i * d.cols + j) word 0 inside in
       let sums = sum_changed d.cols j (λ t. entry d i t * entry a t k) (λ t. entry (with_entry d i j word) i t * entry a t k) q
       (λ t m x. ap (λ y. y * entry a t k) (entry_kept d i j word i t q m (λ b. x b.1))) in
-      let first = entry-product_sum (with_entry d i j word) a i k p l (sym e) in
-      let second = entry-product_sum d a i k p l (sym e) in
+      let first = entry-product_within (with_entry d i j word) a i k p l e in
+      let second = entry-product_within d a i k p l e in
       first
       ∙ change_mod _ _ (entry d i j) word (2 ^ 32 - entry d i j) (entry a j k) (sums
       ∙ ap (λ y. sum_below d.cols (λ t. entry d i t * entry a t k) + y * entry a j k) here) (omega arith)
       ∙ ap (λ y. (y + (word + (2 ^ 32 - entry d i j)) * entry a j k) % 2 ^ 32) (sym second);
   other_rows = λ r k b x l.
-      entry-product_sum (with_entry d i j word) a r k b l (sym e)
+      entry-product_within (with_entry d i j word) a r k b l e
       ∙ ap (λ y. y % 2 ^ 32) (sum_same d.cols _ (λ t. entry d r t * entry a t k)
       (λ t m. ap (λ y. y * entry a t k) (entry_kept d i j word r t q m (λ b. x b.0))))
-      ∙ sym (entry-product_sum d a r k b l (sym e));
+      ∙ sym (entry-product_within d a r k b l e);
 }
 
 pub entry_set : (d : WordMatrix) (i j word : ℕ) → IsWhole d → i < d.rows → j < d.cols → entry (with_entry d i j word) i j ≡ word

@@ -7,7 +7,7 @@ use Rattle.std.proofs.lemmas.List.FromFn.{get_or-map-range_with_len, length-map-
 use Rattle.std.specs.Prelude.{slice_index, slice_set}
 use Rattle.matrix_u32.specs.Sum.{sum_below, list_of, dot}
 use Rattle.matrix_u32.specs.Matrix.{WordMatrix, entry, matrix_of, row, column, product, times_vector, vector_times, transpose}
-use Rattle.matrix_u32.proofs.Sums.{sum_same, sum_scale, sum_scale_right, sum_swap, sum_congruent}
+use Rattle.matrix_u32.proofs.Sums.{sum_same, sum_scale, sum_scale_right, sum_swap, sum_congruent, sum_prefix}
 
 pub length-list_of : {X : Type 0} (n : ℕ) (f : ℕ → X) → length (list_of n f) ≡ n
 length-list_of n f = length-map-range_with_len f 0 n
@@ -111,15 +111,25 @@ pub entry-product : (a b : WordMatrix) (i j : ℕ) → i < a.rows → j < b.cols
 entry-product a b i j p q = entry-matrix_of a.rows b.cols (λ i j. dot (row a i) (column b j)) i j p q
 
 -- an entry of a product of transposed matrices
+pub entry-product_transposed_within : (a d : WordMatrix) (k r : ℕ) → d.cols ≤ a.rows → k < a.cols → r < d.rows →
+    entry (product (transpose a) (transpose d)) k r ≡ dot (row d r) (column a k)
+entry-product_transposed_within a d k r e p q =
+    let f : ℕ → ℕ = λ i. entry a i k in
+    let x : List ℕ = row d r in
+    let long : length x ≡ d.cols = length-list_of d.cols (λ j. entry d r j) in
+    entry-product (transpose a) (transpose d) k r p q
+    ∙ ap (λ y. dot y (column (transpose d) r)) (row-transpose a k p)
+    ∙ ap (λ y. dot (column a k) y) (column-transpose d r q)
+    ∙ dot-list_of a.rows f (λ i. slice_index x i) x (λ i l. refl)
+    ∙ ap (λ t. t % 2 ^ 32)
+    (sum_prefix d.cols a.rows (λ i. f i * slice_index x i) e (λ i m l. ap (λ y. f i * y) (get_or_past x i 0 (omega (arith, long))) ∙ omega arith)
+    ∙ sum_same d.cols (λ i. f i * slice_index x i) (λ i. entry d r i * f i)
+    (λ i l. ap (λ y. f i * y) (at-list_of d.cols (λ j. entry d r j) i l) ∙ mul_comm (f i) (entry d r i)))
+    ∙ sym (dot-list_of d.cols (λ i. entry d r i) f (column a k) (λ i l. at-list_of a.rows f i (omega arith)))
+
 pub entry-product_transposed : (a d : WordMatrix) (k r : ℕ) → a.rows ≡ d.cols → k < a.cols → r < d.rows →
     entry (product (transpose a) (transpose d)) k r ≡ dot (row d r) (column a k)
-entry-product_transposed a d k r e p q =
-    entry-product (transpose a) (transpose d) k r p q
-    ∙ ap (λ x. dot x (column (transpose d) r)) (row-transpose a k p)
-    ∙ ap (λ y. dot (column a k) y) (column-transpose d r q)
-    ∙ ap (λ n. dot (list_of n (λ i. entry a i k)) (row d r)) e
-    ∙ dot_comm d.cols (λ i. entry a i k) (λ j. entry d r j)
-    ∙ ap (λ n. dot (row d r) (list_of n (λ i. entry a i k))) (sym e)
+entry-product_transposed a d k r e p q = entry-product_transposed_within a d k r (omega arith) p q
 
 pub dot-lt : (x y : List ℕ) → dot x y < 2 ^ 32
 unfolding dot
@@ -137,11 +147,15 @@ pub words_are : (words : List ℕ) (n : ℕ) (f : ℕ → ℕ) → length words 
 words_are words n f e h = fill_by_all f words n 0 e h
 
 -- an entry of a product as a sum
-pub entry-product_sum : (a b : WordMatrix) (i j : ℕ) → i < a.rows → j < b.cols → a.cols ≡ b.rows →
+pub entry-product_within : (a b : WordMatrix) (i j : ℕ) → i < a.rows → j < b.cols → a.cols ≤ b.rows →
     entry (product a b) i j ≡ sum_below a.cols (λ k. entry a i k * entry b k j) % 2 ^ 32
-entry-product_sum a b i j p q e =
+entry-product_within a b i j p q e =
     entry-product a b i j p q
     ∙ dot-list_of a.cols (λ k. entry a i k) (λ k. entry b k j) (column b j) (λ k l. at-list_of b.rows (λ i. entry b i j) k (omega arith))
+
+pub entry-product_sum : (a b : WordMatrix) (i j : ℕ) → i < a.rows → j < b.cols → a.cols ≡ b.rows →
+    entry (product a b) i j ≡ sum_below a.cols (λ k. entry a i k * entry b k j) % 2 ^ 32
+entry-product_sum a b i j p q e = entry-product_within a b i j p q (omega arith)
 
 -- a matrix with the right word at each place
 pub matrix_is : (m : WordMatrix) (rows cols : ℕ) (f : ℕ → ℕ → ℕ) → m.rows ≡ rows → m.cols ≡ cols → length m.words ≡ rows * cols →

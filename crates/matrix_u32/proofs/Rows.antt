@@ -4,16 +4,16 @@ use Rattle.std.proofs.lemmas.Nat.{row_fits}
 use Rattle.std.proofs.lemmas.Bool.{cases_eq, cases_lt}
 use Rattle.std.proofs.lemmas.Bool.Decides.{nat_tests}
 use Rattle.std.proofs.lemmas.List.{length-take-le, take-append-le, length-append, length-drop}
-use Rattle.std.proofs.lemmas.Simd.{put_chunk_is, length-put_chunk, get_or-put_chunk_below, get_or-put_chunk_at, get_or-put_chunk_above, length-replicate, get_or-replicate, splat_is_map}
+use Rattle.std.proofs.lemmas.Simd.{put_chunk_is, length-put_chunk, get_or-put_chunk_below, get_or-put_chunk_at, get_or-put_chunk_above, get_or-replicate, splat_is_map}
 use Rattle.std.proofs.lemmas.List.FromFn.{length-range_with_len}
 use Rattle.std.proofs.Math.Seq.{take-length}
 use Rattle.std.specs.Simd.Lanes.{put_chunk}
 use Rattle.std.specs.List.{range_with_len}
-use Rattle.matrix_u32.specs.Sum.{sum_below, dot}
-use Rattle.matrix_u32.specs.Matrix.{WordMatrix, IsWhole, entry, matrix_of, row, column, product, plus_scaled, zero_matrix, with_row, overwritten, written_row}
+use Rattle.matrix_u32.specs.Sum.{sum_below}
+use Rattle.matrix_u32.specs.Matrix.{WordMatrix, IsWhole, entry, matrix_of, row, plus_scaled, zero_matrix, with_row, overwritten, written_row}
 use Rattle.matrix_u32.specs.Blocks.{plus_rows}
-use Rattle.matrix_u32.proofs.Sums.{sum_below_more, sum_below_none, sum_below-add, sum_same}
-use Rattle.matrix_u32.proofs.Products.{at-list_of, length-list_of, entry-matrix_of, words_are, entry-product_sum}
+use Rattle.matrix_u32.proofs.Sums.{sum_below_more, sum_below_none}
+use Rattle.matrix_u32.proofs.Products.{at-list_of, length-list_of, entry-matrix_of, words_are}
 use Rattle.matrix_u32.proofs.Changes.{matrix_by_entries}
 
 -- what a loan of part of a list leaves, where the list keeps its length

@@ -1,5 +1,5 @@
 -- Laws of sums of whole numbers.
-use Rattle.std.proofs.Common.{◌≡◌, ℕ, zero, suc, ◌+◌, ◌*◌, ◌%◌, ◌^◌, ◌<◌, ◌≤◌, ◌≢◌, nat_eq, if◌then◌else◌, arith, ap, sym, refl}
+use Rattle.std.proofs.Common.{◌≡◌, ℕ, zero, suc, ◌+◌, ◌-◌, ◌*◌, ◌%◌, ◌^◌, ◌<◌, ◌≤◌, ◌≢◌, nat_eq, if◌then◌else◌, arith, ap, ◌∙◌, sym, refl}
 use Rattle.std.proofs.Common.{⊎_elim, add-one, add-suc, add-zero}
 use Rattle.std.proofs.lemmas.Bool.{cases_eq}
 use Rattle.std.proofs.lemmas.Bool.Decides.{nat_tests}
@@ -87,3 +87,11 @@ pub sum_below-prefix : (n : ℕ) (f : ℕ → ℕ) → sum_below (suc n) f ≡ f
 unfolding sum_below
 sum_below-prefix zero f = omega arith
 sum_below-prefix (suc n) f = let e = sum_below-prefix n f in omega (arith, e)
+
+-- a sum whose terms vanish past a place
+pub sum_prefix : (m n : ℕ) (f : ℕ → ℕ) → m ≤ n → ((k : ℕ) → m ≤ k → k < n → f k ≡ 0) → sum_below n f ≡ sum_below m f
+sum_prefix m n f le none =
+    let all : m + (n - m) ≡ n = omega arith in
+    let rest : sum_below (n - m) (λ k. f (m + k)) ≡ 0 =
+    sum_same (n - m) (λ k. f (m + k)) (λ _. 0) (λ k l. none (m + k) (omega arith) (omega arith)) ∙ sum_zero (n - m) in
+    ap (λ c. sum_below c f) (sym all) ∙ sum_below-add m (n - m) f ∙ omega (arith, rest)

@@ -1,6 +1,6 @@
 -- Laws of products.
-use Rattle.std.specs.Prelude.{◌≡◌, ◌≢◌, ℕ, ◌+◌, ◌-◌, ◌*◌, ◌%◌, ◌^◌, ◌<◌, List}
-use Rattle.matrix_u32.specs.Matrix.{WordMatrix, IsWhole, entry, product, times_vector, transpose, with_entry}
+use Rattle.std.specs.Prelude.{◌≡◌, ◌≢◌, ℕ, ◌+◌, ◌-◌, ◌*◌, ◌%◌, ◌^◌, ◌<◌, ◌≤◌, List}
+use Rattle.matrix_u32.specs.Matrix.{WordMatrix, IsWhole, entry, product, times_vector, transpose, with_entry, widened, first_rows, with_rows}
 
 -- (a b) s = a (b s)
 abbrev pub ProductIsAssociative : Type 0
@@ -19,4 +19,17 @@ pub record RowChange (d a : WordMatrix) (i j word : ℕ) : Type 0 where
 -- a product whose left factor changes in one word changes in that row alone
 abbrev pub ChangedWordChangesItsRow : Type 0
 ChangedWordChangesItsRow = (d a : WordMatrix) (i j word : ℕ) →
-    IsWhole d → a.rows ≡ d.cols → i < d.rows → j < d.cols → entry d i j < 2 ^ 32 → RowChange d a i j word
+    IsWhole d → d.cols ≤ a.rows → i < d.rows → j < d.cols → entry d i j < 2 ^ 32 → RowChange d a i j word
+
+-- a product whose left factor is given columns of zeros stays as it was
+abbrev pub ZeroColumnsAddNothing : Type 0
+ZeroColumnsAddNothing = (d a : WordMatrix) (cols : ℕ) → d.cols ≤ cols → product (widened d cols) a ≡ product d a
+
+-- a product takes as many rows of its right factor as the left one has columns, and any further ones leave it
+abbrev pub FurtherRowsAddNothing : Type 0
+FurtherRowsAddNothing = (d a : WordMatrix) (n : ℕ) → d.cols ≤ n → n ≤ a.rows → product d a ≡ product d (first_rows a n)
+
+-- a product whose left factor is given columns of zeros, and the right one further rows, stays as it was
+abbrev pub GrowthLeavesProduct : Type 0
+GrowthLeavesProduct = (d a : WordMatrix) (cols : ℕ) (words : List ℕ) →
+    IsWhole a → d.cols ≤ a.rows → d.cols ≤ cols → product (widened d cols) (with_rows a words) ≡ product d a

@@ -1,5 +1,5 @@
 -- Matrices of words and their products.
-use Rattle.std.specs.Prelude.{◌≡◌, ℕ, ◌+◌, ◌*◌, ◌/◌, ◌%◌, ◌^◌, ◌==◌, ◌++◌, if◌then◌else◌, List, length, take, drop, replicate, slice_index, slice_set}
+use Rattle.std.specs.Prelude.{◌≡◌, ℕ, ◌+◌, ◌*◌, ◌/◌, ◌%◌, ◌^◌, ◌==◌, ◌++◌, if◌then◌else◌, List, length, take, drop, replicate, slice_index, slice_set, nat_lt}
 use Rattle.matrix_u32.specs.Sum.{list_of, dot}
 
 -- a matrix: how many rows and columns it has, and its words row by row
@@ -55,6 +55,26 @@ with_entry a i j word = record a { words = slice_set a.words (i * a.cols + j) wo
 -- the list with k x added to it, word by word
 abbrev pub plus_scaled : List ℕ → List ℕ → ℕ → List ℕ
 plus_scaled out x k = list_of (length out) (λ j. (slice_index out j + k * slice_index x j) % 2 ^ 32)
+
+-- the word in row i, column j, where columns past the last count as 0
+abbrev pub entry_or_zero : WordMatrix → ℕ → ℕ → ℕ
+entry_or_zero a i j = if nat_lt j a.cols then entry a i j else 0
+
+-- the matrix with so many columns, those past its last all 0
+abbrev pub widened : WordMatrix → ℕ → WordMatrix
+widened a cols = matrix_of a.rows cols (entry_or_zero a)
+
+-- the matrix with further rows below its own, of these words
+abbrev pub with_rows : WordMatrix → List ℕ → WordMatrix
+with_rows a words = record a { rows = a.rows + length words / a.cols; words = a.words ++ words }
+
+-- words that are a whole number of rows; where a row has no words, no words at all
+abbrev pub AreWholeRows : ℕ → List ℕ → Type 0
+AreWholeRows cols words = (n : ℕ) × (length words ≡ n * cols)
+
+-- the first rows of a matrix
+abbrev pub first_rows : WordMatrix → ℕ → WordMatrix
+first_rows a n = record { rows = n; cols = a.cols; words = take (n * a.cols) a.words }
 
 -- the matrix of zeros
 abbrev pub zero_matrix : ℕ → ℕ → WordMatrix

@@ -1,7 +1,14 @@
 //! Laws of products, over the definitions alone. A caller that calls one of these functions has its law at
 //! hand in its proof; the call costs nothing.
 
-ghost use Rattle.matrix_u32.specs.Laws.{ProductIsAssociative, ProductTransposes, ChangedWordChangesItsRow};
+ghost use Rattle.matrix_u32.specs.Laws.{
+  ProductIsAssociative,
+  ProductTransposes,
+  ChangedWordChangesItsRow,
+  ZeroColumnsAddNothing,
+  FurtherRowsAddNothing,
+  GrowthLeavesProduct,
+};
 
 /// (A B) s = A (B s), for every vector s.
 pub fn product_is_associative()
@@ -16,4 +23,19 @@ pub fn product_transposes()
 /// A changed word of D changes its row of D A by the difference times a row of A, and no other row.
 pub fn changed_word_changes_its_row()
     ensures { ChangedWordChangesItsRow }
+{}
+
+/// Columns of zeros past the last of D leave D A.
+pub fn zero_columns_add_nothing()
+    ensures { ZeroColumnsAddNothing }
+{}
+
+/// Rows of A past as many as D has columns leave D A.
+pub fn further_rows_add_nothing()
+    ensures { FurtherRowsAddNothing }
+{}
+
+/// D A stays as it is where D is given columns of zeros and A further rows.
+pub fn growth_leaves_product()
+    ensures { GrowthLeavesProduct }
 {}

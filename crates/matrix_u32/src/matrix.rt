@@ -1,14 +1,17 @@
 //! A matrix of words.
 
-ghost use Rattle.std.specs.Prelude.{◌≡◌, ◌≢◌, ℕ, ◌+◌, ◌*◌, ◌<◌, ◌≤◌, ◌⊎◌, length, IfOk, IfErr};
+ghost use Rattle.std.specs.Prelude.{◌≡◌, ◌≢◌, ℕ, ◌+◌, ◌*◌, ◌/◌, ◌<◌, ◌≤◌, ◌⊎◌, ◌++◌, length, IfOk, IfErr, OnOk, OnErr};
 ghost use Rattle.std.specs.Borrow.{sem};
 ghost use Rattle.matrix_u32.specs.Matrix.{
   WordMatrix,
   IsWhole,
+  AreWholeRows,
   entry,
+  first_rows,
   most_words,
   row,
   with_entry,
+  with_rows,
   zero_matrix,
 };
 
@@ -155,6 +158,48 @@ impl Matrix {
     {
         &self.words[i * self.cols..i * self.cols + self.cols]
     }
+
+    /// Appends rows of these words, given row by row. The matrix's own memory grows for them, once, and
+    /// only where it has no room.
+    ///
+    /// `TooLarge` exactly when the words held and those given are together more than [`MAX_WORDS`], which is
+    /// judged first; else `WrongCount` exactly when the words given are not a whole number of rows: where
+    /// the matrix has no columns, no words add no row, and any others are refused; else `Memory` where the
+    /// growth is refused. At a refusal the matrix stays as it was. Rows that were there never change.
+    pub fn push_rows(&mut self, words: Vec<u32>) -> Result<(), MatrixError>
+        ensures pushed { OnOk result (self.new ≡ with_rows self.old words.items) }
+        ensures kept { OnOk result (first_rows self.new self.old.rows ≡ self.old) }
+        ensures fits { OnOk result ((length self.old.words + length words.items ≤ most_words) ×
+            AreWholeRows self.old.cols words.items) }
+        ensures refused { IfErr result (λ e.
+            ((e ≡ MatrixError.TooLarge) ×
+            (most_words < length self.old.words + length words.items))
+            ⊎ ((e ≡ MatrixError.WrongCount) ×
+            (length self.old.words + length words.items ≤ most_words) ×
+            ¬ AreWholeRows self.old.cols words.items)
+            ⊎ ((e ≡ MatrixError.Memory) ×
+            (length self.old.words + length words.items ≤ most_words) ×
+            AreWholeRows self.old.cols words.items)) }
+        ensures unchanged { OnErr result (self.new ≡ self.old) }
+        ensures rows_stay { (i : ℕ) → i < self.old.rows → row self.new i ≡ row self.old i }
+    {
+        if words.len() > MAX_WORDS - self.words.len() {
+            return Err(MatrixError::TooLarge);
+        }
+        let rows = row_count(words.len(), self.cols)?;
+        put_words(&mut self.words, words)?;
+        self.rows += rows;
+        Ok(())
+    }
+
+    /// The words, row by row, given back. It takes no memory.
+    pub fn into_words(self) -> Vec<u32>
+        ensures value { result.items ≡ self.words }
+        ensures count { length result.items ≡ self.rows * self.cols }
+    {
+        let Matrix { words, .. } = self;
+        words
+    }
 }
 
 impl Matrix {
@@ -183,6 +228,33 @@ fn word_count(rows: usize, cols: usize) -> Result<usize, MatrixError>
         Some(count) if count <= MAX_WORDS => Ok(count),
         _ => Err(MatrixError::TooLarge),
     }
+}
+
+// How many rows of so many words these are, where they are a whole number of rows.
+fn row_count(words: usize, cols: usize) -> Result<usize, MatrixError>
+    ensures count { IfOk result (λ count. (count ≡ words / cols) × (words ≡ count * cols)) }
+    ensures refused { IfErr result (λ e.
+        (e ≡ MatrixError.WrongCount) × ((n : ℕ) → words ≢ n * cols)) }
+{
+    if words == 0 {
+        return Ok(0);
+    }
+    if cols == 0 || words % cols != 0 {
+        return Err(MatrixError::WrongCount);
+    }
+    Ok(words / cols)
+}
+
+// Adds words to others, or leaves them where there is no memory.
+fn put_words(words: &mut Vec<u32>, mut more: Vec<u32>) -> Result<(), MatrixError>
+    ensures put { OnOk result (words.new.items ≡ words.old.items ++ more.items) }
+    ensures refused { IfErr result (λ e. e ≡ MatrixError.Memory) }
+    ensures unchanged { OnErr result (words.new.items ≡ words.old.items) }
+{
+    words.reserve_exact(more.len())?;
+    // There is room now: no refusal is left.
+    words.append(&mut more).unwrap();
+    Ok(())
 }
 
 #[cfg(test)]

@@ -1,15 +1,15 @@
 -- What a command line asks for.
-use Rattle.std.specs.Prelude.{◌≡◌, ◌<◌, ◌≤◌, ◌^◌, ℕ, List, length, codes, Option, Some, None, Ok, MatchOption}
+use Rattle.std.specs.Prelude.{◌≡◌, ◌<◌, ◌≤◌, ◌^◌, ℕ, List, length, codes, Option, Some, None, MatchOption}
 use Rattle.std.specs.Str.Parse.{IsNumeral, digits_value}
 use Rattle.clap.specs.declared.parser.matches.Found.{Found}
 use Rattle.clap.specs.Matches.{first_value}
-use Rattle.hex.specs.Hex.{decode_of}
 use Rattle.command_words.specs.declared.secrets.Secret.{Secret}
 use Rattle.command_words.specs.Secrets.{IsSecretOf, IsKey}
+use Rattle.command_words.specs.Values.{bytes_in}
 use Rattle.pir_schemes.specs.declared.scheme.Scheme.{Scheme}
 use Rattle.pir_schemes.specs.declared.scheme.Scheme.TheVariants.{Simple, Double}
 use Rattle.pir_client.specs.declared.command_line.Task.{Task}
-use Rattle.pir_client.specs.declared.command_line.Task.TheVariants.{Get, Put, Publish, Rehearse}
+use Rattle.pir_client.specs.declared.command_line.Task.TheVariants.{Get, Put, Append, Publish, Rehearse}
 
 -- a least dimension, where there is one, is that of some secrets
 abbrev pub IsDimension : Option ℕ → Type 0
@@ -19,7 +19,8 @@ IsDimension (Some n) = (1 ≤ n) × (n ≤ 1024)
 -- the number of a retrieval is one that there is, a key is a publisher's, and the bytes of a record fit a frame
 abbrev pub TaskFits : Task → Type 0
 TaskFits (Get port seed number least scheme index) = (number < 2 ^ 62) × IsDimension least
-TaskFits (Put port key index bytes) = IsKey key × (1 ≤ length bytes.items) × (length bytes.items ≤ 65535)
+TaskFits (Put port key index bytes) = IsKey key × (length bytes.items ≤ 65535)
+TaskFits (Append port key bytes) = IsKey key × (length bytes.items ≤ 65535)
 TaskFits (Publish port key) = IsKey key
 TaskFits Rehearse = Unit {0}
 
@@ -32,9 +33,9 @@ abbrev pub IsNumberIfGiven : Found → List ℕ → Option ℕ → Type 0
 IsNumberIfGiven found name n =
     MatchOption (first_value found name) (n ≡ None) (λ text. IsNumeral 10 text × (n ≡ Some (digits_value 10 text)))
 
--- what was given for a name are these bytes in hex
+-- what was given for a name are these bytes in hex, or the dash for none
 abbrev pub AreBytesGiven : Found → List ℕ → List ℕ → Type 0
-AreBytesGiven found name bytes = MatchOption (first_value found name) ⊥ (λ text. decode_of text ≡ Ok bytes)
+AreBytesGiven found name bytes = MatchOption (first_value found name) ⊥ (λ text. bytes_in text ≡ Some bytes)
 
 -- what was given for a name is this secret
 abbrev pub IsSecretGiven : Found → List ℕ → Secret → Type 0
@@ -52,6 +53,7 @@ ReadsGet found (Get port seed number least scheme index) =
     × IsNumberIfGiven found (codes "least-dimension") least × (first_value found (codes "scheme") ≡ Some (scheme_text scheme))
     × IsNumberGiven found (codes "INDEX") index
 ReadsGet found (Put port key index bytes) = ⊥
+ReadsGet found (Append port key bytes) = ⊥
 ReadsGet found (Publish port key) = ⊥
 ReadsGet found Rehearse = ⊥
 
@@ -61,12 +63,23 @@ ReadsPut found (Get port seed number least scheme index) = ⊥
 ReadsPut found (Put port key index bytes) =
     IsNumberGiven found (codes "port") port × IsSecretGiven found (codes "key") key × IsNumberGiven found (codes "INDEX") index
     × AreBytesGiven found (codes "HEX") bytes.items
+ReadsPut found (Append port key bytes) = ⊥
 ReadsPut found (Publish port key) = ⊥
 ReadsPut found Rehearse = ⊥
+
+-- the addition of a record, as the options and the word of `append` ask for it
+abbrev pub ReadsAppend : Found → Task → Type 0
+ReadsAppend found (Get port seed number least scheme index) = ⊥
+ReadsAppend found (Put port key index bytes) = ⊥
+ReadsAppend found (Append port key bytes) =
+    IsNumberGiven found (codes "port") port × IsSecretGiven found (codes "key") key × AreBytesGiven found (codes "HEX") bytes.items
+ReadsAppend found (Publish port key) = ⊥
+ReadsAppend found Rehearse = ⊥
 
 -- a publication, as those of `publish` do
 abbrev pub ReadsPublish : Found → Task → Type 0
 ReadsPublish found (Get port seed number least scheme index) = ⊥
 ReadsPublish found (Put port key index bytes) = ⊥
+ReadsPublish found (Append port key bytes) = ⊥
 ReadsPublish found (Publish port key) = IsNumberGiven found (codes "port") port × IsSecretGiven found (codes "key") key
 ReadsPublish found Rehearse = ⊥

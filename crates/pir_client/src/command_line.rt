@@ -2,7 +2,7 @@
 
 ghost use Rattle.std.specs.Prelude.{IfOk, codes};
 ghost use Rattle.clap.specs.Matches.{found_of};
-ghost use Rattle.pir_client.specs.Tasks.{TaskFits, IsDimension, IsNumberIfGiven, ReadsGet, ReadsPut, ReadsPublish};
+ghost use Rattle.pir_client.specs.Tasks.{TaskFits, IsDimension, IsNumberIfGiven, ReadsGet, ReadsPut, ReadsAppend, ReadsPublish};
 
 use clap::{ArgMatches, Command};
 use command_words::{
@@ -35,7 +35,7 @@ const SCHEME_TAKES: &str = "--scheme takes simple or double";
 
 const INDEX_TAKES: &str = "INDEX is a number from 0 to 4294967295";
 
-const HEX_TAKES: &str = "HEX is 1 to 65535 bytes as two hex digits each";
+const HEX_TAKES: &str = "HEX is at most 65535 bytes as two hex digits each, or - for none";
 
 /// What the words ask for.
 #[derive(Drop)]
@@ -54,6 +54,12 @@ pub enum Task<'a> {
         port: u16,
         key: Secret<'a>,
         index: u32,
+        bytes: Vec<u8>,
+    },
+    /// One record appended by the publisher.
+    Append {
+        port: u16,
+        key: Secret<'a>,
         bytes: Vec<u8>,
     },
     /// A publication.
@@ -95,7 +101,7 @@ fn get_command<'a>(alloc: Global) -> Result<Command<'a>, AllocError> {
 }
 
 const GET_EXAMPLE: &str =
-    "Prints 'retrieved INDEX VERSION HEX', HEX being the record's bytes. Two retrievals with one seed and one\nnumber can tell the server what they ask, so count N up, also after a get that failed, and keep the seed to yourself.\nSecrets of fewer than 1024 words hide INDEX less: the server chooses their number. --least-dimension 1024 ends a get\nwith 'fault: BadWelcome' where they are fewer, before INDEX is asked for; without it a warning is printed.\n\nExample: pir_client get --port 7000 --seed 1111111111111111111111111111111111111111111111111111111111111111 --number 0 --scheme simple 1";
+    "Prints 'retrieved INDEX VERSION HEX', HEX being the record's bytes, or - where it has none. Two retrievals with one seed and one\nnumber can tell the server what they ask, so count N up, also after a get that failed, and keep the seed to yourself.\nSecrets of fewer than 1024 words hide INDEX less: the server chooses their number. --least-dimension 1024 ends a get\nwith 'fault: BadWelcome' where they are fewer, before INDEX is asked for; without it a warning is printed.\n\nExample: pir_client get --port 7000 --seed 1111111111111111111111111111111111111111111111111111111111111111 --number 0 --scheme simple 1";
 
 // The command `put`.
 fn put_command<'a>(alloc: Global) -> Result<Command<'a>, AllocError> {
@@ -110,11 +116,37 @@ fn put_command<'a>(alloc: Global) -> Result<Command<'a>, AllocError> {
             "The publisher's key: 32 bytes as 64 hex digits, or @FILE, as given to pir_server make",
         ))?
         .arg(word(alloc, "INDEX", "Which record, counted from 0"))?
-        .arg(word(alloc, "HEX", "The record's new bytes, two hex digits each"))
+        .arg(word(
+            alloc,
+            "HEX",
+            "The record's new bytes, two hex digits each, or - for a record of none",
+        ))
 }
 
 const PUT_EXAMPLE: &str =
     "Prints 'done VERSION', VERSION being the current one.\n\nExample: pir_client put --port 7000 --key 0101010101010101010101010101010101010101010101010101010101010101 1 64";
+
+// The command `append`.
+fn append_command<'a>(alloc: Global) -> Result<Command<'a>, AllocError> {
+    Command::new(alloc, "append")
+        .about("Appends a record to the publisher's draft, which no reader sees before publish")
+        .after_help(APPEND_EXAMPLE)
+        .arg(option(alloc, "port", "P", "The server's port on 127.0.0.1"))?
+        .arg(option(
+            alloc,
+            "key",
+            "HEX",
+            "The publisher's key: 32 bytes as 64 hex digits, or @FILE, as given to pir_server make",
+        ))?
+        .arg(word(
+            alloc,
+            "HEX",
+            "The record's bytes, two hex digits each, or - for a record of none",
+        ))
+}
+
+const APPEND_EXAMPLE: &str =
+    "Prints 'done VERSION', VERSION being the current one.\n\nExample: pir_client append --port 7000 --key 0101010101010101010101010101010101010101010101010101010101010101 05";
 
 // The command `publish`.
 fn publish_command<'a>(alloc: Global) -> Result<Command<'a>, AllocError> {
@@ -153,6 +185,7 @@ fn whole_command<'a>(alloc: Global) -> Result<Command<'a>, AllocError> {
         .after_help(EXIT_STATUSES)
         .subcommand(get_command(alloc)?)?
         .subcommand(put_command(alloc)?)?
+        .subcommand(append_command(alloc)?)?
         .subcommand(publish_command(alloc)?)?
         .subcommand(rehearse_command(alloc))
 }
@@ -161,7 +194,7 @@ fn whole_command<'a>(alloc: Global) -> Result<Command<'a>, AllocError> {
 const VERSION: &str = "0.1.0";
 
 const EXIT_STATUSES: &str =
-    "A value @FILE of --seed or --key is read from that file; one on the command line itself stands in the list of\nprocesses, for other users of this machine to see.\n\nExit status: 0 done, 1 refused by the server (or stale, or unreadable), 2 a bad command line, 3 a fault,\n4 out of memory. Whatever the status, a number that was given to get is never to be used again with its seed.\n\nThe server's refusals are one line on standard error, 'refused CODE':\n  1 BadFrame   2 NotWelcome   3 BadProfile   4 BadKey   5 NotPublisher   6 BadIndex   7 BadLength\n  8 NothingToPublish   9 VersionsUsedUp   10 BadPart   11 BadQueryLength   12 Memory   13 BadScheme\n\nA fault is one line on standard error, 'fault: NAME':\n  File           the file of a seed or key can't be read\n  Connect        the server's port can't be connected to\n  Read, Write    reading or writing failed\n  Ended          the server closed the connection\n  BadWelcome     the server's greeting is none that this client accepts\n  BadReply       a reply that doesn't fit what was asked\n  Failed         a reply came with more after it, and then a call was made\n  BadIndex       there is no such record\n  TurnsUsedUp    more reads than a call has\n  Memory         memory was refused (status 4)";
+    "A value @FILE of --seed or --key is read from that file; one on the command line itself stands in the list of\nprocesses, for other users of this machine to see.\n\nExit status: 0 done, 1 refused by the server (or stale, or unreadable), 2 a bad command line, 3 a fault,\n4 out of memory. Whatever the status, a number that was given to get is never to be used again with its seed.\n\nThe server's refusals are one line on standard error, 'refused CODE':\n  1 BadFrame   2 NotWelcome   3 BadProfile   4 BadKey   5 NotPublisher   6 BadIndex   7 BadLength\n  8 NothingToPublish   9 VersionsUsedUp   10 BadPart   11 BadQueryLength   12 Memory   13 BadScheme\n  14 Full\n\nA fault is one line on standard error, 'fault: NAME':\n  File           the file of a seed or key can't be read\n  Connect        the server's port can't be connected to\n  Read, Write    reading or writing failed\n  Ended          the server closed the connection\n  BadWelcome     the server's greeting is none that this client accepts\n  BadReply       a reply that doesn't fit what was asked\n  Failed         a reply came with more after it, and then a call was made\n  BadIndex       there is no such record\n  TurnsUsedUp    more reads than a call has\n  Memory         memory was refused (status 4)";
 
 // What the words of `get` ask for.
 fn get_task<'a>(found: &ArgMatches<'a>) -> Result<Task<'a>, BadLine<'a>>
@@ -222,6 +255,19 @@ fn put_task<'a>(alloc: Global, found: &ArgMatches<'a>) -> Result<Task<'a>, BadLi
     }
 }
 
+// What the words of `append` ask for.
+fn append_task<'a>(alloc: Global, found: &ArgMatches<'a>) -> Result<Task<'a>, BadLine<'a>>
+    ensures fits { IfOk result TaskFits }
+    ensures read { IfOk result (ReadsAppend (found_of found.now)) }
+{
+    let port = number_at(found, "port", u64::from(u16::MAX), PORT_TAKES)? as u16;
+    let key = key_at(found, "key", KEY_TAKES)?;
+    match record_bytes(alloc, text_at(found, "HEX", HEX_TAKES)?)? {
+        Some(bytes) => Ok(Task::Append { port, key, bytes }),
+        None => Err(BadLine::Value(HEX_TAKES)),
+    }
+}
+
 // What the words of `publish` ask for.
 fn publish_task<'a>(found: &ArgMatches<'a>) -> Result<Task<'a>, BadLine<'a>>
     ensures fits { IfOk result TaskFits }
@@ -242,6 +288,9 @@ pub fn task_of<'a>(alloc: Global, words: &'a [String]) -> Result<Task<'a>, BadLi
     }
     if let Some(found) = matches.subcommand_matches("put") {
         return put_task(alloc, found);
+    }
+    if let Some(found) = matches.subcommand_matches("append") {
+        return append_task(alloc, found);
     }
     match matches.subcommand_matches("publish") {
         Some(found) => publish_task(found),

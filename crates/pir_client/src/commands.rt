@@ -5,7 +5,7 @@ ghost use Rattle.pir_client.specs.Tasks.{TaskFits, IsDimension};
 
 use crate::command_line::{KEY_TAKES, SEED_TAKES, Task, task_of};
 use crate::failures::failure_of;
-use client_commands::{get, publish, put};
+use client_commands::{append, get, publish, put};
 use command_words::{Failure, program_words};
 use rehearsal::{RehearseFault, rehearse, shown_bytes};
 use session_core::{ClientCore, Lanes, Scheme};
@@ -55,6 +55,10 @@ fn done(rt: &HostRuntime, task: Task<'_>) -> Result<u8, Failure>
         } => {
             let key = key.key(rt, KEY_TAKES)?;
             put_record(rt, port, key, index, &bytes)?
+        }
+        Task::Append { port, key, bytes } => {
+            let key = key.key(rt, KEY_TAKES)?;
+            append_record(rt, port, key, &bytes)?
         }
         Task::Publish { port, key } => {
             let key = key.key(rt, KEY_TAKES)?;
@@ -160,6 +164,24 @@ fn put_record(
         &mut &stream,
         key,
         index,
+        bytes,
+    )
+    .map_err(failure_of)?;
+    printed(println!(rt; "done {version}"))
+}
+
+// Appends a record to the draft, and prints the current version.
+fn append_record(rt: &HostRuntime, port: u16, key: [u8; 32], bytes: &[u8]) -> Result<(), Failure>
+    requires { length bytes.now ≤ 65535 }
+{
+    let stream = connect(rt, port)?;
+    let mut client = publisher(rt);
+    let version = append(
+        rt.alloc(),
+        &mut client,
+        &mut &stream,
+        &mut &stream,
+        key,
         bytes,
     )
     .map_err(failure_of)?;

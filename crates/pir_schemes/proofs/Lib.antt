@@ -3,3 +3,4 @@ pub mod Quiet
 pub mod Sizes
 pub mod Places
 pub mod SlotLists
+pub mod Layouts

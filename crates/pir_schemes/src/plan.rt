@@ -1,7 +1,7 @@
 //! What stays the same in every version of some records, and what a client keeps to itself.
 
 ghost use Rattle.std.specs.Prelude.{◌≡◌, ℕ, List, IfOk, IfErr};
-ghost use Rattle.digit_pack.specs.Layout.{IsLayout, IsLayoutFault};
+ghost use Rattle.digit_pack.specs.Layout.{IsLayout, IsLayoutFault, is_layout};
 ghost use Rattle.pir_schemes.specs.Plans.{accepts_profile, shape_at};
 
 use crate::scheme::CLIENT_PROFILE;
@@ -47,6 +47,14 @@ impl Plan {
             usize::from(self.groups),
             count,
         )
+    }
+
+    /// Whether there is a layout of `count` records: whether all sizes are within the limits.
+    #[tactic(auto, using(crate::proofs::Layouts::layout_accepted, crate::proofs::Layouts::layout_refused))]
+    pub fn has_layout(&self, count: usize) -> bool
+        ensures { result ≡ is_layout (shape_at self.now count) }
+    {
+        self.layout(count).is_ok()
     }
 }
 

@@ -8,6 +8,8 @@ const OUT_TAKES: &str = "--out takes a file's name";
 
 const FILE_TAKES: &str = "--file takes a file's name";
 
+const FORM_TAKES: &str = "--form takes 1 or 2";
+
 const WIDTH_TAKES: &str = "--width takes a number from 0 to 255";
 
 const RECORD_TAKES: &str = "--record takes a number from 0 to 65535";
@@ -31,9 +33,11 @@ const CONNECTIONS_TAKES: &str = "--connections takes a number from 0 to 42949672
 pub struct Making<'a> {
     /// The file that is written.
     pub out: &'a str,
+    /// 1 for records of one length, 2 for records of their own lengths in slots.
+    pub form: u8,
     /// How many bits a digit has.
     pub width: u8,
-    /// How many bytes a record has.
+    /// How many bytes a record has, or its slot.
     pub record_len: u16,
     /// How many records stand in a column of the digit matrix.
     pub groups: u16,
@@ -81,9 +85,16 @@ pub enum Task<'a> {
 // The command `make`.
 fn make_command<'a>(alloc: Global) -> Result<Command<'a>, AllocError> {
     Command::new(alloc, "make")
-        .about("Makes a snapshot file, at version 1, of the record bytes on standard input")
+        .about("Makes a snapshot file, at version 1, of the records on standard input")
         .after_help(MAKE_EXAMPLE)
         .arg(option(alloc, "out", "FILE", "The snapshot file to write"))?
+        .arg(option(
+            alloc,
+            "form",
+            "F",
+            "1 (also if not given): records of R bytes, one after the other; 2: of up to R - 2 bytes, a line of hex each, or -",
+        )
+        .required(false))?
         .arg(option(
             alloc,
             "width",
@@ -94,7 +105,7 @@ fn make_command<'a>(alloc: Global) -> Result<Command<'a>, AllocError> {
             alloc,
             "record",
             "R",
-            "How many bytes a record has, 1 to 256",
+            "How many bytes a record has, 1 to 256; in form 2 those of its slot, 2 to 256, of which two hold its length",
         ))?
         .arg(option(
             alloc,
@@ -117,7 +128,7 @@ fn make_command<'a>(alloc: Global) -> Result<Command<'a>, AllocError> {
 }
 
 const MAKE_EXAMPLE: &str =
-    "Prints 'made COUNT 1', COUNT being how many records there are. Secrets will have 1024 words.\n\nExample, two records of one byte:\n  printf '\\012\\310' | pir_server make --out two.pir --width 8 --record 1 --groups 1 \\\n    --seed 0000000000000000000000000000000000000000000000000000000000000000 \\\n    --key 0101010101010101010101010101010101010101010101010101010101010101";
+    "Prints 'made COUNT 1', COUNT being how many records there are. Secrets will have 1024 words.\n\nExample, two records of one byte:\n  printf '\\012\\310' | pir_server make --out two.pir --width 8 --record 1 --groups 1 \\\n    --seed 0000000000000000000000000000000000000000000000000000000000000000 \\\n    --key 0101010101010101010101010101010101010101010101010101010101010101\n\nExample, one record of one byte and one of none:\n  printf '0a\\n-\\n' | pir_server make --out slots.pir --form 2 --width 8 --record 3 --groups 1 \\\n    --seed 0000000000000000000000000000000000000000000000000000000000000000 \\\n    --key 0101010101010101010101010101010101010101010101010101010101010101";
 
 // The command `migrate`.
 fn migrate_command<'a>(alloc: Global) -> Result<Command<'a>, AllocError> {
@@ -152,7 +163,7 @@ fn show_command<'a>(alloc: Global) -> Result<Command<'a>, AllocError> {
 }
 
 const SHOW_EXAMPLE: &str =
-    "Prints a line each: the version; how many records there are and their length; the bits of a digit; the records in a\ncolumn; the rows and columns of digits; the words of a secret; for each scheme the bytes of the words of a hint, a query\nand an answer; and for each scheme whether every retrieval is certain to give its record, or depends on the noise drawn.\n\nExample: pir_server show --file two.pir";
+    "Prints a line each: the version; the form; how many records there are and their length, in form 2 the most that one may\nhave and the longest that one has; the bits of a digit; the records in a\ncolumn; the rows and columns of digits; the words of a secret; for each scheme the bytes of the words of a hint, a query\nand an answer; and for each scheme whether every retrieval is certain to give its record, or depends on the noise drawn.\n\nExample: pir_server show --file two.pir";
 
 // The command `serve`.
 fn serve_command<'a>(alloc: Global) -> Result<Command<'a>, AllocError> {
@@ -210,18 +221,30 @@ fn whole_command<'a>(alloc: Global) -> Result<Command<'a>, AllocError> {
 const VERSION: &str = "0.1.0";
 
 const EXIT_STATUSES: &str =
-    "Without a command: once.\n\nA value @FILE of --seed or --key is read from that file; one on the command line itself stands in the list of\nprocesses, for other users of this machine to see.\n\nExit status: 0 done, 2 a bad command line, 3 a fault, 4 out of memory.\n\nA fault is one line on standard error, 'fault: NAME':\n  File           a file can't be opened or made\n  Read, Write    reading or writing failed\n  BadRecords     the input of make is not whole records, or too many bytes\n  BadLayout      no store has these sizes\n  NotSnapshot, Short, BadDigest, TrailingBytes, BadSlot   a file that is no whole snapshot\n  NotFormOne     the records that migrate is to move stand in slots already\n  TooWide        no store has records of two bytes more\n  Connect        the port can't be listened on\n  BadInput       the input of once can't be served; its last reply is Refused 1\n  TurnsUsedUp    more reads than a session has\n  Memory         memory was refused (status 4)";
+    "Without a command: once.\n\nA value @FILE of --seed or --key is read from that file; one on the command line itself stands in the list of\nprocesses, for other users of this machine to see.\n\nExit status: 0 done, 2 a bad command line, 3 a fault, 4 out of memory.\n\nA fault is one line on standard error, 'fault: NAME':\n  File           a file can't be opened or made\n  Read, Write    reading or writing failed\n  BadRecords     the input of make is not whole records, or lines that are none, or too many bytes\n  BadLayout      no store has these sizes\n  NotSnapshot, Short, BadDigest, TrailingBytes, BadSlot   a file that is no whole snapshot\n  NotFormOne     the records that migrate is to move stand in slots already\n  TooWide        no store has records of two bytes more\n  Connect        the port can't be listened on\n  BadInput       the input of once can't be served; its last reply is Refused 1\n  TurnsUsedUp    more reads than a session has\n  Memory         memory was refused (status 4)";
 
 // What the words of `make` ask for.
 fn making_of<'a>(found: &ArgMatches<'a>) -> Result<Making<'a>, BadLine<'a>> {
     Ok(Making {
         out: text_at(found, "out", OUT_TAKES)?,
+        form: form_of(found)?,
         width: number_at(found, "width", u64::from(u8::MAX), WIDTH_TAKES)? as u8,
         record_len: number_at(found, "record", u64::from(u16::MAX), RECORD_TAKES)? as u16,
         groups: number_at(found, "groups", u64::from(u16::MAX), GROUPS_TAKES)? as u16,
         seed: seed_at(found, "seed", SEED_TAKES)?,
         key: key_at(found, "key", KEY_TAKES)?,
     })
+}
+
+// The form of a new store: 1 where none is given.
+fn form_of<'a>(found: &ArgMatches<'a>) -> Result<u8, BadLine<'a>> {
+    let Some(text) = found.get_str("form") else {
+        return Ok(1);
+    };
+    match number_at(found, "form", 2, FORM_TAKES)? {
+        0 => Err(BadLine::Given(FORM_TAKES, text)),
+        form => Ok(form as u8),
+    }
 }
 
 // What the words of `migrate` ask for.

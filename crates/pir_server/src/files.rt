@@ -1,6 +1,7 @@
 //! Snapshot files.
 
 ghost use Rattle.std.specs.Prelude.{◌≤◌, IfOk};
+ghost use Rattle.snapshot_file.specs.Snapshots.{IsSnapshot, header_of};
 
 use command_words::Failure;
 use session_core::{
@@ -37,35 +38,14 @@ pub fn store_of(rt: &HostRuntime, name: &str) -> Result<Store<Lanes>, Failure> {
     Store::open(rt.alloc(), Lanes, snapshot).map_err(open_failure)
 }
 
-/// The fields of the snapshot in a file, but its records.
+/// The snapshot in a file.
 ///
 /// # Errors
 ///
 /// In this order: `File`, the refusals of the snapshot.
-pub fn header_of(rt: &HostRuntime, name: &str) -> Result<Header, Failure>
-    ensures { IfOk result (λ h. h.dimension ≤ 1024) }
-{
-    Ok(snapshot_of(rt, name)?.header())
-}
-
-/// The snapshot in a file, with its records moved into slots.
-///
-/// # Errors
-///
-/// In this order: `File`, the refusals of the snapshot, `NotFormOne`, `TooWide`.
-pub fn moved_of(rt: &HostRuntime, name: &str) -> Result<Snapshot, Failure> {
-    let Ok(mut file) = File::open(rt, name) else {
-        return Err(NO_FILE);
-    };
-    match read_snapshot(rt.alloc(), &mut file) {
-        Ok(snapshot) => migrate(rt.alloc(), &snapshot).map_err(migrate_failure),
-        Err(fault) => Err(snapshot_failure(fault)),
-    }
-}
-
-// The snapshot in a file.
-fn snapshot_of(rt: &HostRuntime, name: &str) -> Result<Snapshot, Failure>
-    ensures { IfOk result (λ s. s.dimension ≤ 1024) }
+pub fn snapshot_of(rt: &HostRuntime, name: &str) -> Result<Snapshot, Failure>
+    ensures sound { IfOk result (λ s. IsSnapshot (header_of s) s.records.items) }
+    ensures dimension { IfOk result (λ s. s.dimension ≤ 1024) }
 {
     let Ok(mut file) = File::open(rt, name) else {
         return Err(NO_FILE);
@@ -74,6 +54,16 @@ fn snapshot_of(rt: &HostRuntime, name: &str) -> Result<Snapshot, Failure>
         Ok(snapshot) => Ok(snapshot),
         Err(fault) => Err(snapshot_failure(fault)),
     }
+}
+
+/// The snapshot in a file, with its records moved into slots.
+///
+/// # Errors
+///
+/// In this order: `File`, the refusals of the snapshot, `NotFormOne`, `TooWide`.
+pub fn moved_of(rt: &HostRuntime, name: &str) -> Result<Snapshot, Failure> {
+    let snapshot = snapshot_of(rt, name)?;
+    migrate(rt.alloc(), &snapshot).map_err(migrate_failure)
 }
 
 /// Writes a snapshot to a file that is made, or takes the place of the file of this name: first to a file beside it, with

@@ -1,25 +1,33 @@
 //! The command `make`.
 
-ghost use Rattle.std.specs.Prelude.{◌≡◌, ◌≤◌, ◌<◌, length, IfOk};
+ghost use Rattle.std.specs.Prelude.{◌≡◌, ◌≤◌, ◌+◌, ◌*◌, length, IfOk};
 ghost use Rattle.std.specs.Io.KnownBytes.{Consumes, IsAtEnd};
 
 use crate::command_line::{KEY_TAKES, Making, SEED_TAKES};
 use crate::files::{Content, write_file};
-use command_words::Failure;
+use command_words::{Failure, bytes_from_hex};
 use connection_io::{piece_buffer, read_piece};
-use session_core::Header;
+use digit_pack::write_slot;
+use session_core::{Header, Layout};
 use sha2::{Digest, Sha256};
 use std::alloc::Global;
 use std::io::Read;
+use std::str;
 
 /// The most record bytes: as many as there are words in the largest matrix.
 const MAX_RECORD_BYTES: usize = 33_554_432;
+
+/// The most bytes of lines. Those of a record are fewer than twice those of its slot.
+const MAX_LINE_BYTES: usize = 2 * MAX_RECORD_BYTES;
 
 /// How many words a secret of a new store has.
 const DIMENSION: u16 = 1024;
 
 /// The failure of record bytes that no store takes.
 const BAD_RECORDS: Failure = Failure::Fault("BadRecords");
+
+/// The failure of sizes that no store has.
+const BAD_LAYOUT: Failure = Failure::Fault("BadLayout");
 
 // The keys of a new store.
 #[derive(Clone, Copy)]
@@ -30,52 +38,134 @@ struct Keys {
     publisher: [u8; 32],
 }
 
-/// Makes a snapshot file of version 1 of the record bytes on standard input, and answers how many records
-/// there are. No hint is made for it.
+/// Makes a snapshot file of version 1 of the records on standard input, and answers how many there are. No hint is made
+/// for it.
 ///
 /// # Errors
 ///
-/// In this order: those of the files of the seed and of the key (`File`, `Value`), those of the input (`Read`, `BadRecords` where there are more than 33,554,432 bytes), `BadLayout` where
-/// no store has this layout, `BadRecords` where these are not whole records, those of the file (`File`, `Write`). `Memory`
-/// where there was none.
+/// In this order: those of the files of the seed and of the key (`File`, `Value`), those of the input (`Read`,
+/// `BadRecords` where there are more bytes than the largest store has), `BadLayout` where no store has this layout,
+/// `BadRecords` where these are not whole records or a line is none that fits, those of the file (`File`, `Write`).
+/// `Memory` where there was none.
 pub fn make(rt: &HostRuntime, making: &Making<'_>) -> Result<u32, Failure> {
     let keys = Keys {
         seed: making.seed.seed(rt, SEED_TAKES)?,
         publisher: making.key.key(rt, KEY_TAKES)?,
     };
-    let records = read_records(rt.alloc(), &mut rt.reader())?;
-    let header = header_of(making, &keys, records.len());
+    if making.form == 2 {
+        make_of_lines(rt, making, &keys)
+    } else {
+        make_of_bytes(rt, making, &keys)
+    }
+}
+
+// Makes a store of form 1. The input is the bytes of its records.
+fn make_of_bytes(rt: &HostRuntime, making: &Making<'_>, keys: &Keys) -> Result<u32, Failure> {
+    let records = read_input(rt.alloc(), &mut rt.reader(), MAX_RECORD_BYTES)?;
+    let header = header_of(making, keys, whole_records(making, records.len()));
     if !header.is_accepted() {
-        return Err(Failure::Fault("BadLayout"));
+        return Err(BAD_LAYOUT);
     }
     if records.len() != header.records_len() {
         return Err(BAD_RECORDS);
     }
-    let content = Content::Records {
-        header: &header,
-        bytes: &records,
-    };
-    write_file(rt, making.out, &content)?;
+    write_made(rt, making, &header, &records)
+}
+
+// Makes a store of form 2. The input has a line for each record.
+fn make_of_lines(rt: &HostRuntime, making: &Making<'_>, keys: &Keys) -> Result<u32, Failure> {
+    let input = read_input(rt.alloc(), &mut rt.reader(), MAX_LINE_BYTES)?;
+    let header = header_of(making, keys, lines_in(&input));
+    if !header.is_accepted() {
+        return Err(BAD_LAYOUT);
+    }
+    let records = slots_of(rt.alloc(), &header, &input)?;
+    write_made(rt, making, &header, &records)
+}
+
+// Writes the file, and answers how many records it has.
+fn write_made(
+    rt: &HostRuntime,
+    making: &Making<'_>,
+    header: &Header,
+    bytes: &[u8],
+) -> Result<u32, Failure> {
+    write_file(rt, making.out, &Content::Records { header, bytes })?;
     Ok(header.count)
 }
 
-// All bytes of a reader, where they are not too many.
-fn read_records<R: Read>(alloc: Global, reader: &mut R) -> Result<Vec<u8>, Failure>
+// The slots of the records in some lines, of which there is one for each record.
+fn slots_of(alloc: Global, header: &Header, lines: &[u8]) -> Result<Vec<u8>, Failure> {
+    let Ok(layout) = header.layout() else {
+        return Err(BAD_LAYOUT);
+    };
+    let Ok(text) = str::from_utf8(lines) else {
+        return Err(BAD_RECORDS);
+    };
+    let mut slots = vec![in alloc; 0; header.records_len()]?;
+    fill_slots(alloc, &layout, &mut slots, text)?;
+    Ok(slots)
+}
+
+// Fills a slot for each record, from its line.
+fn fill_slots(alloc: Global, layout: &Layout, slots: &mut [u8], text: &str) -> Result<(), Failure>
+    requires { length slots.old ≡ layout.now.count * layout.now.record_len }
+{
+    let mut lines = text.split('\n');
+    for i in 0..layout.count() {
+        let Some(line) = lines.next() else {
+            return Err(BAD_RECORDS);
+        };
+        match bytes_from_hex(alloc, line)? {
+            Some(bytes) if bytes.len() + 2 <= layout.record_len() => {
+                write_slot(layout, slots, i, &bytes);
+            }
+            _ => return Err(BAD_RECORDS),
+        }
+    }
+    Ok(())
+}
+
+// How many lines there are. The last one may lack its line feed.
+fn lines_in(text: &[u8]) -> usize
+    ensures { result ≤ length text.now + 1 }
+{
+    let ends = text.iter().filter(|byte| **byte == b'\n').count();
+    match text.last() {
+        Some(b'\n') => ends,
+        Some(_) => ends + 1,
+        None => 0,
+    }
+}
+
+// How many whole records so many bytes are. Records of no bytes are none.
+fn whole_records(making: &Making<'_>, bytes: usize) -> usize
+    ensures { result ≤ bytes }
+{
+    match usize::from(making.record_len) {
+        0 => 0,
+        record_len => bytes / record_len,
+    }
+}
+
+// All bytes of a reader, where they are at most so many.
+fn read_input<R: Read>(alloc: Global, reader: &mut R, most: usize) -> Result<Vec<u8>, Failure>
+    requires { most ≤ 67108864 }
     ensures all { IfOk result (λ bytes. Consumes (R.remaining reader.old)
         (R.remaining reader.new) bytes.items × IsAtEnd (R.remaining reader.new)) }
-    ensures few { IfOk result (λ bytes. length bytes.items ≤ 33554432) }
+    ensures few { IfOk result (λ bytes. length bytes.items ≤ most) }
 {
     let mut buffer = piece_buffer(alloc)?;
     let mut bytes = Vec::new(alloc);
     // Each read but the last gives a byte at least.
-    'pieces: for _ in 0..=MAX_RECORD_BYTES {
+    'pieces: for _ in 0..=most {
         let Ok(n) = read_piece(reader, &mut buffer) else {
             return Err(Failure::Fault("Read"));
         };
         if n == 0 {
             return Ok(bytes);
         }
-        if n > MAX_RECORD_BYTES - bytes.len() {
+        if n > most - bytes.len() {
             return Err(BAD_RECORDS);
         }
         bytes.extend_from_slice(&buffer[..n])?;
@@ -83,20 +173,13 @@ fn read_records<R: Read>(alloc: Global, reader: &mut R) -> Result<Vec<u8>, Failu
     Err(BAD_RECORDS)
 }
 
-// The header of version 1 of so many record bytes. Records of no bytes are none.
-fn header_of(making: &Making<'_>, keys: &Keys, bytes: usize) -> Header
-    requires { bytes ≤ 33554432 }
-    ensures count { result.count ≤ 33554432 }
-    ensures length { result.record_len ≡ making.now.record_len }
+// The header of version 1 of so many records.
+fn header_of(making: &Making<'_>, keys: &Keys, count: usize) -> Header
+    requires { count ≤ 67108865 }
+    ensures { result.count ≡ count }
 {
-    let record_len = usize::from(making.record_len);
-    let count = if record_len == 0 {
-        0
-    } else {
-        bytes / record_len
-    };
     Header {
-        form: 1,
+        form: making.form,
         width: making.width,
         record_len: making.record_len,
         groups: making.groups,

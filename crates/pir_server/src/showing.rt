@@ -2,9 +2,10 @@
 
 ghost use Rattle.std.specs.Prelude.{◌≤◌};
 
-use crate::files::header_of;
+use crate::files::snapshot_of;
 use command_words::Failure;
-use session_core::{Header, Layout, Scheme, answer_count, hint_len, is_certain, query_count};
+use digit_pack::read_slot;
+use session_core::{Layout, Scheme, Snapshot, answer_count, hint_len, is_certain, query_count};
 use std::alloc::{AllocError, Global};
 
 /// How many bytes a word has.
@@ -16,30 +17,36 @@ const WORD_BYTES: u128 = 4;
 ///
 /// In this order: those of the file and the snapshot, `Write`. `Memory` where there was none.
 pub fn show(rt: &HostRuntime, name: &str) -> Result<(), Failure> {
-    let header = header_of(rt, name)?;
-    let text = description_of(rt.alloc(), &header)?;
+    let snapshot = snapshot_of(rt, name)?;
+    let text = description_of(rt.alloc(), &snapshot)?;
     match print!(rt; "{text}") {
         Ok(()) => Ok(()),
         Err(_) => Err(Failure::Fault("Write")),
     }
 }
 
-// The lines of a snapshot with these fields.
-fn description_of(alloc: Global, header: &Header) -> Result<String, Failure>
-    requires { header.now.dimension ≤ 1024 }
+// The lines of a snapshot.
+fn description_of(alloc: Global, snapshot: &Snapshot) -> Result<String, Failure>
+    requires { snapshot.now.dimension ≤ 1024 }
 {
-    let Ok(layout) = header.layout() else {
+    let Ok(layout) = snapshot.header().layout() else {
         return Err(Failure::Fault("BadLayout"));
     };
-    Ok(description(alloc, header, &layout)?)
+    Ok(description(alloc, snapshot, &layout)?)
 }
 
 // All the lines.
-fn description(alloc: Global, header: &Header, layout: &Layout) -> Result<String, AllocError>
-    requires { header.now.dimension ≤ 1024 }
+fn description(alloc: Global, snapshot: &Snapshot, layout: &Layout) -> Result<String, AllocError>
+    requires { snapshot.now.dimension ≤ 1024 }
 {
-    let n = usize::from(header.dimension);
-    let mut text = sizes(alloc, header.version, layout, n)?;
+    let n = usize::from(snapshot.dimension);
+    let version = snapshot.version;
+    let form = snapshot.form;
+    let mut text = format!(in alloc; "version {version}\nform {form}\n")?;
+    let records = records_line(alloc, snapshot, layout)?;
+    text.push_str(&records)?;
+    let sizes = sizes(alloc, layout, n)?;
+    text.push_str(&sizes)?;
     let simple = words_of(alloc, Scheme::Simple, layout, n)?;
     text.push_str(&simple)?;
     let double = words_of(alloc, Scheme::Double, layout, n)?;
@@ -49,16 +56,37 @@ fn description(alloc: Global, header: &Header, layout: &Layout) -> Result<String
     Ok(text)
 }
 
-// The version, the sizes of the records, of their digits and of a secret.
-fn sizes(alloc: Global, version: u64, layout: &Layout, n: usize) -> Result<String, AllocError> {
+// How many records there are, and their length: in form 2 the most that a slot has room for, and that of the longest one.
+fn records_line(alloc: Global, snapshot: &Snapshot, layout: &Layout) -> Result<String, AllocError> {
     let count = layout.count();
     let len = layout.record_len();
+    if snapshot.form != 2 {
+        return format!(in alloc; "records {count} of {len} bytes\n");
+    }
+    let most = len.saturating_sub(2);
+    let longest = longest_of(layout, &snapshot.records);
+    format!(in alloc; "records {count} of at most {most} bytes, the longest of {longest}\n")
+}
+
+// How many bytes the longest record has, of those in some slots.
+fn longest_of(layout: &Layout, slots: &[u8]) -> usize {
+    let mut longest = 0;
+    for slot in slots.chunks_exact(layout.record_len()) {
+        if let Ok(len) = read_slot(slot) {
+            longest = longest.max(len);
+        }
+    }
+    longest
+}
+
+// The sizes of the digits and of a secret.
+fn sizes(alloc: Global, layout: &Layout, n: usize) -> Result<String, AllocError> {
     let width = layout.width();
     let groups = layout.groups();
     let rows = layout.rows();
     let cols = layout.cols();
     format!(in alloc;
-        "version {version}\nrecords {count} of {len} bytes\nwidth {width}\ngroups {groups}\ndigits {rows} rows {cols} columns\ndimension {n}\n"
+        "width {width}\ngroups {groups}\ndigits {rows} rows {cols} columns\ndimension {n}\n"
     )
 }
 

@@ -16,7 +16,7 @@ use Rattle.client_core.specs.declared.state.ClientState.{ClientState}
 use Rattle.client_core.specs.declared.state.ServerInfo.{ServerInfo}
 use Rattle.client_core.specs.declared.state.Hint.{Hint}
 use Rattle.client_core.specs.declared.state.Call.{Call}
-use Rattle.client_core.specs.declared.state.Call.TheVariants.{Idle, Hello, Sync, Delta, Ask, Edit, Publish}
+use Rattle.client_core.specs.declared.state.Call.TheVariants.{Idle, Hello, Sync, Delta, Ask, Edit, Append, Publish}
 use Rattle.client_core.specs.States.{is_idle, is_ready, known_version, known_count, scheme_held, simple_version, delta_base}
 use Rattle.client_core.specs.Calls.{refusal, sync_begun, state_after_call, call_frame}
 use Rattle.client_core.specs.Calls.{Hello as want_hello, Sync as want_sync, Ask as want_ask}
@@ -39,6 +39,7 @@ idle_is (Sync scheme v p) e = absurd cc
 idle_is (Delta since) e = absurd cc
 idle_is (Ask i s v n) e = absurd cc
 idle_is (Edit i bytes) e = absurd cc
+idle_is (Append bytes) e = absurd cc
 idle_is Publish e = absurd cc
 
 -- a hint of the version known is held
@@ -278,6 +279,7 @@ module _ (law : RetrievalGivesTheRecord) (x : Setting) (seeds : List (List ℕ))
   reported_phase most (Delta since) e p = reported_flight most (Delta since) e p
   reported_phase most (Ask j z v m) e p = reported_flight most (Ask j z v m) e p
   reported_phase most (Edit j bytes) e p = absurd p
+  reported_phase most (Append bytes) e p = absurd p
   reported_phase most Publish e p = absurd p
 
   pub reported_inv : (most : ℕ) → ReportedLink x seeds h k (link_reported most l) (reported_by k l.client (arrived l.down most))
@@ -301,6 +303,7 @@ module _ (law : RetrievalGivesTheRecord) (x : Setting) (seeds : List (List ℕ))
   prefix_phase (Delta since) fs more e a p = prefix_flight (Delta since) fs more e a p
   prefix_phase (Ask j z v m) fs more e a p = prefix_flight (Ask j z v m) fs more e a p
   prefix_phase (Edit j bytes) fs more e a p = absurd p
+  prefix_phase (Append bytes) fs more e a p = absurd p
   prefix_phase Publish fs more e a p = absurd p
 
   pub prefix_good : (fs more : List Frame) → Split l.down.frames fs more → (takes_all l.client fs).fault ≡ None
@@ -330,6 +333,7 @@ few_frames x h st seed c (Sync scheme v q) up down p = few_flight x h st seed c 
 few_frames x h st seed c (Delta since) up down p = few_flight x h st seed c (Delta since) up down p
 few_frames x h st seed c (Ask j z v m) up down p = few_flight x h st seed c (Ask j z v m) up down p
 few_frames x h st seed c (Edit j bytes) up down p = absurd p
+few_frames x h st seed c (Append bytes) up down p = absurd p
 few_frames x h st seed c Publish up down p = absurd p
 
 pub served_inv : (short : Bool) (most : ℕ) (x : Setting) (seeds : List (List ℕ)) (k : ℕ) (h : History) (seed : List ℕ) (l : Link) → GoodHistory x h → LinkInvariant x h seed l

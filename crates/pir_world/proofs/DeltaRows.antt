@@ -13,7 +13,8 @@ use Rattle.pir_schemes.specs.Retrievals.{hint_matrix}
 use Rattle.version_store.specs.Histories.{History, delta_rows}
 use Rattle.version_store.proofs.LoggedRows.{union_below}
 use Rattle.version_store.proofs.RowUnions.{is_in, in_range, in_filter}
-use Rattle.version_store.proofs.NamedRows.{joined, NamesRows, rows_named, same_hint_row}
+use Rattle.version_store.proofs.BroughtForward.{joined}
+use Rattle.version_store.proofs.NamedRows.{NamesRows, rows_named}
 use Rattle.client_core.specs.Replies.{are_ascending}
 use Rattle.pir_world.specs.Versions.{HasVersion}
 use Rattle.pir_world.proofs.Later.{records_at}
@@ -50,19 +51,19 @@ union_has n lists r lt within =
     Contains-from_any eqb-true r (union_below n lists)
     (in_filter (λ r. is_in (joined lists) r) (range_with_len 0 n) r ∙ ap (λ (b : Bool). b && is_in (range_with_len 0 n) r) within ∙ inside)
 
-covers : (p : Plan) (h : History) (before : List (List ℕ)) (rows : List ℕ) → length before ≡ length h.current → NamesRows p h before rows →
+covers : (p : Plan) (h : History) (before : List (List ℕ)) (rows : List ℕ) → NamesRows p h before rows →
     CoversChanges p before h.current rows
-covers p h before rows even n =
+covers p h before rows n =
     rw n.rows_are (record {
       ascending = picked_below (λ r. is_in (joined n.lists) r) (digit_rows (shape_at p (length h.current)));
       named = λ r lt. elim (cases_Bool (is_in (joined n.lists) r)) [
         | inl within ↦ inl (union_has (digit_rows (shape_at p (length h.current))) n.lists r lt within)
-        | inr out ↦ inr (same_hint_row p before h.current r even lt (n.same r lt out))
+        | inr out ↦ inr (n.same r lt out)
       ];
     })
 
 -- the rows that a history names since a version
 pub rows_cover : (p : Plan) (h : History) (since : ℕ) (before : List (List ℕ)) (rows : List ℕ) → HasVersion h since before →
-    length before ≡ length h.current → delta_rows p h since ≡ Some rows → CoversChanges p before h.current rows
-rows_cover p h since before rows v even e =
-    covers p h before rows even (rows_named p h since before rows (sym (records_at h since v.0) ∙ v.1) e)
+    delta_rows p h since ≡ Some rows → CoversChanges p before h.current rows
+rows_cover p h since before rows v e =
+    covers p h before rows (rows_named p h since before rows (sym (records_at h since v.0) ∙ v.1) e)

@@ -3,7 +3,7 @@ use Rattle.std.proofs.Common.{◌≡◌, ℕ, ◌+◌, ◌≤◌, ◌^◌, Bool,
 use Rattle.std.specs.Prelude.{nat_lt, ◌==◌, slice_get, is_some}
 use Rattle.std.specs.List.{AllByRecursion}
 use Rattle.std.proofs.lemmas.Bool.{cond_both}
-use Rattle.pir_schemes.specs.Plans.{fits}
+use Rattle.pir_schemes.specs.Plans.{fits, shape_at}
 use Rattle.pir_schemes.specs.Laws.{RetrievalGivesTheRecord}
 use Rattle.frame_codec.specs.declared.frame.Frame.{Frame}
 use Rattle.version_store.specs.Histories.{History, current_version}
@@ -22,9 +22,9 @@ use Rattle.client_core.specs.Calls.{Hello as want_hello, Sync as want_sync, Ask 
 use Rattle.client_core.specs.Feeding.{fault_of}
 use Rattle.client_core.specs.Replies.{event_read, reaction_to_reply}
 use Rattle.pir_world.specs.declared.steps.Step.{Step}
-use Rattle.pir_world.specs.declared.steps.Step.TheVariants.{Edit, Publish, Hello, Sync, Ask, ToServer, ToClient}
+use Rattle.pir_world.specs.declared.steps.Step.TheVariants.{Edit, Append, Publish, Hello, Sync, Ask, ToServer, ToClient}
 use Rattle.pir_world.specs.declared.steps.Outcome.TheVariants.{Published, Reported}
-use Rattle.pir_world.specs.Runs.{State, Link, Turn, Entry, Called, Sent, Served, Ended, Plain, serves, turn_of, arrived, beyond, reports, reacts, reported_by, state_after, call_at, called_at, served_at, reported_at, edit_after, publish_after, Steps, Run, reader_key, opening, setting_in}
+use Rattle.pir_world.specs.Runs.{State, Link, Turn, Entry, Called, Sent, Served, Ended, Plain, serves, turn_of, arrived, beyond, reports, reacts, reported_by, state_after, call_at, called_at, served_at, reported_at, edit_after, publish_after, Steps, Run, reader_key, opening, setting_in, append_after}
 use Rattle.pir_world.specs.Versions.{seed_of}
 use Rattle.pir_world.specs.Headlines.{IsRight, IsRightEvent}
 use Rattle.pir_world.specs.Invariants.{LinkInvariant, EachAfter, WorldInvariant}
@@ -35,6 +35,7 @@ use Rattle.pir_world.proofs.Deliveries.{few_of_split}
 use Rattle.pir_world.proofs.Logs.{each_more, all_with_earlier}
 use Rattle.pir_world.proofs.Keeping.{step_inv, run_inv}
 use Rattle.pir_world.proofs.Opening.{opening_inv}
+use Rattle.digit_pack.specs.Layout.{is_layout}
 
 record_up_to : (i v n : ℕ) (given : Option (List ℕ)) → v ≤ n → NamesUpTo n (event_read i v given)
 record_up_to i v n (Some bytes) le = le
@@ -103,6 +104,7 @@ reports_served k (call.Sync scheme v p) reply e before = tt
 reports_served k (call.Delta since) reply e before = tt
 reports_served k (call.Ask i s v n) reply e before = tt
 reports_served k (call.Edit i bytes) reply e before = tt
+reports_served k (call.Append bytes) reply e before = tt
 reports_served k call.Publish reply e before = tt
 
 reacts_served : (k : ℕ) (c : Call) (reply : Frame) (r : Reaction) (before : List Entry) → EachAfter IsServedFresh before (reacts k c reply r)
@@ -149,6 +151,13 @@ module _ (x : Setting) (seeds : List (List ℕ)) (s : State) (inv : WorldInvaria
       (λ t. cond_both (fits x.plan bytes) _ _ (λ (t : State). EachAfter IsServedFresh [] t.log) (λ u. added _ (tt, tt)) (λ u. added _ (tt, tt)))
       (λ t. added _ (tt, tt))
 
+  appended : (bytes : List ℕ) → EachAfter IsServedFresh [] (append_after x s bytes).log
+  appended bytes =
+      cond_both (fits x.plan bytes) _ _ (λ (t : State). EachAfter IsServedFresh [] t.log)
+      (λ t. cond_both (is_layout (shape_at x.plan (length s.history.draft + 1))) _ _ (λ (t : State). EachAfter IsServedFresh [] t.log)
+      (λ u. added _ (tt, tt)) (λ u. added _ (tt, tt)))
+      (λ t. added _ (tt, tt))
+
   published_served : EachAfter IsServedFresh [] (publish_after s).log
   published_served =
       cond_both s.history.marked _ _ (λ (t : State). EachAfter IsServedFresh [] t.log)
@@ -158,6 +167,7 @@ module _ (x : Setting) (seeds : List (List ℕ)) (s : State) (inv : WorldInvaria
 
   after_served : (short : Bool) (step : Step) → EachAfter IsServedFresh [] (state_after x short s step).log
   after_served short (Edit i bytes) = edited i bytes
+  after_served short (Append bytes) = appended bytes
   after_served short Publish = published_served
   after_served short (Hello k) = called_served (want_hello reader_key) k (slice_get s.links k)
   after_served short (Sync k scheme) = called_served (want_sync scheme) k (slice_get s.links k)

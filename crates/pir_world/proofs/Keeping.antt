@@ -3,27 +3,28 @@ use Rattle.std.proofs.Common.{◌≡◌, ◌≢◌, ℕ, ◌+◌, ◌^◌, ◌<�
 use Rattle.std.specs.Prelude.{nat_lt, ◌==◌, slice_get, slice_set}
 use Rattle.std.specs.List.{AllByRecursion}
 use Rattle.std.proofs.lemmas.Bool.{cases_eq, cond_both}
-use Rattle.pir_schemes.specs.Plans.{fits}
+use Rattle.pir_schemes.specs.Plans.{fits, shape_at}
 use Rattle.pir_schemes.specs.Laws.{RetrievalGivesTheRecord}
-use Rattle.version_store.specs.Histories.{History, current_version, after_edit, published}
+use Rattle.version_store.specs.Histories.{History, current_version, after_edit, published, after_append}
 use Rattle.server_core.specs.Serving.{Setting}
 use Rattle.client_core.specs.declared.state.CallFault.{CallFault}
 use Rattle.client_core.specs.Calls.{Want, refusal, call_frame}
 use Rattle.client_core.specs.Calls.{Hello as want_hello, Sync as want_sync, Ask as want_ask}
 use Rattle.frame_codec.proofs.Runs.{all_append}
 use Rattle.pir_world.specs.declared.steps.Step.{Step}
-use Rattle.pir_world.specs.declared.steps.Step.TheVariants.{Edit, Publish, Hello, Sync, Ask, ToServer, ToClient}
+use Rattle.pir_world.specs.declared.steps.Step.TheVariants.{Edit, Append, Publish, Hello, Sync, Ask, ToServer, ToClient}
 use Rattle.pir_world.specs.declared.steps.Outcome.{Outcome}
-use Rattle.pir_world.specs.declared.steps.Outcome.TheVariants.{Edited, EditRefused, Published, PublishRefused}
-use Rattle.pir_world.specs.Runs.{State, Link, Entry, Called, Sent, Plain, state_after, called_at, served_at, reported_at, call_at, with_link, with_history, edit_after, publish_after, link_called, link_reported, link_served, turn_of, reported_by, arrived, reader_key, FitsStep, Steps, Run}
+use Rattle.pir_world.specs.declared.steps.Outcome.TheVariants.{Edited, EditRefused, Appended, AppendRefused, Published, PublishRefused}
+use Rattle.pir_world.specs.Runs.{State, Link, Entry, Called, Sent, Plain, state_after, called_at, served_at, reported_at, call_at, with_link, with_history, edit_after, append_after, publish_after, link_called, link_reported, link_served, turn_of, reported_by, arrived, reader_key, FitsStep, Steps, Run}
 use Rattle.pir_world.specs.Earlier.{IsAside, HasEarlier}
 use Rattle.pir_world.specs.Versions.{seed_of}
 use Rattle.pir_world.specs.Headlines.{IsRight, IsRightOutcome}
 use Rattle.pir_world.specs.Invariants.{GoodHistory, LinkInvariant, LogInvariant, WorldInvariant}
-use Rattle.pir_world.proofs.Later.{IsLater, later_published, same_history, newest, good_published, good_edited, link_later, entries_later, get_same, get_other}
+use Rattle.pir_world.proofs.Later.{IsLater, later_published, same_history, newest, good_published, good_edited, link_later, entries_later, get_same, get_other, good_appended}
 use Rattle.pir_world.proofs.Calls.{called_hello, called_sync, called_ask, reported_inv, served_inv}
 use Rattle.pir_world.proofs.Logs.{each_more, each_later, log_aside, log_later, served_asides, reported_aside}
 use Rattle.pir_world.proofs.Told.{Logged, logged_hello, logged_sync, logged_ask, logged_served, logged_reported}
+use Rattle.digit_pack.specs.Layout.{is_layout}
 
 module _ (x : Setting) (seeds : List (List ℕ)) (s : State) (inv : WorldInvariant x seeds s) where
   -- a client's link is replaced
@@ -108,6 +109,15 @@ module _ (x : Setting) (seeds : List (List ℕ)) (s : State) (inv : WorldInvaria
       (λ u. at_history s.history (EditRefused i _) inv.history (same_history s.history) tt (λ j. tt) tt))
       (λ t. at_history s.history (EditRefused i _) inv.history (same_history s.history) tt (λ j. tt) tt)
 
+  append_inv : (bytes : List ℕ) → All (λ b. b < 2 ^ 8) bytes → WorldInvariant x seeds (append_after x s bytes)
+  append_inv bytes small =
+      cond_both (fits x.plan bytes) _ _ (λ t. WorldInvariant x seeds t)
+      (λ t. cond_both (is_layout (shape_at x.plan (length s.history.draft + 1))) _ _ (λ t. WorldInvariant x seeds t)
+      (λ u. at_history (after_append bytes s.history) Appended (good_appended x s.history bytes (record { fits = t; each = small }) u inv.history)
+      (λ v records p. p) tt (λ j. tt) tt)
+      (λ u. at_history s.history (AppendRefused _) inv.history (same_history s.history) tt (λ j. tt) tt))
+      (λ t. at_history s.history (AppendRefused _) inv.history (same_history s.history) tt (λ j. tt) tt)
+
   publish_inv : WorldInvariant x seeds (publish_after s)
   publish_inv =
       cond_both s.history.marked _ _ (λ t. WorldInvariant x seeds t)
@@ -122,6 +132,7 @@ module _ (x : Setting) (seeds : List (List ℕ)) (s : State) (inv : WorldInvaria
 
   pub after_inv : RetrievalGivesTheRecord → (short : Bool) (step : Step) → FitsStep step → WorldInvariant x seeds (state_after x short s step)
   after_inv law short (Edit i bytes) small = edit_inv i bytes small
+  after_inv law short (Append bytes) small = append_inv bytes small
   after_inv law short Publish small = publish_inv
   after_inv law short (Hello k) small =
       called_inv (want_hello reader_key) k (slice_get s.links k) refl (λ l i g e. let n = called_hello x s.history (seed_of seeds k) l inv.history i e in

@@ -1,33 +1,35 @@
 -- What a later history keeps.
-use Rattle.std.proofs.Common.{◌≡◌, ℕ, zero, suc, ◌-◌, ◌<◌, ◌≤◌, ◌⊎◌, List, [], ◌∷◌, length, Option, Some, None, refl, sym, ap, ◌∙◌, arith, inl, inr}
+use Rattle.std.proofs.Common.{◌≡◌, ℕ, zero, suc, ◌-◌, ◌<◌, ◌≤◌, ◌⊎◌, List, [], ◌∷◌, length, Option, Some, None, refl, sym, ap, ◌∙◌, arith, inl, inr, ◌+◌, ◌++◌, true}
 use Rattle.std.specs.Prelude.{slice_get, slice_set}
 use Rattle.std.specs.List.{AllByRecursion}
 use Rattle.std.proofs.lemmas.Bool.{cases_lt, le-ltb}
 use Rattle.std.proofs.lemmas.Option.{slice_get_within}
-use Rattle.std.proofs.lemmas.List.{length-set}
-use Rattle.digit_pack.specs.Layout.{record_at}
+use Rattle.std.proofs.lemmas.List.{length-set, length-append, get_or_append_left}
+use Rattle.digit_pack.specs.Layout.{record_at, is_layout}
 use Rattle.pir_schemes.specs.declared.scheme.Scheme.{Scheme}
 use Rattle.pir_schemes.specs.Schemes.{scheme_of_byte}
 use Rattle.pir_schemes.specs.declared.plan.Plan.{Plan}
-use Rattle.pir_schemes.specs.Plans.{IsRecordOf}
+use Rattle.pir_schemes.specs.Plans.{IsRecordOf, shape_at}
 use Rattle.frame_codec.specs.declared.frame.Frame.{Frame}
 use Rattle.frame_codec.specs.declared.frame.Frame.TheVariants.{Query}
-use Rattle.version_store.specs.Histories.{History, current_version, records_of, after_edit, published}
+use Rattle.version_store.specs.Histories.{History, current_version, records_of, after_edit, published, after_append}
 use Rattle.server_core.specs.declared.standing.Standing.{Standing}
 use Rattle.server_core.specs.Serving.{Setting}
 use Rattle.client_core.specs.declared.state.ClientState.{ClientState}
 use Rattle.client_core.specs.declared.state.ServerInfo.{ServerInfo}
 use Rattle.client_core.specs.declared.state.Hint.{Hint}
 use Rattle.client_core.specs.declared.state.Call.{Call}
-use Rattle.client_core.specs.declared.state.Call.TheVariants.{Idle, Hello, Sync, Delta, Ask, Edit, Publish}
+use Rattle.client_core.specs.declared.state.Call.TheVariants.{Idle, Hello, Sync, Delta, Ask, Edit, Append, Publish}
 use Rattle.client_core.specs.declared.state.Event.{Event}
 use Rattle.client_core.specs.declared.state.Event.TheVariants.{Welcomed, Synced, Retrieved, Unreadable, Stale, Done, Refused}
 use Rattle.pir_world.specs.declared.steps.Outcome.{Outcome}
-use Rattle.pir_world.specs.declared.steps.Outcome.TheVariants.{Edited, EditRefused, Published, PublishRefused, Reported, CallRefused, Failed}
+use Rattle.pir_world.specs.declared.steps.Outcome.TheVariants.{Edited, EditRefused, Appended, AppendRefused, Published, PublishRefused, Reported, CallRefused, Failed}
 use Rattle.pir_world.specs.Runs.{Link, Retrieval, Entry, Called, Sent, Served, Ended, Plain}
 use Rattle.pir_world.specs.Versions.{HasVersion, IsVersion, HintIs, seed_of}
 use Rattle.pir_world.specs.Headlines.{IsRightEnd, IsRightQuery, IsServed, IsRightEvent, IsRightOutcome, IsRight}
 use Rattle.pir_world.specs.Invariants.{AreRecords, GoodHistory, IsKnownOf, KnownIs, CallIs, IsReplyOf, IsReply, InFlight, Phase, LinkInvariant}
+use Rattle.std.proofs.Math.Seq.{get_or-append_seam}
+use Rattle.digit_pack.proofs.Layouts.{layout_means}
 
 -- each version of one history is one of the other
 abbrev pub IsLater : History → History → Type 0
@@ -75,8 +77,6 @@ good_published x h g = record {
   first = g.first;
   versions = λ v records p. elim (version_cases h v records p) [ inl q ↦ g.versions v records q | inr e ↦ rw e g.draft ];
   draft = g.draft;
-  -- Rests on every version having as many records as the first.
-  even = λ v records p. elim (version_cases h v records p) [ inl q ↦ g.even v records q | inr e ↦ ap length e ];
 }
 
 record_set : (p : Plan) (records : List (List ℕ)) (i j : ℕ) (bytes : List ℕ) → IsRecordOf p bytes →
@@ -102,8 +102,28 @@ good_edited x h i bytes fits g = record {
   first = g.first;
   versions = λ v records p. g.versions v records p;
   draft = edited_records x.plan h.draft i bytes fits g.draft;
-  -- Rests on every version having as many records as the first.
-  even = λ v records p. g.even v records p ∙ sym (length-set h.draft i bytes);
+}
+
+appended_records : (p : Plan) (records : List (List ℕ)) (bytes : List ℕ) → IsRecordOf p bytes → is_layout (shape_at p (length records + 1)) ≡ true →
+    AreRecords p records → AreRecords p (records ++ bytes ∷ [])
+appended_records p records bytes fits room r =
+    let n : length (records ++ bytes ∷ []) ≡ length records + 1 = omega (arith, length-append records (bytes ∷ [])) in
+    record {
+      plan = rw n (record { form = r.plan.form; layout = layout_means (shape_at p (length records + 1)) room; low = r.plan.low; high = r.plan.high });
+      each = λ j lt. elim (cases_lt j (length records)) [
+        | inl old ↦ rw (get_or_append_left records (bytes ∷ []) [] j old) (r.each j old)
+        | inr new ↦
+            let last : j ≡ length records = omega (arith, lt, n, new) in
+            rw (last, get_or-append_seam records bytes [] []) fits
+      ];
+    }
+
+pub good_appended : (x : Setting) (h : History) (bytes : List ℕ) → IsRecordOf x.plan bytes → is_layout (shape_at x.plan (length h.draft + 1)) ≡ true →
+    GoodHistory x h → GoodHistory x (after_append bytes h)
+good_appended x h bytes fits room g = record {
+  first = g.first;
+  versions = λ v records p. g.versions v records p;
+  draft = appended_records x.plan h.draft bytes fits room g.draft;
 }
 
 -- ---- what is said of versions
@@ -143,6 +163,7 @@ module _ (x : Setting) (h h2 : History) (later : IsLater h h2) where
   call_later c (Delta since) q = q
   call_later c (Ask i s v n) q = q
   call_later c (Edit i bytes) q = q
+  call_later c (Append bytes) q = q
   call_later c Publish q = q
 
   reply_of_later : (v : ℕ) (r : Frame) (answer : List (List ℕ) → Frame) → IsReplyOf x h v r answer → IsReplyOf x h2 v r answer
@@ -171,6 +192,7 @@ module _ (x : Setting) (h h2 : History) (later : IsLater h h2) where
       }))
   reply_later st seed (Ask i s v n) r q = reply_of_later v r _ q
   reply_later st seed (Edit i bytes) r q = q
+  reply_later st seed (Append bytes) r q = q
   reply_later st seed Publish r q = q
 
   flight_later : (st : Standing) (seed : List ℕ) (c : ClientState) (call : Call) (up down : List Frame) → InFlight x h st seed c call up down →
@@ -186,6 +208,7 @@ module _ (x : Setting) (h h2 : History) (later : IsLater h h2) where
   phase_later st seed c (Delta since) up down q = flight_later st seed c (Delta since) up down q
   phase_later st seed c (Ask i s v n) up down q = flight_later st seed c (Ask i s v n) up down q
   phase_later st seed c (Edit i bytes) up down q = q
+  phase_later st seed c (Append bytes) up down q = q
   phase_later st seed c Publish up down q = q
 
   pub link_later : (seed : List ℕ) (l : Link) → LinkInvariant x h seed l → LinkInvariant x h2 seed l
@@ -237,6 +260,8 @@ module _ (x : Setting) (h h2 : History) (later : IsLater h h2) where
   outcome_later (Failed k fault) p = p
   outcome_later (Edited i) p = tt
   outcome_later (EditRefused i fault) p = tt
+  outcome_later Appended p = tt
+  outcome_later (AppendRefused fault) p = tt
   outcome_later (Published v) p = version_later v p
   outcome_later (PublishRefused fault) p = tt
   outcome_later (CallRefused k fault) p = tt

@@ -13,7 +13,7 @@ use Rattle.version_store.specs.Histories.{History}
 use Rattle.server_core.specs.Serving.{Setting, is_closed}
 use Rattle.client_core.specs.declared.state.ClientState.{ClientState}
 use Rattle.client_core.specs.declared.state.Call.{Call}
-use Rattle.client_core.specs.declared.state.Call.TheVariants.{Idle, Hello, Sync, Delta, Ask, Edit, Publish}
+use Rattle.client_core.specs.declared.state.Call.TheVariants.{Idle, Hello, Sync, Delta, Ask, Edit, Append, Publish}
 use Rattle.client_core.specs.declared.state.Event.{Event}
 use Rattle.client_core.specs.declared.state.Event.TheVariants.{Synced}
 use Rattle.client_core.specs.declared.state.Reaction.{Reaction}
@@ -142,6 +142,7 @@ module _ (j k : ℕ) (ne : k ≢ j) where
   reports_aside (Sync scheme v p) reply e = ne
   reports_aside (Delta since) reply e = ne
   reports_aside (Edit i bytes) reply e = ne
+  reports_aside (Append bytes) reply e = ne
   reports_aside Publish reply e = ne
 
   reacts_aside : (call : Call) (reply : Frame) (r : Reaction) → AllByRecursion (IsAside j) (reacts k call reply r)
@@ -202,6 +203,7 @@ module _ (x : Setting) (h h2 : History) (later : IsLater h h2) where
   from_later seed k (Sync scheme v n) f first p = p
   from_later seed k (Delta since) f first p = p
   from_later seed k (Edit i bytes) f first p = tt
+  from_later seed k (Append bytes) f first p = tt
   from_later seed k Publish f first p = tt
 
   pub log_later : (seed : List ℕ) (k : ℕ) (l : Link) (log : List Entry) → LogInvariant x h seed k l log → LogInvariant x h2 seed k l log

@@ -60,8 +60,6 @@ opening_inv h bytes seeds o =
             (only_one (held h bytes) records (current_version (opening h bytes seeds).history - v)
             (sym (records_at (opening h bytes seeds).history v p.0) ∙ p.1)) all;
         draft = all;
-        even = λ v records p. sym (ap length (only_one (held h bytes) records (current_version (opening h bytes seeds).history - v)
-            (sym (records_at (opening h bytes seeds).history v p.0) ∙ p.1)));
       };
       links = λ k l e. subst (λ (m : Link). LinkInvariant (setting_in h) (opening h bytes seeds).history (seed_of seeds k) m) (link_of seeds k l e)
           (record { seed_is = refl; alive = refl; unclosed = refl; known = tt; hint = tt; call = tt; phase = (refl, refl) });

@@ -77,6 +77,7 @@ reports_event k (call.Sync scheme version part) reply e = refl
 reports_event k (call.Delta since) reply e = refl
 reports_event k (call.Ask i s v n) reply e = refl
 reports_event k (call.Edit i bytes) reply e = refl
+reports_event k (call.Append bytes) reply e = refl
 reports_event k call.Publish reply e = refl
 
 reacts_events : (k : ℕ) (c : Call) (reply : Frame) (r : Reaction) → fault_of r ≡ None → outcomes_of (reacts k c reply r) ≡ map (Reported k) (events_of r)

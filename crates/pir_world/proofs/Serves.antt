@@ -19,7 +19,7 @@ use Rattle.client_core.specs.declared.state.ClientState.{ClientState}
 use Rattle.client_core.specs.declared.state.ServerInfo.{ServerInfo}
 use Rattle.client_core.specs.declared.state.Call.{Call}
 use Rattle.client_core.specs.declared.state.Hint.{Hint}
-use Rattle.client_core.specs.declared.state.Call.TheVariants.{Idle, Hello, Sync, Delta, Ask, Edit, Publish}
+use Rattle.client_core.specs.declared.state.Call.TheVariants.{Idle, Hello, Sync, Delta, Ask, Edit, Append, Publish}
 use Rattle.client_core.specs.Calls.{call_frame, call_words}
 use Rattle.pir_world.specs.Runs.{Turn, Retrieval, served_or, serves, reader_key}
 use Rattle.pir_world.specs.Versions.{HasVersion, IsVersion, HintIs, asked_words}
@@ -136,10 +136,6 @@ module _ (x : Setting) (h : History) (g : GoodHistory x h) (seed : List ℕ) (si
     right = tt;
   }
 
-  -- Rests on every version having as many records as the first.
-  even : length before ≡ length h.current
-  even = g.even since before there ∙ sym (g.even (current_version h) h.current (newest h))
-
   some_rows : (rows : List ℕ) → CoversChanges x.plan before h.current rows → (nat_le (length rows) 1024 ≡ true) ⊎ (nat_le (length rows) 1024 ≡ false)
       → Replied x h seed Reader (Delta since) (frame.DeltaAsk since) (delta_asked x h Reader since (Some rows))
   some_rows rows n (inl t) = rw t (record {
@@ -169,7 +165,7 @@ module _ (x : Setting) (h : History) (g : GoodHistory x h) (seed : List ℕ) (si
   asked_rows : (o : Option (List ℕ)) → delta_rows x.plan h since ≡ o →
       Replied x h seed Reader (Delta since) (frame.DeltaAsk since) (delta_asked x h Reader since o)
   asked_rows None e = no_rows
-  asked_rows (Some rows) e = some_rows rows (rows_cover x.plan h since before rows there even e) (cases_Bool (nat_le (length rows) 1024))
+  asked_rows (Some rows) e = some_rows rows (rows_cover x.plan h since before rows there e) (cases_Bool (nat_le (length rows) 1024))
 
   replied_delta : (short : Bool) → Replied x h seed Reader (Delta since) (frame.DeltaAsk since) (served_or short x h Reader (frame.DeltaAsk since))
   replied_delta false = asked_rows (delta_rows x.plan h since) refl
@@ -273,6 +269,7 @@ module _ (x : Setting) (seeds : List (List ℕ)) (k : ℕ) (h : History) (seed :
   flight_phase s (Delta since) up down r e d p = inr (e, (r, d, p))
   flight_phase s (Ask i z v n) up down r e d p = inr (e, (r, d, p))
   flight_phase s (Edit i bytes) up down r e d p = absurd p
+  flight_phase s (Append bytes) up down r e d p = absurd p
   flight_phase s Publish up down r e d p = absurd p
 
   frame_comes : (short : Bool) (call : Call) (fs up down : List Frame) → is_closed st ≡ false → fs ≡ call_frame c call ∷ [] → up ≡ [] → down ≡ []
@@ -337,6 +334,7 @@ module _ (x : Setting) (seeds : List (List ℕ)) (k : ℕ) (h : History) (seed :
       (served_or short x h z (frame.Query (scheme_byte scheme) v (call_words c.known scheme c.seed n j))))
       (sym y.0) (replied_ask x h seed j scheme v n w.0 w.1 short (call_words c.known scheme c.seed n j) w.2)
   replied g short (Edit j bytes) busy s known hint i = absurd i
+  replied g short (Append bytes) busy s known hint i = absurd i
   replied g short Publish busy s known hint i = absurd i
 
   -- what the server makes of the frames that come of a link, which are none or all
@@ -354,4 +352,5 @@ module _ (x : Setting) (seeds : List (List ℕ)) (k : ℕ) (h : History) (seed :
   served_link g short (Ask j z v n) up fs up2 down a o s known hint i p =
       served_flight short (Ask j z v n) up fs up2 down a o (replied g short (Ask j z v n) (λ e. (cc)) s known hint i) p p
   served_link g short (Edit j bytes) up fs up2 down a o s known hint i p = absurd p
+  served_link g short (Append bytes) up fs up2 down a o s known hint i p = absurd p
   served_link g short Publish up fs up2 down a o s known hint i p = absurd p

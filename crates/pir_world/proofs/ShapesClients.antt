@@ -214,6 +214,7 @@ no_delta_sends k c version count = inl refl
 done_sends : (k : Call) (c : ClientState) (version : ℕ) → Sends (takes_done k c version)
 done_sends call.Idle c version = inl refl
 done_sends (call.Edit i b) c version = inl refl
+done_sends (call.Append b) c version = inl refl
 done_sends call.Publish c version = inl refl
 done_sends k c version = inl refl
 

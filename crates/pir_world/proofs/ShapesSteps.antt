@@ -3,7 +3,7 @@ use Rattle.std.proofs.Common.{◌≡◌, ℕ, ◌+◌, ◌^◌, List, [], ◌∷
 use Rattle.std.specs.Prelude.{nat_lt, ◌==◌, slice_get}
 use Rattle.std.specs.List.{AllByRecursion}
 use Rattle.std.proofs.lemmas.Bool.{cond_both}
-use Rattle.pir_schemes.specs.Plans.{fits}
+use Rattle.pir_schemes.specs.Plans.{fits, shape_at}
 use Rattle.pir_schemes.specs.Laws.{RetrievalGivesTheRecord}
 use Rattle.version_store.specs.Histories.{History, current_version}
 use Rattle.server_core.specs.Serving.{Setting}
@@ -11,7 +11,7 @@ use Rattle.client_core.specs.declared.state.CallFault.{CallFault}
 use Rattle.client_core.specs.Calls.{Want, refusal}
 use Rattle.client_core.specs.Calls.{Hello as want_hello, Sync as want_sync, Ask as want_ask}
 use Rattle.pir_world.specs.declared.steps.Step.{Step}
-use Rattle.pir_world.specs.declared.steps.Step.TheVariants.{Edit, Publish, Hello, Sync, Ask, ToServer, ToClient}
+use Rattle.pir_world.specs.declared.steps.Step.TheVariants.{Edit, Append, Publish, Hello, Sync, Ask, ToServer, ToClient}
 use Rattle.pir_world.specs.declared.steps.Outcome.{Outcome}
 use Rattle.pir_world.specs.Runs.{
   State,
@@ -27,6 +27,7 @@ use Rattle.pir_world.specs.Runs.{
   with_link,
   with_history,
   edit_after,
+  append_after,
   publish_after,
   arrived,
   beyond,
@@ -48,6 +49,7 @@ use Rattle.pir_world.proofs.ShapesServed.{equal_append, all_first, all_last, tur
 use Rattle.client_core.specs.Shapes.{IndexIsBelow}
 use Rattle.pir_world.proofs.ShapesClients.{IsWantLike, IsReaders}
 use Rattle.pir_world.proofs.ShapesLinks.{IsStateLike, state_itself, called_like, served_like, reported_like}
+use Rattle.digit_pack.specs.Layout.{is_layout}
 
 -- ---- one step
 
@@ -74,6 +76,13 @@ module _ (x : Setting) (s t : State) (a : IsStateLike s t) where
       (either (fits x.plan bytes) _ _ _ _ (history_like _ _) (history_like _ _))
       (history_like _ _))
 
+  append_like : (bytes : List ℕ) → IsStateLike (append_after x s bytes) (append_after x t bytes)
+  append_like bytes =
+      subst (λ (h : History). IsStateLike (append_after x s bytes) (append_after x (other_at h) bytes)) (sym a.history)
+      (either (fits x.plan bytes) _ _ _ _
+      (either (is_layout (shape_at x.plan (length s.history.draft + 1))) _ _ _ _ (history_like _ _) (history_like _ _))
+      (history_like _ _))
+
   publish_like : IsStateLike (publish_after s) (publish_after t)
   publish_like =
       subst (λ (h : History). IsStateLike (publish_after s) (publish_after (other_at h))) (sym a.history)
@@ -89,6 +98,7 @@ module _ (x : Setting) (s t : State) (a : IsStateLike s t) where
   pub after_like : (seeds : List (List ℕ)) → WorldInvariant x seeds s → (step other : Step) → IsStepLike step other
       → AskIsBelow s step → AskIsBelow t other → IsStateLike (state_after x false s step) (state_after x false t other)
   after_like seeds inv (Edit i bytes) other e b b2 = rw e (edit_like i bytes)
+  after_like seeds inv (Append bytes) other e b b2 = rw e (append_like bytes)
   after_like seeds inv Publish other e b b2 = rw e publish_like
   after_like seeds inv (Hello k) other e b b2 = rw e (calls_like k (want_hello reader_key) (want_hello reader_key) tt refl (λ l at. tt) (λ l at. tt))
   after_like seeds inv (Sync k scheme) other e b b2 = rw e (calls_like k (want_sync scheme) (want_sync scheme) tt refl (λ l at. tt) (λ l at. tt))
@@ -128,6 +138,11 @@ module _ (x : Setting) (s : State) where
     step_kept short (Edit i bytes) =
         cond_both (nat_lt i (length s.history.draft)) _ _ IsHeldBefore
         (λ e. cond_both (fits x.plan bytes) _ _ IsHeldBefore (λ e all. all_first P s.log _ all) (λ e all. all_first P s.log _ all))
+        (λ e all. all_first P s.log _ all)
+    step_kept short (Append bytes) =
+        cond_both (fits x.plan bytes) _ _ IsHeldBefore
+        (λ e. cond_both (is_layout (shape_at x.plan (length s.history.draft + 1))) _ _ IsHeldBefore (λ e all. all_first P s.log _ all)
+        (λ e all. all_first P s.log _ all))
         (λ e all. all_first P s.log _ all)
     step_kept short Publish =
         cond_both s.history.marked _ _ IsHeldBefore

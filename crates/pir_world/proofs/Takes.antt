@@ -34,7 +34,7 @@ use Rattle.client_core.specs.declared.state.ClientState.{ClientState}
 use Rattle.client_core.specs.declared.state.ServerInfo.{ServerInfo}
 use Rattle.client_core.specs.declared.state.Hint.{Hint}
 use Rattle.client_core.specs.declared.state.Call.{Call}
-use Rattle.client_core.specs.declared.state.Call.TheVariants.{Idle, Hello, Sync, Delta, Ask, Edit, Publish}
+use Rattle.client_core.specs.declared.state.Call.TheVariants.{Idle, Hello, Sync, Delta, Ask, Edit, Append, Publish}
 use Rattle.client_core.specs.declared.state.ClientFault.TheVariants.{BadReply}
 use Rattle.client_core.specs.declared.state.Reaction.TheVariants.{Asks}
 use Rattle.client_core.specs.States.{is_layout, shape_known}
@@ -43,7 +43,7 @@ use Rattle.client_core.specs.declared.state.Event.TheVariants.{Synced}
 use Rattle.client_core.specs.Laws.{rows_of}
 use Rattle.client_core.specs.Feeding.{sends_of, fault_of}
 use Rattle.client_core.proofs.HintLaws.{delta_makes_it}
-use Rattle.client_core.proofs.Layouts.{layout_accepted}
+use Rattle.digit_pack.proofs.Layouts.{layout_accepted}
 use Rattle.pir_world.specs.Runs.{Retrieval, Entry, reacts}
 use Rattle.pir_world.specs.Earlier.{hint_after}
 use Rattle.pir_world.specs.Versions.{HasVersion, HintIs, asked_words, given_words, name_of, record_read, seed_of}
@@ -553,6 +553,7 @@ module _ (law : RetrievalGivesTheRecord) (x : Setting) (seeds : List (List ℕ))
       rw p.2 (by_call (λ (q : Call). takes_answer q c (scheme_byte s) v w) (Ask j s v n) (frame.Answer (scheme_byte s) v w) e
       (answer_came a.k a.known_is known j s v n p.0 p.1 a.inside a.asked a.hint a.hint_is a.scheme_is a.version_is))
   reply_taken (Edit j bytes) r e a p = absurd p
+  reply_taken (Append bytes) r e a p = absurd p
   reply_taken Publish r e a p = absurd p
 
   pub taken : (r : Frame) → IsReply x h st (seed_of seeds k) c.call r → IsTaken x seeds k h st c c.call r (reaction_to_reply c r)

@@ -16,7 +16,7 @@ use Rattle.server_core.specs.declared.standing.Standing.{Standing}
 use Rattle.server_core.specs.Serving.{Setting, is_closed}
 use Rattle.client_core.specs.declared.state.ClientState.{ClientState}
 use Rattle.client_core.specs.declared.state.Call.{Call}
-use Rattle.client_core.specs.declared.state.Call.TheVariants.{Idle, Hello, Sync, Delta, Ask, Edit, Publish}
+use Rattle.client_core.specs.declared.state.Call.TheVariants.{Idle, Hello, Sync, Delta, Ask, Edit, Append, Publish}
 use Rattle.client_core.specs.declared.state.Event.{Event}
 use Rattle.client_core.specs.declared.state.Reaction.{Reaction}
 use Rattle.client_core.specs.declared.state.Reaction.TheVariants.{Asks, Reports, Fails}
@@ -62,6 +62,7 @@ up_alone x h st seed c (Sync scheme v q) up down f e p = flight_up x h st seed c
 up_alone x h st seed c (Delta since) up down f e p = flight_up x h st seed c (Delta since) up down f e p
 up_alone x h st seed c (Ask j z v m) up down f e p = flight_up x h st seed c (Ask j z v m) up down f e p
 up_alone x h st seed c (Edit j bytes) up down f e p = absurd p
+up_alone x h st seed c (Append bytes) up down f e p = absurd p
 up_alone x h st seed c Publish up down f e p = absurd p
 
 -- a reply is on its way, and nothing else
@@ -81,6 +82,7 @@ down_alone x h st seed c (Sync scheme v q) up down r e p = flight_down x h st se
 down_alone x h st seed c (Delta since) up down r e p = flight_down x h st seed c (Delta since) up down r e p
 down_alone x h st seed c (Ask j z v m) up down r e p = flight_down x h st seed c (Ask j z v m) up down r e p
 down_alone x h st seed c (Edit j bytes) up down r e p = absurd p
+down_alone x h st seed c (Append bytes) up down r e p = absurd p
 down_alone x h st seed c Publish up down r e p = absurd p
 
 one_reply : (reply : Option Frame) (r : Frame) → option_to_list reply ≡ r ∷ [] → reply ≡ Some r
@@ -96,6 +98,7 @@ reports_no_ask k (Sync scheme v q) reply e = refl
 reports_no_ask k (Delta since) reply e = refl
 reports_no_ask k (Ask j z v m) reply e = refl
 reports_no_ask k (Edit j bytes) reply e = refl
+reports_no_ask k (Append bytes) reply e = refl
 reports_no_ask k Publish reply e = refl
 
 reacts_no_ask : (k : ℕ) (call : Call) (reply : Frame) (t : Reaction) → AllByRecursion (λ e. is_ask k e ≡ false) (reacts k call reply t)
@@ -130,6 +133,7 @@ module _ (x : Setting) (seeds : List (List ℕ)) (h : History) (k : ℕ) (log fi
   part_earlier scheme version part (Hello key) from a = absurd a
   part_earlier scheme version part (Ask j z v m) from a = absurd a
   part_earlier scheme version part (Edit j bytes) from a = absurd a
+  part_earlier scheme version part (Append bytes) from a = absurd a
   part_earlier scheme version part Publish from a = absurd a
 
   reacts_earlier : (t : Reaction) (call : Call) → IsFrom x h (seed_of seeds k) k call f first
@@ -143,6 +147,7 @@ module _ (x : Setting) (seeds : List (List ℕ)) (h : History) (k : ℕ) (log fi
   reacts_earlier (Reports event) (Sync scheme v q) from asks = ((f, reply, first, s), tt)
   reacts_earlier (Reports event) (Delta since) from asks = ((f, reply, first, s), tt)
   reacts_earlier (Reports event) (Edit j bytes) from asks = ((f, reply, first, s), tt)
+  reacts_earlier (Reports event) (Append bytes) from asks = ((f, reply, first, s), tt)
   reacts_earlier (Reports event) Publish from asks = ((f, reply, first, s), tt)
 
 module _ (x : Setting) (seeds : List (List ℕ)) (h : History) (k : ℕ) (l : Link) (log : List Entry) (g : LogInvariant x h (seed_of seeds k) k l log) where

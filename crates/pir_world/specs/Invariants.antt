@@ -21,7 +21,7 @@ use Rattle.client_core.specs.declared.state.ClientState.{ClientState}
 use Rattle.client_core.specs.declared.state.ServerInfo.{ServerInfo}
 use Rattle.client_core.specs.declared.state.Hint.{Hint}
 use Rattle.client_core.specs.declared.state.Call.{Call}
-use Rattle.client_core.specs.declared.state.Call.TheVariants.{Idle, Hello, Sync, Delta, Ask, Edit, Publish}
+use Rattle.client_core.specs.declared.state.Call.TheVariants.{Idle, Hello, Sync, Delta, Ask, Edit, Append, Publish}
 use Rattle.client_core.specs.Calls.{call_frame}
 use Rattle.client_core.specs.Replies.{are_ascending}
 use Rattle.pir_world.specs.Runs.{State, Link, Entry, reader_key}
@@ -34,12 +34,11 @@ pub record AreRecords (p : Plan) (records : List (List ℕ)) : Type 0 where
   pub plan : IsPlan p (length records)
   pub each : (i : ℕ) → i < length records → IsRecordOf p (record_at records i)
 
--- versions of such records, as many in each, numbered from 1 or later
+-- versions of such records, numbered from 1 or later
 pub record GoodHistory (x : Setting) (h : History) : Type 0 where
   pub first : 1 ≤ h.first
   pub versions : (v : ℕ) (records : List (List ℕ)) → HasVersion h v records → AreRecords x.plan records
   pub draft : AreRecords x.plan h.draft
-  pub even : (v : ℕ) (records : List (List ℕ)) → HasVersion h v records → length records ≡ length h.draft
 
 -- what is known of a version is true
 pub record IsKnownOf (x : Setting) (h : History) (k : ServerInfo) : Type 0 where
@@ -91,6 +90,7 @@ CallIs x h c (Sync scheme v p) = SyncIs x h scheme v p c.known c.parts
 CallIs x h c (Delta since) = DeltaIs c since
 CallIs x h c (Ask i scheme v number) = AskIs c i scheme v
 CallIs x h c (Edit i bytes) = ⊥
+CallIs x h c (Append bytes) = ⊥
 CallIs x h c Publish = ⊥
 
 -- refused because the server was out of memory, stale with a later version that there is, or the reply itself
@@ -148,6 +148,7 @@ Phase x h st seed c (Sync scheme v p) up down = InFlight x h st seed c (Sync sch
 Phase x h st seed c (Delta since) up down = InFlight x h st seed c (Delta since) up down
 Phase x h st seed c (Ask i s v n) up down = InFlight x h st seed c (Ask i s v n) up down
 Phase x h st seed c (Edit i bytes) up down = ⊥
+Phase x h st seed c (Append bytes) up down = ⊥
 Phase x h st seed c Publish up down = ⊥
 
 -- a client, its session and what is between them

@@ -3,16 +3,18 @@ use Rattle.std.specs.Prelude.{◌≡◌, ◌<◌, ◌+◌, ◌-◌, ◌^◌, ◌
 use Rattle.std.specs.List.{flat_map}
 use Rattle.pir_schemes.specs.declared.scheme.Scheme.{Scheme}
 use Rattle.pir_schemes.specs.Schemes.{scheme_byte}
-use Rattle.pir_schemes.specs.Plans.{fits, records_held}
+use Rattle.digit_pack.specs.Layout.{is_layout}
+use Rattle.pir_schemes.specs.Plans.{fits, records_held, shape_at}
 use Rattle.frame_codec.specs.declared.frame.Frame.{Frame}
 use Rattle.frame_codec.specs.declared.frame.Frame.TheVariants as frame
 use Rattle.frame_codec.specs.declared.refusal.Refusal.TheVariants as refusal
 use Rattle.frame_codec.specs.Frames.{encoding}
 use Rattle.snapshot_file.specs.declared.snapshot.Header.{Header}
 use Rattle.version_store.specs.Openings.{plan_held}
+use Rattle.version_store.specs.declared.store.AppendError.TheVariants as append_error
 use Rattle.version_store.specs.declared.store.EditError.TheVariants as edit_error
 use Rattle.version_store.specs.declared.store.PublishError.TheVariants as publish_error
-use Rattle.version_store.specs.Histories.{History, opened, current_version, after_edit, published}
+use Rattle.version_store.specs.Histories.{History, opened, current_version, after_edit, after_append, published}
 use Rattle.server_core.specs.declared.standing.Standing.{Standing}
 use Rattle.server_core.specs.declared.standing.Standing.TheVariants.{Stranger}
 use Rattle.server_core.specs.Serving.{Setting, outcome_of_frame, takes_memory, refuses, is_closed}
@@ -30,9 +32,9 @@ use Rattle.client_core.specs.Calls.{Hello as want_hello, Sync as want_sync, Ask 
 use Rattle.client_core.specs.Replies.{reaction_to_reply}
 use Rattle.client_core.specs.Feeding.{takes_all, fault_of}
 use Rattle.pir_world.specs.declared.steps.Step.{Step}
-use Rattle.pir_world.specs.declared.steps.Step.TheVariants.{Edit, Publish, Hello, Sync, Ask, ToServer, ToClient}
+use Rattle.pir_world.specs.declared.steps.Step.TheVariants.{Edit, Append, Publish, Hello, Sync, Ask, ToServer, ToClient}
 use Rattle.pir_world.specs.declared.steps.Outcome.{Outcome}
-use Rattle.pir_world.specs.declared.steps.Outcome.TheVariants.{Edited, EditRefused, Published, PublishRefused, Reported, CallRefused, Failed}
+use Rattle.pir_world.specs.declared.steps.Outcome.TheVariants.{Edited, EditRefused, Appended, AppendRefused, Published, PublishRefused, Reported, CallRefused, Failed}
 
 -- ---- one direction of a link
 
@@ -239,6 +241,14 @@ edit_after x s i bytes =
     else with_history s s.history (EditRefused i edit_error.BadLength))
     else with_history s s.history (EditRefused i edit_error.BadIndex)
 
+-- an append by the publisher
+abbrev pub append_after : Setting → State → List ℕ → State
+append_after x s bytes =
+    if fits x.plan bytes then (
+    if is_layout (shape_at x.plan (length s.history.draft + 1)) then with_history s (after_append bytes s.history) Appended
+    else with_history s s.history (AppendRefused append_error.Full))
+    else with_history s s.history (AppendRefused append_error.BadLength)
+
 -- a publication
 abbrev pub publish_after : State → State
 publish_after s =
@@ -250,6 +260,7 @@ publish_after s =
 -- what a step leads to
 abbrev pub state_after : Setting → Bool → State → Step → State
 state_after x short s (Edit i bytes) = edit_after x s i bytes
+state_after x short s (Append bytes) = append_after x s bytes
 state_after x short s Publish = publish_after s
 state_after x short s (Hello k) = called_at s (want_hello reader_key) k (slice_get s.links k)
 state_after x short s (Sync k scheme) = called_at s (want_sync scheme) k (slice_get s.links k)
@@ -257,9 +268,10 @@ state_after x short s (Ask k i) = called_at s (want_ask i) k (slice_get s.links 
 state_after x short s (ToServer k most) = served_at x short s k most (slice_get s.links k)
 state_after x short s (ToClient k most) = reported_at s k most (slice_get s.links k)
 
--- an edit's bytes are bytes
+-- the bytes of an edit or an append are bytes
 abbrev pub FitsStep : Step → Type 0
 FitsStep (Edit i bytes) = All (λ b. b < 2 ^ 8) bytes
+FitsStep (Append bytes) = All (λ b. b < 2 ^ 8) bytes
 FitsStep _ = Unit {0}
 
 -- one step: the server has memory for its reply, or is out of it

@@ -39,6 +39,7 @@ want_of (Ask i) = want_ask i
 -- the client that a step names is there
 abbrev pub has_client : Step → ℕ → Bool
 has_client (step.Edit i bytes) n = true
+has_client (step.Append bytes) n = true
 has_client step.Publish n = true
 has_client (step.Hello k) n = nat_lt k n
 has_client (step.Sync k scheme) n = nat_lt k n

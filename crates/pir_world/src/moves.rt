@@ -5,7 +5,7 @@ ghost use Rattle.server_core.specs.Cores.{Core};
 ghost use Rattle.server_core.specs.Serving.{Setting};
 ghost use Rattle.pir_world.specs.declared.steps.Outcome.TheVariants.{Reported};
 ghost use Rattle.pir_world.specs.declared.steps.Step.TheVariants as step;
-ghost use Rattle.pir_world.specs.Runs.{State, Steps, state_after, edit_after, publish_after, called_at};
+ghost use Rattle.pir_world.specs.Runs.{State, Steps, state_after, append_after, edit_after, publish_after, called_at};
 ghost use Rattle.pir_world.specs.Invariants.{WorldInvariant};
 ghost use Rattle.pir_world.specs.Sides.{Side, IsParts, want_of, has_client};
 
@@ -16,7 +16,7 @@ use matrix_u32::Kernel;
 use pir_schemes::laws::retrieval_gives_the_record;
 use server_core::ServerCore;
 use std::alloc::{AllocError, Global};
-use version_store::{EditError, PublishError};
+use version_store::{AppendError, EditError, PublishError};
 
 /// Whether the client that a step names is there.
 pub fn names_client(step: &Step, clients: usize) -> bool
@@ -24,6 +24,7 @@ pub fn names_client(step: &Step, clients: usize) -> bool
 {
     match step {
         Step::Edit { .. } => true,
+        Step::Append { .. } => true,
         Step::Publish => true,
         Step::Hello { client } => *client < clients,
         Step::Sync { client, .. } => *client < clients,
@@ -51,6 +52,7 @@ pub fn apply_step<K: Kernel>(
 {
     match step {
         Step::Edit { index, bytes } => edit(server, *index, bytes.as_slice(), outcomes),
+        Step::Append { bytes } => append(server, bytes.as_slice(), outcomes),
         Step::Publish => publish(server, outcomes),
         Step::Hello { client } => call(ends, *client, Request::Hello, outcomes),
         Step::Sync { client, scheme } => call(ends, *client, Request::Sync(*scheme), outcomes),
@@ -77,6 +79,26 @@ fn edit<K: Kernel>(
         Ok(()) => outcomes.push_reserved(Outcome::Edited { index }),
         Err(EditError::Memory) => return Err(AllocError),
         Err(fault) => outcomes.push_reserved(Outcome::EditRefused { index, fault }),
+    }
+    Ok(())
+}
+
+/// An append by the publisher.
+fn append<K: Kernel>(
+    server: &mut ServerCore<K>,
+    bytes: &[u8],
+    outcomes: &mut Vec<Outcome>,
+) -> Result<(), AllocError>
+    ensures made { OnOk result ((ends : List Side) (x : Setting) (s : State) →
+        IsParts x server.old ends outcomes.old.items s →
+        IsParts x server.new ends outcomes.new.items (append_after x s bytes.now)) }
+    ensures none { OnErr result (outcomes.new.items ≡ outcomes.old.items) }
+{
+    outcomes.reserve(1)?;
+    match server.append(bytes) {
+        Ok(()) => outcomes.push_reserved(Outcome::Appended),
+        Err(AppendError::Memory) => return Err(AllocError),
+        Err(fault) => outcomes.push_reserved(Outcome::AppendRefused { fault }),
     }
     Ok(())
 }

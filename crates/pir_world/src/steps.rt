@@ -3,14 +3,16 @@
 use client_core::{CallFault, ClientFault, Event, Scheme};
 use frame_codec::Bytes;
 use thiserror::Error;
-use version_store::{EditError, PublishError};
+use version_store::{AppendError, EditError, PublishError};
 
 /// One step of a world. Clients are counted from 0.
 #[derive(Drop)]
 pub enum Step {
     /// The publisher gives the store these bytes for record `index` of the next version.
     Edit { index: u32, bytes: Bytes },
-    /// The publisher makes its edits the next version.
+    /// The publisher gives the store these bytes for one record more of the next version.
+    Append { bytes: Bytes },
+    /// The publisher makes its edits and appends the next version.
     Publish,
     /// A client greets the server as a reader.
     Hello { client: usize },
@@ -31,6 +33,10 @@ pub enum Outcome {
     Edited { index: u32 },
     /// An edit of record `index` was refused.
     EditRefused { index: u32, fault: EditError },
+    /// An append was accepted.
+    Appended,
+    /// An append was refused.
+    AppendRefused { fault: AppendError },
     /// A publication made this version.
     Published { version: u64 },
     /// A publication was refused.

@@ -93,8 +93,8 @@ impl<K: Kernel> World<K> {
         })
     }
 
-    /// What came of the steps so far, in order: the accepted and refused edits and publications, the events,
-    /// the refused calls and the faults.
+    /// What came of the steps so far, in order: the accepted and refused edits, appends and publications, the
+    /// events, the refused calls and the faults.
     ///
     /// They are those of a run of the steps, also in a world that was refused memory in a later step, and all
     /// of it is right: an answered retrieval whose noise sums stay below half of delta gave exactly its

@@ -1,5 +1,6 @@
 -- The steps of a world, and what is printed of them.
-use Rattle.std.proofs.Common.{◌≡◌, inl, inr, ℕ, List, [], ◌∷◌, length, drop, map, Bool, true, false, Option, Ok, Err, refl, sym, ap, subst, ◌∙◌}
+use Rattle.std.proofs.Common.{◌≡◌, ◌<◌, inl, inr, ℕ, List, [], ◌∷◌, length, drop, map, Bool, true, false, Option, Ok, Err, refl, sym, ap, subst, ◌∙◌}
+use Rattle.std.proofs.KnownBytes.{Appends-nil}
 use Rattle.std.specs.Io.KnownBytes.{Appends}
 use Rattle.std.specs.List.{flat_map}
 use Rattle.snapshot_file.specs.declared.snapshot.Header.{Header}
@@ -13,9 +14,10 @@ use Rattle.rehearsal.specs.declared.line.Line.{Line}
 use Rattle.rehearsal.specs.declared.line.Line.TheVariants as line
 use Rattle.rehearsal.specs.declared.progress.Progress.TheVariants as progress
 use Rattle.rehearsal.specs.declared.stop.Stop.{Stop}
+use Rattle.rehearsal.specs.declared.stop.Stop.TheVariants as stop
 use Rattle.rehearsal.specs.Texts.{outcome_text, no_client_text}
-use Rattle.rehearsal.specs.Scripts.{Filling, RunningWorld, Place, Running, Goes, Bad, MakesStep, LeadsRunning, named_client, added_outcomes, opened_world, header_of_filling}
-use Rattle.rehearsal.specs.Progress.{IsAt, IsOpened, MovesTo, StopsAtMove, SaysAll, SaysText, running_world}
+use Rattle.rehearsal.specs.Scripts.{Filling, RunningWorld, Place, Running, Goes, Bad, MakesStep, LeadsFilled, LeadsRunning, named_client, added_outcomes, opened_world, header_of_filling}
+use Rattle.rehearsal.specs.Progress.{IsAt, IsOpened, MovesTo, StopsAtMove, SaysAll, SaysText, OpensWorld, running_world}
 use Rattle.rehearsal.proofs.Moves.{joined-map, joined_one, StopsAt-from_all, StopsAt-from_text}
 
 pub is_true : (b : Bool) → (b ≡ false → ⊥) → b ≡ true
@@ -111,3 +113,13 @@ pub opened_is : (f : Filling) (w : Kept) → IsOpened f w → opened_world f ≡
 opened_is f w h =
     let at : Header → ℕ → RunningWorld = λ x k. record { header = x; clients = k; state = (opened_world f).state } in
     ap (λ (x : Header). at x (length f.clients)) (sym h.header) ∙ ap (λ (k : ℕ). at w.header k) (sym h.clients)
+
+-- the first step of a world that is not opened
+pub StopsAt-from_opening : (f : Filling) (s : Step) (n : ℕ) (o : Option (List ℕ)) (e : Stop) → 0 < length f.clients → OpensWorld f (Err e) →
+    StopsAtMove (LeadsFilled f (line.Step s)) n o e o
+StopsAt-from_opening f s n o (stop.World fault) some h = (inr (some, inr (fault, h.0, h.1, refl)), Appends-nil o)
+StopsAt-from_opening f s n o stop.Memory some h = inl (Appends-nil o)
+StopsAt-from_opening f s n o stop.TooLong some h = absurd h
+StopsAt-from_opening f s n o (stop.BadLine m) some h = absurd h
+StopsAt-from_opening f s n o stop.Read some h = absurd h
+StopsAt-from_opening f s n o stop.Write some h = absurd h

@@ -7,6 +7,7 @@ use Rattle.std.specs.Result.{result_ok}
 use Rattle.std.specs.Str.{bytes_eq}
 use Rattle.std.specs.Str.Parse.{digits_value}
 use Rattle.hex.specs.Hex.{decode_of}
+use Rattle.command_words.specs.Values.{bytes_in}
 use Rattle.pir_schemes.specs.declared.scheme.Scheme.{Scheme}
 use Rattle.pir_schemes.specs.declared.scheme.Scheme.TheVariants.{Simple, Double}
 use Rattle.pir_world.specs.declared.steps.Step.{Step}
@@ -53,26 +54,26 @@ scheme_in word =
     else if bytes_eq word (codes "double") then Some Double
     else None
 
--- one byte or more, two hex digits each
-abbrev pub bytes_in : List ℕ → Option (List ℕ)
-bytes_in word = if length word == 0 then None else result_ok (decode_of word)
-
 -- 32 bytes, two hex digits each
 abbrev pub bytes32_in : List ℕ → Option (List ℕ)
 bytes32_in word = if length word == 64 then result_ok (decode_of word) else None
 
 -- ---- what a line says
 
--- the sizes of a world
-abbrev pub sizes_in : List ℕ → List ℕ → List ℕ → List ℕ → Option HeaderSizes
-sizes_in w r g n =
+-- the sizes of a world of a form
+abbrev pub sizes_in : ℕ → List ℕ → List ℕ → List ℕ → List ℕ → Option HeaderSizes
+sizes_in form w r g n =
     option_and_then (λ width. option_and_then (λ record_len. option_and_then (λ groups. option_map (λ dimension.
-    record { width = width; record_len = record_len; groups = groups; dimension = dimension })
+    record { form = form; width = width; record_len = record_len; groups = groups; dimension = dimension })
     (numeral_value (2 ^ 16) n)) (numeral_value (2 ^ 16) g)) (numeral_value (2 ^ 16) r)) (numeral_value (2 ^ 8) w)
 
 -- the edit of a record
 abbrev pub edit_in : List ℕ → List ℕ → Option Step
 edit_in i b = option_and_then (λ index. option_map (λ bytes. step.Edit index bytes) (bytes_in b)) (numeral_value (2 ^ 32) i)
+
+-- a record more
+abbrev pub append_in : List ℕ → Option Step
+append_in b = option_map (λ bytes. step.Append bytes) (bytes_in b)
 
 -- a client's greeting
 abbrev pub hello_in : List ℕ → Option Step
@@ -100,6 +101,7 @@ line_of_one name a =
     if bytes_eq name (codes "seed") then option_map line.Seed (bytes32_in a)
     else if bytes_eq name (codes "record") then option_map line.Record (bytes_in a)
     else if bytes_eq name (codes "client") then option_map line.Client (bytes32_in a)
+    else if bytes_eq name (codes "append") then option_map line.Step (append_in a)
     else if bytes_eq name (codes "hello") then option_map line.Step (hello_in a)
     else None
 
@@ -118,7 +120,10 @@ abbrev pub line_of_words : List (List ℕ) → Option Line
 line_of_words (name ∷ []) = if bytes_eq name (codes "publish") then Some (line.Step step.Publish) else None
 line_of_words (name ∷ a ∷ []) = line_of_one name a
 line_of_words (name ∷ a ∷ b ∷ []) = line_of_two name a b
-line_of_words (name ∷ a ∷ b ∷ c ∷ d ∷ []) = if bytes_eq name (codes "world") then option_map line.World (sizes_in a b c d) else None
+line_of_words (name ∷ a ∷ b ∷ c ∷ d ∷ []) =
+    if bytes_eq name (codes "world") then option_map line.World (sizes_in 1 a b c d)
+    else if bytes_eq name (codes "world2") then option_map line.World (sizes_in 2 a b c d)
+    else None
 line_of_words _ = None
 
 -- what a line says: ASCII words, parted by one space each; nothing where no line is written so

@@ -1,11 +1,13 @@
 -- What a script prints, line by line.
-use Rattle.std.specs.Prelude.{◌≡◌, ◌≢◌, ◌<◌, ◌≤◌, ◌+◌, ◌⊎◌, ◌++◌, ◌==◌, ◌&&◌, ℕ, List, [], ◌∷◌, length, take, drop, map, replicate, true, false, nat_lt, if◌then◌else◌, Option, Some, None}
+use Rattle.std.specs.Prelude.{◌≡◌, ◌≢◌, ◌<◌, ◌≤◌, ◌+◌, ◌⊎◌, ◌++◌, ◌==◌, ◌&&◌, ℕ, List, [], ◌∷◌, length, take, drop, map, replicate, true, false, nat_lt, nat_le, if◌then◌else◌, Option, Some, None}
 use Rattle.std.specs.List.{flat_map}
 use Rattle.std.specs.Io.KnownBytes.{IsAtEnd}
+use Rattle.pir_schemes.specs.declared.plan.Plan.{Plan}
+use Rattle.pir_schemes.specs.Plans.{fits, slot}
 use Rattle.snapshot_file.specs.declared.snapshot.Header.{Header}
 use Rattle.version_store.specs.declared.opening.OpenError.{OpenError}
 use Rattle.version_store.specs.declared.opening.OpenError.TheVariants as opening_error
-use Rattle.version_store.specs.Openings.{IsOpenFault}
+use Rattle.version_store.specs.Openings.{IsOpenFault, plan_held}
 use Rattle.pir_world.specs.declared.steps.Step.{Step}
 use Rattle.pir_world.specs.declared.steps.Step.TheVariants as step
 use Rattle.pir_world.specs.declared.steps.Outcome.{Outcome}
@@ -20,7 +22,7 @@ use Rattle.rehearsal.specs.Lines.{lines_of, is_silent, line_of}
 
 -- ---- how far a script has come
 
--- what a header has said: the sizes, the public seed, the records one after another, how many they are, the clients' seeds
+-- what a header has said: the sizes, the public seed, the records' bytes one after another, how many they are, the clients' seeds
 pub record Filling : Type 0 where
   pub sizes : HeaderSizes
   pub seed : List ℕ
@@ -49,18 +51,40 @@ pub data Move : Type 0 where
 
 -- ---- the header
 
+-- what a world is opened with: version 1, and no publisher
+abbrev pub header_of_filling : Filling → Header
+header_of_filling f = record {
+  form = f.sizes.form;
+  width = f.sizes.width;
+  record_len = f.sizes.record_len;
+  groups = f.sizes.groups;
+  count = f.count;
+  dimension = f.sizes.dimension;
+  version = 1;
+  seed = f.seed;
+  publisher = replicate 32 0;
+}
+
+-- what stays the same in every version of it
+abbrev pub plan_of_filling : Filling → Plan
+plan_of_filling f = plan_held (header_of_filling f)
+
+-- the bytes that are kept of a record: those that it has in the digits; none where no world has records so long
+abbrev pub kept_of : Plan → List ℕ → List ℕ
+kept_of p bytes = if nat_le p.record_len 256 then slot p bytes else []
+
 -- one record more
 abbrev pub with_record : Filling → List ℕ → Filling
-with_record f bytes = record f { records = f.records ++ bytes; count = f.count + 1 }
+with_record f bytes = record f { records = f.records ++ kept_of (plan_of_filling f) bytes; count = f.count + 1 }
 
 -- one client more
 abbrev pub with_client : Filling → List ℕ → Filling
 with_client f seed = record f { clients = f.clients ++ seed ∷ [] }
 
--- a record has its place before all clients, and the length that the sizes say
+-- a record has its place before all clients, and a length that the sizes allow
 abbrev pub record_move : Filling → List ℕ → Move
 record_move f bytes =
-    if (length f.clients == 0) && (length bytes == f.sizes.record_len) then Goes (Filled (with_record f bytes)) [] else Bad
+    if (length f.clients == 0) && fits (plan_of_filling f) bytes then Goes (Filled (with_record f bytes)) [] else Bad
 
 -- a client has its place after the records, where there are fewer than 16
 abbrev pub client_move : Filling → List ℕ → Move
@@ -77,20 +101,6 @@ sized_move sizes (line.Seed seed) = Goes (Filled (record { sizes = sizes; seed =
 sized_move sizes _ = Bad
 
 -- ---- the world
-
--- what it is opened with: version 1, and no publisher
-abbrev pub header_of_filling : Filling → Header
-header_of_filling f = record {
-  form = 1;
-  width = f.sizes.width;
-  record_len = f.sizes.record_len;
-  groups = f.sizes.groups;
-  count = f.count;
-  dimension = f.sizes.dimension;
-  version = 1;
-  seed = f.seed;
-  publisher = replicate 32 0;
-}
 
 -- the world as it is opened
 abbrev pub opened_world : Filling → RunningWorld

@@ -7,10 +7,10 @@ use Rattle.client_core.specs.declared.state.Event.TheVariants as event
 use Rattle.pir_schemes.specs.declared.scheme.Scheme.{Scheme}
 use Rattle.pir_schemes.specs.declared.scheme.Scheme.TheVariants.{Simple, Double}
 use Rattle.version_store.specs.declared.opening.OpenError.{OpenError}
-use Rattle.version_store.specs.Names.{edit_fault_name, publish_fault_name, open_fault_name}
+use Rattle.version_store.specs.Names.{append_fault_name, edit_fault_name, publish_fault_name, open_fault_name}
 use Rattle.client_core.specs.Names.{call_fault_name, client_fault_name}
 use Rattle.pir_world.specs.declared.steps.Outcome.{Outcome}
-use Rattle.pir_world.specs.declared.steps.Outcome.TheVariants.{Edited, EditRefused, Published, PublishRefused, Reported, CallRefused, Failed}
+use Rattle.pir_world.specs.declared.steps.Outcome.TheVariants.{Edited, EditRefused, Appended, AppendRefused, Published, PublishRefused, Reported, CallRefused, Failed}
 
 -- the name of a scheme in a script
 unfoldable pub scheme_name : Scheme → List ℕ
@@ -50,6 +50,8 @@ call_refused_text client name = about_client client (codes ": call refused " ++ 
 abbrev pub outcome_text : Outcome → List ℕ
 outcome_text (Edited index) = codes "edit " ++ (decimal index ++ codes ": accepted\n")
 outcome_text (EditRefused index e) = codes "edit " ++ (decimal index ++ (codes ": refused " ++ (edit_fault_name e ++ codes "\n")))
+outcome_text Appended = codes "append: accepted\n"
+outcome_text (AppendRefused e) = codes "append: refused " ++ (append_fault_name e ++ codes "\n")
 outcome_text (Published version) = codes "publish: version " ++ (decimal version ++ codes "\n")
 outcome_text (PublishRefused e) = codes "publish: refused " ++ (publish_fault_name e ++ codes "\n")
 outcome_text (Reported client e) = event_text client e

@@ -3,12 +3,12 @@
 ghost use Rattle.std.specs.Prelude.{◌≡◌, ◌==◌, ◌<◌, ◌^◌, ◌∷◌, [], IfOk, MatchOption, map, true};
 ghost use Rattle.std.specs.List.{slice_split};
 ghost use Rattle.std.specs.Option.{option_map};
-ghost use Rattle.rehearsal.specs.Lines.{ask_in, bytes32_in, bytes_in, edit_in, hello_in, line_of, line_of_one, line_of_two, line_of_words, most_in, numeral_value, scheme_in, sizes_in, sync_in, to_client_in, to_server_in};
+ghost use Rattle.command_words.specs.Values.{bytes_in};
+ghost use Rattle.rehearsal.specs.Lines.{append_in, ask_in, bytes32_in, edit_in, hello_in, line_of, line_of_one, line_of_two, line_of_words, most_in, numeral_value, scheme_in, sizes_in, sync_in, to_client_in, to_server_in};
 
 use client_core::Scheme;
-use command_words::{bytes32_from_hex, decimal};
+use command_words::{bytes_from_hex, bytes32_from_hex, decimal};
 use frame_codec::Bytes;
-use hex::FromHexError;
 use pir_world::Step;
 use std::alloc::{AllocError, Global};
 use std::str;
@@ -16,6 +16,8 @@ use std::str;
 /// The sizes of a world.
 #[derive(Clone, Copy, Debug, PartialEq, Eq)]
 pub struct HeaderSizes {
+    /// 1 where all records have one length, 2 where each has its own and stands in a slot.
+    pub form: u8,
     /// How many bits a digit has.
     pub width: u8,
     /// How many bytes a record has.
@@ -104,6 +106,9 @@ fn read_one(alloc: Global, name: &str, word: &str) -> Result<Option<Line>, Alloc
     if name == "client" {
         return Ok(bytes32_of(word).map(Line::Client));
     }
+    if name == "append" {
+        return Ok(append(alloc, word)?.map(Line::Step));
+    }
     if name == "hello" {
         return Ok(hello(word).map(Line::Step));
     }
@@ -149,7 +154,10 @@ fn read_sizes(
         (name.now ∷ width.now ∷ record_len.now ∷ groups.now ∷ dimension.now ∷ []) }
 {
     if name == "world" {
-        return sizes_of(width, record_len, groups, dimension).map(Line::World);
+        return sizes_of(1, width, record_len, groups, dimension).map(Line::World);
+    }
+    if name == "world2" {
+        return sizes_of(2, width, record_len, groups, dimension).map(Line::World);
     }
     None
 }
@@ -162,6 +170,15 @@ fn edit(alloc: Global, index: &str, bytes: &str) -> Result<Option<Step>, AllocEr
     };
     match bytes_of(alloc, bytes)? {
         Some(bytes) => Ok(Some(Step::Edit { index, bytes })),
+        None => Ok(None),
+    }
+}
+
+fn append(alloc: Global, bytes: &str) -> Result<Option<Step>, AllocError>
+    ensures { IfOk result (λ found. found ≡ append_in bytes.now) }
+{
+    match bytes_of(alloc, bytes)? {
+        Some(bytes) => Ok(Some(Step::Append { bytes })),
         None => Ok(None),
     }
 }
@@ -205,14 +222,21 @@ fn to_client(client: &str, most: &str) -> Option<Step>
     Some(Step::ToClient { client, most })
 }
 
-fn sizes_of(width: &str, record_len: &str, groups: &str, dimension: &str) -> Option<HeaderSizes>
-    ensures { result ≡ sizes_in width.now record_len.now groups.now dimension.now }
+fn sizes_of(
+    form: u8,
+    width: &str,
+    record_len: &str,
+    groups: &str,
+    dimension: &str,
+) -> Option<HeaderSizes>
+    ensures { result ≡ sizes_in form width.now record_len.now groups.now dimension.now }
 {
     let width = width_of(width)?;
     let record_len = size_of(record_len)?;
     let groups = size_of(groups)?;
     let dimension = size_of(dimension)?;
     Some(HeaderSizes {
+        form,
         width,
         record_len,
         groups,
@@ -288,16 +312,9 @@ fn bytes32_of(text: &str) -> Option<[u8; 32]>
     bytes32_from_hex(text)
 }
 
-/// One or more bytes in hex.
+/// Bytes in hex, or a dash for none.
 fn bytes_of(alloc: Global, text: &str) -> Result<Option<Bytes>, AllocError>
     ensures { IfOk result (λ found. found ≡ bytes_in text.now) }
 {
-    if text.is_empty() {
-        return Ok(None);
-    }
-    match hex::decode(alloc, text) {
-        Ok(bytes) => Ok(Some(Bytes::new(bytes))),
-        Err(FromHexError::OutOfMemory) => Err(AllocError),
-        Err(_) => Ok(None),
-    }
+    Ok(bytes_from_hex(alloc, text)?.map(Bytes::new))
 }

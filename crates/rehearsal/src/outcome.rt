@@ -19,6 +19,11 @@ pub fn outcome_line(alloc: Global, outcome: &Outcome) -> Result<String, AllocErr
             let name = fault.name();
             format!(in alloc; "edit {index}: refused {name}\n")
         }
+        Outcome::Appended => String::from_str(alloc, "append: accepted\n"),
+        Outcome::AppendRefused { fault } => {
+            let name = fault.name();
+            format!(in alloc; "append: refused {name}\n")
+        }
         Outcome::Published { version } => format!(in alloc; "publish: version {version}\n"),
         Outcome::PublishRefused { fault } => {
             let name = fault.name();

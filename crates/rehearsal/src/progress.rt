@@ -1,25 +1,31 @@
 //! How far a script has come.
 
-ghost use Rattle.std.specs.Prelude.{◌≡◌, ℕ, drop, false, length};
+ghost use Rattle.std.specs.Prelude.{◌≡◌, ◌++◌, ℕ, IfOk, drop, false, length, true};
 ghost use Rattle.pir_world.specs.Runs.{State};
 ghost use Rattle.pir_world.specs.Worlds.{IsRunOf};
 ghost use Rattle.rehearsal.specs.Texts.{no_client_text};
-ghost use Rattle.rehearsal.specs.Scripts.{Leads, LeadsAtEnd, LeadsFilled, MakesStep, Place, client_move, named_client, record_move, sized_move, start_move};
+ghost use Rattle.pir_schemes.specs.Plans.{fits};
+ghost use Rattle.rehearsal.specs.Scripts.{Leads, LeadsAtEnd, LeadsFilled, MakesStep, Place, client_move, kept_of, named_client, plan_of_filling, record_move, sized_move, start_move};
 ghost use Rattle.rehearsal.specs.Progress.{EndsAs, IsAt, MovesQuietly, MovesTo, OpensWorld, SaysAll, SaysText, running_world, filling_of};
 
 use crate::line::{HeaderSizes, Line};
 use crate::outcome::outcome_line;
 use crate::stop::Stop;
 use connection_io::write_out;
+use digit_pack::fill_slot;
 use frame_codec::Bytes;
 use lane_kernels::Lanes;
+use pir_schemes::Plan;
 use pir_world::{Outcome, Step, StepFault, World};
-use std::alloc::Global;
+use std::alloc::{AllocError, Global};
 use std::io::Write;
 use version_store::{OpenError, Snapshot};
 
 /// How many clients a world may have.
 const MOST_CLIENTS: usize = 16;
+
+/// How many bytes a record of a world has at most.
+const LONGEST_RECORD: u16 = 256;
 
 /// How far a script has come: what its header has said, or the world that it has opened.
 #[derive(Drop)]
@@ -139,18 +145,31 @@ impl Opening {
     fn add_record(mut self, number: u64, bytes: Bytes) -> Result<Progress, Stop>
         ensures { MovesQuietly (λ move. move ≡ record_move (filling_of self) bytes) number result }
     {
-        if !self.clients.is_empty()
-            || bytes.as_slice().len() != usize::from(self.sizes.record_len)
-        {
+        let plan = self.plan();
+        if !self.clients.is_empty() || !plan.fits(bytes.as_slice()) {
             return Err(Stop::BadLine { number });
         }
         // No script within its limit has so many.
         let Some(count) = self.count.checked_add(1) else {
             return Err(Stop::Memory);
         };
-        self.records.extend_from_slice(bytes.as_slice())?;
+        keep_record(&plan, &mut self.records, bytes.as_slice())?;
         self.count = count;
         Ok(Progress::Filling(self))
+    }
+
+    /// What stays the same in every version of the world.
+    fn plan(&self) -> Plan
+        ensures { result ≡ plan_of_filling (filling_of self.now) }
+    {
+        Plan {
+            form: u16::from(self.sizes.form),
+            width: self.sizes.width,
+            record_len: self.sizes.record_len,
+            groups: self.sizes.groups,
+            dimension: self.sizes.dimension,
+            seed: self.seed,
+        }
     }
 
     /// Takes a client.
@@ -198,7 +217,7 @@ impl Opening {
             clients,
         } = self;
         let snapshot = Snapshot {
-            form: 1,
+            form: sizes.form,
             width: sizes.width,
             record_len: sizes.record_len,
             groups: sizes.groups,
@@ -219,6 +238,26 @@ impl Opening {
             Err(fault) => Err(Stop::World(fault)),
         }
     }
+}
+
+/// Appends the bytes that a record has in the digits. A world whose records are longer than any layout allows is refused
+/// when it is opened, and nothing is kept for it: a short script would else take many times its own length in slots.
+#[tactic(auto, unfolding(pir_schemes::specs::Plans::fits, pir_schemes::specs::Plans::slot))]
+fn keep_record(plan: &Plan, records: &mut Vec<u8>, bytes: &[u8]) -> Result<(), AllocError>
+    requires fits { fits plan.now bytes.now ≡ true }
+    ensures { IfOk result (λ _. records.new.items ≡
+        records.old.items ++ kept_of plan.now bytes.now) }
+{
+    if plan.record_len > LONGEST_RECORD {
+        return Ok(());
+    }
+    if plan.form == 2 {
+        let start = records.len();
+        records.resize(start + usize::from(plan.record_len), 0)?;
+        fill_slot(bytes, &mut records[start..]);
+        return Ok(());
+    }
+    records.extend_from_slice(bytes)
 }
 
 /// Makes a step, and prints what comes of it.
@@ -292,6 +331,7 @@ fn client_of(step: &Step) -> usize
 {
     match step {
         Step::Edit { .. } => 0,
+        Step::Append { .. } => 0,
         Step::Publish => 0,
         Step::Hello { client } => *client,
         Step::Sync { client, .. } => *client,

@@ -251,6 +251,68 @@ fn packed_and_flat_give_the_same_products(rt: HostRuntime) -> Result<(), Fail> {
     Ok(())
 }
 
+// Puts the test digits of three rows into the columns from one on.
+fn put_digits<S: DigitStore>(rt: &impl Abort, store: &mut S, from: usize, cols: usize) {
+    for i in 0..3 {
+        for j in from..cols {
+            assert_eq!(rt; (store.rows(), store.cols()), (3, cols));
+            store.set(i, j, test_digit(i, j));
+        }
+    }
+}
+
+// Three rows have the test digits in the columns before one, and 0 from it on.
+fn has_digits_before<S: DigitStore>(rt: &impl Abort, store: &S, end: usize) {
+    assert_eq!(rt; store.rows(), 3);
+    for i in 0..3 {
+        for j in 0..store.cols() {
+            let wanted = if j < end { test_digit(i, j) } else { 0 };
+            assert_eq!(rt; store.get(i, j), wanted, "row {i}, column {j}");
+        }
+    }
+}
+
+// What every store does as it grows: within a word and beyond it, by no column, and by too many.
+fn grows_by_zeros<S: DigitStore>(rt: &(impl Abort + AllocGlobal)) -> Result<(), Fail> {
+    let Ok(mut store) = S::zeros(rt.alloc(), 3, 3) else {
+        return Err(Fail::from(MatrixError::Memory));
+    };
+    put_digits(rt, &mut store, 0, 3);
+    for cols in [3, 4, 4, 6, 7, 20] {
+        let from = store.cols();
+        assert!(rt; from <= cols);
+        assert_eq!(rt; store.grow(cols), Ok(()));
+        assert_eq!(rt; store.cols(), cols);
+        has_digits_before(rt, &store, from);
+        put_digits(rt, &mut store, from, cols);
+    }
+    assert_eq!(rt; store.cols(), 20);
+    assert_eq!(rt; store.grow(11_184_811), Err(MatrixError::TooLarge));
+    assert_eq!(rt; store.cols(), 20);
+    has_digits_before(rt, &store, 20);
+    Ok(())
+}
+
+#[test]
+fn flat_grows_by_zeros(rt: HostRuntime) -> Result<(), Fail> {
+    grows_by_zeros::<Flat>(&rt)?;
+    let Ok(mut store) = Flat::zeros(rt.alloc(), 2, 1) else {
+        return Err(Fail::from(MatrixError::Memory));
+    };
+    assert_eq!(rt; (store.rows(), store.cols()), (2, 1));
+    store.set(1, 0, 5);
+    assert_eq!(rt; store.cols(), 1);
+    assert_eq!(rt; store.grow(16_777_217), Err(MatrixError::TooLarge));
+    assert_eq!(rt; (store.rows(), store.cols()), (2, 1));
+    assert_eq!(rt; (store.get(0, 0), store.get(1, 0)), (0, 5));
+    Ok(())
+}
+
+#[test]
+fn packed_grows_by_zeros(rt: HostRuntime) -> Result<(), Fail> {
+    grows_by_zeros::<Packed3>(&rt)
+}
+
 #[test]
 fn stores_without_rows_and_of_one_record(rt: HostRuntime) -> Result<(), Fail> {
     let Ok(none) = Flat::zeros(rt.alloc(), 0, 5) else {

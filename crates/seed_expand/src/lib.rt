@@ -10,7 +10,7 @@
 ghost use Rattle.std.specs.Prelude.{◌≡◌, ℕ, ◌+◌, ◌%◌, ◌^◌, ◌<◌, ◌≤◌, IfOk, length};
 ghost use Rattle.matrix_u32.specs.Sum.{list_of};
 ghost use Rattle.seed_expand.specs.Words.{source_at, further, word_here, source_word, words_from, public_rows};
-ghost use Rattle.seed_expand.specs.Laws.{SourceGivesWords, PlacesRunOn};
+ghost use Rattle.seed_expand.specs.Laws.{SourceGivesWords, PlacesRunOn, RowsRunOn};
 
 use matrix_u32::Matrix;
 use rand_chacha::ChaCha20Rng;
@@ -138,4 +138,9 @@ pub fn source_gives_words()
 /// a stream begins anew.
 pub fn places_run_on()
     ensures { PlacesRunOn }
+{}
+
+/// Rows run on: rows of a public matrix and those after them, made apart, are the rows made at once.
+pub fn rows_run_on()
+    ensures { RowsRunOn }
 {}

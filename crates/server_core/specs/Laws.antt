@@ -1,15 +1,17 @@
 -- Laws of sessions.
 use Rattle.std.specs.Prelude.{◌≡◌, ◌≢◌, ℕ, List, [], ◌∷◌, ◌++◌, length, false, Option, Result, Ok, Err}
+use Rattle.pir_schemes.specs.declared.scheme.Scheme.{Scheme}
+use Rattle.pir_schemes.specs.Retrievals.{answer_words}
 use Rattle.frame_codec.specs.declared.frame.Frame.{Frame}
 use Rattle.frame_codec.specs.declared.frame.Frame.TheVariants.{Query, Answer}
 use Rattle.frame_codec.specs.Frames.{kind_of, payload_of}
 use Rattle.frame_codec.specs.declared.reader.ReadFault.{ReadFault}
 use Rattle.frame_codec.specs.declared.reader.ReadFault.TheVariants.{Memory}
 use Rattle.frame_codec.specs.Streams.{Feeds}
-use Rattle.version_store.specs.Histories.{StoreState, History}
+use Rattle.version_store.specs.Histories.{StoreState, History, current_version}
 use Rattle.server_core.specs.declared.standing.Standing.{Standing}
 use Rattle.server_core.specs.Courses.{course_of_piece, lacks_memory}
-use Rattle.server_core.specs.Serving.{Setting, is_closed, outcome_of_frame, replies_with}
+use Rattle.server_core.specs.Serving.{Setting, is_closed, outcome_of_frame, replies_with, words_answered}
 use Rattle.server_core.specs.Sessions.{Session, FeedsSession, Fed}
 
 -- Sessions that nobody can tell apart: the same standing and the same unfinished bytes, of which a closed session reads no more.
@@ -73,12 +75,13 @@ abbrev pub AreAlikeReplies : Frame → Frame → Type 0
 AreAlikeReplies (Answer scheme version words) other = (others : List ℕ) × (other ≡ Answer scheme version others) × (length others ≡ length words)
 AreAlikeReplies reply other = other ≡ reply
 
--- two queries are answered alike: nothing but the reply comes of either, and these have one kind, one version, one count and one length
-pub record AnsweredAlike (x : Setting) (h : History) (st : Standing) (query other : Frame) : Type 0 where
+-- Two queries, each on a history of its own, are answered alike: nothing but the reply comes of either, and these have one kind,
+-- one version, one count and one length.
+pub record AnsweredAlike (x : Setting) (h g : History) (st : Standing) (query other : Frame) : Type 0 where
   pub reply : Frame
   pub reply2 : Frame
   pub first : outcome_of_frame x h st query ≡ replies_with reply st h
-  pub second : outcome_of_frame x h st other ≡ replies_with reply2 st h
+  pub second : outcome_of_frame x g st other ≡ replies_with reply2 st g
   pub alike : AreAlikeReplies reply reply2
   pub kind : kind_of reply ≡ kind_of reply2
   pub len : length (payload_of reply) ≡ length (payload_of reply2)
@@ -87,4 +90,16 @@ pub record AnsweredAlike (x : Setting) (h : History) (st : Standing) (query othe
 -- query's scheme, version and word count: the words decide nothing else.
 abbrev pub RepliesHoldNoIndex : Type 0
 RepliesHoldNoIndex = (x : Setting) (h : History) (st : Standing) (scheme version : ℕ) (words others : List ℕ) → length words ≡ length others
-    → AnsweredAlike x h st (Query scheme version words) (Query scheme version others)
+    → AnsweredAlike x h h st (Query scheme version words) (Query scheme version others)
+
+-- And of the history, the number of the current version and its record count alone decide: what the records are, and how long
+-- each of them is, changes no reply's kind or length.
+abbrev pub RepliesHoldNoLength : Type 0
+RepliesHoldNoLength = (x : Setting) (h g : History) (st : Standing) (scheme version : ℕ) (words others : List ℕ)
+    → current_version h ≡ current_version g → length h.current ≡ length g.current → length words ≡ length others
+    → AnsweredAlike x h g st (Query scheme version words) (Query scheme version others)
+
+-- an answer has as many words as its layout, its scheme and the dimension give
+abbrev pub AnswersHaveTheirLayoutsLength : Type 0
+AnswersHaveTheirLayoutsLength = (x : Setting) (h : History) (scheme : Scheme) (words : List ℕ) →
+    length (answer_words scheme x.plan h.current words) ≡ words_answered x scheme h.current

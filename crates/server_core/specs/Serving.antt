@@ -6,6 +6,7 @@ use Rattle.std.specs.declared.alloc.Global.{Global}
 use Rattle.std.specs.List.{flat_map, AllByRecursion}
 use Rattle.sha2.specs.Sha256.{sha256}
 use Rattle.matrix_u32.specs.Matrix.{row}
+use Rattle.digit_pack.specs.Layout.{is_layout}
 use Rattle.pir_schemes.specs.declared.scheme.Scheme.{Scheme}
 use Rattle.pir_schemes.specs.declared.scheme.Scheme.TheVariants.{Simple}
 use Rattle.pir_schemes.specs.Schemes.{scheme_byte, scheme_of_byte}
@@ -13,9 +14,9 @@ use Rattle.pir_schemes.specs.Parts.{part_of, is_part_of}
 use Rattle.pir_schemes.specs.declared.plan.Plan.{Plan}
 use Rattle.pir_schemes.specs.Plans.{shape_at, profile_of, accepts_profile, fits}
 use Rattle.pir_schemes.specs.Retrievals.{hint_matrix, query_count, answer_count, answer_words}
-use Rattle.version_store.specs.Histories.{StoreState, History, StandsFor, current_version, after_edit, published, delta_rows}
+use Rattle.version_store.specs.Histories.{StoreState, History, StandsFor, current_version, after_edit, after_append, published, delta_rows}
 use Rattle.frame_codec.specs.declared.frame.Frame.{Frame}
-use Rattle.frame_codec.specs.declared.frame.Frame.TheVariants.{Hello, HintAsk, DeltaAsk, Query, Edit, Publish, Bye, Welcome, HintPart, Delta, Answer, Stale, Done, NoDelta}
+use Rattle.frame_codec.specs.declared.frame.Frame.TheVariants.{Hello, HintAsk, DeltaAsk, Query, Edit, Append, Publish, Bye, Welcome, HintPart, Delta, Answer, Stale, Done, NoDelta}
 use Rattle.frame_codec.specs.declared.refusal.Refusal.{Refusal}
 use Rattle.frame_codec.specs.declared.refusal.Refusal.TheVariants as refusal
 use Rattle.frame_codec.specs.Refusals.{refused}
@@ -165,6 +166,16 @@ outcome_of_frame x h st (Edit index bytes) =
     else refuses refusal.BadIndex st h)
     else refuses refusal.NotPublisher st h)
     else refuses refusal.NotWelcome st h
+outcome_of_frame x h st (Append bytes) =
+    if is_welcome st then (
+    if is_publisher st then (
+    if fits x.plan bytes then (
+    if is_layout (shape_at x.plan (length h.draft + 1))
+    then record { reply = Some (Done (current_version h)); standing = st; history = after_append bytes h }
+    else refuses refusal.Full st h)
+    else refuses refusal.BadLength st h)
+    else refuses refusal.NotPublisher st h)
+    else refuses refusal.NotWelcome st h
 outcome_of_frame x h st Publish =
     if is_welcome st then (
     if is_publisher st then (
@@ -198,6 +209,9 @@ takes_memory x h st (Query scheme version words) =
 takes_memory x h st (Edit index bytes) =
     if is_welcome st then (
     if is_publisher st then (if nat_lt index (length h.draft) then fits x.plan bytes else false) else false) else false
+takes_memory x h st (Append bytes) =
+    if is_welcome st then (
+    if is_publisher st then (if fits x.plan bytes then is_layout (shape_at x.plan (length h.draft + 1)) else false) else false) else false
 takes_memory x h st Publish =
     if is_welcome st then (
     if is_publisher st then (if h.marked then not (current_version h + 1 == 2 ^ 64) else false) else false) else false

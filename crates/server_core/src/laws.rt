@@ -10,6 +10,8 @@ ghost use Rattle.server_core.specs.Laws.{
   SessionsNeverMeet,
   FeedsAreAlike,
   RepliesHoldNoIndex,
+  RepliesHoldNoLength,
+  AnswersHaveTheirLayoutsLength,
 };
 ghost use Rattle.server_core.specs.Courses.{course_of, lacks_memory};
 ghost use Rattle.server_core.specs.Serving.{Setting, ServesAll};
@@ -53,4 +55,12 @@ pub fn feeds_are_alike()
 /// history, the standing, and the query's scheme, version and word count.
 pub fn replies_hold_no_index()
     ensures { RepliesHoldNoIndex }
+{}
+
+/// The lengths of the records, in which those of form 2 differ, change no reply to a query: its kind, its version, its
+/// count and its length are the same on two histories of as many records in the same version (`alike`), and an answer
+/// has as many words as the layout gives (`answered`).
+pub fn replies_hold_no_length()
+    ensures alike { RepliesHoldNoLength }
+    ensures answered { AnswersHaveTheirLayoutsLength }
 {}

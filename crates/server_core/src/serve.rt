@@ -2,7 +2,7 @@
 
 ghost use Rattle.std.specs.Prelude.{◌≡◌, ◌≤◌, ◌+◌, ◌++◌, vec_len, vec_capacity, OnErr, IfOk};
 ghost use Rattle.frame_codec.specs.Frames.{IsFrame, encoding};
-ghost use Rattle.frame_codec.specs.declared.frame.Frame.TheVariants.{DeltaAsk, Edit, Hello, HintAsk, Publish, Query};
+ghost use Rattle.frame_codec.specs.declared.frame.Frame.TheVariants.{Append, DeltaAsk, Edit, Hello, HintAsk, Publish, Query};
 ghost use Rattle.frame_codec.specs.Refusals.{refused};
 ghost use Rattle.version_store.specs.Histories.{History, StandsFor};
 ghost use Rattle.server_core.specs.Serving.{setting_of, is_publisher_key, is_reader_key, outcome_of_frame, HasRoom, HasOutcome, Serves, ServedAll, BrokenOff, IsFull};
@@ -17,7 +17,7 @@ use matrix_u32::Kernel;
 use pir_schemes::{DELTA_ROWS, Scheme};
 use sha2::{Digest, Sha256};
 use std::alloc::{AllocError, Global};
-use version_store::{EditError, PublishError, Store};
+use version_store::{AppendError, EditError, PublishError, Store};
 
 /// Whether a key is a reader's.
 fn is_reader_key(key: &[u8]) -> bool
@@ -192,6 +192,34 @@ fn serve_edit<K: Kernel>(
     }
 }
 
+/// Appends a record to the draft.
+fn serve_append<K: Kernel>(
+    store: &mut Store<K>,
+    standing: Standing,
+    bytes: &Bytes,
+    out: &mut Vec<u8>,
+)
+    requires { vec_len out.old + 64 ≤ vec_capacity out.old }
+    ensures { (h : History) → StandsFor store.old h →
+        Serves (setting_of store.old) h standing
+        (Append bytes.now) store.new standing out.old.items out.new.items }
+{
+    if !standing.is_welcome() {
+        put_refused(Refusal::NotWelcome, out);
+        return;
+    }
+    if !standing.is_publisher() {
+        put_refused(Refusal::NotPublisher, out);
+        return;
+    }
+    match store.append(bytes.as_slice()) {
+        Ok(()) => put_done(store.version(), out),
+        Err(AppendError::BadLength) => put_refused(Refusal::BadLength, out),
+        Err(AppendError::Full) => put_refused(Refusal::Full, out),
+        Err(AppendError::Memory) => put_refused(Refusal::Memory, out),
+    }
+}
+
 /// Publishes the draft.
 fn serve_publish<K: Kernel>(store: &mut Store<K>, standing: Standing, out: &mut Vec<u8>)
     requires { vec_len out.old + 64 ≤ vec_capacity out.old }
@@ -263,6 +291,10 @@ fn serve_with_room<K: Kernel>(
         }
         Frame::Edit { index, bytes } => {
             serve_edit(store, standing, *index, bytes, out);
+            standing
+        }
+        Frame::Append { bytes } => {
+            serve_append(store, standing, bytes, out);
             standing
         }
         Frame::Publish => {

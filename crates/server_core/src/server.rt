@@ -1,8 +1,9 @@
 //! Sessions over one store.
 
 ghost use Rattle.std.specs.Prelude.{◌≡◌, ◌≢◌, ◌⊎◌, ◌≤◌, ◌<◌, ◌^◌, ◌+◌, ◌↔◌, ℕ, length, OnOk, OnErr, IfOk, IsSome, Some, None, IsErrOf, is_some, slice_set, true, false};
-ghost use Rattle.pir_schemes.specs.Plans.{fits};
-ghost use Rattle.version_store.specs.Histories.{History, StandsFor, after_edit, published, held_published};
+ghost use Rattle.digit_pack.specs.Layout.{is_layout};
+ghost use Rattle.pir_schemes.specs.Plans.{fits, shape_at};
+ghost use Rattle.version_store.specs.Histories.{History, StandsFor, after_edit, after_append, published, held_appended, held_published};
 ghost use Rattle.server_core.specs.Cores.{session_of, is_open, FeedsCore, IsUnreadBy, OnNoSession};
 ghost use Rattle.server_core.specs.Serving.{setting_of, IsFull};
 ghost use Rattle.server_core.specs.Sessions as sessions;
@@ -13,7 +14,7 @@ use std::alloc::Global;
 use std::collections::BTreeMap;
 use std::marker::Model;
 use thiserror::Error;
-use version_store::{EditError, PublishError, Store};
+use version_store::{AppendError, EditError, PublishError, Store};
 
 /// Why no session was opened: the first cause in the order of the variants.
 #[derive(Clone, Copy, Debug, PartialEq, Eq, Error)]
@@ -142,6 +143,24 @@ impl<K: Kernel> ServerCore<K> {
         ensures sessions { self.new.sessions ≡ self.old.sessions }
     {
         self.store.edit(i, bytes)
+    }
+
+    /// Puts a record after those of the draft, as [`Store::append`] does. No session changes.
+    pub fn append(&mut self, bytes: &[u8]) -> Result<(), AppendError>
+        ensures accepted { OnOk result
+            (self.new.store ≡ held_appended bytes.now self.old.store) }
+        ensures history { OnOk result ((h : History) → StandsFor self.old.store h →
+            StandsFor self.new.store (after_append bytes.now h)) }
+        ensures bad_length { IsErrOf result AppendError.BadLength ↔
+            (fits self.old.store.edition.plan bytes.now ≡ false) }
+        ensures full { IsErrOf result AppendError.Full ↔
+            (fits self.old.store.edition.plan bytes.now ≡ true)
+            × (is_layout (shape_at self.old.store.edition.plan
+            (length self.old.store.draft + 1)) ≡ false) }
+        ensures refused { OnErr result (self.new.store ≡ self.old.store) }
+        ensures sessions { self.new.sessions ≡ self.old.sessions }
+    {
+        self.store.append(bytes)
     }
 
     /// Makes the draft the current version and answers its number, as [`Store::publish`] does. No session

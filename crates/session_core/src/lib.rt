@@ -59,7 +59,7 @@ pub use snapshot_file::{
     Header, MigrateError, Snapshot, SnapshotFault, WriteFault, migrate, read_snapshot,
     write_snapshot_bytes,
 };
-pub use version_store::{EditError, OpenError, PublishError, Store, write_snapshot};
+pub use version_store::{AppendError, EditError, OpenError, PublishError, Store, write_snapshot};
 
 #[cfg(test)]
 mod tests;

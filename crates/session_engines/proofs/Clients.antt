@@ -17,7 +17,7 @@ use Rattle.client_core.specs.declared.state.ClientState.{ClientState}
 use Rattle.client_core.specs.declared.state.ServerInfo.{ServerInfo}
 use Rattle.client_core.specs.declared.state.Hint.{Hint}
 use Rattle.client_core.specs.declared.state.Call.{Call}
-use Rattle.client_core.specs.declared.state.Call.TheVariants.{Idle, Hello, Sync, Delta, Ask, Edit, Publish}
+use Rattle.client_core.specs.declared.state.Call.TheVariants.{Idle, Hello, Sync, Delta, Ask, Edit, Append, Publish}
 use Rattle.client_core.specs.declared.state.ClientFault.{ClientFault}
 use Rattle.client_core.specs.declared.state.ClientFault.TheVariants as client
 use Rattle.client_core.specs.declared.state.Event.{Event}
@@ -48,6 +48,7 @@ sound_welcome (Sync s w p) c plan count v = bad c client.BadReply
 sound_welcome (Delta since) c plan count v = bad c client.BadReply
 sound_welcome (Ask i s w k) c plan count v = bad c client.BadReply
 sound_welcome (Edit i b) c plan count v = bad c client.BadReply
+sound_welcome (Append b) c plan count v = bad c client.BadReply
 sound_welcome Publish c plan count v = bad c client.BadReply
 
 sound_asked : (known : Option ServerInfo) (s : Scheme) (c : ClientState) (asked next scheme version part : ℕ) (words : List ℕ) →
@@ -65,6 +66,7 @@ sound_part (Sync s v p) c scheme version part words = sound_asked c.known s c v 
 sound_part (Delta since) c scheme version part words = bad c client.BadReply
 sound_part (Ask i s v k) c scheme version part words = bad c client.BadReply
 sound_part (Edit i b) c scheme version part words = bad c client.BadReply
+sound_part (Append b) c scheme version part words = bad c client.BadReply
 sound_part Publish c scheme version part words = bad c client.BadReply
 
 sound_answered : (known : Option ServerInfo) (hint : Option Hint) (c : ClientState) (i asked number scheme version : ℕ) (words : List ℕ) →
@@ -80,6 +82,7 @@ sound_answer (Sync s v p) c scheme version words = bad c client.BadReply
 sound_answer (Delta since) c scheme version words = bad c client.BadReply
 sound_answer (Ask i s v k) c scheme version words = sound_answered c.known c.hint c i v k scheme version words
 sound_answer (Edit i b) c scheme version words = bad c client.BadReply
+sound_answer (Append b) c scheme version words = bad c client.BadReply
 sound_answer Publish c scheme version words = bad c client.BadReply
 
 sound_staled : (known : Option ServerInfo) (after c : ClientState) (asked version count : ℕ) → (after.failed ≡ c.failed) × (after.number ≡ c.number) →
@@ -94,6 +97,7 @@ sound_stale (Sync s v p) c version count = sound_staled c.known (record c { part
 sound_stale (Delta since) c version count = bad c client.BadReply
 sound_stale (Ask i s v k) c version count = sound_staled c.known c c v version count (refl, refl)
 sound_stale (Edit i b) c version count = bad c client.BadReply
+sound_stale (Append b) c version count = bad c client.BadReply
 sound_stale Publish c version count = bad c client.BadReply
 
 sound_moved : (known : Option ServerInfo) (hint : Option Hint) (c : ClientState) (asked since now count : ℕ) (rows : RowList) →
@@ -109,6 +113,7 @@ sound_delta (Sync s v p) c since now count rows = bad c client.BadReply
 sound_delta (Delta asked) c since now count rows = sound_moved c.known c.hint c asked since now count rows
 sound_delta (Ask i s v k) c since now count rows = bad c client.BadReply
 sound_delta (Edit i b) c since now count rows = bad c client.BadReply
+sound_delta (Append b) c since now count rows = bad c client.BadReply
 sound_delta Publish c since now count rows = bad c client.BadReply
 
 sound_by_parts : (known : Option ServerInfo) (c : ClientState) (version count : ℕ) → IsSound c (goes_by_parts known c version count)
@@ -122,6 +127,7 @@ sound_no_delta (Sync s v p) c version count = bad c client.BadReply
 sound_no_delta (Delta asked) c version count = sound_by_parts c.known c version count
 sound_no_delta (Ask i s v k) c version count = bad c client.BadReply
 sound_no_delta (Edit i b) c version count = bad c client.BadReply
+sound_no_delta (Append b) c version count = bad c client.BadReply
 sound_no_delta Publish c version count = bad c client.BadReply
 
 sound_done : (call : Call) (c : ClientState) (version : ℕ) → IsSound c (takes_done call c version)
@@ -131,6 +137,7 @@ sound_done (Sync s v p) c version = bad c client.BadReply
 sound_done (Delta since) c version = bad c client.BadReply
 sound_done (Ask i s v k) c version = bad c client.BadReply
 sound_done (Edit i b) c version = λ _. (refl, refl)
+sound_done (Append b) c version = λ _. (refl, refl)
 sound_done Publish c version = λ _. (refl, refl)
 
 sound_refused : (call : Call) (c : ClientState) (code : ℕ) → IsSound c (takes_refused call c code)
@@ -140,6 +147,7 @@ sound_refused (Sync s v p) c code = λ _. (refl, refl)
 sound_refused (Delta since) c code = λ _. (refl, refl)
 sound_refused (Ask i s v k) c code = λ _. (refl, refl)
 sound_refused (Edit i b) c code = λ _. (refl, refl)
+sound_refused (Append b) c code = λ _. (refl, refl)
 sound_refused Publish c code = λ _. (refl, refl)
 
 sound : (c : ClientState) (f : Frame) → IsSound c (reaction_to_reply c f)
@@ -151,6 +159,7 @@ sound c (frame.Query scheme version words) = bad c client.BadReply
 sound c (frame.Edit index bytes) = bad c client.BadReply
 sound c frame.Publish = bad c client.BadReply
 sound c frame.Bye = bad c client.BadReply
+sound c (frame.Append bytes) = bad c client.BadReply
 sound c (frame.Welcome profile width record_len groups count version dimension seed) = sound_welcome c.call c _ count version
 sound c (frame.HintPart scheme version part words) = sound_part c.call c scheme version part words
 sound c (frame.Delta since now count rows) = sound_delta c.call c since now count rows

@@ -177,6 +177,8 @@ enum Wanted {
     Ask(u32),
     /// Of a record, to this one byte.
     Edit(u32, u8),
+    /// A record of this one byte.
+    Append(u8),
     Publish,
 }
 
@@ -191,6 +193,7 @@ fn call<K: Kernel>(client: &mut ClientCore<K>, wanted: Wanted) -> Result<Vec<u8>
         Wanted::Sync(scheme) => client.sync(scheme),
         Wanted::Ask(index) => client.ask(index),
         Wanted::Edit(index, byte) => client.edit(index, &[byte]),
+        Wanted::Append(byte) => client.append(&[byte]),
         Wanted::Publish => client.publish(),
     }
 }

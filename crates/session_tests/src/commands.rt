@@ -1,6 +1,6 @@
 //! Commands against stored streams of a server.
 
-use client_commands::{CommandError, Retrieved, get, publish, put};
+use client_commands::{CommandError, Retrieved, append, get, publish, put};
 use client_core::{CallFault, ClientCore, Scheme};
 use matrix_u32::Plain;
 use session_engines::ConverseFault;
@@ -239,6 +239,28 @@ fn a_put_is_done(rt: HostRuntime) -> Result<(), Fail> {
         writer.as_slice()[39..],
         [5, 0, 0, 0, 0x06, 1, 0, 0, 0, 100][..]
     );
+    Ok(())
+}
+
+fn appended(
+    alloc: Global,
+    client: &mut ClientCore<Plain>,
+    reader: &mut Replies,
+    writer: &mut Vec<u8>,
+) -> Result<u64, CommandError> {
+    append(alloc, client, reader, writer, ONES, &[5])
+}
+
+#[test]
+fn an_append_is_done(rt: HostRuntime) -> Result<(), Fail> {
+    let mut reader = stream_of(rt.alloc(), &[WELCOME, &ZEROS, DONE])?;
+    let mut writer = Vec::new(rt.alloc());
+    let mut client = client(rt.alloc());
+    let version = appended(rt.alloc(), &mut client, &mut reader, &mut writer);
+    assert_eq!(rt; version, Ok(1));
+    assert_eq!(rt; writer.len(), 45);
+    assert_eq!(rt; writer.as_slice()[7..39], ONES[..]);
+    assert_eq!(rt; writer.as_slice()[39..], [1, 0, 0, 0, 0x09, 5][..]);
     Ok(())
 }
 

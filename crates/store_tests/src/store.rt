@@ -11,8 +11,8 @@ use std::process::Abort;
 use std::test::Fail;
 use test_support::{RECORDS, TWO_RECORDS};
 use version_store::{
-    EditError, Header, OpenError, PublishError, Scheme, Snapshot, Store, laws, read_snapshot,
-    write_snapshot,
+    AppendError, EditError, Header, OpenError, PublishError, Scheme, Snapshot, Store, laws,
+    read_snapshot, write_snapshot,
 };
 
 mod texts;
@@ -31,6 +31,10 @@ fn open<K: Kernel>(alloc: Global, kernel: K, snapshot: Snapshot) -> Result<Store
 
 fn edit<K: Kernel>(store: &mut Store<K>, i: usize, bytes: &[u8]) -> Result<(), EditError> {
     store.edit(i, bytes)
+}
+
+fn append<K: Kernel>(store: &mut Store<K>, bytes: &[u8]) -> Result<(), AppendError> {
+    store.append(bytes)
 }
 
 fn publish<K: Kernel>(store: &mut Store<K>) -> Result<u64, PublishError> {

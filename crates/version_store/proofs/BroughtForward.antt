@@ -6,54 +6,41 @@ use Rattle.std.proofs.lemmas.List.Folds.{list_any-append}
 use Rattle.std.specs.Prelude.{◌&&◌, nat_eq, nat_le, slice_get, cond}
 use Rattle.std.specs.Cmp.Lexicographic.{pointwise, bytes_decides}
 use Rattle.std.specs.List.{range_with_len, flat_map}
-use Rattle.matrix_u32.specs.Matrix.{WordMatrix, row, product, vector_times}
-use Rattle.matrix_u32.proofs.Products.{row-product, length-list_of}
-use Rattle.seed_expand.specs.Words.{public_rows}
-use Rattle.digit_pack.specs.Layout.{digit_rows, digit_cols}
+use Rattle.matrix_u32.specs.Matrix.{WordMatrix, row}
+use Rattle.digit_pack.specs.Layout.{digit_rows}
 use Rattle.pir_schemes.specs.declared.scheme.Scheme.TheVariants.{Simple}
 use Rattle.pir_schemes.specs.declared.plan.Plan.{Plan}
-use Rattle.pir_schemes.specs.Plans.{shape_at, digits_at, first_public}
+use Rattle.pir_schemes.specs.Plans.{shape_at, digits_at}
 use Rattle.pir_schemes.specs.Retrievals.{hint_matrix}
 use Rattle.hint_update.specs.Logs.{Log, lists_since}
-use Rattle.version_store.specs.Deltas.{differs_at, changed_rows, changes_of}
+use Rattle.version_store.specs.Deltas.{wide_row, differs_at, changed_rows, changes_of}
 use Rattle.version_store.proofs.LoggedRows.{union_below, reaches_back, rows_logged, history_rows, rows_as_logged}
-use Rattle.version_store.specs.Editions.{Records}
 use Rattle.version_store.specs.Histories.{current_version}
 use Rattle.version_store.specs.Laws.{UnchangedRowsStay}
-use Rattle.version_store.proofs.DoubleLemmas.{simple_hint}
+use Rattle.version_store.proofs.Widened.{same_hint_row}
 use Rattle.version_store.proofs.RowUnions.{is_in, in_range, in_filter}
 
--- a row of digits that is the same has the same row of the hint
-same_hint_row : (p : Plan) (a b : List (List ℕ)) (r : ℕ) → r < (digits_at p a).rows → row (digits_at p a) r ≡ row (digits_at p b) r →
-    row (hint_matrix Simple p a) r ≡ row (hint_matrix Simple p b) r
-same_hint_row p a b r below e =
-    let d : List (List ℕ) → WordMatrix = digits_at p in
-    let m : List (List ℕ) → WordMatrix = λ rs. first_public (shape_at p (length rs)) p.dimension p.seed in
-    let made : (rs : List (List ℕ)) → hint_matrix Simple p rs ≡ product (d rs) (m rs) = λ rs.
-    let of : Records = record { plan = p; records = rs } in simple_hint of in
-    let wide : digit_cols (shape_at p (length a)) ≡ digit_cols (shape_at p (length b)) =
-    sym (length-list_of (d a).cols _) ∙ ap length e ∙ length-list_of (d b).cols _ in
-    let public : m a ≡ m b = ap (λ n. public_rows p.seed 0 0 n p.dimension) wide in
-    ap (λ (h : WordMatrix). row h r) (made a) ∙ row-product (d a) (m a) r below
-    ∙ ap (λ (x : List ℕ). vector_times x (m a)) e ∙ ap (vector_times (row (d b) r)) public
-    ∙ sym (ap (λ (h : WordMatrix). row h r) (made b) ∙ row-product (d b) (m b) r below)
-
 -- a row that did not change
-kept_row : (old new : WordMatrix) (r : ℕ) → r < new.rows → is_in (changed_rows old new) r ≡ false → row old r ≡ row new r
+kept_row : (old new : WordMatrix) (r : ℕ) → r < new.rows → is_in (changed_rows old new) r ≡ false → wide_row old new old r ≡ wide_row old new new r
 unfolding changed_rows
 kept_row old new r below gone =
     let both : (differs_at old new r && is_in (range_with_len 0 new.rows) r) ≡ false = sym (in_filter (differs_at old new) (range_with_len 0 new.rows) r) ∙ gone in
     let inside : is_in (range_with_len 0 new.rows) r ≡ true = in_range 0 new.rows r (omega arith) (omega arith) in
-    (bytes_decides (row old r) (row new r)).0 (by (pointwise nat_eq (row old r) (row new r)) (is_in (range_with_len 0 new.rows) r) both inside)
+    (bytes_decides (wide_row old new old r) (wide_row old new new r)).0
+    (by (pointwise nat_eq (wide_row old new old r) (wide_row old new new r)) (is_in (range_with_len 0 new.rows) r) both inside)
   where
     by : (b c : Bool) → (not b && c) ≡ false → c ≡ true → b ≡ true
     by true c e f = refl
     by false c e f = let bad : true ≡ false = sym f ∙ e in absurd cc
 
+-- all numbers of some lists
+abbrev pub joined : List (List ℕ) → List ℕ
+joined lists = flat_map (λ (list : List ℕ). list) lists
+
 -- no publication since changed the row
-unchanged_since : (p : Plan) (current : List (List ℕ)) (past : List (List (List ℕ))) (d : ℕ) (records : List (List ℕ)) (r : ℕ) →
+pub unchanged_since : (p : Plan) (current : List (List ℕ)) (past : List (List (List ℕ))) (d : ℕ) (records : List (List ℕ)) (r : ℕ) →
     r < digit_rows (shape_at p (length current)) → slice_get (current ∷ past) d ≡ Some records →
-    is_in (flat_map (λ (list : List ℕ). list) (take d (changes_of p current past))) r ≡ false →
+    is_in (joined (take d (changes_of p current past))) r ≡ false →
     row (hint_matrix Simple p records) r ≡ row (hint_matrix Simple p current) r
 unfolding changes_of
 unchanged_since p current past zero records r below is gone =
@@ -61,7 +48,7 @@ unchanged_since p current past zero records r below is gone =
 unchanged_since p current [] (suc d) records r below is gone = let bad : None ≡ Some records = is in absurd cc
 unchanged_since p current (before ∷ past) (suc d) records r below is gone =
     let first : List ℕ = changed_rows (digits_at p before) (digits_at p current) in
-    let others : List ℕ = flat_map (λ (list : List ℕ). list) (take d (changes_of p before past)) in
+    let others : List ℕ = joined (take d (changes_of p before past)) in
     let both : (is_in first r ≡ false) × (is_in others r ≡ false) =
     or_parts (is_in first r) (is_in others r) (sym (list_any-append (nat_eq r) first others) ∙ gone) in
     unchanged_since p before past d records r below is both.1
@@ -88,15 +75,15 @@ unchanged_rows_stay p h since rows records given version r below gone =
     let low : since ≤ current_version h = leb-true since (current_version h) back.0 in
     let few : d ≤ 16 = omega (arith, leb-true d (length (take 16 changes)) back.1, length-take 16 changes) in
     let lists : take d (take 16 changes) ≡ take d changes = take-take d 16 changes few in
-    let joined : List ℕ = flat_map (λ (list : List ℕ). list) (take d (take 16 changes)) in
-    let filtered : (is_in joined r && is_in (range_with_len 0 n) r) ≡ false =
-    sym (in_filter (is_in joined) (range_with_len 0 n) r) ∙ ap (λ (xs : List ℕ). is_in xs r) (sym some.1) ∙ gone in
+    let all : List ℕ = joined (take d (take 16 changes)) in
+    let filtered : (is_in all r && is_in (range_with_len 0 n) r) ≡ false =
+    sym (in_filter (is_in all) (range_with_len 0 n) r) ∙ ap (λ (xs : List ℕ). is_in xs r) (sym some.1) ∙ gone in
     let inside : is_in (range_with_len 0 n) r ≡ true = in_range 0 n r (omega arith) (omega arith) in
-    let none : is_in joined r ≡ false = by (is_in joined r) (is_in (range_with_len 0 n) r) filtered inside in
+    let none : is_in all r ≡ false = by (is_in all r) (is_in (range_with_len 0 n) r) filtered inside in
     let here : slice_get (h.current ∷ h.past) d ≡ Some records =
     sym (ap (λ b. cond b None (slice_get (h.current ∷ h.past) d)) (le-ltb (current_version h) since low)) ∙ version in
     unchanged_since p h.current h.past d records r below here
-    (ap (λ (ls : List (List ℕ)). is_in (flat_map (λ (list : List ℕ). list) ls) r) (sym lists) ∙ none)
+    (ap (λ (ls : List (List ℕ)). is_in (joined ls) r) (sym lists) ∙ none)
   where
     by : (b c : Bool) → (b && c) ≡ false → c ≡ true → b ≡ false
     by true c e f = sym f ∙ e

@@ -15,8 +15,9 @@ use Rattle.digit_pack.specs.Digits.{number_of}
 use Rattle.digit_pack.specs.Layout.{Shape, digit_matrix, digit_at, digit_rows, digit_cols, digits_per_record, record_at}
 use Rattle.pir_schemes.specs.declared.plan.Plan.{Plan}
 use Rattle.pir_schemes.specs.Plans.{shape_at, digits_at, slot, slots}
-use Rattle.version_store.specs.Deltas.{differs_at, changed_rows}
+use Rattle.version_store.specs.Deltas.{wide_row, differs_at, changed_rows}
 use Rattle.version_store.specs.Editions.{Records, MarksChanges, is_marked, marked_rows}
+use Rattle.version_store.proofs.Widened.{wide_rows}
 
 -- ---- a record that is replaced once
 -- digits of equal records
@@ -71,7 +72,8 @@ settled first between last i bytes is changed long inside same r below e =
     ∙ settled_records p first.records old i bytes long inside same r below (ap (λ (m : WordMatrix). row m r) (sym end) ∙ e)
 
 -- ---- marked rows are the changed ones
-filter_same : (p q : ℕ → Bool) (a n : ℕ) → ((r : ℕ) → a ≤ r → r < a + n → p r ≡ q r) → filter p (range_with_len a n) ≡ filter q (range_with_len a n)
+-- the numbers of a range that pass either of two tests which agree
+pub filter_same : (p q : ℕ → Bool) (a n : ℕ) → ((r : ℕ) → a ≤ r → r < a + n → p r ≡ q r) → filter p (range_with_len a n) ≡ filter q (range_with_len a n)
 filter_same p q a zero h = refl
 filter_same p q a (suc n) h =
     let here : p a ≡ q a = h a (omega arith) (omega arith) in
@@ -86,16 +88,17 @@ opposite true false f g = refl
 opposite false true f g = refl
 opposite false false f g = let bad : false ≡ true = f refl in absurd cc
 
-pub marked_is_changed : (old new : WordMatrix) (before after : List Bool) → MarksChanges old new before after → new.rows ≡ old.rows →
+pub marked_is_changed : (old new : WordMatrix) (before after : List Bool) → MarksChanges old new before after → new.rows ≡ old.rows → new.cols ≡ old.cols →
     length before ≡ new.rows → ((r : ℕ) → is_marked before r ≡ false) → marked_rows after ≡ changed_rows old new
 unfolding changed_rows
-marked_is_changed old new before after m rows count none =
+marked_is_changed old new before after m rows cols count none =
     ap (λ n. filter (is_marked after) (range_with_len 0 n)) (m.count ∙ count)
     ∙ filter_same (is_marked after) (differs_at old new) 0 new.rows (λ r low high.
-    let decides = bytes_decides (row old r) (row new r) in
-    opposite (is_marked after r) (pointwise nat_eq (row old r) (row new r))
-    (λ e. decides.1 (sym (m.kept r (omega (arith, rows)) e).1))
-    (λ e. m.only r (omega (arith, rows)) (none r) (sym (decides.0 e))))
+    let wide = wide_rows old new r cols (omega (arith, rows)) (omega arith) in
+    let decides = bytes_decides (wide_row old new old r) (wide_row old new new r) in
+    opposite (is_marked after r) (pointwise nat_eq (wide_row old new old r) (wide_row old new new r))
+    (λ e. decides.1 (wide.0 ∙ sym (m.kept r (omega (arith, rows)) e).1 ∙ sym wide.1))
+    (λ e. m.only r (omega (arith, rows)) (none r) (sym wide.1 ∙ sym (decides.0 e) ∙ wide.0)))
 
 -- every changed row is one
 pub changed_below : (old new : WordMatrix) → All (λ r. r < new.rows) (changed_rows old new)

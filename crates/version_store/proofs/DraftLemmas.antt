@@ -25,10 +25,10 @@ other_key : (k i : ℕ) → i ≢ k → is_at (nat_cmp k) i ≡ false
 other_key k i d = grind (arith, nat_tests)
 
 -- what a map has after a change of its key k
-updated_here : (m n : BTreeMap ℕ (Vec ℕ Global)) (k : ℕ) (w : Option (Vec ℕ Global)) → Updates nat_cmp m n k w → change_at n.entries k ≡ w
+pub updated_here : (m n : BTreeMap ℕ (Vec ℕ Global)) (k : ℕ) (w : Option (Vec ℕ Global)) → Updates nat_cmp m n k w → change_at n.entries k ≡ w
 updated_here m n k w u = u.0 k ∙ ap (λ b. cond b w (change_at m.entries k)) (same_key k k refl)
 
-updated_elsewhere : (m n : BTreeMap ℕ (Vec ℕ Global)) (k i : ℕ) (w : Option (Vec ℕ Global)) → Updates nat_cmp m n k w → i ≢ k →
+pub updated_elsewhere : (m n : BTreeMap ℕ (Vec ℕ Global)) (k i : ℕ) (w : Option (Vec ℕ Global)) → Updates nat_cmp m n k w → i ≢ k →
     change_at n.entries i ≡ change_at m.entries i
 updated_elsewhere m n k i w u d = u.0 i ∙ ap (λ b. cond b w (change_at m.entries i)) (other_key k i d)
 

@@ -1,5 +1,5 @@
--- What a store stands for after an edit and after a publication.
-use Rattle.std.proofs.Common.{◌≡◌, ℕ, ◌+◌, arith, ap, ◌∙◌, sym, refl, List, [], ◌∷◌, length, take, lit≤, Option, Some, None}
+-- What a store stands for after an edit, an append and a publication.
+use Rattle.std.proofs.Common.{◌≡◌, ℕ, ◌+◌, arith, ap, ◌∙◌, sym, refl, List, [], ◌∷◌, ◌++◌, length, take, lit≤, Option}
 use Rattle.std.proofs.lemmas.List.{take-take}
 use Rattle.std.specs.Prelude.{slice_set}
 use Rattle.snapshot_file.specs.declared.snapshot.Header.{Header}
@@ -8,7 +8,7 @@ use Rattle.pir_schemes.specs.declared.plan.Plan.{Plan}
 use Rattle.pir_schemes.specs.Plans.{shape_at, digits_at, records_held}
 use Rattle.version_store.specs.Deltas.{changed_rows, changes_of}
 use Rattle.version_store.specs.Openings.{held_of, plan_held}
-use Rattle.version_store.specs.Histories.{StoreState, History, StandsFor, current_version, delta_rows, opened, after_edit, published, held_edited, held_published, Change, history_after, held_after}
+use Rattle.version_store.specs.Histories.{StoreState, History, StandsFor, current_version, delta_rows, opened, after_edit, after_append, published, held_edited, held_appended, held_published, Change, Edited, Appended, Published, history_after, held_after}
 use Rattle.version_store.proofs.LoggedRows.{rows_logged, history_rows, held_rows, rows_as_logged}
 
 pub edit_stands : (old new : StoreState) (i : ℕ) (bytes : List ℕ) → new ≡ held_edited i bytes old →
@@ -17,6 +17,16 @@ edit_stands old new i bytes e h s = record {
   version = s.version ∙ sym (ap (λ t. t.version) e);
   current = s.current ∙ sym (ap (λ t. t.edition.records) e);
   draft = ap (λ (d : List (List ℕ)). slice_set d i bytes) s.draft ∙ sym (ap (λ t. t.draft) e);
+  marked = sym (ap (λ t. t.marked) e);
+  log = ap (λ t. take 16 (changes_of t.edition.plan h.current h.past)) e ∙ s.log ∙ sym (ap (λ t. t.log) e);
+}
+
+pub append_stands : (old new : StoreState) (bytes : List ℕ) → new ≡ held_appended bytes old →
+    (h : History) → StandsFor old h → StandsFor new (after_append bytes h)
+append_stands old new bytes e h s = record {
+  version = s.version ∙ sym (ap (λ t. t.version) e);
+  current = s.current ∙ sym (ap (λ t. t.edition.records) e);
+  draft = ap (λ (d : List (List ℕ)). d ++ bytes ∷ []) s.draft ∙ sym (ap (λ t. t.draft) e);
   marked = sym (ap (λ t. t.marked) e);
   log = ap (λ t. take 16 (changes_of t.edition.plan h.current h.past)) e ∙ s.log ∙ sym (ap (λ t. t.log) e);
 }
@@ -75,6 +85,8 @@ held_as_history s h since stands =
 -- a store stands for its history after any changes
 pub run_stands : (changes : List Change) (s : StoreState) (h : History) → StandsFor s h → StandsFor (held_after changes s) (history_after changes h)
 run_stands [] s h stands = stands
-run_stands (Some (i, bytes) ∷ more) s h stands =
+run_stands (Edited i bytes ∷ more) s h stands =
     run_stands more (held_edited i bytes s) (after_edit i bytes h) (edit_stands s (held_edited i bytes s) i bytes refl h stands)
-run_stands (None ∷ more) s h stands = run_stands more (held_published s) (published h) (publish_stands s (held_published s) refl h stands)
+run_stands (Appended bytes ∷ more) s h stands =
+    run_stands more (held_appended bytes s) (after_append bytes h) (append_stands s (held_appended bytes s) bytes refl h stands)
+run_stands (Published ∷ more) s h stands = run_stands more (held_published s) (published h) (publish_stands s (held_published s) refl h stands)

@@ -4,6 +4,7 @@ pub mod HistoryLemmas
 pub mod RecordBytes
 pub mod Versions
 pub mod Marks
+pub mod Widened
 pub mod ChangedRows
 pub mod RowUnions
 pub mod Publications
@@ -14,3 +15,5 @@ pub mod NamedRows
 pub mod OneRow
 pub mod Slotted
 pub mod Migrated
+pub mod Grown
+pub mod GrownLayer

@@ -51,7 +51,7 @@ run_of_one_row w hint a2 s s' c c' r inside follows = λ old new a1 change made.
     change.run r (omega arith) (omega arith) ∙ row-product new a1 r (omega (arith, here, change.rows))
     ∙ ap (λ x. vector_times x a1) (sym same) ∙ sym (row-product changed a1 r here) in
     let server : server_hint_of w changed a1 ≡ server_hint_of w new a1 = ap (λ m. decomposed w (product (transpose a1) m)) turned in
-    let hints : AreHintsOf w changed a1 a2 s' c' = follows old a1 (row new r) (change.cols ∙ change.inner) words made in
+    let hints : AreHintsOf w changed a1 a2 s' c' = follows old a1 (row new r) (omega (arith, change.cols, change.inner)) words made in
     record {
       server = hints.server ∙ server;
       client = hints.client ∙ ap (λ m. product m a2) server;

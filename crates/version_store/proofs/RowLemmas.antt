@@ -92,7 +92,7 @@ unfolding mixed
 mixed_run r n hint a1 old new marks h fits = record {
   rows = refl;
   cols = refl;
-  inner = h.cols ∙ h.inner;
+  inner = omega (arith, h.cols, h.inner);
   before = λ i l p. mixed_same (r + n) r i old new (λ j q. mixed_before (r + n) i j old new (omega arith) p q ∙ sym (mixed_before r i j old new l p q));
   run = λ i low high.
       ap (λ m. row m i) h.hint_is ∙ sym (mixed_row (r + n) i old new a1 h.rows h.cols high (omega (arith, high, fits)));

@@ -1,14 +1,18 @@
 -- The rows of digits that publications changed.
-use Rattle.std.specs.Prelude.{ℕ, List, [], ◌∷◌, filter, Bool, not, nat_eq}
+use Rattle.std.specs.Prelude.{ℕ, List, [], ◌∷◌, filter, Bool, not, nat_eq, max}
 use Rattle.std.specs.List.{range_with_len}
 use Rattle.std.specs.Cmp.Lexicographic.{pointwise}
-use Rattle.matrix_u32.specs.Matrix.{WordMatrix, row}
+use Rattle.matrix_u32.specs.Matrix.{WordMatrix, row, widened}
 use Rattle.pir_schemes.specs.declared.plan.Plan.{Plan}
 use Rattle.pir_schemes.specs.Plans.{digits_at}
 
--- whether row r of two matrices differs
+-- row r of a matrix, with zeros up to the greater of two matrices' columns
+abbrev pub wide_row : WordMatrix → WordMatrix → WordMatrix → ℕ → List ℕ
+wide_row old new a r = row (widened a (max old.cols new.cols)) r
+
+-- whether row r of two matrices differs: a column that one of them lacks counts as zeros there
 abbrev pub differs_at : WordMatrix → WordMatrix → ℕ → Bool
-differs_at old new r = not (pointwise nat_eq (row old r) (row new r))
+differs_at old new r = not (pointwise nat_eq (wide_row old new old r) (wide_row old new new r))
 
 -- the rows in which two matrices differ, ascending
 unfoldable pub changed_rows : WordMatrix → WordMatrix → List ℕ

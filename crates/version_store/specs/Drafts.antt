@@ -1,14 +1,14 @@
 -- The draft: the records of the current version with the changes that no publication has taken yet.
-use Rattle.std.specs.Prelude.{◌≡◌, ℕ, ◌<◌, All, List, [], ◌∷◌, length, Bool, true, false, Option, Some, None, MatchOption}
+use Rattle.std.specs.Prelude.{◌≡◌, ℕ, ◌<◌, ◌≤◌, All, List, [], ◌∷◌, length, Bool, true, false, Option, Some, None, MatchOption}
 use Rattle.std.specs.declared.vec.Vec.{Vec}
 use Rattle.std.specs.declared.alloc.Global.{Global}
 use Rattle.std.specs.Map.{lookup}
 use Rattle.std.specs.BTreeMap.{is_at}
 use Rattle.std.specs.Ordering.{nat_cmp}
 use Rattle.matrix_u32.specs.Sum.{list_of}
-use Rattle.digit_pack.specs.Layout.{record_at, digit_rows}
-use Rattle.pir_schemes.specs.Plans.{fits}
-use Rattle.version_store.specs.Editions.{Records, version_shape}
+use Rattle.digit_pack.specs.Layout.{IsLayout, record_at, digit_rows}
+use Rattle.pir_schemes.specs.Plans.{fits, shape_at}
+use Rattle.version_store.specs.Editions.{Records, version_shape, grown}
 
 -- changed records by their indices
 abbrev pub Changes : Type 0
@@ -37,7 +37,14 @@ abbrev pub is_some_change : Changes → Bool
 is_some_change [] = false
 is_some_change (c ∷ cs) = true
 
--- the changes fit, and only rows that there are were logged
-pub record IsHeld (e : Records) (changes : Changes) (log : List (List ℕ)) : Type 0 where
-  pub fit : FitRecords e changes
+-- a version with blanks after its records, so many in all
+abbrev pub grown_to : ℕ → Records → Records
+grown_to count e = record e { records = grown e.plan count e.records }
+
+-- the draft has as many records as the version or more, within every limit; the changes fit them, and only rows that
+-- there are were logged
+pub record IsHeld (e : Records) (count : ℕ) (changes : Changes) (log : List (List ℕ)) : Type 0 where
+  pub more : length e.records ≤ count
+  pub layout : IsLayout (shape_at e.plan count)
+  pub fit : FitRecords (grown_to count e) changes
   pub rows : All (λ (rows : List ℕ). All (λ r. r < digit_rows (version_shape e)) rows) log

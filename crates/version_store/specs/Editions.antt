@@ -1,11 +1,12 @@
 -- The records of one version, and what is made from them.
-use Rattle.std.specs.Prelude.{◌≡◌, ℕ, ◌*◌, ◌<◌, ◌≤◌, List, length, filter, Bool, true, false, slice_index_or}
+use Rattle.std.specs.Prelude.{◌≡◌, ℕ, ◌-◌, ◌*◌, ◌<◌, ◌≤◌, ◌==◌, ◌++◌, if◌then◌else◌, List, [], length, replicate, filter, Bool, true, false, slice_index_or}
 use Rattle.std.specs.List.{range_with_len, list_all}
 use Rattle.matrix_u32.specs.Matrix.{WordMatrix, IsWhole, row, product}
-use Rattle.digit_pack.specs.Layout.{Shape, IsLayout, records_in}
+use Rattle.seed_expand.specs.Words.{public_rows}
+use Rattle.digit_pack.specs.Layout.{Shape, IsLayout, records_in, digit_cols}
 use Rattle.pir_schemes.specs.declared.scheme.Scheme.TheVariants.{Simple, Double}
 use Rattle.pir_schemes.specs.declared.plan.Plan.{Plan}
-use Rattle.pir_schemes.specs.Plans.{is_slot_of, records_held, slots, shape_at, digits_at, first_public, second_public}
+use Rattle.pir_schemes.specs.Plans.{is_slot_of, records_held, slots, shape_at, digits_at, second_public}
 use Rattle.digit_pack.specs.Slots.{is_form}
 use Rattle.pir_schemes.specs.Retrievals.{hint_matrix, server_hint}
 use Rattle.hint_update.specs.Updates.{AreHintsOf}
@@ -19,8 +20,16 @@ pub record Records : Type 0 where
 abbrev pub version_shape : Records → Shape
 version_shape e = shape_at e.plan (length e.records)
 
+-- a record before its bytes are given: none, or where all records have one length so many zeros
+abbrev pub blank : Plan → List ℕ
+blank p = if p.form == 2 then [] else replicate p.record_len 0
+
+-- records with blanks after them, so many in all
+abbrev pub grown : Plan → ℕ → List (List ℕ) → List (List ℕ)
+grown p n records = records ++ replicate (n - length records) (blank p)
+
 -- bytes that records have in the digits, with the first public matrix, the digits and the SimplePIR hint that are made
--- from the records
+-- from the records; the public matrix may have more rows than the digits have columns
 pub record IsMade (p : Plan) (l : Shape) (bytes : List ℕ) (a1 digits hint : WordMatrix) : Type 0 where
   pub form : is_form p.form p.record_len ≡ true
   pub layout : IsLayout l
@@ -30,7 +39,8 @@ pub record IsMade (p : Plan) (l : Shape) (bytes : List ℕ) (a1 digits hint : Wo
   pub count : length bytes ≡ l.count * l.record_len
   pub good : list_all (is_slot_of p) (records_in l bytes) ≡ true
   pub slots_are : slots p (records_held p l.count bytes) ≡ records_in l bytes
-  pub public_is : a1 ≡ first_public l p.dimension p.seed
+  pub public_is : a1 ≡ public_rows p.seed 0 0 a1.rows p.dimension
+  pub enough : digit_cols l ≤ a1.rows
   pub digits_are : digits ≡ digits_at p (records_held p l.count bytes)
   pub hint_is : hint ≡ hint_matrix Simple p (records_held p l.count bytes)
 

@@ -1,5 +1,5 @@
 -- All versions of the records, a draft, and a mark.
-use Rattle.std.specs.Prelude.{◌≡◌, ℕ, ◌+◌, ◌-◌, List, [], ◌∷◌, length, Bool, true, false, Option, Some, None, nat_eq, nat_lt, nat_le, ◌&&◌, if◌then◌else◌, unwrap_or, filter, slice_set, slice_get, take}
+use Rattle.std.specs.Prelude.{◌≡◌, ℕ, ◌+◌, ◌-◌, List, [], ◌∷◌, ◌++◌, length, Bool, true, false, Option, Some, None, nat_eq, nat_lt, nat_le, ◌&&◌, if◌then◌else◌, unwrap_or, filter, slice_set, slice_get, take}
 use Rattle.std.specs.List.{list_any, range_with_len}
 use Rattle.digit_pack.specs.Layout.{digit_rows}
 use Rattle.pir_schemes.specs.declared.plan.Plan.{Plan}
@@ -8,8 +8,8 @@ use Rattle.hint_update.specs.Logs.{Log}
 use Rattle.version_store.specs.Deltas.{changed_rows, changes_of}
 use Rattle.version_store.specs.Editions.{Records}
 
--- what a store keeps: the number of the current version and its records, the draft, whether an edit was accepted since
--- the last publication, the digest of the publisher's key, and the rows of digits that each of the newest 16
+-- what a store keeps: the number of the current version and its records, the draft, whether an edit or an append was
+-- accepted since the last publication, the digest of the publisher's key, and the rows of digits that each of the newest 16
 -- publications changed, the newest first
 pub record StoreState : Type 0 where
   pub version : ℕ
@@ -44,6 +44,10 @@ records_of h v = if nat_lt (current_version h) v then None else slice_get (h.cur
 abbrev pub after_edit : ℕ → List ℕ → History → History
 after_edit i bytes h = record h { draft = slice_set h.draft i bytes; marked = true }
 
+-- an append puts a record after those of the draft, and sets the mark
+abbrev pub after_append : List ℕ → History → History
+after_append bytes h = record h { draft = h.draft ++ bytes ∷ []; marked = true }
+
 -- a publication makes the draft the current version, and clears the mark
 abbrev pub published : History → History
 published h = record h { past = h.current ∷ h.past; current = h.draft; marked = false }
@@ -51,6 +55,10 @@ published h = record h { past = h.current ∷ h.past; current = h.draft; marked 
 -- what is kept after an edit
 abbrev pub held_edited : ℕ → List ℕ → StoreState → StoreState
 held_edited i bytes s = record s { draft = slice_set s.draft i bytes; marked = true }
+
+-- what is kept after an append
+abbrev pub held_appended : List ℕ → StoreState → StoreState
+held_appended bytes s = record s { draft = s.draft ++ bytes ∷ []; marked = true }
 
 -- the rows of digits that a publication of the draft changes
 abbrev pub draft_rows : StoreState → List ℕ
@@ -65,21 +73,25 @@ held_published s = record s {
   log = take 16 (draft_rows s ∷ s.log);
 }
 
--- an accepted edit of a record by its bytes, or (where there is none) a publication
-abbrev pub Change : Type 0
-Change = Option (ℕ × List ℕ)
+-- an accepted edit of a record, an accepted append, or a publication
+pub data Change : Type 0 where
+  Edited : ℕ → List ℕ → Change
+  Appended : List ℕ → Change
+  Published : Change
 
 -- the history after changes
 abbrev pub history_after : List Change → History → History
 history_after [] h = h
-history_after (Some (i, bytes) ∷ more) h = history_after more (after_edit i bytes h)
-history_after (None ∷ more) h = history_after more (published h)
+history_after (Edited i bytes ∷ more) h = history_after more (after_edit i bytes h)
+history_after (Appended bytes ∷ more) h = history_after more (after_append bytes h)
+history_after (Published ∷ more) h = history_after more (published h)
 
 -- what is kept after changes
 abbrev pub held_after : List Change → StoreState → StoreState
 held_after [] s = s
-held_after (Some (i, bytes) ∷ more) s = held_after more (held_edited i bytes s)
-held_after (None ∷ more) s = held_after more (held_published s)
+held_after (Edited i bytes ∷ more) s = held_after more (held_edited i bytes s)
+held_after (Appended bytes ∷ more) s = held_after more (held_appended bytes s)
+held_after (Published ∷ more) s = held_after more (held_published s)
 
 -- what is kept is that of the history
 pub record StandsFor (s : StoreState) (h : History) : Type 0 where

@@ -24,7 +24,7 @@ pub fn replace_digits<K: Kernel, S: DigitStore>(
     requires rows { first + length written.now ≤ (S.digits digits.old).rows }
     requires col { col < (S.digits digits.old).cols }
     requires small { All (λ d. d < 1024) written.now }
-    requires inner { (S.digits digits.old).cols ≡ a1.now.rows }
+    requires inner { (S.digits digits.old).cols ≤ a1.now.rows }
     requires made { hint.old ≡ product (S.digits digits.old) a1.now }
     requires marks { length marks.old ≡ (S.digits digits.old).rows }
     ensures digits { WritesColumn (S.digits digits.old)

@@ -1,13 +1,13 @@
 //! One version's records, with everything that is made from them.
 
-ghost use Rattle.std.specs.Prelude.{◌≡◌, [], ◌*◌, ◌<◌, ◌≤◌, IfOk, true, length};
+ghost use Rattle.std.specs.Prelude.{◌≡◌, [], ◌*◌, ◌<◌, ◌≤◌, IfOk, OnOk, OnErr, true, length};
 ghost use Rattle.std.specs.List.{list_all};
 ghost use Rattle.digit_pack.specs.Slots.{is_form};
-ghost use Rattle.digit_pack.specs.Layout.{digit_rows, digit_cols, digits_per_record, record_at, records_in};
+ghost use Rattle.digit_pack.specs.Layout.{IsLayout, digit_rows, digit_cols, digits_per_record, record_at, records_in};
 ghost use Rattle.digit_pack.specs.Packed.{packed};
 ghost use Rattle.pir_schemes.specs.Plans.{IsPlan, is_slot_of, records_held, shape_at, slots, digits_at};
 ghost use Rattle.pir_schemes.specs.Retrievals.{hint_matrix, server_hint, query_count, answer_words};
-ghost use Rattle.version_store.specs.Drafts.{draft_of, FitRecords};
+ghost use Rattle.version_store.specs.Drafts.{draft_of, grown_to, FitRecords};
 ghost use Rattle.version_store.specs.Editions.{Records, version_shape, MarksChanges};
 ghost use Rattle.version_store.specs.Openings.{bytes_of_records};
 ghost use Rattle.version_store.specs.Rooms.{scheme_answered, IsAnswerRoom};
@@ -176,6 +176,20 @@ impl<K: Kernel> Edition<K> {
     {
         let digits = self.layer.digits();
         room.fill(self.kernel, digits, &self.server, &self.a2, words)
+    }
+
+    /// Puts blanks after the records, so many in all: the digits get columns of zeros, and no hint changes. Only refused
+    /// memory gives an `Err`, and then nothing has changed.
+    pub fn grow(&mut self, alloc: Global, count: usize) -> Result<(), AllocError>
+        requires more { length self.old.records ≤ count }
+        requires layout { IsLayout (shape_at self.old.plan count) }
+        ensures grown { OnOk result (self.new ≡ grown_to count self.old) }
+        ensures refused { OnErr result (self.new ≡ self.old) }
+    {
+        // Called for what it says of the plan.
+        self.layer.layout();
+        self.layer.grow(alloc, count)?;
+        Ok(())
     }
 
     /// Puts each change into the records, marks the rows whose digits change, and leaves no change. `scratch`

@@ -1,11 +1,13 @@
 //! The records of one version, with what SimplePIR makes from them.
 
-ghost use Rattle.std.specs.Prelude.{◌≡◌, ◌*◌, ◌<◌, ◌≤◌, IfOk, true, length, slice_set};
+ghost use Rattle.std.specs.Prelude.{◌≡◌, ◌*◌, ◌<◌, ◌≤◌, IfOk, OnOk, OnErr, true, length, slice_set};
 ghost use Rattle.std.specs.List.{list_all};
 ghost use Rattle.digit_pack.specs.Slots.{is_form};
 ghost use Rattle.digit_pack.specs.Layout.{IsLayout, digit_rows, digit_cols, digits_per_record, record_at, records_in};
 ghost use Rattle.pir_schemes.specs.Plans.{IsPlan, fits, is_slot_of, records_held, shape_at, slots, digits_at};
 ghost use Rattle.pir_schemes.specs.Retrievals.{hint_matrix, answer_words};
+ghost use Rattle.seed_expand.specs.Words.{public_rows};
+ghost use Rattle.version_store.specs.Drafts.{grown_to};
 ghost use Rattle.version_store.specs.Editions.{Records, version_shape, MarksChanges};
 ghost use Rattle.version_store.specs.Openings.{bytes_of_records};
 
@@ -139,6 +141,28 @@ impl FirstLayer {
         self.digits.mul_vec(kernel, words, out);
     }
 
+    /// Puts blanks after the records, so many in all: the digits get columns of zeros, and the hint stays. Only refused
+    /// memory gives an `Err`, and then nothing has changed; the public matrix may have got its further rows already.
+    pub fn grow(&mut self, alloc: Global, count: usize) -> Result<(), AllocError>
+        requires more { length self.old.records ≤ count }
+        requires layout { IsLayout (shape_at self.old.plan count) }
+        ensures grown { OnOk result (self.new ≡ grown_to count self.old) }
+        ensures refused { OnErr result (self.new ≡ self.old) }
+    {
+        let layout = self.plan.layout(count).unwrap();
+        let len = count * layout.record_len();
+        self.bytes.reserve_exact(len - self.bytes.len())?;
+        extend_public(alloc, &self.plan, &mut self.a1, layout.cols())?;
+        self.digits.rows();
+        let Ok(()) = self.digits.grow(layout.cols()) else {
+            return Err(AllocError);
+        };
+        // The room is there: nothing is refused from here on.
+        self.bytes.resize(len, 0).unwrap();
+        self.layout = layout;
+        Ok(())
+    }
+
     /// Puts another record in the place of record i, and marks the rows whose digits change. `scratch` has
     /// room for a record's digits, and `marks` a mark for each row of digits.
     ///
@@ -177,5 +201,26 @@ impl FirstLayer {
             scratch,
             marks,
         );
+    }
+}
+
+// Gives the first public matrix so many rows at least. Only refused memory gives an `Err`, and then it is as it was.
+fn extend_public(alloc: Global, plan: &Plan, a1: &mut Matrix, rows: usize) -> Result<(), AllocError>
+    requires few { rows ≤ 4096 }
+    requires dimension { (1 ≤ plan.now.dimension) × (plan.now.dimension ≤ 1024) }
+    requires public { a1.old ≡ public_rows plan.now.seed 0 0 a1.old.rows plan.now.dimension }
+    ensures public { a1.new ≡ public_rows plan.now.seed 0 0 a1.new.rows plan.now.dimension }
+    ensures more { a1.old.rows ≤ a1.new.rows }
+    ensures enough { OnOk result (rows ≤ a1.new.rows) }
+{
+    let first = a1.rows();
+    if rows <= first {
+        return Ok(());
+    }
+    let dimension = usize::from(plan.dimension);
+    let further = expand(alloc, &plan.seed, 0, first, rows - first, dimension)?;
+    match a1.push_rows(further.into_words()) {
+        Ok(()) => Ok(()),
+        Err(_) => Err(AllocError),
     }
 }

@@ -3,8 +3,8 @@
 
 ghost use Rattle.version_store.specs.Laws.{EachRunStands, MigratedRecordsStay, UnchangedRowsStay};
 
-/// A store that stands for a history stands, after any accepted edits and publications, for that history
-/// after them.
+/// A store that stands for a history stands, after any accepted edits, appends and publications, for that
+/// history after them.
 pub fn each_run_stands()
     ensures { EachRunStands }
 {}

@@ -20,4 +20,4 @@ pub use pir_schemes::{Plan, Scheme};
 pub use snapshot_file::{
     Header, MigrateError, Snapshot, SnapshotFault, WriteFault, migrate, read_snapshot,
 };
-pub use store::{EditError, PublishError, Store, write_snapshot};
+pub use store::{AppendError, EditError, PublishError, Store, write_snapshot};

@@ -23,7 +23,7 @@ pub enum OpenError {
     #[error("there is no version 0")]
     BadVersion,
     /// The bytes are not as many as the records have, or in form 2 those of a record are no slot.
-    #[error("the records have another number of bytes")]
+    #[error("the records have another number of bytes, or one of them is no slot")]
     BadRecords,
     /// There is no memory for what is made from the records.
     #[error("out of memory")]

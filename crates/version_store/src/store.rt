@@ -2,9 +2,9 @@
 
 ghost use Rattle.std.specs.Prelude.{All, ℕ, ◌≡◌, ◌≢◌, ◌+◌, ◌*◌, ◌^◌, ◌<◌, ◌≤◌, ◌↔◌, length, true, false, OnOk, OnErr, IfErr, IfOk, IfSome, IsNone, option_map, take, slice_set, IsErrOf, IsTrue, vec_capacity, []};
 ghost use Rattle.matrix_u32.specs.Matrix.{row};
-ghost use Rattle.digit_pack.specs.Layout.{digits_per_record, digit_rows, record_at, records_in};
+ghost use Rattle.digit_pack.specs.Layout.{digits_per_record, digit_rows, is_layout, record_at, records_in};
 ghost use Rattle.digit_pack.specs.Packed.{packed};
-ghost use Rattle.pir_schemes.specs.Plans.{IsPlan, fits, records_held, slots, digits_at};
+ghost use Rattle.pir_schemes.specs.Plans.{IsPlan, fits, records_held, shape_at, slots, digits_at};
 ghost use Rattle.digit_pack.specs.Slots.{is_form};
 ghost use Rattle.pir_schemes.specs.Parts.{part_of};
 ghost use Rattle.pir_schemes.specs.Retrievals.{hint_matrix, server_hint, query_count, answer_words};
@@ -14,8 +14,8 @@ ghost use Rattle.snapshot_file.specs.Snapshots.{header_of, shape_of};
 ghost use Rattle.version_store.specs.Openings.{IsSound, IsOpenFault, held_of, plan_held, header_of_held, bytes_of_records, snapshot_of};
 ghost use Rattle.version_store.specs.Rooms.{scheme_answered, IsAnswerRoom};
 ghost use Rattle.std.specs.Io.KnownBytes.{Appends};
-ghost use Rattle.version_store.specs.Histories.{StoreState, History, StandsFor, opened, after_edit, published, held_edited, held_published, delta_rows, kept_log};
-ghost use Rattle.version_store.specs.Names.{edit_fault_name, publish_fault_name};
+ghost use Rattle.version_store.specs.Histories.{StoreState, History, StandsFor, opened, after_edit, after_append, published, held_edited, held_appended, held_published, delta_rows, kept_log};
+ghost use Rattle.version_store.specs.Names.{append_fault_name, edit_fault_name, publish_fault_name};
 
 use crate::answer_room::AnswerRoom;
 use crate::drafts::Changes;
@@ -39,8 +39,8 @@ pub enum EditError {
     /// There is no such record.
     #[error("there is no such record")]
     BadIndex,
-    /// The bytes are not as many as a record has.
-    #[error("a record has another number of bytes")]
+    /// The bytes are not as many as a record has, or in form 2 more than its slot has room for.
+    #[error("a record can't have this number of bytes")]
     BadLength,
     /// There is no memory for the change.
     #[error("out of memory")]
@@ -61,11 +61,39 @@ impl EditError {
     }
 }
 
+/// Why an append is refused: the first cause in the order of the variants.
+#[derive(Clone, Copy, Debug, PartialEq, Eq, Error)]
+pub enum AppendError {
+    /// The bytes are not as many as a record has, or in form 2 more than its slot has room for.
+    #[error("a record can't have this number of bytes")]
+    BadLength,
+    /// The draft has as many records as its layout allows.
+    #[error("there is no room for a further record")]
+    Full,
+    /// There is no memory for the change.
+    #[error("out of memory")]
+    Memory,
+}
+
+impl AppendError {
+    /// Its name, as programs print it.
+    #[tactic(auto, unfolding(crate::specs::Names::append_fault_name))]
+    pub fn name(self) -> &'static str
+        ensures { result.now ≡ append_fault_name self }
+    {
+        match self {
+            AppendError::BadLength => "BadLength",
+            AppendError::Full => "Full",
+            AppendError::Memory => "Memory",
+        }
+    }
+}
+
 /// Why a publication is refused: the first cause in the order of the variants.
 #[derive(Clone, Copy, Debug, PartialEq, Eq, Error)]
 pub enum PublishError {
-    /// No edit was accepted since the last publication.
-    #[error("nothing was edited since the last publication")]
+    /// No edit and no append was accepted since the last publication.
+    #[error("nothing was edited or appended since the last publication")]
     NothingToPublish,
     /// The current version is 2^64 - 1, the last that there is.
     #[error("there is no further version number")]
@@ -99,6 +127,16 @@ impl From<AllocError> for EditError {
     }
 }
 
+impl From<AllocError> for AppendError {
+    ghost use Rattle.version_store.specs.declared.store.AppendError.TheVariants.{Memory};
+
+    ghost from_gives = { λ _ fault. fault ≡ Memory };
+
+    fn from(_refused: AllocError) -> Self {
+        AppendError::Memory
+    }
+}
+
 impl From<AllocError> for PublishError {
     ghost use Rattle.version_store.specs.declared.store.PublishError.TheVariants.{Memory};
 
@@ -112,12 +150,14 @@ impl From<AllocError> for PublishError {
 /// The current version of the records, with its hints, the draft of the next, and a log of the rows of
 /// digits that the latest publications changed.
 ///
-/// The draft is kept as its changes alone. Contracts see a store as what it holds, `StoreState`, and say what a
+/// The draft is kept as its changes alone, with the count of its records: those appended are changes of blanks after the
+/// records of the version. Contracts see a store as what it holds, `StoreState`, and say what a
 /// call does to every history that the store stands for.
 #[derive(Drop)]
 pub struct Store<K: Kernel> {
     alloc: Global,
     edition: Edition<K>,
+    count: usize,
     changes: Changes,
     log: DeltaLog,
     publisher: [u8; 32],
@@ -125,20 +165,20 @@ pub struct Store<K: Kernel> {
 
 impl<K: Kernel> Model for Store<K> {
     ghost use Rattle.version_store.specs.Histories.{StoreState};
-    ghost use Rattle.version_store.specs.Drafts.{draft_of, is_some_change, IsHeld};
+    ghost use Rattle.version_store.specs.Drafts.{draft_of, is_some_change, grown_to, IsHeld};
 
     ghost Value = { StoreState };
 
     ghost view = { λ s. record {
       version = s.log.version;
       edition = s.edition;
-      draft = draft_of s.edition.records s.changes.entries;
+      draft = draft_of (grown_to s.count s.edition).records s.changes.entries;
       marked = is_some_change s.changes.entries;
       publisher = s.publisher;
       log = s.log.lists;
     } };
 
-    ghost invariant = { λ s. IsHeld s.edition s.changes.entries s.log.lists };
+    ghost invariant = { λ s. IsHeld s.edition s.count s.changes.entries s.log.lists };
 }
 
 impl<K: Kernel> Store<K> {
@@ -167,11 +207,13 @@ impl<K: Kernel> Store<K> {
             records,
             ..
         } = snapshot;
+        let count = layout.count();
         let edition = Edition::open(alloc, kernel, plan, layout, records)?;
         let log = DeltaLog::new(alloc, version)?;
         Ok(Store {
             alloc,
             edition,
+            count,
             changes: Changes::new(alloc),
             log,
             publisher,
@@ -422,7 +464,47 @@ impl<K: Kernel> Store<K> {
     fn has_record(&self, i: usize) -> bool
         ensures { IsTrue result ↔ (i < length self.now.draft) }
     {
-        i < self.edition.layout().count()
+        i < self.count
+    }
+
+    /// Puts a record after those of the draft: no reader sees it before its publication, and until then it can be
+    /// edited like any other.
+    ///
+    /// `BadLength` exactly when the bytes can't be a record; else `Full` exactly when no layout has one record more than
+    /// the draft; else it is accepted, or `Memory`. A refused append changes nothing.
+    pub fn append(&mut self, bytes: &[u8]) -> Result<(), AppendError>
+        ensures accepted { OnOk result (self.new ≡ held_appended bytes.now self.old) }
+        ensures history { OnOk result ((h : History) →
+            StandsFor self.old h → StandsFor self.new (after_append bytes.now h)) }
+        ensures bad_length { IsErrOf result AppendError.BadLength ↔
+            (fits self.old.edition.plan bytes.now ≡ false) }
+        ensures full { IsErrOf result AppendError.Full ↔
+            (fits self.old.edition.plan bytes.now ≡ true)
+            × (is_layout (shape_at self.old.edition.plan (length self.old.draft + 1)) ≡ false) }
+        ensures refused { OnErr result (self.new ≡ self.old) }
+    {
+        if !self.fits(bytes) {
+            return Err(AppendError::BadLength);
+        }
+        if !self.has_room() {
+            return Err(AppendError::Full);
+        }
+        let copy = copy_of(self.alloc, bytes)?;
+        match self.changes.insert(self.count, copy) {
+            Ok(_) => {
+                self.count += 1;
+                Ok(())
+            }
+            Err(_) => Err(AppendError::Memory),
+        }
+    }
+
+    // Whether there is a layout with one record more than the draft.
+    fn has_room(&self) -> bool
+        ensures { result ≡
+            is_layout (shape_at self.now.edition.plan (length self.now.draft + 1)) }
+    {
+        self.edition.plan().has_layout(self.count + 1)
     }
 
     // Whether bytes can be a record.
@@ -434,7 +516,7 @@ impl<K: Kernel> Store<K> {
 
     /// Makes the draft the current version, and answers its number.
     ///
-    /// `NothingToPublish` exactly when no edit was accepted since the last publication; else
+    /// `NothingToPublish` exactly when no edit and no append was accepted since the last publication; else
     /// `VersionsUsedUp` exactly when the current version is 2^64 - 1; else it is done, or `Memory`. A refused
     /// publication changes nothing. All memory is asked for before anything changes.
     pub fn publish(&mut self) -> Result<u64, PublishError>
@@ -458,6 +540,7 @@ impl<K: Kernel> Store<K> {
         let mut marks = marks_for(self.alloc, layout)?;
         let mut rows = Vec::with_capacity(self.alloc, layout.rows())?;
         let mut factors = factors_for(self.alloc, layout)?;
+        self.edition.grow(self.alloc, self.count)?;
         self.edition
             .apply(&mut self.changes, &mut scratch, &mut marks, &mut factors);
         push_marked(&marks, &mut rows);

@@ -7,7 +7,7 @@ use Rattle.hint_update.proofs.Follows.{row_follows, replaced_row_alone, reduced}
 use Rattle.hint_update.proofs.update_simple.Goals as goal
 
 pub returns-clause-follows : goal.returns-clause-follows
-returns-clause-follows g c = λ d whole e p is h.
+returns-clause-follows g c = λ d whole e p q is h.
     let small : c.args.old < 2 ^ 32 = omega arith in
     let k : ℕ = (c.args.new + (2 ^ 32 - c.args.old)) % 2 ^ 32 in
     let hint : WordMatrix = c.args.hint.now in
@@ -21,7 +21,7 @@ returns-clause-follows g c = λ d whole e p is h.
     written_row_is hint c.args.row c.add_difference.new.out c.rows-rows.ensures.whole c.requires.row long
     ∙ ap (λ words. with_row hint c.args.row words) words
     ∙ ap (λ m. with_row m c.args.row (plus_scaled (row m c.args.row) (row c.args.a1.now c.args.col) k)) h
-    ∙ row_follows d c.args.a1.now c.args.row c.args.col c.args.old c.args.new k whole (sym e) p (omega (arith, e)) is small refl
+    ∙ row_follows d c.args.a1.now c.args.row c.args.col c.args.old c.args.new k whole e p q is small refl
 
 pub returns-clause-others : goal.returns-clause-others
 returns-clause-others g c =

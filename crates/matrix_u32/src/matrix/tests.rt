@@ -53,6 +53,32 @@ fn holds_empty_matrices(rt: HostRuntime) -> Result<(), Fail> {
 }
 
 #[test]
+fn grows_by_whole_rows(rt: HostRuntime) -> Result<(), Fail> {
+    let mut m = Matrix::from_words(1, 2, vec![in rt.alloc(); 1u32, 2]?)?;
+    let odd = vec![in rt.alloc(); 3u32, 4, 5]?;
+    assert_eq!(rt; m.push_rows(odd).err(), Some(MatrixError::WrongCount));
+    assert_eq!(rt; m.words(), [1, 2].as_slice());
+    m.push_rows(vec![in rt.alloc(); 3u32, 4]?)?;
+    assert_eq!(rt; m.rows(), 2);
+    assert_eq!(rt; m.into_words().as_slice(), [1, 2, 3, 4].as_slice());
+
+    let mut flat = Matrix::zeros(rt.alloc(), 5, 0)?;
+    flat.push_rows(Vec::new(rt.alloc()))?;
+    assert_eq!(rt; flat.rows(), 5);
+    let one = vec![in rt.alloc(); 1u32]?;
+    assert_eq!(rt; flat.push_rows(one).err(), Some(MatrixError::WrongCount));
+    Ok(())
+}
+
+#[test]
+fn judges_the_limit_before_the_count_of_further_words(rt: HostRuntime) -> Result<(), Fail> {
+    let many = vec![in rt.alloc(); 0u32; 33_554_433]?;
+    let mut flat = Matrix::zeros(rt.alloc(), 5, 0)?;
+    assert_eq!(rt; flat.push_rows(many).err(), Some(MatrixError::TooLarge));
+    Ok(())
+}
+
+#[test]
 fn faults_are_printed(rt: HostRuntime) -> Result<(), Fail> {
     for (fault, text) in [
         (

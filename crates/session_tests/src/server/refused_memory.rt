@@ -35,13 +35,19 @@ const ANSWER_2: &[u8] = &[
     0x0d, 0, 0, 0, 0x85, 0, 2, 0, 0, 0, 0, 0, 0, 0, 0xc0, 0x0d, 0, 0x64,
 ];
 
-const FRAMES: [(&[u8], &[u8]); 6] = [
+// The byte 5 is one record more, in version 3.
+const APPEND: &[u8] = &[1, 0, 0, 0, 0x09, 5];
+
+const APPENDED: &[u8] = &[8, 0, 0, 0, 0x87, 2, 0, 0, 0, 0, 0, 0, 0];
+
+const FRAMES: [(&[u8], &[u8]); 7] = [
     (HELLO, WHOLE_WELCOME),
     (HINT_ASK, HINT_PART),
     (QUERY, ANSWER),
     (EDIT, EDITED),
     (PUBLISH, PUBLISHED),
     (QUERY_2, ANSWER_2),
+    (APPEND, APPENDED),
 ];
 
 fn is_open<K: Kernel>(server: &ServerCore<K>, id: u64) -> bool {

@@ -104,3 +104,19 @@ fn equal_bytes_multiply_nothing(rt: HostRuntime) -> Result<(), Fail> {
     assert_eq!(rt; products.get(), 0);
     Ok(())
 }
+
+// The new column's one digit is the first that its row gets there: one word of the first hint, and the four digits of this
+// word. A publication that makes a hint anew for nine columns multiplies 72 words for the first or 32 for the client's.
+#[test]
+fn an_append_with_a_new_column_multiplies_five_words(rt: HostRuntime) -> Result<(), Fail> {
+    let products = Cell::new(0);
+    let kernel = Counting {
+        products: &products,
+    };
+    let mut store = neighbours(rt.alloc(), kernel)?;
+    products.set(0);
+    assert_eq!(rt; super::append(&mut store, &[200]), Ok(()));
+    assert_eq!(rt; super::publish(&mut store), Ok(2));
+    assert_eq!(rt; products.get(), 5);
+    Ok(())
+}

@@ -63,7 +63,7 @@ fn holds_the_same_hint<K: Kernel>(
 }
 
 // Compares all that two stores hold of their current versions, but the version's number.
-fn holds_the_same<K: Kernel>(rt: &impl Abort, store: &Store<K>, other: &Store<K>) {
+pub(crate) fn holds_the_same<K: Kernel>(rt: &impl Abort, store: &Store<K>, other: &Store<K>) {
     assert_eq!(rt; bytes(store), bytes(other));
     are_words(rt, digit_words(store), digit_words(other));
     are_words(rt, server_words(store), server_words(other));
@@ -134,6 +134,124 @@ fn is_made_later<K: Kernel>(
 fn a_refused_publication_is_made_later(rt: HostRuntime) -> Result<(), Fail> {
     is_made_later(&rt, Plain, &mut opened(rt.alloc(), Plain, false)?)?;
     is_made_later(&rt, Lanes, &mut opened(rt.alloc(), Lanes, false)?)
+}
+
+// Five records of three bytes, and five slots of one byte at most. The store is opened with the first three, two to a column.
+const ALIKE: [u8; 15] = [1, 2, 3, 4, 5, 6, 7, 8, 9, 10, 11, 12, 255, 0, 128];
+
+const SLOTS: [u8; 15] = [1, 0, 9, 0, 0, 0, 1, 0, 255, 1, 0, 7, 1, 0, 128];
+
+fn with_records<K: Kernel>(
+    alloc: Global,
+    kernel: K,
+    form: u8,
+    count: u32,
+    bytes: &[u8],
+) -> Result<Store<K>, OpenError> {
+    let header = Header {
+        form,
+        width: 6,
+        record_len: 3,
+        groups: 2,
+        count,
+        dimension: 5,
+        ..TWO_RECORDS
+    };
+    let Ok(records) = bytes.to_vec(alloc) else {
+        return Err(OpenError::Memory);
+    };
+    open(alloc, kernel, header.with_records(records))
+}
+
+// The store of these records, opened again where memory was refused.
+fn opened_with<K: Kernel>(
+    alloc: Global,
+    kernel: K,
+    form: u8,
+    count: u32,
+    bytes: &[u8],
+) -> Result<Store<K>, OpenError> {
+    match with_records(alloc, kernel, form, count, bytes) {
+        Ok(store) => Ok(store),
+        Err(_) => with_records(alloc, kernel, form, count, bytes),
+    }
+}
+
+fn count<K: Kernel>(store: &Store<K>) -> usize {
+    store.layout().count()
+}
+
+// Appends a record to a draft of so many, again where memory was refused: the first try has left the version, the draft's
+// count and the mark as they were.
+fn appends<K: Kernel>(
+    rt: &impl Abort,
+    store: &mut Store<K>,
+    first: &Store<K>,
+    draft: usize,
+    bytes: &[u8],
+) {
+    if let Err(fault) = append(store, bytes) {
+        assert_eq!(rt; fault, AppendError::Memory);
+        assert_eq!(rt; edit(store, draft, bytes), Err(EditError::BadIndex));
+        if draft == count(store) {
+            assert_eq!(rt; publish(store), Err(PublishError::NothingToPublish));
+        }
+        holds_the_same(rt, store, first);
+        assert_eq!(rt; append(store, bytes), Ok(()));
+    }
+}
+
+// Publishes two appends, of which the second makes a new column, again where memory was refused: the first try has left the
+// version, its count, its bytes and words, and the draft as they were.
+fn publishes_the_appends<K: Kernel>(
+    rt: &impl Abort,
+    kept: &mut Store<K>,
+    first: &Store<K>,
+    made: &Store<K>,
+    appended: [&[u8]; 2],
+) {
+    appends(rt, kept, first, 3, appended[0]);
+    appends(rt, kept, first, 4, appended[1]);
+    if let Err(fault) = publish(kept) {
+        assert_eq!(rt; fault, PublishError::Memory);
+        assert_eq!(rt; version(kept), 1);
+        assert_eq!(rt; count(kept), 3);
+        holds_the_same(rt, kept, first);
+        assert_eq!(rt; edit(kept, 5, appended[1]), Err(EditError::BadIndex));
+        assert_eq!(rt; publish(kept), Ok(2));
+    }
+    assert_eq!(rt; version(kept), 2);
+    assert_eq!(rt; count(kept), 5);
+    holds_the_same(rt, kept, made);
+    assert_eq!(rt; publish(kept), Err(PublishError::NothingToPublish));
+}
+
+fn grows_later<K: Kernel>(
+    rt: &(impl Abort + AllocGlobal),
+    kernel: K,
+    form: u8,
+    bytes: &[u8; 15],
+    appended: [&[u8]; 2],
+) -> Result<(), Fail> {
+    let mut kept = opened_with(rt.alloc(), kernel, form, 3, &bytes[..9])?;
+    let first = opened_with(rt.alloc(), kernel, form, 3, &bytes[..9])?;
+    let made = opened_with(rt.alloc(), kernel, form, 5, bytes)?;
+    publishes_the_appends(rt, &mut kept, &first, &made, appended);
+    Ok(())
+}
+
+#[test]
+fn a_refused_growth_is_made_later(rt: HostRuntime) -> Result<(), Fail> {
+    let appended: [&[u8]; 2] = [&[10, 11, 12], &[255, 0, 128]];
+    grows_later(&rt, Plain, 1, &ALIKE, appended)?;
+    grows_later(&rt, Lanes, 1, &ALIKE, appended)
+}
+
+#[test]
+fn a_refused_growth_of_slots_is_made_later(rt: HostRuntime) -> Result<(), Fail> {
+    let appended: [&[u8]; 2] = [&[7], &[128]];
+    grows_later(&rt, Plain, 2, &SLOTS, appended)?;
+    grows_later(&rt, Lanes, 2, &SLOTS, appended)
 }
 
 // A file of the store, so that none has to be written here.

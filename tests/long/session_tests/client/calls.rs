@@ -40,6 +40,47 @@ fn hello_edit_and_publish_on<K: Kernel>(
     edits_and_publishes(rt, &mut client)
 }
 
+// A record appended that the server takes, and one that it has no room for.
+fn appends<K: Kernel>(
+    rt: &(impl Abort + AllocGlobal),
+    client: &mut ClientCore<K>,
+) -> Result<(), Fail> {
+    sends(rt, client, Wanted::Append(5), 6, &[1, 0, 0, 0, 9, 5])?;
+    refuses(rt, client, Wanted::Append(6), CallFault::Busy);
+    let frame = done(rt, 1)?;
+    feeds(rt, client, frame.as_slice(), "done 1 ")?;
+    makes(client, Wanted::Append(6))?;
+    let frame = refused(rt, 14)?;
+    feeds(rt, client, frame.as_slice(), "refused 14 ")?;
+    // neither changed what is known of the store, nor the next number
+    assert_eq!(rt; client.known(), info_of(TWO_RECORDS, 1, 2));
+    counts(rt, client, 5);
+    Ok(())
+}
+
+#[test]
+fn records_are_appended(rt: HostRuntime) -> Result<(), Fail> {
+    records_are_appended_on(&rt, Plain)?;
+    records_are_appended_on(&rt, Lanes)
+}
+
+fn records_are_appended_on<K: Kernel>(
+    rt: &(impl Abort + AllocGlobal),
+    kernel: K,
+) -> Result<(), Fail> {
+    let mut client = guest(rt, TWO_RECORDS, 5, kernel)?;
+    appends(rt, &mut client)?;
+    // a record of no bytes is the server's to judge, and of the most bytes as well
+    let sent = client.append(&[])?;
+    assert_eq!(rt; sent.as_slice(), [0, 0, 0, 0, 9].as_slice());
+    let frame = refused(rt, 7)?;
+    feeds(rt, &mut client, frame.as_slice(), "refused 7 ")?;
+    let sent = client.append(&[7; 65_535])?;
+    assert_eq!(rt; sent.len(), 65_540);
+    assert_eq!(rt; &sent[..6], [0xff, 0xff, 0, 0, 9, 7].as_slice());
+    Ok(())
+}
+
 fn syncs_after_a_publication<K: Kernel>(
     rt: &(impl Abort + AllocGlobal),
     client: &mut ClientCore<K>,
@@ -75,6 +116,7 @@ fn is_not_ready<K: Kernel>(rt: &impl Abort, client: &mut ClientCore<K>) {
         Wanted::Ask(99),
         Wanted::Sync(Scheme::Simple),
         Wanted::Edit(0, 1),
+        Wanted::Append(1),
         Wanted::Publish,
     ] {
         refuses(rt, client, wanted, CallFault::NotReady);
@@ -114,6 +156,7 @@ fn is_busy<K: Kernel>(rt: &impl Abort, client: &mut ClientCore<K>) {
         Wanted::Ask(2),
         Wanted::Sync(Scheme::Simple),
         Wanted::Edit(0, 1),
+        Wanted::Append(1),
         Wanted::Publish,
     ] {
         refuses(rt, client, wanted, CallFault::Busy);
@@ -167,6 +210,7 @@ fn fails_for_good<K: Kernel>(
         Wanted::Sync(Scheme::Simple),
         Wanted::Ask(0),
         Wanted::Edit(0, 1),
+        Wanted::Append(1),
         Wanted::Publish,
     ] {
         refuses(rt, client, wanted, CallFault::Failed);

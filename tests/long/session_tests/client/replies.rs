@@ -125,6 +125,7 @@ enum Outstanding {
     Sync,
     Ask,
     Edit,
+    Append,
     Publish,
 }
 
@@ -136,6 +137,7 @@ fn made(outstanding: Outstanding) -> Option<Wanted> {
         Outstanding::Sync => Some(Wanted::Sync(Scheme::Simple)),
         Outstanding::Ask => Some(Wanted::Ask(0)),
         Outstanding::Edit => Some(Wanted::Edit(0, 1)),
+        Outstanding::Append => Some(Wanted::Append(1)),
         Outstanding::Publish => Some(Wanted::Publish),
     }
 }
@@ -216,26 +218,31 @@ fn replies_to_other_calls_on<K: Kernel>(
     rt: &(impl Abort + AllocGlobal),
     kernel: K,
 ) -> Result<(), Fail> {
-    use Outstanding::{Ask, Edit, Hello, Nothing, Publish, Sync};
+    use Outstanding::{Append, Ask, Edit, Hello, Nothing, Publish, Sync};
     is_bad_for(
         rt,
         Reply::Welcome,
-        &[Nothing, Sync, Ask, Edit, Publish],
+        &[Nothing, Sync, Ask, Edit, Append, Publish],
         kernel,
     )?;
     is_bad_for(
         rt,
         Reply::HintPart,
-        &[Nothing, Hello, Ask, Edit, Publish],
+        &[Nothing, Hello, Ask, Edit, Append, Publish],
         kernel,
     )?;
     is_bad_for(
         rt,
         Reply::Answer,
-        &[Nothing, Hello, Sync, Edit, Publish],
+        &[Nothing, Hello, Sync, Edit, Append, Publish],
         kernel,
     )?;
-    is_bad_for(rt, Reply::Stale, &[Nothing, Hello, Edit, Publish], kernel)?;
+    is_bad_for(
+        rt,
+        Reply::Stale,
+        &[Nothing, Hello, Edit, Append, Publish],
+        kernel,
+    )?;
     is_bad_for(rt, Reply::Done, &[Nothing, Hello, Sync, Ask], kernel)?;
     is_bad_for(rt, Reply::Refused, &[Nothing], kernel)
 }

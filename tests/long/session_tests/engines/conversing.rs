@@ -90,6 +90,27 @@ fn a_publishers_edit_is_done_on<K: Kernel>(
     Ok(())
 }
 
+#[test]
+fn a_publishers_record_is_appended(rt: HostRuntime) -> Result<(), Fail> {
+    a_publishers_record_is_appended_on(&rt, rt.alloc(), Plain)?;
+    a_publishers_record_is_appended_on(&rt, rt.alloc(), Lanes)
+}
+
+fn a_publishers_record_is_appended_on<K: Kernel>(
+    rt: &impl Abort,
+    alloc: Global,
+    kernel: K,
+) -> Result<(), Fail> {
+    let mut client = welcomed(rt, alloc, ONES, kernel)?;
+    let first = append(&mut client, &[5])?;
+    let mut reader = DONE;
+    let mut writer = Vec::new(alloc);
+    let result = converse_all(alloc, &mut client, &first, &mut reader, &mut writer, TURNS);
+    assert_eq!(rt; shown(&result), Ok(('e', 1)));
+    assert_eq!(rt; writer.as_slice(), APPEND);
+    Ok(())
+}
+
 // Adds a part of so many words, all of them 0.
 fn put_part(alloc: Global, part: u32, count: usize, out: &mut Vec<u8>) -> Result<(), Fail>
     requires { count ≤ 65536 }

@@ -15,6 +15,8 @@ pub const ONES: [u8; 32] = [1; 32];
 
 pub const EDIT: &[u8] = &[5, 0, 0, 0, 0x06, 1, 0, 0, 0, 100];
 
+pub const APPEND: &[u8] = &[1, 0, 0, 0, 0x09, 5];
+
 pub const DONE: &[u8] = &[8, 0, 0, 0, 0x87, 1, 0, 0, 0, 0, 0, 0, 0];
 
 pub const REFUSED: &[u8] = &[1, 0, 0, 0, 0x8f, 1];
@@ -119,6 +121,12 @@ pub fn edit<K: Kernel>(
     requires { length bytes.now ≤ 65535 }
 {
     client.edit(index, bytes)
+}
+
+pub fn append<K: Kernel>(client: &mut ClientCore<K>, bytes: &[u8]) -> Result<Vec<u8>, CallFault>
+    requires { length bytes.now ≤ 65535 }
+{
+    client.append(bytes)
 }
 
 pub fn open_session<K: Kernel>(server: &mut ServerCore<K>, id: u64) -> Result<(), SessionError> {

@@ -16,7 +16,7 @@ fn publish_bytes<K: Kernel>(rt: &impl Abort, store: &mut Store<K>, count: u8) {
 }
 
 // The rows since a version are these.
-fn gives<K: Kernel>(
+pub(crate) fn gives<K: Kernel>(
     rt: &impl Abort,
     store: &Store<K>,
     version: u64,

@@ -47,6 +47,15 @@ const STEPS: &[(&str, &str)] = &[
         "edit 4294967295: refused BadIndex\n",
     ),
     ("edit 1 ffff\n", "edit 1: refused BadLength\n"),
+    ("edit 1 -\n", "edit 1: refused BadLength\n"),
+    (
+        "append 0F\nedit 2 05\nedit 3 05\nappend 00\npublish\n",
+        "append: accepted\nedit 2: accepted\nedit 3: refused BadIndex\nappend: accepted\npublish: version 2\n",
+    ),
+    (
+        "append ffff\nappend -\n",
+        "append: refused BadLength\nappend: refused BadLength\n",
+    ),
     ("publish\n", "publish: refused NothingToPublish\n"),
     (
         "edit 0 0a\npublish\npublish\n",
@@ -91,8 +100,14 @@ const BAD_STEPS: &[&str] = &[
     "edit 0 \n",
     "edit 0 0\n",
     "edit 0 0g\n",
-    "edit 0 -\n",
+    "edit 0 --\n",
     "edit 4294967296 00\n",
+    "append\n",
+    "append \n",
+    "append 0\n",
+    "append 0g\n",
+    "append --\n",
+    "append 2 00\n",
     "sync 0\n",
     "sync 0 triple\n",
     "ask 0\n",
@@ -178,6 +193,33 @@ fn records_and_clients_stand_in_their_place(rt: HostRuntime) -> Result<(), Fail>
     check(&rt, alloc, beyond.as_str(), "line 5: bad\n", 3)?;
     let empty = format!(in alloc; "world 8 0 1 1\n{SEED}record 00\n{CLIENT}")?;
     check(&rt, alloc, empty.as_str(), "line 3: bad\n", 3)
+}
+
+// The sizes and records of worlds of form 2, and what is printed.
+const SLOTS: &[(&str, &str, &str)] = &[
+    ("8 3 1 1", "record 0a\nrecord -\n", ""),
+    ("8 3 1 1", "record 0a00\n", "line 3: bad\n"),
+    ("8 2 1 1", "record -\n", ""),
+    ("8 2 1 1", "record 00\n", "line 3: bad\n"),
+    ("8 1 1 1", "record -\n", "line 3: bad\n"),
+    ("8 0 1 1", "record -\n", "line 3: bad\n"),
+    ("8 1 1 1", "record 00\n", "line 3: bad\n"),
+    ("8 257 1 1", "record -\n", "world: refused BadLayout\n"),
+    ("8 65535 1 1", "record -\nrecord 0a\n", "world: refused BadLayout\n"),
+    ("5 3 1 1", "record -\n", "world: refused BadLayout\n"),
+    ("8 3 1 0", "record -\n", "world: refused BadLayout\n"),
+];
+
+#[test]
+fn records_of_form_2_have_lengths_of_their_own(rt: HostRuntime) -> Result<(), Fail> {
+    let alloc = rt.alloc();
+    for (sizes, records, reported) in SLOTS {
+        let script = format!(in alloc; "world2 {sizes}\n{SEED}{records}{CLIENT}")?;
+        let status = if reported.is_empty() { 0 } else { 3 };
+        check(&rt, alloc, script.as_str(), reported, status)?;
+    }
+    check(&rt, alloc, "world2 8 3 1\n", "line 1: bad\n", 3)?;
+    check(&rt, alloc, "world3 8 3 1 1\n", "line 1: bad\n", 3)
 }
 
 #[test]

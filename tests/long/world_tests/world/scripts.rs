@@ -80,6 +80,10 @@ pub fn reported<K: Kernel>(rt: &impl AllocGlobal, world: &World<K>) -> Result<St
             Outcome::EditRefused { index, fault } => {
                 text.push_str(&format!(in rt.alloc(); "edit {index} {fault:?}")?)?
             }
+            Outcome::Appended => text.push_str("appended")?,
+            Outcome::AppendRefused { fault } => {
+                text.push_str(&format!(in rt.alloc(); "append {fault:?}")?)?
+            }
             Outcome::Published { version } => {
                 text.push_str(&format!(in rt.alloc(); "version {version}")?)?
             }

@@ -1,4 +1,4 @@
-use Rattle.std.proofs.Common.{◌≡◌, ◌∙◌, ◌≤◌, ◌<◌, List, ℕ, length, true, false, sym, ap, arith, rules}
+use Rattle.std.proofs.Common.{◌≡◌, ◌∙◌, List, ℕ, true, sym, ap, arith}
 use Rattle.digit_pack.specs.Layout.{digit_rows}
 use Rattle.client_core.specs.States.{shape_known}
 use Rattle.client_core.specs.Replies.{row_numbers, are_ascending}

@@ -1,7 +1,6 @@
-use Rattle.std.proofs.Common.{◌≡◌, ◌∙◌, ◌<◌, ℕ, sym, ap, take, arith}
+use Rattle.std.proofs.Common.{◌≡◌, ◌∙◌, ◌<◌, sym, ap, take, arith}
 use Rattle.matrix_u32.specs.Matrix.{WordMatrix, with_row}
-use Rattle.frame_codec.specs.Rows.{rows_in, row_count, row_at}
-use Rattle.client_core.specs.Replies.{with_rows}
+use Rattle.frame_codec.specs.Rows.{rows_in, row_count}
 use Rattle.client_core.proofs.MovedRows.{with_rows-rows, with_rows-cols, with_rows-none, with_rows-next, with_rows-all, rows_below}
 use Rattle.client_core.proofs.deltas.put_rows.Goals as goal
 

@@ -1,9 +1,9 @@
-use Rattle.std.proofs.Common.{◌≡◌, ◌∙◌, ◌<◌, ◌≤◌, ℕ, ◌+◌, true, false, sym, ap, subst, List, length, inl, inr, arith}
+use Rattle.std.proofs.Common.{◌≡◌, ◌∙◌, ℕ, true, sym, ap, subst, length, inl, inr, arith}
 use Rattle.std.proofs.lemmas.Bool.{cases_lt}
 use Rattle.matrix_u32.proofs.Products.{length-list_of}
 use Rattle.digit_pack.specs.Layout.{record_at, records_in}
 use Rattle.digit_pack.specs.Slots.{is_slot}
-use Rattle.digit_pack.proofs.SlotLemmas.{each_passes, one_fails}
+use Rattle.digit_pack.proofs.SlotLemmas.{each_passes}
 use Rattle.digit_pack.proofs.slots.are_slots.Goals as goal
 
 pub loop-i-init : goal.loop-i-init

@@ -37,8 +37,8 @@ loop-d-preserved g c =
       written = subst done (sym c.set.ensures)
           (one_written old here c.args.first c.args.col c.loop-d.d v c.args.written.now c.loop-d.invariant.written
           (omega (arith, c.requires.rows)) c.requires.col refl);
-      made = c.update_simple.ensures.follows here c.loop-d.invariant.written.whole (c.loop-d.invariant.written.cols ∙ c.requires.inner) below
-          (sym c.get-old.ensures) c.loop-d.invariant.made
+      made = c.update_simple.ensures.follows here c.loop-d.invariant.written.whole (omega (arith, c.loop-d.invariant.written.cols, c.requires.inner))
+          below across (sym c.get-old.ensures) c.loop-d.invariant.made
           ∙ ap (λ m. product m c.args.a1.now) (sym c.set.ensures);
       marks = subst marked (sym c.set.ensures)
           (one_marked old here c.args.marks.now c.loop-d.marks (c.args.first + c.loop-d.d) c.args.col v c.get-old.result c.loop-d.invariant.written.whole

@@ -10,7 +10,7 @@ invariant_of-result c =
     let m : WordMatrix = record { rows = c.args.rows; cols = c.args.cols; words = replicate (c.args.rows * c.args.cols) 0 } in
     let items : c.in-Ok.words.items ≡ replicate (c.args.rows * c.row_words.result) 0 = search rules in
     stays_packed m c.in-Ok.words.items (length-replicate (c.args.rows * c.args.cols) 0) (small_zeros c.args.rows c.args.cols)
-    (items ∙ zeros_packed c.args.rows c.args.cols c.row_words.result c.row_words.ensures) (omega (arith, c.in-Some.ensures))
+    (items ∙ zeros_packed c.args.rows c.args.cols c.row_words.result c.row_words.ensures) (omega (arith, c.in_ok-judge_size.ensures.fits))
 
 pub returns-in-Ok-clause-zeros : goal.returns-in-Ok-clause-zeros
 returns-in-Ok-clause-zeros c =
@@ -18,4 +18,4 @@ returns-in-Ok-clause-zeros c =
     let items : c.in-Ok.words.items ≡ replicate (c.args.rows * c.row_words.result) 0 = search rules in
     let is = holds m c.in-Ok.words.items (length-replicate (c.args.rows * c.args.cols) 0) (small_zeros c.args.rows c.args.cols)
     (items ∙ zeros_packed c.args.rows c.args.cols c.row_words.result c.row_words.ensures) in
-    (is, omega (arith, c.in-Some.ensures))
+    (is, omega (arith, c.in_ok-judge_size.ensures.fits))

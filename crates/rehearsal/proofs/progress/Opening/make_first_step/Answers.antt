@@ -5,7 +5,7 @@ use Rattle.rehearsal.specs.declared.line.Line.TheVariants as line
 use Rattle.rehearsal.specs.Scripts.{RunningWorld, LeadsFilled, MakesStep, opened_world}
 use Rattle.rehearsal.specs.Progress.{IsOpened, running_world, filling_of}
 use Rattle.rehearsal.proofs.Moves.{MovesTo-map}
-use Rattle.rehearsal.proofs.Stepping.{opening_of, opened_is}
+use Rattle.rehearsal.proofs.Stepping.{StopsAt-from_opening, opening_of, opened_is}
 use Rattle.rehearsal.proofs.progress.Opening.make_first_step.Goals as goal
 
 pub returns-in-Ok : goal.returns-in-Ok
@@ -24,3 +24,9 @@ returns-in-Ok g c =
       ),
     ))
     (c.make_step.ensures (opened_world (filling_of c.args.self)).state c.args.number w.run w.alive)
+
+pub returns-in-Err : goal.returns-in-Err
+returns-in-Err g c =
+    let some : 0 < length c.args.self.clients.items =
+    (let any : vec_len c.args.self.clients ≢ 0 = eqb-false (vec_len c.args.self.clients) 0 (sym c.if-is_empty.ensures) in omega (arith, any)) in
+    StopsAt-from_opening (filling_of c.args.self) c.args.step c.args.number (g.W.Write.contents c.args.writer.now) c.in-Err.stop some c.in-Err.ensures

@@ -1,4 +1,4 @@
-use Rattle.std.proofs.Common.{ap, ◌∙◌, sym, ◌≡◌, ◌<◌, ◌^◌, All, ℕ, List}
+use Rattle.std.proofs.Common.{arith, ap, ◌∙◌, sym, ◌≡◌, ◌<◌, ◌^◌, All, ℕ, List}
 use Rattle.seed_expand.specs.Words.{public_rows}
 use Rattle.digit_pack.specs.Layout.{digit_cols, digit_matrix, records_in}
 use Rattle.matrix_u32.specs.Matrix.{product}
@@ -32,7 +32,8 @@ invariant_of-result g c =
       count = c.requires.count;
       good = c.requires.slots;
       slots_are = slots;
-      public_is = public;
+      public_is = public ∙ ap (λ n. public_rows p.seed 0 0 n p.dimension) (sym (ap (λ m. m.rows) public));
+      enough = omega (arith, ap (λ m. m.rows) public);
       digits_are = digits;
       hint_is = c.in_ok-hint.ensures ∙ ap (λ d. product d c.in_ok-a1.a1) digits
           ∙ ap (product (digits_at p (records_held p c.args.layout.count bytes))) public

@@ -8,9 +8,10 @@ use Rattle.digit_pack.proofs.ColumnLemmas.{written_as}
 use Rattle.digit_pack.proofs.Records.{column_inside}
 use Rattle.digit_pack.proofs.RecordLemmas.{shape_of_layout, record_replaced}
 use Rattle.pir_schemes.specs.declared.plan.Plan.{Plan}
-use Rattle.pir_schemes.specs.Plans.{IsPlan, shape_at, fits, slot, slots, records_held, digits_at, first_public}
+use Rattle.pir_schemes.specs.Plans.{IsPlan, shape_at, fits, slot, slots, records_held, digits_at}
 use Rattle.version_store.specs.Editions.{Records, MarksChanges}
-use Rattle.version_store.proofs.Versions.{long_records, long_held, shape_again, digits_again, hint_again}
+use Rattle.version_store.proofs.Versions.{long_records, long_held, shape_again, digits_again}
+use Rattle.version_store.proofs.Widened.{hint_spare}
 use Rattle.version_store.proofs.Slotted.{held_replaced, good_again, slots_replaced}
 use Rattle.version_store.proofs.first_layer.FirstLayer.replace.Goals as goal
 
@@ -23,16 +24,16 @@ replace_digits-requires-clause-made g c =
     let l : Shape = c.self.inside.layout in
     let p : Plan = c.self.inside.plan in
     let sizes : shape_at p l.count ≡ l = c.self.invariant.sizes in
-    c.self.invariant.hint_is ∙ hint_again p l c.self.inside.bytes.items sizes
-    ∙ ap (λ d. product d (first_public l p.dimension p.seed)) (sym c.self.invariant.digits_are)
-    ∙ ap (product c.self.inside.digits) (sym c.self.invariant.public_is)
+    c.self.invariant.hint_is
+    ∙ hint_spare p (records_held p l.count c.self.inside.bytes.items) c.self.inside.a1 c.self.invariant.public_is
+    (omega (arith, ap digit_cols (shape_again p l c.self.inside.bytes.items sizes), c.self.invariant.enough))
+    ∙ ap (λ d. product d c.self.inside.a1) (sym c.self.invariant.digits_are)
 
 pub replace_digits-requires-clause-inner : goal.replace_digits-requires-clause-inner
 replace_digits-requires-clause-inner g c =
     let l : Shape = c.self.inside.layout in
-    ap (λ m. m.cols) c.self.invariant.digits_are
-    ∙ ap digit_cols (shape_again c.self.inside.plan l c.self.inside.bytes.items c.self.invariant.sizes)
-    ∙ sym (ap (λ m. m.rows) c.self.invariant.public_is)
+    omega
+    (arith, ap (λ m. m.cols) c.self.invariant.digits_are, ap digit_cols (shape_again c.self.inside.plan l c.self.inside.bytes.items c.self.invariant.sizes), c.self.invariant.enough)
 
 pub replace_digits-requires-clause-col : goal.replace_digits-requires-clause-col
 replace_digits-requires-clause-col g c =
@@ -97,9 +98,11 @@ invariant_of-self g c =
       good = good_again p l old bytes c.args.i c.args.bytes.now ok sizes room written c.self.invariant.good;
       slots_are = are;
       public_is = c.self.invariant.public_is;
+      enough = c.self.invariant.enough;
       digits_are = digits;
       hint_is = c.replace_digits.ensures.made ∙ ap (λ d. product d c.self.inside.a1) digits
-          ∙ ap (product (digits_at p (records_held p l.count bytes))) c.self.invariant.public_is ∙ sym (hint_again p l bytes sizes);
+          ∙ sym (hint_spare p (records_held p l.count bytes) c.self.inside.a1 c.self.invariant.public_is
+          (omega (arith, ap digit_cols (shape_again p l bytes sizes), c.self.invariant.enough)));
     }
 
 pub returns-clause-records : goal.returns-clause-records

@@ -1,18 +1,20 @@
-use Rattle.std.proofs.Common.{ap, ◌∙◌, ◌<◌, sym, subst, ℕ, List, [], false}
+use Rattle.std.proofs.Common.{ap, arith, ◌≡◌, ◌∙◌, ◌<◌, sym, subst, ℕ, List, [], length, false}
 use Rattle.std.specs.List.{list_all}
 use Rattle.std.proofs.lemmas.List.Elements.{All-nil}
 use Rattle.std.specs.Prelude.{All}
-use Rattle.digit_pack.specs.Layout.{Shape, digit_rows, records_in}
+use Rattle.digit_pack.specs.Layout.{Shape, IsLayout, digit_rows, records_in}
 use Rattle.snapshot_file.specs.declared.snapshot.Header.{Header}
 use Rattle.snapshot_file.specs.Snapshots.{header_of, shape_of}
 use Rattle.pir_schemes.specs.declared.plan.Plan.{Plan}
-use Rattle.pir_schemes.specs.Plans.{is_slot_of, records_held}
-use Rattle.version_store.specs.Drafts.{Changes, draft_of, is_some_change}
+use Rattle.pir_schemes.specs.Plans.{is_slot_of, records_held, shape_at}
+use Rattle.version_store.specs.Drafts.{Changes, draft_of, is_some_change, grown_to}
 use Rattle.hint_update.specs.Logs.{Log}
 use Rattle.version_store.specs.Editions.{Records, version_shape}
 use Rattle.version_store.specs.Histories.{StoreState}
 use Rattle.version_store.specs.Openings.{plan_held}
+use Rattle.version_store.proofs.Grown.{grown-same}
 use Rattle.version_store.proofs.Slotted.{held_slots}
+use Rattle.version_store.proofs.Versions.{long_held}
 use Rattle.version_store.proofs.DraftLemmas.{draft-none}
 use Rattle.version_store.proofs.HistoryLemmas.{open_stands}
 use Rattle.version_store.proofs.store.Store.open.Goals as goal
@@ -21,7 +23,16 @@ pub invariant_of-result : goal.invariant_of-result
 invariant_of-result g c =
     let n : ℕ = digit_rows (version_shape c.in_ok-edition.edition) in
     let below : Log → Type 0 = λ log. All (λ (rows : List ℕ). All (λ r. r < n) rows) log.lists in
+    let h : Header = header_of c.args.snapshot in
+    let count : c.count-count.result ≡ h.count = c.count-count.ensures.value ∙ ap (λ (l : Shape). l.count) c.in_ok-layout.ensures.sizes.0 in
+    let plan : c.in_ok-edition.edition.plan ≡ plan_held h = ap (λ (e : Records). e.plan) c.in_ok-edition.ensures ∙ c.plan_in-plan.ensures in
+    let many : length c.in_ok-edition.edition.records ≡ c.in_ok-layout.layout.count =
+    ap (λ (e : Records). length e.records) c.in_ok-edition.ensures ∙ long_held c.plan_in-plan.result c.in_ok-layout.layout.count c.args.snapshot.records.items in
+    let sizes : c.in_ok-layout.layout ≡ shape_at c.in_ok-edition.edition.plan c.count-count.result =
+    c.in_ok-layout.ensures.sizes.0 ∙ ap (shape_at (plan_held h)) (sym count) ∙ ap (λ (p : Plan). shape_at p c.count-count.result) (sym plan) in
     record {
+      more = omega (arith, many, c.count-count.ensures.value);
+      layout = subst IsLayout sizes c.in_ok-layout.ensures.sizes.1;
       fit = λ i. rw c.new-2.ensures.empty tt;
       rows = subst below (sym c.in_ok-log.ensures) (All-nil (λ (rows : List ℕ). All (λ r. r < n) rows));
     }
@@ -34,7 +45,7 @@ returns-clause-held g c =
     let made : Records → Changes → Log → StoreState = λ e cs log. record {
       version = log.version;
       edition = e;
-      draft = draft_of e.records cs;
+      draft = draft_of (grown_to c.count-count.result e).records cs;
       marked = is_some_change cs;
       publisher = h.publisher;
       log = log.lists;
@@ -55,6 +66,9 @@ returns-clause-held g c =
     ∙ ap (λ (l : Shape). of c.plan_in-plan.result l.count) c.in_ok-layout.ensures.sizes.0
     ∙ ap (λ p. of p h.count) c.plan_in-plan.ensures)
     ∙ ap (λ cs. made (of plan h.count) cs none) c.new-2.ensures.empty
+    ∙ ap (λ n. with (draft_of (grown_to n (of plan h.count)).records []))
+    (c.count-count.ensures.value ∙ ap (λ (l : Shape). l.count) c.in_ok-layout.ensures.sizes.0 ∙ sym (long_held plan h.count bytes))
+    ∙ ap (λ (xs : List (List ℕ)). with (draft_of xs [])) (grown-same plan rs)
     ∙ ap with (draft-none rs)
 
 pub returns-clause-history : goal.returns-clause-history

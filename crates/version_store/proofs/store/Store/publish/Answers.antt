@@ -1,41 +1,59 @@
-use Rattle.std.proofs.Common.{ap, ◌∙◌, ◌≡◌, ◌+◌, ℕ, List, ◌∷◌, take, false}
+use Rattle.std.proofs.Common.{ap, ◌∙◌, sym, ◌≡◌, ◌+◌, ℕ, List, [], ◌∷◌, length, take, subst, false}
 use Rattle.pir_schemes.specs.Plans.{digits_at}
 use Rattle.hint_update.specs.Logs.{Log, with_publication}
 use Rattle.version_store.specs.Deltas.{changed_rows}
-use Rattle.version_store.specs.Drafts.{Changes, draft_of, is_some_change}
+use Rattle.version_store.specs.Drafts.{Changes, draft_of, is_some_change, grown_to, IsHeld}
 use Rattle.version_store.specs.Editions.{Records}
 use Rattle.version_store.specs.Histories.{StoreState, held_published}
 use Rattle.version_store.proofs.DraftLemmas.{draft-none}
+use Rattle.version_store.proofs.Grown.{length-draft, grown-same}
 use Rattle.version_store.proofs.HistoryLemmas.{publish_stands}
 use Rattle.version_store.proofs.Publications.{pushed_rows, held_after_publication}
 use Rattle.version_store.proofs.store.Store.publish.Goals as goal
 
 pub invariant_of-self : goal.invariant_of-self
 invariant_of-self g c =
+    subst (λ (e : Records). IsHeld e c.self.inside.count c.self.inside.changes.entries c.self.inside.log.lists) (sym c.in_err-grow.ensures.refused)
+    c.self.invariant
+
+pub invariant_of-self-2 : goal.invariant_of-self-2
+invariant_of-self-2 g c =
     let e : Records = c.self.inside.edition in
-    let draft : List (List ℕ) = draft_of e.records c.self.inside.changes.entries in
+    let n : ℕ = c.self.inside.count in
+    let changes : Changes = c.self.inside.changes.entries in
+    let mid : Records = c.grow.new.self in
+    let wide : mid ≡ grown_to n e = c.in_ok-grow.ensures.grown in
+    let draft : List (List ℕ) = draft_of mid.records changes in
+    let many : length draft ≡ n = ap (λ (x : Records). length (draft_of x.records changes)) wide ∙ length-draft e n changes c.self.invariant.more in
     let rows : c.push_marked.new.rows.items ≡ changed_rows (digits_at e.plan e.records) (digits_at e.plan draft) =
-    pushed_rows e c.apply.new.self draft c.layout-layout.result.now c.in_ok-marks.marks c.deref_mut-2.result.now c.apply.new.marks c.deref.result.now
-    c.in_ok-rows.rows.items c.push_marked.new.rows.items c.apply.ensures.records c.layout-layout.ensures.value c.in_ok-marks.ensures.count
-    c.in_ok-marks.ensures.none c.deref_mut-2.ensures.value c.apply.ensures.marks c.deref.ensures.value c.in_ok-rows.ensures.items
-    c.push_marked.ensures in
-    held_after_publication e c.apply.new.self draft c.self.inside.log c.add.new.self c.push_marked.new.rows.items c.apply.new.changes.entries
-    c.apply.ensures.records rows c.add.ensures (λ i. rw c.apply.ensures.none tt) c.self.invariant.rows
+    pushed_rows e mid c.apply.new.self draft n c.layout-layout.result.now c.in_ok-marks.marks c.deref_mut-2.result.now c.apply.new.marks
+    c.deref.result.now c.in_ok-rows.rows.items c.push_marked.new.rows.items c.layout-layout.ensures.plan c.self.invariant.more wide c.apply.ensures.records many
+    c.layout-layout.ensures.value c.in_ok-marks.ensures.count c.in_ok-marks.ensures.none c.deref_mut-2.ensures.value c.apply.ensures.marks
+    c.deref.ensures.value c.in_ok-rows.ensures.items c.push_marked.ensures in
+    held_after_publication e c.apply.new.self draft n c.self.inside.log c.add.new.self c.push_marked.new.rows.items c.apply.new.changes.entries
+    (c.apply.ensures.records ∙ ap (λ (x : Records). let r : Records = record x { records = draft } in r) wide) many c.self.invariant.layout rows c.add.ensures
+    (λ i. rw c.apply.ensures.none tt) c.self.invariant.rows
 
 pub returns-clause-done : goal.returns-clause-done
 returns-clause-done g c =
     let e : Records = c.self.inside.edition in
-    let draft : List (List ℕ) = draft_of e.records c.self.inside.changes.entries in
+    let n : ℕ = c.self.inside.count in
+    let changes : Changes = c.self.inside.changes.entries in
+    let mid : Records = c.grow.new.self in
+    let wide : mid ≡ grown_to n e = c.in_ok-grow.ensures.grown in
+    let draft : List (List ℕ) = draft_of mid.records changes in
+    let same : draft ≡ draft_of (grown_to n e).records changes = ap (λ (x : Records). draft_of x.records changes) wide in
+    let many : length draft ≡ n = ap length same ∙ length-draft e n changes c.self.invariant.more in
     let rows : List ℕ = changed_rows (digits_at e.plan e.records) (digits_at e.plan draft) in
     let are : c.push_marked.new.rows.items ≡ rows =
-    pushed_rows e c.apply.new.self draft c.layout-layout.result.now c.in_ok-marks.marks c.deref_mut-2.result.now c.apply.new.marks c.deref.result.now
-    c.in_ok-rows.rows.items c.push_marked.new.rows.items c.apply.ensures.records c.layout-layout.ensures.value c.in_ok-marks.ensures.count
-    c.in_ok-marks.ensures.none c.deref_mut-2.ensures.value c.apply.ensures.marks c.deref.ensures.value c.in_ok-rows.ensures.items
-    c.push_marked.ensures in
+    pushed_rows e mid c.apply.new.self draft n c.layout-layout.result.now c.in_ok-marks.marks c.deref_mut-2.result.now c.apply.new.marks
+    c.deref.result.now c.in_ok-rows.rows.items c.push_marked.new.rows.items c.layout-layout.ensures.plan c.self.invariant.more wide c.apply.ensures.records many
+    c.layout-layout.ensures.value c.in_ok-marks.ensures.count c.in_ok-marks.ensures.none c.deref_mut-2.ensures.value c.apply.ensures.marks
+    c.deref.ensures.value c.in_ok-rows.ensures.items c.push_marked.ensures in
     let made : Records → Changes → Log → StoreState = λ e cs log. record {
       version = log.version;
       edition = e;
-      draft = draft_of e.records cs;
+      draft = draft_of (grown_to n e).records cs;
       marked = is_some_change cs;
       publisher = c.self.inside.publisher;
       log = log.lists;
@@ -50,10 +68,22 @@ returns-clause-done g c =
       publisher = c.self.inside.publisher;
       log = take 16 (rows ∷ c.self.inside.log.lists);
     } in
+    let begins : List (List ℕ) → StoreState = λ d. record {
+      version = c.self.inside.log.version;
+      edition = e;
+      draft = d;
+      marked = is_some_change changes;
+      publisher = c.self.inside.publisher;
+      log = c.self.inside.log.lists;
+    } in
+    let full : (grown_to n (with draft)).records ≡ draft = ap (λ k. (grown_to k (with draft)).records) (sym many) ∙ grown-same e.plan draft in
     ap (made c.apply.new.self c.apply.new.changes.entries) (c.add.ensures ∙ ap (λ (xs : List ℕ). with_publication xs c.self.inside.log) are)
-    ∙ ap (λ e. made e c.apply.new.changes.entries logged) c.apply.ensures.records
+    ∙ ap (λ e. made e c.apply.new.changes.entries logged)
+    (c.apply.ensures.records ∙ ap (λ (x : Records). let r : Records = record x { records = draft } in r) wide)
     ∙ ap (λ cs. made (with draft) cs logged) c.apply.ensures.none
+    ∙ ap (λ (rs : List (List ℕ)). ends (draft_of rs [])) full
     ∙ ap ends (draft-none draft)
+    ∙ ap (λ d. held_published (begins d)) same
     ∙ ap held_published c.self.view_is
 
 pub returns-clause-history : goal.returns-clause-history

@@ -1,0 +1,250 @@
+//! A client together with the bytes that wait to be sent and the events that wait to be told, for programs that take both
+//! when it suits them.
+//!
+//! [`ClientCore`] hands over what comes of each call. A [`ClientSession`] keeps it until it is taken, and refuses what would
+//! overwrite it.
+#![tactic(auto)]
+
+ghost use Rattle.std.specs.Prelude.{◌≡◌, ◌≤◌, ◌^◌, [], None, Some, length};
+ghost use Rattle.std.specs.Slice.{IsItemAt};
+ghost use Rattle.client_core.specs.States.{fresh};
+ghost use Rattle.client_core.specs.Calls.{Want};
+ghost use Rattle.client_session.specs.Sessions.{Answers, Feeds, record_of, rest};
+
+pub use client_core::{CallFault, ClientCore, ClientFault, Event, Scheme, ServerInfo};
+use lane_kernels::Lanes;
+use std::alloc::Global;
+use thiserror::Error;
+
+/// Why a call was not made.
+#[derive(Clone, Copy, Debug, PartialEq, Eq, Error)]
+pub enum SessionFault {
+    /// The bytes of an earlier call wait.
+    #[error("bytes of an earlier call wait to be taken")]
+    Untaken,
+    /// The client refuses it.
+    #[error("the client refuses the call")]
+    Call(CallFault),
+}
+
+/// Why a piece was not taken, or what ended the client while it was.
+#[derive(Clone, Copy, Debug, PartialEq, Eq, Error)]
+pub enum FeedFault {
+    /// Bytes or events of an earlier call wait.
+    #[error("bytes or events of an earlier call wait to be taken")]
+    Untaken,
+    /// The client stopped.
+    #[error("the client stopped")]
+    Client(ClientFault),
+}
+
+/// A client over lanes, the bytes that wait to be sent, and the events that wait to be told.
+#[derive(Drop)]
+pub struct ClientSession {
+    pub core: ClientCore<Lanes>,
+    pub waiting: Vec<u8>,
+    pub events: Vec<Event>,
+}
+
+impl ClientSession {
+    /// A client as [`ClientCore::new`] makes it, with nothing waiting. It takes no memory.
+    pub fn new(alloc: Global, seed: [u8; 32], first_number: u64) -> ClientSession
+        requires { first_number ≤ 2 ^ 62 }
+        ensures core { result.core ≡ record { state = fresh seed first_number; reader = Some [] } }
+        ensures waiting { result.waiting.items ≡ [] }
+        ensures events { result.events.items ≡ [] }
+    {
+        ClientSession {
+            core: ClientCore::new(alloc, Lanes, seed, first_number),
+            waiting: Vec::new(alloc),
+            events: Vec::new(alloc),
+        }
+    }
+
+    /// [`ClientCore::hello`], whose bytes wait from then on. `Untaken` exactly where bytes wait already, and then nothing
+    /// changes; else as the client answers. What waits stays where the client refuses.
+    pub fn hello(&mut self, key: [u8; 32]) -> Result<(), SessionFault>
+        ensures { Answers self.old (Want.Hello key) result self.new }
+    {
+        if !self.waiting.is_empty() {
+            return Err(SessionFault::Untaken);
+        }
+        match self.core.hello(key) {
+            Ok(bytes) => {
+                self.waiting = bytes;
+                Ok(())
+            }
+            Err(fault) => Err(SessionFault::Call(fault)),
+        }
+    }
+
+    /// [`ClientCore::sync`], whose bytes wait from then on. `Untaken` as in [`ClientSession::hello`].
+    pub fn sync(&mut self, scheme: Scheme) -> Result<(), SessionFault>
+        ensures { Answers self.old (Want.Sync scheme) result self.new }
+    {
+        if !self.waiting.is_empty() {
+            return Err(SessionFault::Untaken);
+        }
+        match self.core.sync(scheme) {
+            Ok(bytes) => {
+                self.waiting = bytes;
+                Ok(())
+            }
+            Err(fault) => Err(SessionFault::Call(fault)),
+        }
+    }
+
+    /// [`ClientCore::ask`], whose bytes wait from then on. `Untaken` as in [`ClientSession::hello`].
+    pub fn ask(&mut self, index: u32) -> Result<(), SessionFault>
+        ensures { Answers self.old (Want.Ask index) result self.new }
+    {
+        if !self.waiting.is_empty() {
+            return Err(SessionFault::Untaken);
+        }
+        match self.core.ask(index) {
+            Ok(bytes) => {
+                self.waiting = bytes;
+                Ok(())
+            }
+            Err(fault) => Err(SessionFault::Call(fault)),
+        }
+    }
+
+    /// [`ClientCore::edit`], whose bytes wait from then on. `Untaken` as in [`ClientSession::hello`].
+    pub fn edit(&mut self, index: u32, bytes: &[u8]) -> Result<(), SessionFault>
+        requires { length bytes.now ≤ 65535 }
+        ensures { Answers self.old (Want.Edit index bytes.now) result self.new }
+    {
+        if !self.waiting.is_empty() {
+            return Err(SessionFault::Untaken);
+        }
+        match self.core.edit(index, bytes) {
+            Ok(sent) => {
+                self.waiting = sent;
+                Ok(())
+            }
+            Err(fault) => Err(SessionFault::Call(fault)),
+        }
+    }
+
+    /// [`ClientCore::append`], whose bytes wait from then on. `Untaken` as in [`ClientSession::hello`].
+    pub fn append(&mut self, bytes: &[u8]) -> Result<(), SessionFault>
+        requires { length bytes.now ≤ 65535 }
+        ensures { Answers self.old (Want.Append bytes.now) result self.new }
+    {
+        if !self.waiting.is_empty() {
+            return Err(SessionFault::Untaken);
+        }
+        match self.core.append(bytes) {
+            Ok(sent) => {
+                self.waiting = sent;
+                Ok(())
+            }
+            Err(fault) => Err(SessionFault::Call(fault)),
+        }
+    }
+
+    /// [`ClientCore::publish`], whose bytes wait from then on. `Untaken` as in [`ClientSession::hello`].
+    pub fn publish(&mut self) -> Result<(), SessionFault>
+        ensures { Answers self.old Want.Publish result self.new }
+    {
+        if !self.waiting.is_empty() {
+            return Err(SessionFault::Untaken);
+        }
+        match self.core.publish() {
+            Ok(bytes) => {
+                self.waiting = bytes;
+                Ok(())
+            }
+            Err(fault) => Err(SessionFault::Call(fault)),
+        }
+    }
+
+    /// [`ClientCore::feed`], of which the bytes and the events wait from then on. `Untaken` exactly where bytes or events
+    /// wait already, and then nothing changes; else as the client answers, and what it gives waits also where it stops.
+    pub fn feed(&mut self, piece: &[u8]) -> Result<(), FeedFault>
+        ensures { Feeds self.old piece.now result self.new }
+    {
+        if !self.waiting.is_empty() || !self.events.is_empty() {
+            return Err(FeedFault::Untaken);
+        }
+        let fed = self.core.feed(piece);
+        self.waiting = fed.out;
+        self.events = fed.events;
+        match fed.fault {
+            None => Ok(()),
+            Some(fault) => Err(FeedFault::Client(fault)),
+        }
+    }
+
+    /// How many bytes wait to be sent.
+    pub fn waiting_len(&self) -> usize
+        ensures { result ≡ length self.now.waiting.items }
+    {
+        self.waiting.len()
+    }
+
+    /// Copies the bytes that wait to be sent, and forgets them.
+    pub fn take_waiting(&mut self, out: &mut [u8])
+        requires { length out.old ≡ length self.old.waiting.items }
+        ensures bytes { out.new ≡ self.old.waiting.items }
+        ensures none { self.new.waiting.items ≡ [] }
+        ensures core { self.new.core ≡ self.old.core }
+        ensures events { self.new.events ≡ self.old.events }
+    {
+        out.copy_from_slice(&self.waiting);
+        self.waiting.clear();
+    }
+
+    /// The first event that waits to be told.
+    pub fn first_event(&self) -> Option<&Event>
+        ensures { IsItemAt self.now.events.items 0 result }
+    {
+        self.events.first()
+    }
+
+    /// How many bytes the record has that the first event tells: 0 where it tells none.
+    pub fn first_record_len(&self) -> usize
+        ensures { result ≡ length (record_of self.now.events.items) }
+    {
+        match self.events.first() {
+            Some(Event::Retrieved { bytes, .. }) => bytes.as_slice().len(),
+            _ => 0,
+        }
+    }
+
+    /// Copies the bytes of the record that the first event tells.
+    pub fn copy_first_record(&self, out: &mut [u8])
+        requires { length out.old ≡ length (record_of self.now.events.items) }
+        ensures { out.new ≡ record_of self.now.events.items }
+    {
+        if let Some(Event::Retrieved { bytes, .. }) = self.events.first() {
+            out.copy_from_slice(bytes.as_slice());
+        }
+    }
+
+    /// Forgets the first event, where there is one.
+    pub fn forget_first_event(&mut self)
+        ensures events { self.new.events.items ≡ rest self.old.events.items }
+        ensures core { self.new.core ≡ self.old.core }
+        ensures waiting { self.new.waiting ≡ self.old.waiting }
+    {
+        if !self.events.is_empty() {
+            let _told = self.events.remove(0);
+        }
+    }
+
+    /// The number of the next retrieval.
+    pub fn next_number(&self) -> u64
+        ensures { result ≡ self.now.core.state.number }
+    {
+        self.core.next_number()
+    }
+
+    /// What the server reported of its store: `None` before it let the client in.
+    pub fn known(&self) -> Option<ServerInfo>
+        ensures { result ≡ self.now.core.state.known }
+    {
+        self.core.known()
+    }
+}

@@ -1,0 +1,3 @@
+pub mod ClientPointerValue
+pub mod Fields
+pub mod ServerPointerValue

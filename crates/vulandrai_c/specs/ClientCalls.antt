@@ -1,0 +1,111 @@
+-- What the calls on a client's handle do.
+use Rattle.std.specs.Prelude.{◌≡◌, ◌≢◌, ◌⊎◌, ◌<◌, ◌^◌, ℕ, List, [], ◌∷◌, length, Option, None, Some, Result}
+use Rattle.pir_schemes.specs.Schemes.{scheme_byte}
+use Rattle.client_core.specs.declared.state.Event.{Event}
+use Rattle.client_core.specs.declared.state.Event.TheVariants as event
+use Rattle.client_core.specs.declared.state.ServerInfo.{ServerInfo}
+use Rattle.client_core.specs.States.{fresh}
+use Rattle.client_core.specs.Calls.{Want}
+use Rattle.client_session.specs.declared.ClientSession.{ClientSession}
+use Rattle.client_session.specs.declared.SessionFault.{SessionFault}
+use Rattle.client_session.specs.declared.FeedFault.{FeedFault}
+use Rattle.client_session.specs.Sessions.{Answers, Feeds, event_record, record_of, rest}
+use Rattle.vulandrai_c.specs.ClientCodes.{session_code, feed_code}
+use Rattle.vulandrai_c.specs.declared.told.ToldEvent.{ToldEvent}
+use Rattle.vulandrai_c.specs.declared.told.ToldServer.{ToldServer}
+
+-- a client that was just made, with nothing waiting
+abbrev pub IsFresh : Option ClientSession → List ℕ → ℕ → Type 0
+IsFresh None seed number = ⊥
+IsFresh (Some s) seed number = (s.core ≡ record { state = fresh seed number; reader = Some [] }) × (s.waiting.items ≡ []) × (s.events.items ≡ [])
+
+-- what opening did: there is a fresh client; or the number is too large (33), or there is no memory (5), and the handle is as before
+abbrev pub Opens : Option ClientSession → List ℕ → ℕ → Option ClientSession → ℕ → Type 0
+Opens old seed number new code =
+    ((code ≡ 0) × IsFresh new seed number) ⊎ ((code ≡ 33) × (2 ^ 62 < number) × (new ≡ old)) ⊎ ((code ≡ 5) × (new ≡ old))
+
+-- what a call of the client did, and the code of its answer
+pub record Calls (old : ClientSession) (want : Want) (new : ClientSession) (code : ℕ) : Type 0 where
+  pub answer : Result (Unit {0}) SessionFault
+  pub code_is : code ≡ session_code answer
+  pub did : Answers old want answer new
+
+-- what a piece of the server's stream did, and the code of its answer
+pub record TakesPiece (old : ClientSession) (bytes : List ℕ) (new : ClientSession) (code : ℕ) : Type 0 where
+  pub answer : Result (Unit {0}) FeedFault
+  pub code_is : code ≡ feed_code answer
+  pub did : Feeds old bytes answer new
+
+-- the bytes that wait to be sent, none where there is no client
+abbrev pub waiting_of : Option ClientSession → List ℕ
+waiting_of None = []
+waiting_of (Some s) = s.waiting.items
+
+-- all the bytes that waited were taken; or there is room for another number of bytes (35), and nothing changed
+abbrev pub TakesWaiting : ClientSession → ClientSession → List ℕ → List ℕ → ℕ → Type 0
+TakesWaiting old new before after code =
+    ((code ≡ 0) × (after ≡ old.waiting.items) × (new.waiting.items ≡ []) × (new.core ≡ old.core) × (new.events ≡ old.events))
+    ⊎ ((code ≡ 35) × (length before ≢ length old.waiting.items) × (after ≡ before) × (new ≡ old))
+
+-- the first event's record was copied and the event forgotten; or there is room for another number of bytes (35), and nothing changed
+abbrev pub TakesEvent : ClientSession → ClientSession → List ℕ → List ℕ → ℕ → Type 0
+TakesEvent old new before after code =
+    ((code ≡ 0) × (after ≡ record_of old.events.items) × (new.events.items ≡ rest old.events.items) × (new.core ≡ old.core)
+    × (new.waiting ≡ old.waiting))
+    ⊎ ((code ≡ 35) × (length before ≢ length (record_of old.events.items)) × (after ≡ before) × (new ≡ old))
+
+-- the number of an event's kind; 0 is kept for no event
+abbrev pub event_kind : Event → ℕ
+event_kind (event.Welcomed v) = 1
+event_kind (event.Synced s v) = 2
+event_kind (event.Retrieved i v bytes) = 3
+event_kind (event.Unreadable i v) = 4
+event_kind (event.Stale v) = 5
+event_kind (event.Done v) = 6
+event_kind (event.Refused c) = 7
+
+-- the byte of an event's scheme, or the code of the server's refusal
+abbrev pub event_detail : Event → ℕ
+event_detail (event.Synced s v) = scheme_byte s
+event_detail (event.Refused c) = c
+event_detail _ = 0
+
+-- the index of an event's record
+abbrev pub event_index : Event → ℕ
+event_index (event.Retrieved i v bytes) = i
+event_index (event.Unreadable i v) = i
+event_index _ = 0
+
+-- an event's version
+abbrev pub event_version : Event → ℕ
+event_version (event.Welcomed v) = v
+event_version (event.Synced s v) = v
+event_version (event.Retrieved i v bytes) = v
+event_version (event.Unreadable i v) = v
+event_version (event.Stale v) = v
+event_version (event.Done v) = v
+event_version (event.Refused c) = 0
+
+-- an event as C reads it
+pub record IsTold (e : Event) (out : ToldEvent) : Type 0 where
+  pub kind : out.kind ≡ event_kind e
+  pub detail : out.detail ≡ event_detail e
+  pub index : out.index ≡ event_index e
+  pub version : out.version ≡ event_version e
+  pub record_len : out.record_len ≡ length (event_record e)
+
+-- the first of these events as C reads it, of kind 0 where there is none
+abbrev pub Tells : List Event → ToldEvent → Type 0
+Tells [] out = out.kind ≡ 0
+Tells (e ∷ es) out = IsTold e out
+
+-- what the server reported of its store as C reads it, all 0 before it let the client in
+abbrev pub told_server : Option ServerInfo → ToldServer
+told_server None = record { version = 0; count = 0; form = 0; record_len = 0; dimension = 0 }
+told_server (Some k) = record {
+  version = k.version;
+  count = k.count;
+  form = k.plan.form;
+  record_len = k.plan.record_len;
+  dimension = k.plan.dimension;
+}

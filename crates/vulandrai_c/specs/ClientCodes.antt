@@ -1,0 +1,39 @@
+-- The codes of a client's answers, as include/vulandrai.h lists them.
+use Rattle.std.specs.Prelude.{ℕ, Result, Ok, Err}
+use Rattle.client_core.specs.declared.state.CallFault.{CallFault}
+use Rattle.client_core.specs.declared.state.CallFault.TheVariants as call
+use Rattle.client_core.specs.declared.state.ClientFault.{ClientFault}
+use Rattle.client_core.specs.declared.state.ClientFault.TheVariants as client
+use Rattle.client_session.specs.declared.SessionFault.{SessionFault}
+use Rattle.client_session.specs.declared.SessionFault.TheVariants as session
+use Rattle.client_session.specs.declared.FeedFault.{FeedFault}
+use Rattle.client_session.specs.declared.FeedFault.TheVariants as feed
+
+-- the code of a call that the client refuses
+abbrev pub call_code : CallFault → ℕ
+call_code call.NotReady = 1
+call_code call.Busy = 2
+call_code call.BadIndex = 3
+call_code call.SeedUsedUp = 4
+call_code call.Memory = 5
+call_code call.Failed = 6
+call_code call.AlreadyWelcome = 7
+
+-- the code of a client's call
+abbrev pub session_code : Result (Unit {0}) SessionFault → ℕ
+session_code (Ok done) = 0
+session_code (Err session.Untaken) = 36
+session_code (Err (session.Call fault)) = call_code fault
+
+-- the code of what ends a client
+abbrev pub client_code : ClientFault → ℕ
+client_code client.BadWelcome = 16
+client_code client.BadReply = 17
+client_code client.Memory = 5
+client_code client.Failed = 6
+
+-- the code of a piece of a client's stream
+abbrev pub feed_code : Result (Unit {0}) FeedFault → ℕ
+feed_code (Ok done) = 0
+feed_code (Err feed.Untaken) = 36
+feed_code (Err (feed.Client fault)) = client_code fault

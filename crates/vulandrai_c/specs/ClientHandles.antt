@@ -1,0 +1,14 @@
+-- What the handle of a client owns.
+use Rattle.std.specs.Prelude.{Option, None, Some}
+use base.Fml.{Fml, ftrue}
+use denote.RawPtr.{Ptr}
+use Rattle.std.specs.declared.alloc.Global.{Global}
+use Rattle.std.specs.contracts.impls.GlobalAllocator.TheImpl.{ghosts}
+use Rattle.std_alloc.specs.Box.Ownership.{box_owns}
+use Rattle.client_session.specs.declared.ClientSession.{ClientSession}
+use Rattle.client_session.specs.contracts.ClientSession.{the_row}
+
+-- what a place owns with an allocator: the box of a client, where there is one
+abbrev pub owned_at : Global → Ptr → Option ClientSession → Fml
+owned_at a p None = ftrue
+owned_at a p (Some s) = box_owns (ghosts.dealloc_token a) the_row p s

@@ -1,0 +1,89 @@
+-- What the calls on a server's handle do.
+use Rattle.std.specs.Prelude.{◌≡◌, ◌≢◌, ◌⊎◌, ℕ, List, [], length, Option, None, Some, Result, is_some, if◌then◌else◌}
+use Rattle.snapshot_file.specs.declared.snapshot.SnapshotFault.{SnapshotFault}
+use Rattle.snapshot_file.specs.Verdicts.{MayRefuse}
+use Rattle.version_store.specs.declared.store.EditError.{EditError}
+use Rattle.version_store.specs.declared.store.AppendError.{AppendError}
+use Rattle.version_store.specs.declared.store.PublishError.{PublishError}
+use Rattle.version_store.specs.Openings.{snapshot_of}
+use Rattle.server_core.specs.declared.server.SessionError.{SessionError}
+use Rattle.server_core.specs.Cores.{session_of}
+use Rattle.server_session.specs.declared.ServerSession.{ServerSession}
+use Rattle.server_session.specs.declared.PieceFault.{PieceFault}
+use Rattle.server_session.specs.Sessions as session
+use Rattle.vulandrai_c.specs.ServerCodes.{snapshot_code, opening_code, piece_code, edit_code, append_code, publication_code}
+
+-- the server of a snapshot file
+abbrev pub IsServerOf : List ℕ → Option ServerSession → Type 0
+IsServerOf bytes None = ⊥
+IsServerOf bytes (Some s) = session.Opens bytes s
+
+-- a snapshot file that is none, or that there is no memory for, with its code
+pub record IsRefused (bytes : List ℕ) (code : ℕ) : Type 0 where
+  pub fault : SnapshotFault
+  pub code_is : code ≡ snapshot_code fault
+  pub refused : MayRefuse fault bytes
+
+-- what opening did: there is a server of these bytes; or they are refused, or there is no memory for the server (5), and the handle is as before
+abbrev pub Opens : Option ServerSession → List ℕ → Option ServerSession → ℕ → Type 0
+Opens old bytes new code = ((code ≡ 0) × IsServerOf bytes new) ⊎ (IsRefused bytes code × (new ≡ old)) ⊎ ((code ≡ 5) × (new ≡ old))
+
+-- what opening a session did, and the code of the answer
+pub record OpensSession (old : ServerSession) (id : ℕ) (new : ServerSession) (code : ℕ) : Type 0 where
+  pub answer : Result (Unit {0}) SessionError
+  pub code_is : code ≡ opening_code answer
+  pub did : session.OpensSession old id answer new
+
+-- what closing a session did: the session of this number is gone and no other; the code is 48 where there was none
+pub record ClosesSession (old : ServerSession) (id : ℕ) (new : ServerSession) (code : ℕ) : Type 0 where
+  pub code_is : code ≡ (if is_some (session_of old.core.sessions id) then 0 else 48)
+  pub gone : session_of new.core.sessions id ≡ None
+  pub others : (other : ℕ) → other ≢ id → session_of new.core.sessions other ≡ session_of old.core.sessions other
+  pub store : new.core.store ≡ old.core.store
+  pub replies : new.replies ≡ old.replies
+
+-- what a piece of a session's stream did, and the code of the answer
+pub record TakesPiece (old : ServerSession) (id : ℕ) (bytes : List ℕ) (new : ServerSession) (code : ℕ) : Type 0 where
+  pub answer : Result (Unit {0}) PieceFault
+  pub code_is : code ≡ piece_code answer
+  pub did : session.Feeds old id bytes answer new
+
+-- the replies that wait to be sent, none where there is no server
+abbrev pub replies_of : Option ServerSession → List ℕ
+replies_of None = []
+replies_of (Some s) = s.replies.items
+
+-- all the replies that waited were taken; or there is room for another number of bytes (35), and nothing changed
+abbrev pub TakesReplies : ServerSession → ServerSession → List ℕ → List ℕ → ℕ → Type 0
+TakesReplies old new before after code =
+    ((code ≡ 0) × (after ≡ old.replies.items) × (new.replies.items ≡ []) × (new.core ≡ old.core))
+    ⊎ ((code ≡ 35) × (length before ≢ length old.replies.items) × (after ≡ before) × (new ≡ old))
+
+-- what an edit did, and the code of the answer
+pub record Edits (old : ServerSession) (i : ℕ) (bytes : List ℕ) (new : ServerSession) (code : ℕ) : Type 0 where
+  pub answer : Result (Unit {0}) EditError
+  pub code_is : code ≡ edit_code answer
+  pub did : session.Edits old i bytes answer new
+
+-- what an append did, and the code of the answer
+pub record Appends (old : ServerSession) (bytes : List ℕ) (new : ServerSession) (code : ℕ) : Type 0 where
+  pub answer : Result (Unit {0}) AppendError
+  pub code_is : code ≡ append_code answer
+  pub did : session.Appends old bytes answer new
+
+-- what a publication did, and the code of the answer
+pub record Publishes (old : ServerSession) (new : ServerSession) (code : ℕ) : Type 0 where
+  pub answer : Result ℕ PublishError
+  pub code_is : code ≡ publication_code answer
+  pub did : session.Publishes old answer new
+
+-- the bytes of the snapshot file of a server's current version, none where there is no server
+abbrev pub snapshot_bytes_of : Option ServerSession → List ℕ
+snapshot_bytes_of None = []
+snapshot_bytes_of (Some s) = snapshot_of s.core.store
+
+-- the whole snapshot file was copied; or there was no memory (5); or there is room for another number of bytes (35)
+abbrev pub CopiesSnapshot : ServerSession → List ℕ → List ℕ → ℕ → Type 0
+CopiesSnapshot s before after code =
+    ((code ≡ 0) × (after ≡ snapshot_of s.core.store)) ⊎ ((code ≡ 5) × (after ≡ before))
+    ⊎ ((code ≡ 35) × (length before ≢ length (snapshot_of s.core.store)) × (after ≡ before))

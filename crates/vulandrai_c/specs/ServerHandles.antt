@@ -1,0 +1,14 @@
+-- What the handle of a server owns.
+use Rattle.std.specs.Prelude.{Option, None, Some}
+use base.Fml.{Fml, ftrue}
+use denote.RawPtr.{Ptr}
+use Rattle.std.specs.declared.alloc.Global.{Global}
+use Rattle.std.specs.contracts.impls.GlobalAllocator.TheImpl.{ghosts}
+use Rattle.std_alloc.specs.Box.Ownership.{box_owns}
+use Rattle.server_session.specs.declared.ServerSession.{ServerSession}
+use Rattle.server_session.specs.contracts.ServerSession.{the_row}
+
+-- what a place owns with an allocator: the box of a server, where there is one
+abbrev pub owned_at : Global → Ptr → Option ServerSession → Fml
+owned_at a p None = ftrue
+owned_at a p (Some s) = box_owns (ghosts.dealloc_token a) the_row p s

@@ -1,0 +1,285 @@
+//! A client for programs in C.
+
+ghost use Rattle.std.specs.Prelude.{◌≡◌, ◌≤◌, ◌<◌, None, length};
+ghost use Rattle.client_core.specs.Calls.{Want};
+ghost use Rattle.pir_schemes.specs.declared.scheme.Scheme.TheVariants.{Simple, Double};
+ghost use Rattle.vulandrai_c.specs.Handles.{CallsOn};
+ghost use Rattle.vulandrai_c.specs.ClientCalls.{Opens, Calls, TakesPiece, TakesWaiting, TakesEvent, Tells, waiting_of, told_server};
+
+use crate::client_answers::{append, ask, edit, feed, hello, next, publish, sync, take};
+use crate::client_handle::ClientHandle;
+use crate::codes::{BAD_LENGTH, BAD_NUMBER, BAD_SCHEME, CLOSED, MEMORY, OK};
+use crate::told::{ToldEvent, ToldServer, first_told, server_told};
+use client_session::{ClientSession, Scheme};
+use std::alloc::Global;
+use std::mem::replace;
+
+const NUMBER_LIMIT: u64 = 1 << 62;
+
+const RECORD_LIMIT: usize = 65_535;
+
+/// Makes a client in a handle, whose secrets and noise come from the seed; what the handle held is freed. 33 exactly where
+/// the first number is above 2^62; else it is made, or 5.
+#[unsafe(no_mangle)]
+pub extern "C" fn vul_client_open(
+    client: &mut ClientHandle,
+    alloc: Global,
+    seed: &[u8; 32],
+    first_number: u64,
+) -> u32
+    ensures { Opens client.old.held.session seed.now first_number client.new.held.session result }
+{
+    if first_number > NUMBER_LIMIT {
+        return BAD_NUMBER;
+    }
+    let Ok(session) = Box::new(alloc, ClientSession::new(alloc, *seed, first_number)) else {
+        return MEMORY;
+    };
+    *client = ClientHandle::of(session);
+    OK
+}
+
+/// Frees the client of a handle, where there is one.
+#[unsafe(no_mangle)]
+pub extern "C" fn vul_client_close(client: &mut ClientHandle, alloc: Global)
+    ensures { client.new.held.session ≡ None }
+{
+    *client = ClientHandle::closed(alloc);
+}
+
+/// Asks to be let in: with a key of 32 zero bytes as a reader, with the publisher's as the publisher. 32, 36, then the
+/// client's refusals.
+#[unsafe(no_mangle)]
+pub extern "C" fn vul_client_hello(client: &mut ClientHandle, alloc: Global, key: &[u8; 32]) -> u32
+    ensures { CallsOn client.old.held.session client.new.held.session result
+        (λ old new. Calls old (Want.Hello key.now) new result) }
+{
+    let Some(mut session) = replace(client, ClientHandle::closed(alloc)).into_box() else {
+        return CLOSED;
+    };
+    let code = hello(&mut session, *key);
+    *client = ClientHandle::of(session);
+    code
+}
+
+/// Asks for the hint of the last version known: of SimplePIR for 0, of DoublePIR for 1. 34 for any other number, and then
+/// nothing changes; 32, 36, then the client's refusals.
+#[unsafe(no_mangle)]
+pub extern "C" fn vul_client_sync(client: &mut ClientHandle, alloc: Global, scheme: u32) -> u32
+    ensures simple { (scheme ≡ 0) → CallsOn client.old.held.session client.new.held.session result
+        (λ old new. Calls old (Want.Sync Simple) new result) }
+    ensures double { (scheme ≡ 1) → CallsOn client.old.held.session client.new.held.session result
+        (λ old new. Calls old (Want.Sync Double) new result) }
+    ensures other { (1 < scheme) →
+        (result ≡ 34) × (client.new.held.session ≡ client.old.held.session) }
+{
+    let scheme = match scheme {
+        0 => Scheme::Simple,
+        1 => Scheme::Double,
+        _ => return BAD_SCHEME,
+    };
+    let Some(mut session) = replace(client, ClientHandle::closed(alloc)).into_box() else {
+        return CLOSED;
+    };
+    let code = sync(&mut session, scheme);
+    *client = ClientHandle::of(session);
+    code
+}
+
+/// Asks for a record by a query that doesn't tell which. 32, 36, then the client's refusals.
+#[unsafe(no_mangle)]
+pub extern "C" fn vul_client_ask(client: &mut ClientHandle, alloc: Global, index: u32) -> u32
+    ensures { CallsOn client.old.held.session client.new.held.session result
+        (λ old new. Calls old (Want.Ask index) new result) }
+{
+    let Some(mut session) = replace(client, ClientHandle::closed(alloc)).into_box() else {
+        return CLOSED;
+    };
+    let code = ask(&mut session, index);
+    *client = ClientHandle::of(session);
+    code
+}
+
+/// Gives the server these bytes for a record of the draft. 35 exactly where there are more than 65,535, and then nothing
+/// changes; 32, 36, then the client's refusals.
+#[unsafe(no_mangle)]
+pub extern "C" fn vul_client_edit_bytes(
+    client: &mut ClientHandle,
+    alloc: Global,
+    index: u32,
+    record_bytes: &[u8],
+) -> u32
+    ensures long { (65535 < length record_bytes.now) →
+        (result ≡ 35) × (client.new.held.session ≡ client.old.held.session) }
+    ensures short { (length record_bytes.now ≤ 65535) →
+        CallsOn client.old.held.session client.new.held.session result
+        (λ old new. Calls old (Want.Edit index record_bytes.now) new result) }
+{
+    if record_bytes.len() > RECORD_LIMIT {
+        return BAD_LENGTH;
+    }
+    let Some(mut session) = replace(client, ClientHandle::closed(alloc)).into_box() else {
+        return CLOSED;
+    };
+    let code = edit(&mut session, index, record_bytes);
+    *client = ClientHandle::of(session);
+    code
+}
+
+/// Gives the server these bytes for a record after those of the draft. 35 exactly where there are more than 65,535, and then
+/// nothing changes; 32, 36, then the client's refusals.
+#[unsafe(no_mangle)]
+pub extern "C" fn vul_client_append_bytes(
+    client: &mut ClientHandle,
+    alloc: Global,
+    record_bytes: &[u8],
+) -> u32
+    ensures long { (65535 < length record_bytes.now) →
+        (result ≡ 35) × (client.new.held.session ≡ client.old.held.session) }
+    ensures short { (length record_bytes.now ≤ 65535) →
+        CallsOn client.old.held.session client.new.held.session result
+        (λ old new. Calls old (Want.Append record_bytes.now) new result) }
+{
+    if record_bytes.len() > RECORD_LIMIT {
+        return BAD_LENGTH;
+    }
+    let Some(mut session) = replace(client, ClientHandle::closed(alloc)).into_box() else {
+        return CLOSED;
+    };
+    let code = append(&mut session, record_bytes);
+    *client = ClientHandle::of(session);
+    code
+}
+
+/// Asks the server to publish its draft. 32, 36, then the client's refusals.
+#[unsafe(no_mangle)]
+pub extern "C" fn vul_client_publish(client: &mut ClientHandle, alloc: Global) -> u32
+    ensures { CallsOn client.old.held.session client.new.held.session result
+        (λ old new. Calls old Want.Publish new result) }
+{
+    let Some(mut session) = replace(client, ClientHandle::closed(alloc)).into_box() else {
+        return CLOSED;
+    };
+    let code = publish(&mut session);
+    *client = ClientHandle::of(session);
+    code
+}
+
+/// Takes a piece of the server's stream. 32, 36, then what ends the client.
+#[unsafe(no_mangle)]
+pub extern "C" fn vul_client_feed_bytes(
+    client: &mut ClientHandle,
+    alloc: Global,
+    piece: &[u8],
+) -> u32
+    ensures { CallsOn client.old.held.session client.new.held.session result
+        (λ old new. TakesPiece old piece.now new result) }
+{
+    let Some(mut session) = replace(client, ClientHandle::closed(alloc)).into_box() else {
+        return CLOSED;
+    };
+    let code = feed(&mut session, piece);
+    *client = ClientHandle::of(session);
+    code
+}
+
+/// How many bytes wait to be sent, 0 where the handle is closed.
+#[unsafe(no_mangle)]
+pub extern "C" fn vul_client_waiting(client: &mut ClientHandle, alloc: Global) -> usize
+    ensures kept { client.new.held.session ≡ client.old.held.session }
+    ensures len { result ≡ length (waiting_of client.old.held.session) }
+{
+    let Some(session) = replace(client, ClientHandle::closed(alloc)).into_box() else {
+        return 0;
+    };
+    let len = session.waiting_len();
+    *client = ClientHandle::of(session);
+    len
+}
+
+/// Copies the bytes that wait to be sent, and forgets them. 32; 35 exactly where `out` has another length than they have.
+#[unsafe(no_mangle)]
+pub extern "C" fn vul_client_take_bytes(
+    client: &mut ClientHandle,
+    alloc: Global,
+    out: &mut [u8],
+) -> u32
+    ensures { CallsOn client.old.held.session client.new.held.session result
+        (λ old new. TakesWaiting old new out.old out.new result) }
+{
+    let Some(mut session) = replace(client, ClientHandle::closed(alloc)).into_box() else {
+        return CLOSED;
+    };
+    let code = take(&mut session, out);
+    *client = ClientHandle::of(session);
+    code
+}
+
+/// The first event that waits, of kind 0 where there is none. 32.
+#[unsafe(no_mangle)]
+pub extern "C" fn vul_client_event(
+    client: &mut ClientHandle,
+    alloc: Global,
+    out: &mut ToldEvent,
+) -> u32
+    ensures { CallsOn client.old.held.session client.new.held.session result
+        (λ old new. (result ≡ 0) × (new ≡ old) × Tells old.events.items out.new) }
+{
+    let Some(session) = replace(client, ClientHandle::closed(alloc)).into_box() else {
+        return CLOSED;
+    };
+    *out = first_told(&session);
+    *client = ClientHandle::of(session);
+    OK
+}
+
+/// Copies the record that the first event tells, and forgets the event. 32; 35 exactly where `out` has another length than
+/// the record.
+#[unsafe(no_mangle)]
+pub extern "C" fn vul_client_next_bytes(
+    client: &mut ClientHandle,
+    alloc: Global,
+    out: &mut [u8],
+) -> u32
+    ensures { CallsOn client.old.held.session client.new.held.session result
+        (λ old new. TakesEvent old new out.old out.new result) }
+{
+    let Some(mut session) = replace(client, ClientHandle::closed(alloc)).into_box() else {
+        return CLOSED;
+    };
+    let code = next(&mut session, out);
+    *client = ClientHandle::of(session);
+    code
+}
+
+/// The number of the next retrieval. 32.
+#[unsafe(no_mangle)]
+pub extern "C" fn vul_client_number(client: &mut ClientHandle, alloc: Global, out: &mut u64) -> u32
+    ensures { CallsOn client.old.held.session client.new.held.session result
+        (λ old new. (result ≡ 0) × (new ≡ old) × (out.new ≡ old.core.state.number)) }
+{
+    let Some(session) = replace(client, ClientHandle::closed(alloc)).into_box() else {
+        return CLOSED;
+    };
+    *out = session.next_number();
+    *client = ClientHandle::of(session);
+    OK
+}
+
+/// What the server reported of its store, all 0 before it let the client in. 32.
+#[unsafe(no_mangle)]
+pub extern "C" fn vul_client_known(
+    client: &mut ClientHandle,
+    alloc: Global,
+    out: &mut ToldServer,
+) -> u32
+    ensures { CallsOn client.old.held.session client.new.held.session result
+        (λ old new. (result ≡ 0) × (new ≡ old) × (out.new ≡ told_server old.core.state.known)) }
+{
+    let Some(session) = replace(client, ClientHandle::closed(alloc)).into_box() else {
+        return CLOSED;
+    };
+    *out = server_told(&session);
+    *client = ClientHandle::of(session);
+    OK
+}

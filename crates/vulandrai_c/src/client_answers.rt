@@ -1,0 +1,90 @@
+//! What a client answers to a call, as a code.
+
+ghost use Rattle.std.specs.Prelude.{◌≤◌, length};
+ghost use Rattle.client_core.specs.Calls.{Want};
+ghost use Rattle.vulandrai_c.specs.ClientCalls.{Calls, TakesPiece, TakesWaiting, TakesEvent};
+
+use crate::client_codes::{feed_code, session_code};
+use crate::codes::{BAD_LENGTH, OK};
+use client_session::{ClientSession, Scheme};
+
+/// A greeting.
+pub fn hello(client: &mut ClientSession, key: [u8; 32]) -> u32
+    ensures { Calls client.old (Want.Hello key) client.new result }
+{
+    let answer = client.hello(key);
+    session_code(answer)
+}
+
+/// A sync.
+pub fn sync(client: &mut ClientSession, scheme: Scheme) -> u32
+    ensures { Calls client.old (Want.Sync scheme) client.new result }
+{
+    let answer = client.sync(scheme);
+    session_code(answer)
+}
+
+/// A query.
+pub fn ask(client: &mut ClientSession, index: u32) -> u32
+    ensures { Calls client.old (Want.Ask index) client.new result }
+{
+    let answer = client.ask(index);
+    session_code(answer)
+}
+
+/// An edit.
+pub fn edit(client: &mut ClientSession, index: u32, bytes: &[u8]) -> u32
+    requires { length bytes.now ≤ 65535 }
+    ensures { Calls client.old (Want.Edit index bytes.now) client.new result }
+{
+    let answer = client.edit(index, bytes);
+    session_code(answer)
+}
+
+/// An append.
+pub fn append(client: &mut ClientSession, bytes: &[u8]) -> u32
+    requires { length bytes.now ≤ 65535 }
+    ensures { Calls client.old (Want.Append bytes.now) client.new result }
+{
+    let answer = client.append(bytes);
+    session_code(answer)
+}
+
+/// A publication.
+pub fn publish(client: &mut ClientSession) -> u32
+    ensures { Calls client.old Want.Publish client.new result }
+{
+    let answer = client.publish();
+    session_code(answer)
+}
+
+/// A piece of the server's stream.
+pub fn feed(client: &mut ClientSession, piece: &[u8]) -> u32
+    ensures { TakesPiece client.old piece.now client.new result }
+{
+    let answer = client.feed(piece);
+    feed_code(answer)
+}
+
+/// The bytes that wait to be sent.
+pub fn take(client: &mut ClientSession, out: &mut [u8]) -> u32
+    ensures { TakesWaiting client.old client.new out.old out.new result }
+{
+    if out.len() != client.waiting_len() {
+        return BAD_LENGTH;
+    }
+    client.take_waiting(out);
+    OK
+}
+
+/// The record of the first event.
+pub fn next(client: &mut ClientSession, out: &mut [u8]) -> u32
+    ensures { TakesEvent client.old client.new out.old out.new result }
+{
+    if out.len() != client.first_record_len() {
+        return BAD_LENGTH;
+    }
+    client.copy_first_record(out);
+    client.forget_first_event();
+    OK
+}
