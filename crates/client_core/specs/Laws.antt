@@ -51,7 +51,7 @@ abbrev pub numbers : ClientState → List Happening → List ℕ
 numbers c [] = []
 numbers c (h ∷ hs) = numbers_at c h ++ numbers (after c h) hs
 
--- they grow, whatever happens: no number is used twice, and none below the first
+-- the numbers of the queries grow, whatever happens: none is used twice, and none is below the first
 pub record NoNumberTwice : Type 0 where
   pub grows : (c : ClientState) (hs : List Happening) (i j : ℕ) → i < j → j < length (numbers c hs) →
       slice_index (numbers c hs) i < slice_index (numbers c hs) j

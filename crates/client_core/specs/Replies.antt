@@ -64,7 +64,7 @@ welcomed c p count version =
     then ended (record c { known = Some (record { version = version; count = count; plan = p }) }) (Welcomed version)
     else faulty c BadWelcome
 
--- it answers hello alone
+-- a Welcome answers hello alone
 abbrev pub takes_welcome : Call → ClientState → Plan → ℕ → ℕ → Taken
 takes_welcome (Hello key) c p count version = welcomed c p count version
 takes_welcome _ c p count version = faulty c BadReply
@@ -91,14 +91,14 @@ more_parts s k c version part words =
     then ended (record c { hint = Some (hint_made s k version words); parts = [] }) (Synced s version)
     else record { state = record c { call = Sync s version (part + 1); parts = words }; reaction = Asks s version (part + 1) }
 
--- it counts against the layout known
+-- a part that was asked for counts against the layout known
 abbrev pub takes_asked_part : Option ServerInfo → Scheme → ClientState → ℕ → ℕ → ℕ → ℕ → ℕ → List ℕ → Taken
 takes_asked_part None s c asked next scheme version part words = faulty c BadReply
 takes_asked_part (Some k) s c asked next scheme version part words =
     if is_part s (hint_len s (shape_known k) k.plan.dimension) asked next scheme version part words
     then more_parts s k c asked next (c.parts ++ words) else faulty c BadReply
 
--- it answers a sync by parts alone
+-- a part answers a sync by parts alone
 abbrev pub takes_part : Call → ClientState → ℕ → ℕ → ℕ → List ℕ → Taken
 takes_part (Sync s v p) c scheme version part words = takes_asked_part c.known s c v p scheme version part words
 takes_part _ c scheme version part words = faulty c BadReply
@@ -119,7 +119,7 @@ abbrev pub is_answer : Scheme → ServerInfo → ℕ → ℕ → ℕ → List �
 is_answer s k asked scheme version words =
     (scheme == scheme_byte s) && ((version == asked) && (length words == answer_count s (shape_known k) k.plan.dimension))
 
--- it is read with the hint held, and in the hint's scheme
+-- an answer is read with the hint held, in the hint's scheme
 abbrev pub answered : Option ServerInfo → Option Hint → ClientState → ℕ → ℕ → ℕ → ℕ → ℕ → List ℕ → Taken
 answered None hint c i asked number scheme version words = faulty c BadReply
 answered (Some k) None c i asked number scheme version words = faulty c BadReply
@@ -128,7 +128,7 @@ answered (Some k) (Some h) c i asked number scheme version words =
     then ended c (event_of k.plan i version (reading h.scheme (shape_known k) h.matrix c.seed number i words))
     else faulty c BadReply
 
--- it answers ask alone
+-- an answer replies to ask alone
 abbrev pub takes_answer : Call → ClientState → ℕ → ℕ → List ℕ → Taken
 takes_answer (Ask i s v n) c scheme version words = answered c.known c.hint c i v n scheme version words
 takes_answer _ c scheme version words = faulty c BadReply
@@ -139,7 +139,7 @@ takes_answer _ c scheme version words = faulty c BadReply
 abbrev pub is_current : ServerInfo → ℕ → ℕ → Bool
 is_current k version count = nat_lt 0 version && is_layout (shape_at k.plan count)
 
--- they are the last known
+-- what is known with another version and count, the last reported
 abbrev pub with_current : ServerInfo → ℕ → ℕ → ServerInfo
 with_current k version count = record k { version = version; count = count }
 
@@ -151,7 +151,7 @@ reaction_to_stale (Some k) after c asked version count =
     then ended (record after { known = Some (with_current k version count) }) (Stale version)
     else faulty c BadReply
 
--- it answers a sync by parts, of which the unfinished ones are dropped, and ask
+-- Stale answers a sync by parts, of which the unfinished ones are dropped, and ask
 abbrev pub takes_stale : Call → ClientState → ℕ → ℕ → Taken
 takes_stale (Sync s v p) c version count = reaction_to_stale c.known (record c { parts = [] }) c v version count
 takes_stale (Ask i s v n) c version count = reaction_to_stale c.known c c v version count
@@ -192,7 +192,7 @@ moved (Some k) (Some h) c asked since now count rows =
     then ended (record c { known = Some (with_current k now count); hint = Some (hint_with_rows h now rows) }) (Synced Simple now)
     else faulty c BadReply
 
--- it answers a sync by delta alone
+-- a Delta answers a sync by delta alone
 abbrev pub takes_delta : Call → ClientState → ℕ → ℕ → ℕ → RowList → Taken
 takes_delta (Delta asked) c since now count rows = moved c.known c.hint c asked since now count rows
 takes_delta _ c since now count rows = faulty c BadReply
@@ -208,21 +208,21 @@ goes_by_parts (Some k) c version count =
     }
     else faulty c BadReply
 
--- it answers a sync by delta alone
+-- NoDelta answers a sync by delta alone
 abbrev pub takes_no_delta : Call → ClientState → ℕ → ℕ → Taken
 takes_no_delta (Delta asked) c version count = goes_by_parts c.known c version count
 takes_no_delta _ c version count = faulty c BadReply
 
 -- ---- Done and Refused
 
--- it answers edit, append and publish, whatever version it names
+-- Done answers edit, append and publish, whatever version it names
 abbrev pub takes_done : Call → ClientState → ℕ → Taken
 takes_done (Edit i b) c version = ended c (Done version)
 takes_done (Append b) c version = ended c (Done version)
 takes_done Publish c version = ended c (Done version)
 takes_done _ c version = faulty c BadReply
 
--- it answers every call, with any code; in a sync by parts the unfinished ones are dropped
+-- Refused answers every call, with any code; in a sync by parts the unfinished ones are dropped
 abbrev pub takes_refused : Call → ClientState → ℕ → Taken
 takes_refused Idle c code = faulty c BadReply
 takes_refused (Sync s v p) c code = ended (record c { parts = [] }) (Refused code)

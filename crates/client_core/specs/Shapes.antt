@@ -200,7 +200,7 @@ outline_after_call (BlankEdit count) x = record x { call = ADone }
 outline_after_call (BlankAppend count) x = record x { call = ADone }
 outline_after_call BlankPublish x = record x { call = ADone }
 
--- and after one that was refused memory: only the number of a retrieval is spent
+-- the outline after a call that was refused memory: only the number of a retrieval is spent
 abbrev pub outline_spent : BlankCall → Outline → Outline
 outline_spent BlankAsk x = record x { number = x.number + 1 }
 outline_spent _ x = x
@@ -241,7 +241,7 @@ after_asked_part (Some k) s x asked next scheme version part count =
     if (scheme == scheme_byte s) && ((version == asked) && ((part == next) && (count == part_len (hint_len s (shape_known k) k.plan.dimension) next)))
     then after_good_part s k x asked next (x.words + count) else fails x
 
--- it answers a sync by parts alone
+-- a part answers a sync by parts alone
 abbrev pub after_part : Awaited → Outline → ℕ → ℕ → ℕ → ℕ → Reacted
 after_part (APart s v p) x scheme version part count = after_asked_part x.known s x v p scheme version part count
 after_part _ x scheme version part count = fails x
@@ -254,7 +254,7 @@ after_asked_delta (Some k) (Some h) x asked since now count dimension numbers =
     if is_delta k asked since now count dimension numbers
     then ends (record x { known = Some (with_current k now count); hint = Some (record h { version = now }) }) else fails x
 
--- it answers a sync by delta alone
+-- a Delta answers a sync by delta alone
 abbrev pub after_delta : Awaited → Outline → ℕ → ℕ → ℕ → ℕ → List ℕ → Reacted
 after_delta (ADelta asked) x since now count dimension numbers = after_asked_delta x.known x.hint x asked since now count dimension numbers
 after_delta _ x since now count dimension numbers = fails x
@@ -270,7 +270,7 @@ after_asked_no_delta (Some k) x version count =
     }
     else fails x
 
--- it answers a sync by delta alone
+-- NoDelta answers a sync by delta alone
 abbrev pub after_no_delta : Awaited → Outline → ℕ → ℕ → Reacted
 after_no_delta (ADelta asked) x version count = after_asked_no_delta x.known x version count
 after_no_delta _ x version count = fails x
@@ -283,7 +283,7 @@ after_asked_answer (Some k) (Some h) x asked scheme version count =
     if (scheme == scheme_byte h.scheme) && ((version == asked) && (count == answer_count h.scheme (shape_known k) k.plan.dimension))
     then ends x else fails x
 
--- it answers ask alone
+-- an answer replies to ask alone
 abbrev pub after_answer : Awaited → Outline → ℕ → ℕ → ℕ → Reacted
 after_answer (AnAnswer v) x scheme version count = after_asked_answer x.known x.hint x v scheme version count
 after_answer _ x scheme version count = fails x

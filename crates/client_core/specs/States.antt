@@ -60,7 +60,7 @@ shape_known k = shape_at k.plan k.count
 abbrev pub IsKnown : ServerInfo → Type 0
 IsKnown k = IsPlan k.plan k.count
 
--- the same, where the Welcome came
+-- what the server reported is within the limits, where a Welcome came
 abbrev pub KnownFits : Option ServerInfo → Type 0
 KnownFits None = Unit {0}
 KnownFits (Some k) = IsKnown k

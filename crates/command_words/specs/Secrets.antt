@@ -22,7 +22,7 @@ abbrev pub IsNoSecret : Option (List ℕ) → Type 0
 IsNoSecret None = Unit {0}
 IsNoSecret (Some text) = ((name : List ℕ) → text ≢ 64 ∷ name) × IsNoBytes32 (Some text)
 
--- the same, or the digits are all 0
+-- no text was given, or it names no file and isn't 64 hex digits, or the digits are all 0
 abbrev pub IsNoKeySecret : Option (List ℕ) → Type 0
 IsNoKeySecret None = Unit {0}
 IsNoKeySecret (Some text) = ((name : List ℕ) → text ≢ 64 ∷ name) × IsNoKey (Some text)
@@ -40,7 +40,7 @@ abbrev pub GivesSeed : Secret → Result (List ℕ) Failure → Type 0
 GivesSeed (Bytes bytes) result = result ≡ Ok bytes
 GivesSeed (File name) result = Unit {0}
 
--- they are the key, unless they are all 0
+-- the bytes on the line itself are the key, unless they are all 0
 abbrev pub GivesKey : Secret → Result (List ℕ) Failure → Type 0
 GivesKey (Bytes bytes) result = bytes ≢ replicate 32 0 → result ≡ Ok bytes
 GivesKey (File name) result = Unit {0}
@@ -51,7 +51,7 @@ IsFileFailure (Fault name) = name.now ≡ codes "File"
 IsFileFailure Memory = Unit {0}
 IsFileFailure _ = ⊥
 
--- the same, or the file has no secret of the option's form
+-- a file can't be read, memory was refused, or the file has no secret of the option's form
 abbrev pub IsSecretFailure : List ℕ → Failure → Type 0
 IsSecretFailure takes (Value shown) = shown.now ≡ takes
 IsSecretFailure takes (Fault name) = name.now ≡ codes "File"

@@ -11,7 +11,7 @@ MovesBytes left held ReadFails left2 held2 = Keeps left left2 × (held2 ≡ held
 MovesBytes left held (Write bytes) left2 held2 = (left2 ≡ left) × Appends held held2 bytes
 MovesBytes left held WriteFails left2 held2 = (left2 ≡ left) × Keeps held held2
 
--- The same of the pair, which holds the same reader and the same writer as before.
+-- what a call does to a pair: its reader's and its writer's bytes change so, and both stay the ones that they were
 pub record PairDoes {R W : Type 0} (remaining : R → Option (List ℕ)) (contents : W → Option (List ℕ)) (a : Pair R W) (call : Call) (b : Pair R W) : Type 0 where
   pub moves : MovesBytes (remaining a.reader.now) (contents a.writer.now) call (remaining b.reader.now) (contents b.writer.now)
   pub same_reader : b.reader.ghost_name ≡ a.reader.ghost_name

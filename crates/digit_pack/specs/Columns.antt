@@ -14,6 +14,6 @@ pub record WritesFirst (old new : WordMatrix) (first col count : ℕ) (words : L
   pub here : (d : ℕ) → d < count → entry new (first + d) col ≡ slice_index words d
   pub elsewhere : (r j : ℕ) → r < old.rows → j < old.cols → ¬ IsWithin first col count r j → entry new r j ≡ entry old r j
 
--- the same of all the words
+-- the new matrix has all these words in column col, from row first down, and all else as the old one
 abbrev pub WritesColumn : WordMatrix → WordMatrix → ℕ → ℕ → List ℕ → Type 0
 WritesColumn old new first col words = WritesFirst old new first col (length words) words

@@ -36,7 +36,7 @@ abbrev pub RecordStandsInItsColumn : Type 0
 RecordStandsInItsColumn = (l : Shape) (records : List (List ℕ)) (i d : ℕ) → IsShape l → i < l.count → d < digits_per_record l →
     entry (digit_matrix l records) (first_row l i + d) (column_of l i) ≡ digit l.width (number_of 8 (record_at records i)) d
 
--- and this place is inside the matrix
+-- each digit of a record has its place inside the matrix
 abbrev pub RecordStandsInside : Type 0
 RecordStandsInside = (l : Shape) (i d : ℕ) → IsShape l → i < l.count → d < digits_per_record l →
     (first_row l i + d < digit_rows l) × (column_of l i < digit_cols l)

@@ -20,7 +20,7 @@ entry a i j = slice_index a.words (i * a.cols + j)
 abbrev pub matrix_of : ℕ → ℕ → (ℕ → ℕ → ℕ) → WordMatrix
 matrix_of rows cols f = record { rows = rows; cols = cols; words = list_of (rows * cols) (λ k. f (k / cols) (k % cols)) }
 
--- it has as many words as rows times columns
+-- a matrix with as many words as rows times columns
 abbrev pub IsWhole : WordMatrix → Type 0
 IsWhole a = length a.words ≡ a.rows * a.cols
 

@@ -45,7 +45,7 @@ reply (Loaded t) other = Some (Refused 1)
 reply Done f = None
 reply Bad f = None
 
--- and the stage after it; what comes after the end is not judged
+-- the stage after a frame; what comes after the end is not judged
 abbrev pub next : Stage → Frame → Stage
 next Fresh (Load record_len groups width records) = if is_load record_len groups width records then Loaded (table_of record_len groups width records) else Bad
 next Fresh other = Bad

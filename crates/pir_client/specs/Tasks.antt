@@ -28,7 +28,7 @@ TaskFits Rehearse = Unit {0}
 abbrev pub IsNumberGiven : Found → List ℕ → ℕ → Type 0
 IsNumberGiven found name n = MatchOption (first_value found name) ⊥ (λ text. IsNumeral 10 text × (digits_value 10 text ≡ n))
 
--- the same, where anything was given for it
+-- what was given for a name, where anything was, is this number in decimal digits
 abbrev pub IsNumberIfGiven : Found → List ℕ → Option ℕ → Type 0
 IsNumberIfGiven found name n =
     MatchOption (first_value found name) (n ≡ None) (λ text. IsNumeral 10 text × (n ≡ Some (digits_value 10 text)))

@@ -178,7 +178,7 @@ pub record LogInvariant (x : Setting) (h : History) (seed : List ℕ) (k : ℕ) 
   pub served : (r : Frame) → l.down.frames ≡ r ∷ [] →
       (f : Frame) × (first : List Entry) × IsServedLast k f r first log × IsFrom x h seed k l.client.call f first
 
--- it is so of each entry and those before it, where these came before all
+-- P of each entry and those before it, where these came before all
 abbrev pub EachAfter : (List Entry → Entry → Type 0) → List Entry → List Entry → Type 0
 EachAfter P before [] = Unit {0}
 EachAfter P before (e ∷ es) = P before e × EachAfter P (before ++ e ∷ []) es

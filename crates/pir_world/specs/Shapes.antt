@@ -40,7 +40,7 @@ pub record HaveEqualShapes (log other : List Entry) : Type 0 where
 
 -- ---- steps that differ in indices alone
 
--- the same step, or both times an ask of the same client
+-- one step twice, or two asks of one client
 abbrev pub IsStepLike : Step → Step → Type 0
 IsStepLike (Ask k i) other = (j : ℕ) × (other ≡ Ask k j)
 IsStepLike step other = other ≡ step

@@ -110,7 +110,7 @@ opened_world f = record {
   state = opening (header_of_filling f) f.records f.clients;
 }
 
--- it is opened and goes on, or it is refused for a fault of what it is opened with
+-- the world is opened and goes on, or it is refused for a fault of what it is opened with
 abbrev pub Opens : Filling → (RunningWorld → Move → Type 0) → Move → Type 0
 Opens f goes move =
     (IsOpening (header_of_filling f) f.records × goes (opened_world f) move)

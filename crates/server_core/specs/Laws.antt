@@ -92,8 +92,8 @@ abbrev pub RepliesHoldNoIndex : Type 0
 RepliesHoldNoIndex = (x : Setting) (h : History) (st : Standing) (scheme version : ℕ) (words others : List ℕ) → length words ≡ length others
     → AnsweredAlike x h h st (Query scheme version words) (Query scheme version others)
 
--- And of the history, the number of the current version and its record count alone decide: what the records are, and how long
--- each of them is, changes no reply's kind or length.
+-- Of the history, the number of the current version and its record count alone decide a reply's kind and length: what the records
+-- are, and how long each of them is, changes neither.
 abbrev pub RepliesHoldNoLength : Type 0
 RepliesHoldNoLength = (x : Setting) (h g : History) (st : Standing) (scheme version : ℕ) (words others : List ℕ)
     → current_version h ≡ current_version g → length h.current ≡ length g.current → length words ≡ length others

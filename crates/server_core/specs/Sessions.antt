@@ -36,7 +36,7 @@ AfterReading (Err BadPayload) middle after more = (after ≡ Closed) × (more �
 AfterReading (Err Memory) middle after more = ⊥
 AfterReading (Err Failed) middle after more = ⊥
 
--- the same where the frames may have closed it: then nothing more is said
+-- the end of a piece where the frames may have closed the session: then nothing more is said
 abbrev pub EndsPiece : Result (Unit {0}) ReadFault → Standing → Standing → List Frame → Type 0
 EndsPiece answer middle after more = MatchBool (is_closed middle) ((after ≡ middle) × (more ≡ [])) (AfterReading answer middle after more)
 

@@ -54,7 +54,7 @@ NeverReceives old first (Err Write) read out new = (read ≡ []) × IsCutOff out
 NeverReceives old first (Err Memory) read out new = (read ≡ []) × (out ≡ []) × (new ≡ old)
 NeverReceives old first _ read out new = ⊥
 
--- The same with the first bytes ahead of all that is written.
+-- a conversation: the first bytes go out ahead of all that is written
 abbrev pub Converses : Client → List ℕ → ℕ → Result Event ConverseFault → List ℕ → List ℕ → Option (List ℕ) → Client → Type 0
 Converses old first turns result read out left new = NeverReceives old first result read out new
     ⊎ ((said : List ℕ) × (out ≡ first ++ said) × Receives old turns result read said left new)

@@ -27,7 +27,7 @@ ServesStream x h turns (Err Memory) read out left store = (s : Session) × (answ
     × Fed x h new_session read answer store s [] out × (answer ≡ Ok tt → read ≡ [])
 ServesStream x h turns (Err TurnsUsedUp) read out left store = IsStreamServed x h read out store false × (turns ≤ length read)
 
--- the same for one piece of a session's stream: what was written for it, and the session then
+-- what was written for one piece of a session's stream, and the session then
 abbrev pub ServesStreamPiece : Setting → History → Session → List ℕ → Result (Unit {0}) ServeFault → StoreState → Option Session → List ℕ → Type 0
 ServesStreamPiece x h old piece (Ok done) store new bytes = (s : Session) × (new ≡ Some s) × Fed x h old piece (Ok tt) store s [] bytes
 ServesStreamPiece x h old piece (Err IdInUse) store new bytes = ⊥

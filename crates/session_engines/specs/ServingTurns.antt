@@ -27,7 +27,7 @@ pub record TakesPiece {C : Type 0} (does : C → Call → C → Type 0) (id : �
   pub served : (h : History) → StandsFor old.store h → (s : Session) → session_of old.sessions id ≡ Some s →
       ServesStreamPiece (setting_of old.store) h s turn.piece answer new.store (session_of new.sessions id) turn.output
 
--- and the session is open still, or was closed by it
+-- after a turn the session is open still, or was closed by it
 pub record LeavesSession {C : Type 0} (does : C → Call → C → Type 0) (id : ℕ) (open_ : Bool) (old : Core) (a : C) (turn : CallTurn) (new : Core)
     (b : C) : Type 0 where
   pub takes : TakesPiece does id old a (Ok tt) turn new b

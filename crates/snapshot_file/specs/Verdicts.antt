@@ -86,7 +86,7 @@ EndsBelow wanted faults.Short part left = (length part < wanted) × IsAtEnd left
 EndsBelow wanted faults.Read part left = length part < wanted
 EndsBelow wanted _ part left = ⊥
 
--- the same where there may be no memory for what came
+-- the end before so many bytes were there, or no memory for what came
 abbrev pub EndsKept : ℕ → SnapshotFault → List ℕ → Option (List ℕ) → Type 0
 EndsKept wanted faults.Memory part left = Unit {0}
 EndsKept wanted faults.Short part left = (length part < wanted) × IsAtEnd left
