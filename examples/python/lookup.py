@@ -6,8 +6,8 @@ usage: lookup.py make FILE KEY BUCKETS ROOM < ENTRIES    ENTRIES has a line 'NAM
        lookup.py get PORT STATE NAME                     prints the value, or ends with status 1
        lookup.py put PORT STATE KEY NAME VALUE           sets a value, and publishes
 
-FILE is served by `pir_server serve --file FILE --port PORT --connections N`. KEY is the publisher's, 64 hex digits; STATE is
-a file that keeps the client's secret. PIR_SERVER names the program where it isn't on the path.
+FILE is served by `pir_server run --file FILE --listen 127.0.0.1:PORT`. KEY is a file with the publisher's key, 64 hex digits;
+STATE is a file that keeps the client's secret. PIR_SERVER names the program where it isn't on the path.
 """
 import hashlib
 import os
@@ -51,8 +51,8 @@ def make(file: str, key: str, buckets: int, room: int) -> None:
         kept[bucket_of(name, buckets)][name] = value
     lines = "".join((packed(entries, room).hex() or "-") + "\n" for entries in kept)
     program, seed = os.environ.get("PIR_SERVER", "pir_server"), os.urandom(32).hex()
-    words = f"make --form 2 --width 8 --record {room + 2} --groups 1 --seed {seed} --key {key} --out".split()
-    subprocess.run([program, *words, file], input=lines.encode(), check=True)
+    words = f"make --form 2 --width 8 --record {room + 2} --groups 1 --seed {seed} --out".split()
+    subprocess.run([program, *words, file, "--key", f"@{key}"], input=lines.encode(), check=True)
 
 
 def get(port: str, state: str, name: str) -> None:
@@ -64,7 +64,9 @@ def get(port: str, state: str, name: str) -> None:
 
 
 def put(port: str, state: str, key: str, name: str, value: str) -> None:
-    with Client("127.0.0.1", int(port), state=state, key=bytes.fromhex(key)) as client:
+    with open(key, encoding="ascii") as file:
+        secret = bytes.fromhex(file.read())
+    with Client("127.0.0.1", int(port), state=state, key=secret) as client:
         index = bucket_of(name, client.known.count)
         entries = {**unpacked(client.get(index)), name: value}
         client.edit(index, packed(entries, client.known.record_len - 2))
