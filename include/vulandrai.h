@@ -15,7 +15,7 @@
  * point to what their types say, and lengths are those of the memory: nothing can check that.
  *
  * Bytes. Sizes are in bytes; keys, seeds and digests have 32. What is copied out has exactly the length that the call
- * before it told, else it is VUL_BAD_LENGTH and nothing is taken.
+ * before it gave, else it is VUL_BAD_LENGTH and nothing is taken.
  */
 #ifndef VULANDRAI_H
 #define VULANDRAI_H
@@ -93,7 +93,7 @@ typedef struct {
     uint64_t version, record_len;
 } vul_event;
 
-/* What a client was told of its server; all 0 before it was welcomed. */
+/* What a client knows of its server; all 0 before it was welcomed. */
 typedef struct {
     uint64_t version;
     uint32_t count;      /* how many records */
@@ -117,7 +117,7 @@ uint32_t vul_client_hello(vul_client *client, const uint8_t key[32]);
 /* Asks for the hint of the last version known. */
 uint32_t vul_client_sync(vul_client *client, uint32_t scheme);
 
-/* Asks for a record by a query that doesn't tell which. It spends a number. */
+/* Asks for a record by a query that hides which. It spends a number. */
 uint32_t vul_client_ask(vul_client *client, uint32_t index);
 
 /* Replaces a record of the draft. A record of more than 65,535 bytes is VUL_BAD_LENGTH. */
@@ -129,7 +129,7 @@ uint32_t vul_client_append(vul_client *client, const uint8_t *record, size_t len
 /* Publishes the draft. */
 uint32_t vul_client_publish(vul_client *client);
 
-/* Takes a piece of the server's stream. What it makes waits to be sent, and its events wait to be told. VUL_UNTAKEN where
+/* Takes a piece of the server's stream. What it makes waits to be sent, and its events wait to be taken. VUL_UNTAKEN where
  * bytes or events of an earlier call wait. VUL_BAD_WELCOME, VUL_BAD_REPLY, VUL_MEMORY and VUL_FAILED end the client. */
 uint32_t vul_client_feed(vul_client *client, const uint8_t *piece, size_t len);
 
@@ -148,7 +148,7 @@ uint32_t vul_client_next(vul_client *client, uint8_t *record, size_t len);
 /* The number of the next retrieval. */
 uint32_t vul_client_number(vul_client *client, uint64_t *number);
 
-/* What the client was told of its server. */
+/* What the client knows of its server. */
 uint32_t vul_client_known(vul_client *client, vul_known *known);
 
 /* ---- a server */

@@ -26,7 +26,7 @@ abbrev pub sends_of : Reaction → List Frame
 sends_of (Asks scheme version part) = frame.HintAsk (scheme_byte scheme) version part ∷ []
 sends_of _ = []
 
--- the event that it tells
+-- the event that it reports
 abbrev pub events_of : Reaction → List Event
 events_of (Reports e) = e ∷ []
 events_of _ = []
@@ -36,7 +36,7 @@ abbrev pub fault_of : Reaction → Option ClientFault
 fault_of (Fails f) = Some f
 fault_of _ = None
 
--- where a client stands after some replies: what it has sent and told, and its fault
+-- where a client stands after some replies: what it has sent and reported, and its fault
 pub record Course : Type 0 where
   pub state : ClientState
   pub sends : List Frame

@@ -57,7 +57,7 @@ abbrev pub is_accepted_welcome : Plan → ℕ → ℕ → Bool
 is_accepted_welcome p count version =
     is_form p.form p.record_len && (is_layout (shape_at p count) && ((nat_le 1 p.dimension && nat_le p.dimension 1024) && nat_lt 0 version))
 
--- what it tells is known from then on
+-- what it names is known from then on
 abbrev pub welcomed : ClientState → Plan → ℕ → ℕ → Taken
 welcomed c p count version =
     if is_accepted_welcome p count version
@@ -143,7 +143,7 @@ is_current k version count = nat_lt 0 version && is_layout (shape_at k.plan coun
 abbrev pub with_current : ServerInfo → ℕ → ℕ → ServerInfo
 with_current k version count = record k { version = version; count = count }
 
--- the version and the count told are the last known, where these are another version than asked and a count within the limits. The state is the one given first
+-- the version and the count named are the last known, where these are another version than asked and a count within the limits. The state is the one given first
 abbrev pub reaction_to_stale : Option ServerInfo → ClientState → ClientState → ℕ → ℕ → ℕ → Taken
 reaction_to_stale None after c asked version count = faulty c BadReply
 reaction_to_stale (Some k) after c asked version count =

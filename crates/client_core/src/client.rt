@@ -149,7 +149,7 @@ impl<K: Kernel> ClientCore<K> {
         Ok(bytes)
     }
 
-    /// Asks for record `index` of the version whose hint is held, by a query of the hint's scheme that doesn't tell which. Gives
+    /// Asks for record `index` of the version whose hint is held, by a query of the hint's scheme that hides which. Gives
     /// the bytes to send.
     ///
     /// Refused in this order: `Failed`; `NotReady` (no Welcome came yet, no hint is held, or its version is

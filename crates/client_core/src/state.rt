@@ -67,7 +67,7 @@ pub enum Call {
     Delta {
         since: u64,
     },
-    /// The query of the scheme for record `index` was sent; `number` tells which retrieval of the seed it is.
+    /// The query of the scheme for record `index` was sent; `number` is that of the retrieval under the seed.
     Ask {
         index: u32,
         scheme: Scheme,

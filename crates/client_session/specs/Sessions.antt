@@ -34,12 +34,12 @@ Feeds old bytes (Err piece.Untaken) new = (0 < untaken old) × (new ≡ old)
 Feeds old bytes (Err (piece.Client fault)) new =
     (untaken old ≡ 0) × FeedsClient old.core bytes new.waiting.items new.events.items (Some fault) new.core
 
--- the bytes of the record that an event tells, none where it tells no record
+-- the bytes of the record that an event gives, none where it gives no record
 abbrev pub event_record : Event → List ℕ
 event_record (event.Retrieved i v bytes) = bytes
 event_record _ = []
 
--- the bytes of the record that the first of these events tells
+-- the bytes of the record that the first of these events gives
 abbrev pub record_of : List Event → List ℕ
 record_of [] = []
 record_of (e ∷ es) = event_record e

@@ -1,4 +1,4 @@
-//! A client together with the bytes that wait to be sent and the events that wait to be told, for programs that take both
+//! A client together with the bytes that wait to be sent and the events that wait to be taken, for programs that take both
 //! when it suits them.
 //!
 //! [`ClientCore`] hands over what comes of each call. A [`ClientSession`] keeps it until it is taken, and refuses what would
@@ -38,7 +38,7 @@ pub enum FeedFault {
     Client(ClientFault),
 }
 
-/// A client over lanes, the bytes that wait to be sent, and the events that wait to be told.
+/// A client over lanes, the bytes that wait to be sent, and the events that wait to be taken.
 #[derive(Drop)]
 pub struct ClientSession {
     pub core: ClientCore<Lanes>,
@@ -196,14 +196,14 @@ impl ClientSession {
         self.waiting.clear();
     }
 
-    /// The first event that waits to be told.
+    /// The first event that waits to be taken.
     pub fn first_event(&self) -> Option<&Event>
         ensures { IsItemAt self.now.events.items 0 result }
     {
         self.events.first()
     }
 
-    /// How many bytes the record has that the first event tells: 0 where it tells none.
+    /// How many bytes the record has that the first event gives: 0 where it gives none.
     pub fn first_record_len(&self) -> usize
         ensures { result ≡ length (record_of self.now.events.items) }
     {
@@ -213,7 +213,7 @@ impl ClientSession {
         }
     }
 
-    /// Copies the bytes of the record that the first event tells.
+    /// Copies the bytes of the record that the first event gives.
     pub fn copy_first_record(&self, out: &mut [u8])
         requires { length out.old ≡ length (record_of self.now.events.items) }
         ensures { out.new ≡ record_of self.now.events.items }

@@ -178,7 +178,7 @@ fn put_part_query<K: Kernel>(
 
 /// The query for record i: the encryption of its column under `a1`, which has a row for each column of the
 /// layout, and then, for each digit of the record, the encryption of the digit's row under `a2`, which has a
-/// row for each row of the layout and at most 1024 columns. `number` tells which retrieval of the client's
+/// row for each row of the layout and at most 1024 columns. `number` says which retrieval of the client's
 /// seed it is.
 pub fn query<K: Kernel>(
     alloc: Global,

@@ -68,7 +68,7 @@ impl QueryRoom {
         })
     }
 
-    /// The query for record i. `number` tells which retrieval of the client's seed it is. It takes no memory.
+    /// The query for record i. `number` says which retrieval of the client's seed it is. It takes no memory.
     #[tactic(auto, unfolding(crate::specs::Retrievals::query_words))]
     pub fn fill<K: Kernel>(self, kernel: K, seed: &SecretSeed, number: u64, i: usize) -> Vec<u32>
         requires number { number < 2 ^ 62 }

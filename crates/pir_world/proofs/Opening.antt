@@ -82,7 +82,7 @@ headline law h bytes seeds steps last o r =
       entries = inv.entries;
       earlier = all_with_earlier (HasEarlier (setting_in h) seeds last.history) last.log inv.earlier;
       hints = λ k l e. (inv.links k l e).hint;
-      told = λ k l e. (inv.logs k l e).hint;
+      named = λ k l e. (inv.logs k l e).hint;
     }
 
 -- ---- its parts

@@ -36,7 +36,7 @@ pub record IsAnswered (x : Setting) (h : History) (seed : List ℕ) (r : Retriev
   pub quiet : IsQuietOn x.plan records seed r → event ≡ Retrieved r.index r.version (record_at records r.index)
   pub certain : IsCertainOf r.scheme (shape_at x.plan (length records)) → event ≡ Retrieved r.index r.version (record_at records r.index)
 
--- A stale retrieval: a later version than the one named was current, and the client was told which.
+-- A stale retrieval: a later version than the one named was current, and the client got its number.
 pub record IsStale (h : History) (r : Retrieval) (reply : Frame) (event : Event) : Type 0 where
   pub now : ℕ
   pub records : List (List ℕ)
@@ -104,7 +104,7 @@ pub record Headline (x : Setting) (seeds : List (List ℕ)) (s : State) : Type 0
   pub entries : AllByRecursion (IsRight x seeds s.history) s.log
   pub earlier : AllWithEarlier (HasEarlier x seeds s.history) s.log
   pub hints : (k : ℕ) (l : Link) → slice_get s.links k ≡ Some l → HintIs x s.history l.client.hint
-  pub told : (k : ℕ) (l : Link) → slice_get s.links k ≡ Some l → name_of l.client.hint ≡ hint_named k s.log
+  pub named : (k : ℕ) (l : Link) → slice_get s.links k ≡ Some l → name_of l.client.hint ≡ hint_named k s.log
 
 -- a snapshot that a store accepts, with bytes for its records
 pub record IsOpening (h : Header) (records : List ℕ) : Type 0 where

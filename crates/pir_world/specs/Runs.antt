@@ -91,7 +91,7 @@ pub data Entry : Type 0 where
   Ended : (client : ℕ) (retrieval : Retrieval) (reply : Frame) (event : Event) → Entry
   Plain : (outcome : Outcome) → Entry
 
--- what the publisher and the clients are told of it
+-- what is reported of it to the publisher and the clients
 abbrev pub outcome_of : Entry → List Outcome
 outcome_of (Called k want None) = []
 outcome_of (Called k want (Some fault)) = CallRefused k fault ∷ []

@@ -168,7 +168,7 @@ fn serve<K: Kernel>(
     Ok(())
 }
 
-/// Adds the events that client k told, and leaves room for one outcome more.
+/// Adds the events that client k reported, and leaves room for one outcome more.
 fn put_events(k: usize, events: Vec<Event>, outcomes: &mut Vec<Outcome>) -> Result<(), AllocError>
     ensures items { OnOk result (outcomes.new.items ≡ outcomes.old.items ++ map
         (Reported k) events.items) }

@@ -85,7 +85,7 @@ impl Session {
     }
 }
 
-/// Serves the frames that a piece completes, and then tells how the reading ended. Answers the standing after
+/// Serves the frames that a piece completes, and then reports how the reading ended. Answers the standing after
 /// it. At an `Err` memory was refused.
 fn serve_completed<K: Kernel>(
     alloc: Global,

@@ -98,7 +98,7 @@ pub fn put_query<K: Kernel>(
 }
 
 /// The query for record i: the encryption of its column under the public matrix `a1`, which has a row for
-/// each column of the layout. `number` tells which retrieval of the client's seed it is.
+/// each column of the layout. `number` says which retrieval of the client's seed it is.
 pub fn query<K: Kernel>(
     alloc: Global,
     kernel: K,

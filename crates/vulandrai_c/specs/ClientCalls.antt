@@ -11,8 +11,8 @@ use Rattle.client_session.specs.declared.SessionFault.{SessionFault}
 use Rattle.client_session.specs.declared.FeedFault.{FeedFault}
 use Rattle.client_session.specs.Sessions.{Answers, Feeds, event_record, record_of, rest}
 use Rattle.vulandrai_c.specs.ClientCodes.{session_code, feed_code}
-use Rattle.vulandrai_c.specs.declared.told.ToldEvent.{ToldEvent}
-use Rattle.vulandrai_c.specs.declared.told.ToldServer.{ToldServer}
+use Rattle.vulandrai_c.specs.declared.reported.ReportedEvent.{ReportedEvent}
+use Rattle.vulandrai_c.specs.declared.reported.ReportedServer.{ReportedServer}
 
 -- a client that was just made, with nothing waiting
 abbrev pub IsFresh : Option ClientSession → List ℕ → ℕ → Type 0
@@ -87,7 +87,7 @@ event_version (event.Done v) = v
 event_version (event.Refused c) = 0
 
 -- an event as C reads it
-pub record IsTold (e : Event) (out : ToldEvent) : Type 0 where
+pub record IsReported (e : Event) (out : ReportedEvent) : Type 0 where
   pub kind : out.kind ≡ event_kind e
   pub detail : out.detail ≡ event_detail e
   pub index : out.index ≡ event_index e
@@ -95,14 +95,14 @@ pub record IsTold (e : Event) (out : ToldEvent) : Type 0 where
   pub record_len : out.record_len ≡ length (event_record e)
 
 -- the first of these events as C reads it, of kind 0 where there is none
-abbrev pub Tells : List Event → ToldEvent → Type 0
-Tells [] out = out.kind ≡ 0
-Tells (e ∷ es) out = IsTold e out
+abbrev pub Reports : List Event → ReportedEvent → Type 0
+Reports [] out = out.kind ≡ 0
+Reports (e ∷ es) out = IsReported e out
 
 -- what the server reported of its store as C reads it, all 0 before it let the client in
-abbrev pub told_server : Option ServerInfo → ToldServer
-told_server None = record { version = 0; count = 0; form = 0; record_len = 0; dimension = 0 }
-told_server (Some k) = record {
+abbrev pub reported_server : Option ServerInfo → ReportedServer
+reported_server None = record { version = 0; count = 0; form = 0; record_len = 0; dimension = 0 }
+reported_server (Some k) = record {
   version = k.version;
   count = k.count;
   form = k.plan.form;

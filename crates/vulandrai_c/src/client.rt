@@ -4,12 +4,12 @@ ghost use Rattle.std.specs.Prelude.{◌≡◌, ◌≤◌, ◌<◌, None, length}
 ghost use Rattle.client_core.specs.Calls.{Want};
 ghost use Rattle.pir_schemes.specs.declared.scheme.Scheme.TheVariants.{Simple, Double};
 ghost use Rattle.vulandrai_c.specs.Handles.{CallsOn};
-ghost use Rattle.vulandrai_c.specs.ClientCalls.{Opens, Calls, TakesPiece, TakesWaiting, TakesEvent, Tells, waiting_of, told_server};
+ghost use Rattle.vulandrai_c.specs.ClientCalls.{Opens, Calls, TakesPiece, TakesWaiting, TakesEvent, Reports, waiting_of, reported_server};
 
 use crate::client_answers::{append, ask, edit, feed, hello, next, publish, sync, take};
 use crate::client_handle::ClientHandle;
 use crate::codes::{BAD_LENGTH, BAD_NUMBER, BAD_SCHEME, CLOSED, MEMORY, OK};
-use crate::told::{ToldEvent, ToldServer, first_told, server_told};
+use crate::reported::{ReportedEvent, ReportedServer, first_reported, server_reported};
 use client_session::{ClientSession, Scheme};
 use std::alloc::Global;
 use std::mem::replace;
@@ -86,7 +86,7 @@ pub extern "C" fn vul_client_sync(client: &mut ClientHandle, alloc: Global, sche
     code
 }
 
-/// Asks for a record by a query that doesn't tell which. 32, 36, then the client's refusals.
+/// Asks for a record by a query that hides which. 32, 36, then the client's refusals.
 #[unsafe(no_mangle)]
 pub extern "C" fn vul_client_ask(client: &mut ClientHandle, alloc: Global, index: u32) -> u32
     ensures { CallsOn client.old.held.session client.new.held.session result
@@ -220,20 +220,20 @@ pub extern "C" fn vul_client_take_bytes(
 pub extern "C" fn vul_client_event(
     client: &mut ClientHandle,
     alloc: Global,
-    out: &mut ToldEvent,
+    out: &mut ReportedEvent,
 ) -> u32
     ensures { CallsOn client.old.held.session client.new.held.session result
-        (λ old new. (result ≡ 0) × (new ≡ old) × Tells old.events.items out.new) }
+        (λ old new. (result ≡ 0) × (new ≡ old) × Reports old.events.items out.new) }
 {
     let Some(session) = replace(client, ClientHandle::closed(alloc)).into_box() else {
         return CLOSED;
     };
-    *out = first_told(&session);
+    *out = first_reported(&session);
     *client = ClientHandle::of(session);
     OK
 }
 
-/// Copies the record that the first event tells, and forgets the event. 32; 35 exactly where `out` has another length than
+/// Copies the record that the first event gives, and forgets the event. 32; 35 exactly where `out` has another length than
 /// the record.
 #[unsafe(no_mangle)]
 pub extern "C" fn vul_client_next_bytes(
@@ -271,15 +271,15 @@ pub extern "C" fn vul_client_number(client: &mut ClientHandle, alloc: Global, ou
 pub extern "C" fn vul_client_known(
     client: &mut ClientHandle,
     alloc: Global,
-    out: &mut ToldServer,
+    out: &mut ReportedServer,
 ) -> u32
     ensures { CallsOn client.old.held.session client.new.held.session result
-        (λ old new. (result ≡ 0) × (new ≡ old) × (out.new ≡ told_server old.core.state.known)) }
+        (λ old new. (result ≡ 0) × (new ≡ old) × (out.new ≡ reported_server old.core.state.known)) }
 {
     let Some(session) = replace(client, ClientHandle::closed(alloc)).into_box() else {
         return CLOSED;
     };
-    *out = server_told(&session);
+    *out = server_reported(&session);
     *client = ClientHandle::of(session);
     OK
 }

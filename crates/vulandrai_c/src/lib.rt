@@ -13,15 +13,15 @@ mod client_answers;
 mod client_codes;
 mod client_handle;
 mod codes;
+mod reported;
 mod server;
 mod server_answers;
 mod server_codes;
 mod server_handle;
-mod told;
 
 pub use client_handle::ClientHandle;
+pub use reported::{ReportedEvent, ReportedServer};
 pub use server_handle::ServerHandle;
-pub use told::{ToldEvent, ToldServer};
 
 #[cfg(test)]
 mod tests;

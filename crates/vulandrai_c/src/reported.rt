@@ -1,7 +1,7 @@
 //! Events and reports as C reads them.
 
 ghost use Rattle.std.specs.Prelude.{◌≡◌};
-ghost use Rattle.vulandrai_c.specs.ClientCalls.{IsTold, Tells, told_server};
+ghost use Rattle.vulandrai_c.specs.ClientCalls.{IsReported, Reports, reported_server};
 
 use client_session::{ClientSession, Event, ServerInfo};
 
@@ -9,7 +9,7 @@ use client_session::{ClientSession, Event, ServerInfo};
 /// record, its version, and how many bytes the record has. What a kind lacks is 0.
 #[repr(C)]
 #[derive(Clone, Copy)]
-pub struct ToldEvent {
+pub struct ReportedEvent {
     pub kind: u32,
     pub detail: u32,
     pub index: u32,
@@ -22,7 +22,7 @@ pub struct ToldEvent {
 /// form, how many bytes a record has, or in form 2 its slot, and how many words a secret has.
 #[repr(C)]
 #[derive(Clone, Copy)]
-pub struct ToldServer {
+pub struct ReportedServer {
     pub version: u64,
     pub count: u32,
     pub form: u32,
@@ -30,8 +30,8 @@ pub struct ToldServer {
     pub dimension: u32,
 }
 
-impl ToldEvent {
-    fn of(kind: u32, version: u64) -> ToldEvent
+impl ReportedEvent {
+    fn of(kind: u32, version: u64) -> ReportedEvent
         ensures { result ≡ record {
           kind = kind;
           detail = 0;
@@ -41,7 +41,7 @@ impl ToldEvent {
           record_len = 0;
         } }
     {
-        ToldEvent {
+        ReportedEvent {
             kind,
             detail: 0,
             index: 0,
@@ -53,53 +53,53 @@ impl ToldEvent {
 }
 
 // An event as C reads it.
-fn told(event: &Event) -> ToldEvent
-    ensures { IsTold event.now result }
+fn event_reported(event: &Event) -> ReportedEvent
+    ensures { IsReported event.now result }
 {
     match event {
-        Event::Welcomed(version) => ToldEvent::of(1, *version),
-        Event::Synced(scheme, version) => ToldEvent {
+        Event::Welcomed(version) => ReportedEvent::of(1, *version),
+        Event::Synced(scheme, version) => ReportedEvent {
             detail: u32::from(scheme.byte()),
-            ..ToldEvent::of(2, *version)
+            ..ReportedEvent::of(2, *version)
         },
         Event::Retrieved {
             index,
             version,
             bytes,
-        } => ToldEvent {
+        } => ReportedEvent {
             index: *index,
             record_len: bytes.as_slice().len() as u64,
-            ..ToldEvent::of(3, *version)
+            ..ReportedEvent::of(3, *version)
         },
-        Event::Unreadable { index, version } => ToldEvent {
+        Event::Unreadable { index, version } => ReportedEvent {
             index: *index,
-            ..ToldEvent::of(4, *version)
+            ..ReportedEvent::of(4, *version)
         },
-        Event::Stale(version) => ToldEvent::of(5, *version),
-        Event::Done(version) => ToldEvent::of(6, *version),
-        Event::Refused(code) => ToldEvent {
+        Event::Stale(version) => ReportedEvent::of(5, *version),
+        Event::Done(version) => ReportedEvent::of(6, *version),
+        Event::Refused(code) => ReportedEvent {
             detail: u32::from(*code),
-            ..ToldEvent::of(7, 0)
+            ..ReportedEvent::of(7, 0)
         },
     }
 }
 
 /// The first event that waits as C reads it, of kind 0 where none waits.
-pub fn first_told(session: &ClientSession) -> ToldEvent
-    ensures { Tells session.now.events.items result }
+pub fn first_reported(session: &ClientSession) -> ReportedEvent
+    ensures { Reports session.now.events.items result }
 {
     match session.first_event() {
-        None => ToldEvent::of(0, 0),
-        Some(event) => told(event),
+        None => ReportedEvent::of(0, 0),
+        Some(event) => event_reported(event),
     }
 }
 
 /// What the server reported of its store as C reads it.
-pub fn server_told(session: &ClientSession) -> ToldServer
-    ensures { result ≡ told_server session.now.core.state.known }
+pub fn server_reported(session: &ClientSession) -> ReportedServer
+    ensures { result ≡ reported_server session.now.core.state.known }
 {
     match session.known() {
-        None => ToldServer {
+        None => ReportedServer {
             version: 0,
             count: 0,
             form: 0,
@@ -112,7 +112,7 @@ pub fn server_told(session: &ClientSession) -> ToldServer
                 count,
                 plan,
             },
-        ) => ToldServer {
+        ) => ReportedServer {
             version,
             count,
             form: u32::from(plan.form),
