@@ -3,3 +3,4 @@ pub mod Endings
 pub mod Numbers
 pub mod Sendings
 pub mod Speaking
+pub mod Skipping

@@ -71,7 +71,7 @@ either old want (Err (ShortSecrets dimension)) read out left new c = inr c
 either old want (Err (Call fault)) read out left new c = inl (fault, c)
 either old want (Err (Conversation fault)) read out left new c = inr c
 
-calm_call : (old : Client) (want : Want) (result : Result Event CommandError) (read out : List ℕ) (left : Option (List ℕ)) (new : Client)
+pub calm_call : (old : Client) (want : Want) (result : Result Event CommandError) (read out : List ℕ) (left : Option (List ℕ)) (new : Client)
     → IsNoAsk want → ComesTo old want result read out left new → new.state.number ≡ old.state.number
 calm_call old want result read out left new calm c = elim (either old want result read out left new c) [
   | inl r ↦ refused_number want old.state new.state r.0 calm r.1.refused

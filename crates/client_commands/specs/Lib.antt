@@ -1,2 +1,3 @@
 pub mod Transcripts
 pub mod Sent
+pub mod Claimed

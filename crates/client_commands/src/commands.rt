@@ -27,7 +27,7 @@ use std::alloc::Global;
 use std::io::{Read, Write};
 
 /// The key of a reader.
-const READER: [u8; 32] = [0; 32];
+pub(crate) const READER: [u8; 32] = [0; 32];
 
 /// A record that was retrieved.
 #[derive(Drop)]

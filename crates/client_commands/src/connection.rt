@@ -58,12 +58,12 @@ fn failure_of_event(event: &Event) -> Option<CommandError>
     }
 }
 
-/// Judges how many words a secret has by the server's Welcome: `ShortSecrets` where they are fewer than the
-/// least number accepted.
-pub(crate) fn check_dimension<K: Kernel>(
-    client: &ClientCore<K>,
-    least: usize,
-) -> Result<(), CommandError>
+/// Judges how many words a secret has by the server's Welcome.
+///
+/// # Errors
+///
+/// `ShortSecrets` where they are fewer than the least number accepted.
+pub fn check_dimension<K: Kernel>(client: &ClientCore<K>, least: usize) -> Result<(), CommandError>
     ensures { MatchResult result (λ _. least ≤ secret_len client.now.state.known)
         (λ e. (e ≡ fault.ShortSecrets (secret_len client.now.state.known)) ×
         (secret_len client.now.state.known < least)) }

@@ -4,9 +4,12 @@
 //! Its tests are in `session_tests::commands`.
 #![tactic(auto)]
 
+mod claimed;
 mod commands;
 mod connection;
 mod fault;
 
+pub use claimed::{AskError, ask_claimed, greet, sync};
 pub use commands::{Retrieved, append, get, publish, put};
+pub use connection::check_dimension;
 pub use fault::CommandError;

@@ -1,6 +1,6 @@
 //! The client.
 
-ghost use Rattle.std.specs.Prelude.{◌≡◌, ◌≤◌, ◌<◌, ◌^◌, [], List, ℕ, None, Some, IfOk, IfErr, MatchResult, length};
+ghost use Rattle.std.specs.Prelude.{◌≡◌, ◌≤◌, ◌<◌, ◌^◌, [], List, ℕ, None, Some, IfOk, IfErr, MatchOption, MatchResult, length, max};
 ghost use Rattle.frame_codec.specs.Frames.{encoding};
 ghost use Rattle.frame_codec.specs.declared.frame.Frame.{Frame};
 ghost use Rattle.pir_schemes.specs.Schemes.{scheme_byte};
@@ -9,13 +9,15 @@ ghost use Rattle.client_core.specs.declared.state.ServerInfo.{ServerInfo};
 ghost use Rattle.client_core.specs.States.{fresh, scheme_held, shape_known};
 ghost use Rattle.client_core.specs.Calls.{Want, Accepts, Refuses};
 ghost use Rattle.client_core.specs.Feeding.{Client, FeedsClient};
+ghost use Rattle.client_core.specs.Resuming.{IsResumed, saved_of};
 
 use crate::calls::{
     append_bytes, ask_room, base_of, edit_bytes, encoded, may_ask, may_change, may_hello,
     query_bytes, scheme_of, spend_number,
 };
 use crate::parts::Parts;
-use crate::state::{Call, CallFault, ClientFault, ClientState, Event, ServerInfo};
+use crate::resuming::{SavedClient, may_hold};
+use crate::state::{Call, CallFault, ClientFault, ClientState, Event, Hint, ServerInfo};
 use crate::taking::take_replies;
 use frame_codec::{Bytes, Bytes32, Frame, Reader};
 use matrix_u32::Kernel;
@@ -88,6 +90,66 @@ impl<K: Kernel> ClientCore<K> {
         ensures { result ≡ self.now.state.known }
     {
         self.state.known
+    }
+
+    /// The hint held, lent.
+    pub fn hint(&self) -> Option<&Hint>
+        ensures { MatchOption result (self.now.state.hint ≡ None)
+            (λ hint. self.now.state.hint ≡ Some hint.now) }
+    {
+        self.state.hint.as_ref()
+    }
+
+    /// Leaves the numbers below `next` alone, at most 2^62: the next retrieval has that number, or the one that it would
+    /// have had where that is larger.
+    pub fn skip_to(&mut self, next: u64)
+        requires { next ≤ 2 ^ 62 }
+        ensures state { self.new.state ≡
+            record self.old.state { number = max self.old.state.number next } }
+        ensures reader { self.new.reader ≡ self.old.reader }
+    {
+        if self.state.number < next {
+            self.state.number = next;
+        }
+    }
+
+    /// What lasts of the client, but for its seed. A hint is moved, not copied.
+    pub fn into_saved(self) -> SavedClient
+        ensures { result ≡ saved_of self.state }
+    {
+        let ClientCore { state, .. } = self;
+        let ClientState {
+            number,
+            known,
+            hint,
+            ..
+        } = state;
+        SavedClient {
+            number,
+            known,
+            hint,
+        }
+    }
+
+    /// Goes on with what was saved of another client, once this one was let in. Answers whether its hint is held now: it is,
+    /// where the plan is equal, neither the version known then nor the hint's is later than the server's, the records were no
+    /// more, and as many where the version is the same. Else the hint saved is dropped, and all is as it was. The
+    /// number saved is left alone: [`new`](ClientCore::new) takes it.
+    ///
+    /// What no comparison shows: other records under an equal plan, with its public seed, and an equal version. The hint
+    /// is wrong for these.
+    ///
+    /// Refused in this order: `Failed`, `NotReady` (no Welcome came yet), `Busy`. A refusal changes nothing.
+    pub fn resume(&mut self, saved: SavedClient) -> Result<bool, CallFault>
+        ensures resumed { IsResumed self.old.state saved result self.new.state }
+        ensures reader { self.new.reader ≡ self.old.reader }
+    {
+        let known = may_change(&self.state)?;
+        if !may_hold(&known, &saved.known, &saved.hint) {
+            return Ok(false);
+        }
+        self.state.hint = saved.hint;
+        Ok(true)
     }
 
     /// Asks to be let in: with a key of 32 zero bytes as a reader, with the publisher's key as the

@@ -12,6 +12,7 @@ ghost use Rattle.client_core.specs.Laws.{
   PartsOfAHintMakeIt,
   DeltaMakesTheHint,
 };
+ghost use Rattle.client_core.specs.Resuming.{ResumedIsTheSaved, AnotherPlanDropsTheHint};
 ghost use Rattle.client_core.specs.Shapes.{EqualShapes, ClientsHappen};
 
 /// The numbers of the queries that a client sends grow, whatever calls and replies come: no number is used
@@ -65,4 +66,15 @@ pub fn shapes_hold_no_index()
 /// calls and such feeds give.
 pub fn clients_happen()
     ensures { ClientsHappen }
+{}
+
+/// A new client of the same seed and number that is let in goes on as the client that was saved: it has exactly that state,
+/// with what the server reports now; and it asks at once where the hint is of this version.
+pub fn resumed_is_the_saved()
+    ensures { ResumedIsTheSaved }
+{}
+
+/// A hint of another plan is dropped.
+pub fn another_plan_drops_the_hint()
+    ensures { AnotherPlanDropsTheHint }
 {}

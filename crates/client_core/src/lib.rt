@@ -3,7 +3,7 @@
 //! A client is a state machine without a connection. A call gives the bytes to send; `feed` takes the bytes
 //! that came, in any pieces, and gives the bytes to send next and the events. It holds at most one hint and
 //! one outstanding call, and answers `Failed` to everything once a reply was bad or memory was refused
-//! while it took one.
+//! while it took one. What lasts of a client can be saved, and a later one that is let in goes on with it.
 //!
 //! Its tests are in `session_tests::client` and `tests/long/session_tests`.
 #![tactic(auto)]
@@ -14,9 +14,11 @@ mod deltas;
 pub mod laws;
 mod parts;
 mod replies;
+mod resuming;
 mod state;
 mod taking;
 
 pub use client::{ClientCore, Fed};
 pub use pir_schemes::{Plan, Scheme};
-pub use state::{CallFault, ClientFault, Event, ServerInfo};
+pub use resuming::SavedClient;
+pub use state::{CallFault, ClientFault, Event, Hint, ServerInfo};

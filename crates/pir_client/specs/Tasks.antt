@@ -9,7 +9,7 @@ use Rattle.command_words.specs.Values.{bytes_in}
 use Rattle.pir_schemes.specs.declared.scheme.Scheme.{Scheme}
 use Rattle.pir_schemes.specs.declared.scheme.Scheme.TheVariants.{Simple, Double}
 use Rattle.pir_client.specs.declared.command_line.Task.{Task}
-use Rattle.pir_client.specs.declared.command_line.Task.TheVariants.{Get, Put, Append, Publish, Rehearse}
+use Rattle.pir_client.specs.declared.command_line.Task.TheVariants.{Get, Put, Append, Publish, Folder, Rehearse}
 
 -- a least dimension, where there is one, is that of some secrets
 abbrev pub IsDimension : Option ℕ → Type 0
@@ -22,6 +22,7 @@ TaskFits (Get port seed number least scheme index) = (number < 2 ^ 62) × IsDime
 TaskFits (Put port key index bytes) = IsKey key × (length bytes.items ≤ 65535)
 TaskFits (Append port key bytes) = IsKey key × (length bytes.items ≤ 65535)
 TaskFits (Publish port key) = IsKey key
+TaskFits (Folder task) = Unit {0}
 TaskFits Rehearse = Unit {0}
 
 -- what was given for a name is this number in decimal digits
@@ -55,6 +56,7 @@ ReadsGet found (Get port seed number least scheme index) =
 ReadsGet found (Put port key index bytes) = ⊥
 ReadsGet found (Append port key bytes) = ⊥
 ReadsGet found (Publish port key) = ⊥
+ReadsGet found (Folder task) = ⊥
 ReadsGet found Rehearse = ⊥
 
 -- an edit, as those of `put` do
@@ -65,6 +67,7 @@ ReadsPut found (Put port key index bytes) =
     × AreBytesGiven found (codes "HEX") bytes.items
 ReadsPut found (Append port key bytes) = ⊥
 ReadsPut found (Publish port key) = ⊥
+ReadsPut found (Folder task) = ⊥
 ReadsPut found Rehearse = ⊥
 
 -- the addition of a record, as the options and the word of `append` ask for it
@@ -74,6 +77,7 @@ ReadsAppend found (Put port key index bytes) = ⊥
 ReadsAppend found (Append port key bytes) =
     IsNumberGiven found (codes "port") port × IsSecretGiven found (codes "key") key × AreBytesGiven found (codes "HEX") bytes.items
 ReadsAppend found (Publish port key) = ⊥
+ReadsAppend found (Folder task) = ⊥
 ReadsAppend found Rehearse = ⊥
 
 -- a publication, as those of `publish` do
@@ -82,4 +86,5 @@ ReadsPublish found (Get port seed number least scheme index) = ⊥
 ReadsPublish found (Put port key index bytes) = ⊥
 ReadsPublish found (Append port key bytes) = ⊥
 ReadsPublish found (Publish port key) = IsNumberGiven found (codes "port") port × IsSecretGiven found (codes "key") key
+ReadsPublish found (Folder task) = ⊥
 ReadsPublish found Rehearse = ⊥

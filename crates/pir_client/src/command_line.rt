@@ -1,9 +1,10 @@
 //! The command line.
 
-ghost use Rattle.std.specs.Prelude.{IfOk, codes};
-ghost use Rattle.clap.specs.Matches.{found_of};
-ghost use Rattle.pir_client.specs.Tasks.{TaskFits, IsDimension, IsNumberIfGiven, ReadsGet, ReadsPut, ReadsAppend, ReadsPublish};
+ghost use Rattle.std.specs.Prelude.{◌≡◌, Some, IfOk, codes};
+ghost use Rattle.clap.specs.Matches.{found_of, first_value};
+ghost use Rattle.pir_client.specs.Tasks.{TaskFits, IsDimension, IsNumberIfGiven, ReadsGet, ReadsPut, ReadsAppend, ReadsPublish, scheme_text};
 
+use crate::folder_tasks::{FolderTask, folder_get_task, forget_task, init_task, state_task};
 use clap::{ArgMatches, Command};
 use command_words::{
     BadLine, Secret, key_at, number_at, option, record_bytes, seed_at, text_at, word,
@@ -14,7 +15,8 @@ use std::alloc::{AllocError, Global};
 /// The numbers of retrievals are below this one.
 const NUMBERS: u64 = 1 << 62;
 
-const PORT_TAKES: &str = "--port takes a number from 0 to 65535";
+/// What `--port` takes, as a bad one is reported.
+pub const PORT_TAKES: &str = "--port takes a number from 0 to 65535";
 
 /// What `--seed` takes, as a bad one is reported.
 pub const SEED_TAKES: &str =
@@ -33,7 +35,10 @@ const DIMENSION_TAKES: &str = "--least-dimension takes a number from 1 to 1024";
 
 const SCHEME_TAKES: &str = "--scheme takes simple or double";
 
-const INDEX_TAKES: &str = "INDEX is a number from 0 to 4294967295";
+/// What an index is, as a bad one is reported.
+pub const INDEX_TAKES: &str = "INDEX is a number from 0 to 4294967295";
+
+const ONE_INDEX: &str = "without --state there is one INDEX";
 
 const HEX_TAKES: &str = "HEX is at most 65535 bytes as two hex digits each, or - for none";
 
@@ -67,6 +72,8 @@ pub enum Task<'a> {
         port: u16,
         key: Secret<'a>,
     },
+    /// What is asked of a client's folder.
+    Folder(FolderTask<'a>),
     /// A script of a world on standard input.
     Rehearse,
 }
@@ -76,19 +83,40 @@ fn get_command<'a>(alloc: Global) -> Result<Command<'a>, AllocError> {
     Command::new(alloc, "get")
         .about("Retrieves a record without telling the server which")
         .after_help(GET_EXAMPLE)
-        .arg(option(alloc, "port", "P", "The server's port on 127.0.0.1"))?
+        .arg(option(alloc, "port", "P", "The server's port"))?
         .arg(option(
             alloc,
             "seed",
             "HEX",
             "Your secret: 32 bytes as 64 hex digits, or @FILE, all that hides INDEX",
-        ))?
+        )
+        .required(false)
+        .required_unless_present("state")?
+        .conflicts_with("state")?)?
         .arg(option(
             alloc,
             "number",
             "N",
             "The number of this retrieval, below 2^62: one that this seed has never been used with",
-        ))?
+        )
+        .required(false)
+        .required_unless_present("state")?
+        .conflicts_with("state")?)?
+        .arg(option(
+            alloc,
+            "state",
+            "DIR",
+            "A folder that init has made, in place of --seed and --number: its hint is used again",
+        )
+        .required(false))?
+        .arg(option(
+            alloc,
+            "host",
+            "ADDR",
+            "The server's address, with --state; 127.0.0.1 where none is given",
+        )
+        .required(false)
+        .requires_arg("state")?)?
         .arg(option(
             alloc,
             "least-dimension",
@@ -97,11 +125,50 @@ fn get_command<'a>(alloc: Global) -> Result<Command<'a>, AllocError> {
         )
         .required(false))?
         .arg(option(alloc, "scheme", "NAME", "simple or double"))?
-        .arg(word(alloc, "INDEX", "Which record, counted from 0"))
+        .arg(word(alloc, "INDEX", "Which record, counted from 0; with --state one or more").num_args(1..))
 }
 
 const GET_EXAMPLE: &str =
-    "Prints 'retrieved INDEX VERSION HEX', HEX being the record's bytes, or - where it has none. Two retrievals with one seed and one\nnumber can tell the server what they ask, so count N up, also after a get that failed, and keep the seed to yourself.\nSecrets of fewer than 1024 words hide INDEX less: the server chooses their number. --least-dimension 1024 ends a get\nwith 'fault: BadWelcome' where they are fewer, before INDEX is asked for; without it a warning is printed.\n\nExample: pir_client get --port 7000 --seed 1111111111111111111111111111111111111111111111111111111111111111 --number 0 --scheme simple 1";
+    "Prints 'retrieved INDEX VERSION HEX', HEX being the record's bytes, or - where it has none. Two retrievals with one seed and one\nnumber can tell the server what they ask, so count N up, also after a get that failed, and keep the seed to yourself.\nSecrets of fewer than 1024 words hide INDEX less: the server chooses their number. --least-dimension 1024 ends a get\nwith 'fault: BadWelcome' where they are fewer, before INDEX is asked for; without it a warning is printed, and with --state fewer than 1024 are refused.\n\nWith --state DIR the folder's seed is used, each number once, and its hint, which is fetched or moved to the server's version first.\n\nExample: pir_client get --state DIR --port 7000 --scheme simple 1\nExample: pir_client get --port 7000 --seed 1111111111111111111111111111111111111111111111111111111111111111 --number 0 --scheme simple 1";
+
+// The command `init`.
+fn init_command<'a>(alloc: Global) -> Result<Command<'a>, AllocError> {
+    Command::new(alloc, "init")
+        .about("Makes a folder with a secret seed, the number of its next retrieval, and room for a hint")
+        .after_help(INIT_EXAMPLE)
+        .arg(option(alloc, "state", "DIR", "The folder"))?
+        .arg(option(
+            alloc,
+            "seed",
+            "HEX",
+            "A seed that has never been used, as 64 hex digits or @FILE; a random one where none is given",
+        )
+        .required(false))
+}
+
+const INIT_EXAMPLE: &str =
+    "Prints 'initialized'. The folder is its owner's alone. A copy of it, or one brought back from a backup, uses numbers twice, which\nshows what was asked: make a new one instead.\n\nExample: pir_client init --state DIR";
+
+// The command `state`.
+fn state_command<'a>(alloc: Global) -> Result<Command<'a>, AllocError> {
+    Command::new(alloc, "state")
+        .about("Prints what a folder has, but for its seed")
+        .after_help(STATE_EXAMPLE)
+        .arg(option(alloc, "state", "DIR", "The folder"))
+}
+
+const STATE_EXAMPLE: &str =
+    "Prints 'number N', the number of the next retrieval, and 'hint none', or 'hint SCHEME VERSION' and what the server had reported\nlast: 'version V', 'records COUNT', 'dimension N'.\n\nExample: pir_client state --state DIR";
+
+// The command `forget`.
+fn forget_command<'a>(alloc: Global) -> Result<Command<'a>, AllocError> {
+    Command::new(alloc, "forget")
+        .about("Drops a folder's hint, so that the next retrieval fetches it anew; never its counter")
+        .after_help(FORGET_EXAMPLE)
+        .arg(option(alloc, "state", "DIR", "The folder"))
+}
+
+const FORGET_EXAMPLE: &str = "Prints 'forgotten'.\n\nExample: pir_client forget --state DIR";
 
 // The command `put`.
 fn put_command<'a>(alloc: Global) -> Result<Command<'a>, AllocError> {
@@ -181,9 +248,12 @@ const REHEARSE_EXAMPLE: &str =
 fn whole_command<'a>(alloc: Global) -> Result<Command<'a>, AllocError> {
     Command::new(alloc, "pir_client")
         .version(VERSION)
-        .about("A client of one pir_server on this machine")
+        .about("A client of one pir_server")
         .after_help(EXIT_STATUSES)
+        .subcommand(init_command(alloc)?)?
         .subcommand(get_command(alloc)?)?
+        .subcommand(state_command(alloc)?)?
+        .subcommand(forget_command(alloc)?)?
         .subcommand(put_command(alloc)?)?
         .subcommand(append_command(alloc)?)?
         .subcommand(publish_command(alloc)?)?
@@ -194,7 +264,7 @@ fn whole_command<'a>(alloc: Global) -> Result<Command<'a>, AllocError> {
 const VERSION: &str = "0.1.0";
 
 const EXIT_STATUSES: &str =
-    "A value @FILE of --seed or --key is read from that file; one on the command line itself stands in the list of\nprocesses, for other users of this machine to see.\n\nExit status: 0 done, 1 refused by the server (or stale, or unreadable), 2 a bad command line, 3 a fault,\n4 out of memory. Whatever the status, a number that was given to get is never to be used again with its seed.\n\nThe server's refusals are one line on standard error, 'refused CODE':\n  1 BadFrame   2 NotWelcome   3 BadProfile   4 BadKey   5 NotPublisher   6 BadIndex   7 BadLength\n  8 NothingToPublish   9 VersionsUsedUp   10 BadPart   11 BadQueryLength   12 Memory   13 BadScheme\n  14 Full\n\nA fault is one line on standard error, 'fault: NAME':\n  File           the file of a seed or key can't be read\n  Connect        the server's port can't be connected to\n  Read, Write    reading or writing failed\n  Ended          the server closed the connection\n  BadWelcome     the server's greeting is none that this client accepts\n  BadReply       a reply that doesn't fit what was asked\n  Failed         a reply came with more after it, and then a call was made\n  BadIndex       there is no such record\n  TurnsUsedUp    more reads than a call has\n  Memory         memory was refused (status 4)";
+    "A value @FILE of --seed or --key is read from that file; one on the command line itself stands in the list of\nprocesses, for other users of this machine to see.\n\nExit status: 0 done, 1 refused by the server (or stale, or unreadable), 2 a bad command line, 3 a fault,\n4 out of memory. Whatever the status, a number that was given to get is never to be used again with its seed.\n\nThe server's refusals are one line on standard error, 'refused CODE':\n  1 BadFrame   2 NotWelcome   3 BadProfile   4 BadKey   5 NotPublisher   6 BadIndex   7 BadLength\n  8 NothingToPublish   9 VersionsUsedUp   10 BadPart   11 BadQueryLength   12 Memory   13 BadScheme\n  14 Full\n\nA fault is one line on standard error, 'fault: NAME':\n  File           the file of a seed or key can't be read\n  State          the folder can't be used: no seed with its counter, or others may use it\n  Locked         another process uses the folder\n  Connect        the server's port can't be connected to\n  Read, Write    reading or writing failed\n  Ended          the server closed the connection\n  BadWelcome     the server's greeting is none that this client accepts\n  BadReply       a reply that doesn't fit what was asked\n  Failed         a reply came with more after it, and then a call was made\n  BadIndex       there is no such record\n  TurnsUsedUp    more reads than a call has\n  Memory         memory was refused (status 4)";
 
 // What the words of `get` ask for.
 fn get_task<'a>(found: &ArgMatches<'a>) -> Result<Task<'a>, BadLine<'a>>
@@ -204,14 +274,12 @@ fn get_task<'a>(found: &ArgMatches<'a>) -> Result<Task<'a>, BadLine<'a>>
     let port = number_at(found, "port", u64::from(u16::MAX), PORT_TAKES)? as u16;
     let seed = seed_at(found, "seed", SEED_TAKES)?;
     let number = number_at(found, "number", NUMBERS - 1, NUMBER_TAKES)?;
-    let name = text_at(found, "scheme", SCHEME_TAKES)?;
-    let scheme = match name {
-        "simple" => Scheme::Simple,
-        "double" => Scheme::Double,
-        _ => return Err(BadLine::Given(SCHEME_TAKES, name)),
-    };
+    let scheme = scheme_given(found)?;
     let least = least_dimension(found)?;
     let index = number_at(found, "INDEX", u64::from(u32::MAX), INDEX_TAKES)? as u32;
+    if has_more_words(found) {
+        return Err(BadLine::Value(ONE_INDEX));
+    }
     Ok(Task::Get {
         port,
         seed,
@@ -222,8 +290,29 @@ fn get_task<'a>(found: &ArgMatches<'a>) -> Result<Task<'a>, BadLine<'a>>
     })
 }
 
-// The least dimension that is accepted, where one is given.
-fn least_dimension<'a>(found: &ArgMatches<'a>) -> Result<Option<usize>, BadLine<'a>>
+// Whether several records are named.
+fn has_more_words(found: &ArgMatches<'_>) -> bool {
+    match found.get_strs("INDEX") {
+        Some(words) => words.len() > 1,
+        None => false,
+    }
+}
+
+/// The scheme given.
+pub fn scheme_given<'a>(found: &ArgMatches<'a>) -> Result<Scheme, BadLine<'a>>
+    ensures { IfOk result (λ scheme. first_value (found_of found.now) (codes "scheme") ≡
+        Some (scheme_text scheme)) }
+{
+    let name = text_at(found, "scheme", SCHEME_TAKES)?;
+    match name {
+        "simple" => Ok(Scheme::Simple),
+        "double" => Ok(Scheme::Double),
+        _ => Err(BadLine::Given(SCHEME_TAKES, name)),
+    }
+}
+
+/// The least dimension that is accepted, where one is given.
+pub fn least_dimension<'a>(found: &ArgMatches<'a>) -> Result<Option<usize>, BadLine<'a>>
     ensures fits { IfOk result IsDimension }
     ensures read { IfOk result (IsNumberIfGiven (found_of found.now) (codes "least-dimension")) }
 {
@@ -284,7 +373,19 @@ pub fn task_of<'a>(alloc: Global, words: &'a [String]) -> Result<Task<'a>, BadLi
 {
     let matches = whole_command(alloc)?.try_get_matches_from(words)?;
     if let Some(found) = matches.subcommand_matches("get") {
+        if found.contains_id("state") {
+            return Ok(Task::Folder(folder_get_task(alloc, found)?));
+        }
         return get_task(found);
+    }
+    if let Some(found) = matches.subcommand_matches("init") {
+        return Ok(Task::Folder(init_task(found)?));
+    }
+    if let Some(found) = matches.subcommand_matches("state") {
+        return Ok(Task::Folder(state_task(found)?));
+    }
+    if let Some(found) = matches.subcommand_matches("forget") {
+        return Ok(Task::Folder(forget_task(found)?));
     }
     if let Some(found) = matches.subcommand_matches("put") {
         return put_task(alloc, found);

@@ -5,6 +5,7 @@ ghost use Rattle.pir_client.specs.Tasks.{TaskFits, IsDimension};
 
 use crate::command_line::{KEY_TAKES, SEED_TAKES, Task, task_of};
 use crate::failures::failure_of;
+use crate::folders::done_in_folder;
 use client_commands::{append, get, publish, put};
 use command_words::{Failure, program_words};
 use rehearsal::{RehearseFault, rehearse, shown_bytes};
@@ -64,6 +65,7 @@ fn done(rt: &HostRuntime, task: Task<'_>) -> Result<u8, Failure>
             let key = key.key(rt, KEY_TAKES)?;
             publish_draft(rt, port, key)?
         }
+        Task::Folder(task) => done_in_folder(rt, task)?,
         Task::Rehearse => return rehearsed(rt),
     }
     Ok(0)
@@ -78,7 +80,7 @@ fn rehearsed(rt: &HostRuntime) -> Result<u8, Failure> {
     }
 }
 
-// The connection to the server at a port.
+// The connection to the server at a port of this machine.
 fn connect(rt: &HostRuntime, port: u16) -> Result<TcpStream, Failure> {
     match TcpStream::connect(rt, (Ipv4Addr::LOCALHOST, port)) {
         Ok(stream) => Ok(stream),
@@ -86,8 +88,24 @@ fn connect(rt: &HostRuntime, port: u16) -> Result<TcpStream, Failure> {
     }
 }
 
-// What printing a line came to.
-fn printed(said: io::Result<()>) -> Result<(), Failure> {
+/// The connection to the server at a port of a host.
+///
+/// # Errors
+///
+/// `Fault` with `Connect` where there is none.
+pub fn connect_to(rt: &HostRuntime, host: &str, port: u16) -> Result<TcpStream, Failure> {
+    match TcpStream::connect(rt, (host, port)) {
+        Ok(stream) => Ok(stream),
+        Err(_) => Err(Failure::Fault("Connect")),
+    }
+}
+
+/// What printing a line came to.
+///
+/// # Errors
+///
+/// `Fault` with `Write` where it failed.
+pub fn printed(said: io::Result<()>) -> Result<(), Failure> {
     match said {
         Ok(()) => Ok(()),
         Err(_) => Err(Failure::Fault("Write")),

@@ -1,8 +1,10 @@
 //! How a command that was not done is reported.
 
-ghost use Rattle.pir_client.specs.Failures.{IsReported, IsCallFault, IsConverseFault};
+ghost use Rattle.pir_client.specs.Failures.{IsReported, IsCallFault, IsConverseFault, IsAskReported, IsFolderFault};
 
-use client_commands::CommandError;
+use claim_counter::ClaimError;
+use client_commands::{AskError, CommandError};
+use client_state::FolderFault;
 use command_words::Failure;
 use session_core::{CallFault, ConverseFault};
 
@@ -37,5 +39,27 @@ fn converse_failure(fault: ConverseFault) -> Failure
     match fault {
         ConverseFault::Memory => Failure::Memory,
         fault => Failure::Fault(fault.name()),
+    }
+}
+
+/// The failure that is printed of a retrieval under a number of its own.
+pub fn ask_failure(fault: AskError) -> Failure
+    ensures { IsAskReported fault result }
+{
+    match fault {
+        AskError::Claim(ClaimError::UsedUp) => Failure::Fault("SeedUsedUp"),
+        AskError::Claim(ClaimError::Failed) | AskError::Passed => Failure::Fault("State"),
+        AskError::Command(fault) => failure_of(fault),
+    }
+}
+
+/// The failure that is printed of a folder.
+pub fn folder_failure(fault: FolderFault) -> Failure
+    ensures { IsFolderFault fault result }
+{
+    match fault {
+        FolderFault::Locked => Failure::Fault("Locked"),
+        FolderFault::State => Failure::Fault("State"),
+        FolderFault::Memory => Failure::Memory,
     }
 }

@@ -10,6 +10,9 @@
 mod command_line;
 mod commands;
 mod failures;
+mod folder_tasks;
+mod folders;
+mod watching;
 
 use std::process::ExitCode;
 

@@ -1,0 +1,82 @@
+-- A client that goes on with what was saved of another.
+use Rattle.std.specs.Prelude.{◌≡◌, ◌≢◌, ◌≤◌, ℕ, List, [], true, false, Bool, Option, Some, None, Result, Ok, Err}
+use Rattle.pir_schemes.specs.declared.plan.Plan.{Plan}
+use Rattle.pir_schemes.specs.Retrievals.{hint_rows}
+use Rattle.client_core.specs.declared.state.ClientState.{ClientState}
+use Rattle.client_core.specs.declared.state.ServerInfo.{ServerInfo}
+use Rattle.client_core.specs.declared.state.Hint.{Hint}
+use Rattle.client_core.specs.declared.state.CallFault.{CallFault}
+use Rattle.client_core.specs.declared.state.Call.TheVariants as call
+use Rattle.client_core.specs.declared.resuming.SavedClient.{SavedClient}
+use Rattle.client_core.specs.States.{IsState, shape_known, fresh, is_ready}
+use Rattle.client_core.specs.Calls.{change_refusal, state_after_call, Hello}
+use Rattle.client_core.specs.Replies.{takes_welcome, is_accepted_welcome}
+
+-- what is saved of a client: all that lasts but for its seed
+abbrev pub saved_of : ClientState → SavedClient
+saved_of c = record { number = c.number; known = c.known; hint = c.hint }
+
+-- What was known of a server can have become what is known now: the plan is equal, the version no earlier, and the records are
+-- no fewer, as many where the version is the same.
+pub record HasBecome (then now : ServerInfo) : Type 0 where
+  pub plan : then.plan ≡ now.plan
+  pub version : then.version ≤ now.version
+  pub count : then.count ≤ now.count
+  pub same : then.version ≡ now.version → then.count ≡ now.count
+
+-- a hint of no later version than the last one known, with the rows and columns that its scheme wants
+pub record IsHintFor (now : ServerInfo) (h : Hint) : Type 0 where
+  pub version : h.version ≤ now.version
+  pub rows : h.matrix.rows ≡ hint_rows h.scheme (shape_known now) now.plan.dimension
+  pub cols : h.matrix.cols ≡ now.plan.dimension
+
+-- a client that knows this now may go on with the hint saved
+abbrev pub MayHold : ServerInfo → Option ServerInfo → Option Hint → Type 0
+MayHold now None hint = ⊥
+MayHold now (Some then) None = ⊥
+MayHold now (Some then) (Some h) = HasBecome then now × IsHintFor now h
+
+-- a client let in goes on with the hint saved, and nothing else of it changes
+pub record GoesOn (old : ClientState) (saved : SavedClient) (new : ClientState) : Type 0 where
+  pub now : ServerInfo
+  pub known : old.known ≡ Some now
+  pub may : MayHold now saved.known saved.hint
+  pub state : new ≡ record old { hint = saved.hint }
+
+-- the hint saved is dropped, being none that the client may go on with, and nothing changes
+pub record Drops (old : ClientState) (saved : SavedClient) (new : ClientState) : Type 0 where
+  pub now : ServerInfo
+  pub known : old.known ≡ Some now
+  pub may_not : ¬ MayHold now saved.known saved.hint
+  pub state : new ≡ old
+
+-- what came of a client's resumption: it holds the hint saved, or that was dropped; refused as a sync is, it is as it was
+abbrev pub IsResumed : ClientState → SavedClient → Result Bool CallFault → ClientState → Type 0
+IsResumed old saved (Ok true) new = (change_refusal old ≡ None) × GoesOn old saved new
+IsResumed old saved (Ok false) new = (change_refusal old ≡ None) × Drops old saved new
+IsResumed old saved (Err fault) new = (change_refusal old ≡ Some fault) × (new ≡ old)
+
+-- a new client of a seed and a number, let in by a server of this plan with this version
+abbrev pub let_in : List ℕ → ℕ → List ℕ → ServerInfo → ClientState
+let_in seed number key now = (takes_welcome (call.Hello key) (state_after_call (Hello key) (fresh seed number)) now.plan now.count now.version).state
+
+-- A new client of the same seed and number, let in by what the server has become, goes on as the client that was saved, with all
+-- that this one knew and held but for what the server reports now; and asks at once where the hint is of this version.
+pub record IsTheSaved (c : ClientState) (now : ServerInfo) (hint : Hint) (result : Result Bool CallFault) (new : ClientState) : Type 0 where
+  pub taken_up : result ≡ Ok true
+  pub state : new ≡ record c { known = Some now; parts = []; call = call.Idle; failed = false }
+  pub ready : hint.version ≡ now.version → is_ready new.known new.hint ≡ true
+
+-- so it is with every client that held a hint when it was saved
+abbrev pub ResumedIsTheSaved : Type 0
+ResumedIsTheSaved = (c new : ClientState) (key : List ℕ) (then now : ServerInfo) (h : Hint) (result : Result Bool CallFault) →
+    IsState c → c.known ≡ Some then → c.hint ≡ Some h → HasBecome then now → h.version ≤ now.version →
+    is_accepted_welcome now.plan now.count now.version ≡ true →
+    IsResumed (let_in c.seed c.number key now) (saved_of c) result new → IsTheSaved c now h result new
+
+-- a hint of another plan is dropped: the client let in is as it was, and holds none
+abbrev pub AnotherPlanDropsTheHint : Type 0
+AnotherPlanDropsTheHint = (saved : SavedClient) (new : ClientState) (seed key : List ℕ) (number : ℕ) (then now : ServerInfo) (result : Result Bool CallFault) →
+    saved.known ≡ Some then → then.plan ≢ now.plan → is_accepted_welcome now.plan now.count now.version ≡ true →
+    IsResumed (let_in seed number key now) saved result new →
+    (result ≡ Ok false) × (new ≡ let_in seed number key now) × (new.hint ≡ None)
