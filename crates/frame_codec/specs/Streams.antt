@@ -81,6 +81,11 @@ abbrev pub FeedsFrame : Option (List ℕ) → List ℕ → Result Taken ReadFaul
 FeedsFrame old piece (Ok taken) new = TakesFrame old piece taken new
 FeedsFrame old piece (Err fault) new = Feeds old piece (Err fault) [] new
 
+-- how many bytes of an unfinished frame a reader keeps
+abbrev pub unfinished_size : Option (List ℕ) → ℕ
+unfinished_size None = 0
+unfinished_size (Some bytes) = length bytes
+
 -- Pieces fed to a reader one after another, each without a fault: the frames that they gave, and the rest that the reader keeps.
 abbrev pub FeedsAll : List ℕ → List (List ℕ) → List Frame → List ℕ → Type 0
 FeedsAll old [] frames rest = (frames ≡ []) × (rest ≡ old)

@@ -3,7 +3,7 @@
 ghost use Rattle.std.specs.Prelude.{◌≡◌, ◌≤◌, ◌↔◌, ◌-◌, IsTrue, ℕ, List, [], ◌∷◌, ◌++◌, length, take, drop, None, Some, IfOk, IfErr, IfSome, IfNone, OnOk, OnErr, vec_capacity};
 ghost use Rattle.frame_codec.specs.declared.frame.Frame.{Frame};
 ghost use Rattle.frame_codec.specs.Frames.{IsFrame, encoding};
-ghost use Rattle.frame_codec.specs.Streams.{Feeds, FeedsFrame, TakesFrame, IsPartial, StopsAt};
+ghost use Rattle.frame_codec.specs.Streams.{Feeds, FeedsFrame, TakesFrame, IsPartial, StopsAt, unfinished_size};
 
 use crate::frame::Frame;
 use crate::prefix::{frame_at, split_frame_len};
@@ -97,6 +97,13 @@ impl Reader {
         ensures { IsTrue result ↔ (self.now ≡ Some []) }
     {
         !self.failed && self.pending.is_empty()
+    }
+
+    /// How many bytes of an unfinished frame it keeps.
+    pub fn unfinished_len(&self) -> usize
+        ensures { result ≡ unfinished_size self.now }
+    {
+        if self.failed { 0 } else { self.pending.len() }
     }
 
     /// Takes the next piece of the stream, and adds each frame that is whole now to `out`.

@@ -1,11 +1,14 @@
 //! One session.
 
-ghost use Rattle.std.specs.Prelude.{◌≡◌, ◌⊎◌, ◌++◌, IfOk, IsErr, IsOk, OnErr, OnOk, false};
+ghost use Rattle.std.specs.Prelude.{◌≡◌, ◌≤◌, ◌⊎◌, ◌++◌, length, option_to_list, Result, IfOk, IsErr, IsOk, OnErr, OnOk, false};
+ghost use Rattle.frame_codec.specs.declared.reader.ReadFault.{ReadFault};
+ghost use Rattle.frame_codec.specs.declared.reader.Taken.{Taken};
+ghost use Rattle.frame_codec.specs.Streams.{FeedsFrame, unfinished_size};
 ghost use Rattle.frame_codec.specs.Refusals.{refused};
 ghost use Rattle.frame_codec.specs.Frames.{IsFrame, encoding};
 ghost use Rattle.version_store.specs.Histories.{History, StandsFor};
 ghost use Rattle.server_core.specs.Serving.{setting_of, is_closed, IsFull};
-ghost use Rattle.server_core.specs.Sessions.{new_session, Ended, Fed, ServedFrames, StoppedFrames, IsUnjudged, IsUnread};
+ghost use Rattle.server_core.specs.Sessions.{new_session, frames_taken, bytes_used, reading_end, Ended, Fed, FedFirst, ServedFrames, StoppedFrames, IsUnjudged, IsUnread};
 
 use crate::replies::{SHORT_REPLY, put_refused};
 use crate::serve::serve_frames;
@@ -51,6 +54,13 @@ impl Session {
         self.standing.is_closed()
     }
 
+    /// How many bytes of an unfinished frame it keeps.
+    pub fn unfinished_len(&self) -> usize
+        ensures { result ≡ unfinished_size self.now.unfinished }
+    {
+        self.reader.unfinished_len()
+    }
+
     /// Takes the next piece of the stream, and adds the replies to the frames that are whole now. A closed
     /// session takes it and adds nothing. At an `Err` memory was refused: the session is closed, and `out` has
     /// the replies to the frames before.
@@ -82,6 +92,49 @@ impl Session {
                 Err(fault)
             }
         }
+    }
+
+    /// Takes the next piece of the stream up to the end of the first frame that is whole then, adds the reply to
+    /// it, and answers how many bytes it took. Where no frame is whole it takes all, and where a fault stands in
+    /// the frame's place. A closed session takes all and adds nothing. At an `Err` memory was refused: the session
+    /// is closed, and nothing was served.
+    pub fn feed_frame<K: Kernel>(
+        &mut self,
+        alloc: Global,
+        store: &mut Store<K>,
+        piece: &[u8],
+        out: &mut Vec<u8>,
+    ) -> Result<usize, AllocError>
+        ensures fed { (h : History) → StandsFor store.old h →
+            FedFirst (setting_of store.old) h self.old piece.now result store.new self.new
+            out.old.items out.new.items }
+        ensures within { IfOk result (λ count. count ≤ length piece.now) }
+        ensures full { OnErr result (IsFull out.new ⊎
+            IsUnread self.old.unfinished piece.now self.new.unfinished) }
+    {
+        if self.standing.is_closed() {
+            return Ok(piece.len());
+        }
+        let (read, frame, count) = read_frame(&mut self.reader, piece);
+        let frames = frame.as_slice();
+        let Ok(standing) = serve_completed(alloc, store, self.standing, frames, read, out) else {
+            self.standing = Standing::Closed;
+            return Err(AllocError);
+        };
+        self.standing = standing;
+        Ok(count)
+    }
+}
+
+/// Reads the first frame of a piece. Answers how the reading ended, the frame, and how many bytes are used up.
+fn read_frame(reader: &mut Reader, piece: &[u8]) -> (Result<(), ReadFault>, Option<Frame>, usize)
+    ensures { (answer : Result Taken ReadFault) × FeedsFrame reader.old piece.now answer reader.new
+        × (result.0 ≡ reading_end answer) × (option_to_list result.1 ≡ frames_taken answer)
+        × (result.2 ≡ bytes_used piece.now answer) }
+{
+    match reader.feed_frame(piece) {
+        Ok(taken) => (Ok(()), taken.frame, taken.count),
+        Err(fault) => (Err(fault), None, piece.len()),
     }
 }
 
