@@ -1,9 +1,10 @@
 -- The first frame of a piece.
 use Rattle.std.proofs.Common.{◌≡◌, ◌≢◌, ℕ, ◌≤◌, ◌<◌, Bool, true, false, List, [], ◌∷◌, ◌++◌, length, take, Option, Some, None, Result, Ok, Err, refl, sym, ap, subst, ◌∙◌, append_assoc, arith, inl, inr}
 use Rattle.std.proofs.Math.Seq.{take-length}
-use Rattle.std.specs.Prelude.{MatchBool, MatchOption, IsOk, option_to_list, IsSome}
+use Rattle.std.specs.Prelude.{MatchBool, IfOk, IsOk, option_to_list, IsSome}
 use Rattle.std.specs.List.{flat_map}
 use Rattle.std.specs.declared.alloc.AllocError.{AllocError}
+use Rattle.std.proofs.lemmas.List.{append-nil}
 use Rattle.std.proofs.lemmas.List.Concat.{flat_map-append}
 use Rattle.frame_codec.specs.declared.frame.Frame.{Frame}
 use Rattle.frame_codec.specs.declared.reader.ReadFault.{ReadFault}
@@ -15,10 +16,11 @@ use Rattle.frame_codec.proofs.Runs.{all_append}
 use Rattle.version_store.specs.Histories.{StoreState, History, StandsFor}
 use Rattle.server_core.specs.declared.standing.Standing.{Standing}
 use Rattle.server_core.specs.declared.standing.Standing.TheVariants.{Closed}
-use Rattle.server_core.specs.Serving.{Setting, setting_of, ServesAll, ServedAll, is_closed}
-use Rattle.server_core.specs.Sessions.{Session, IsLive, EndsPiece, ServesPiece, IsStop, IsUnjudged, IsUnread, ClosesForMemory, FeedsSession, FedFirst, ServedFrames, StoppedFrames, frames_taken, bytes_used, reading_end, ServesFrame, HasTaken, ClosesBeforeFrame, FeedsFirst}
+use Rattle.server_core.specs.Serving.{Setting, setting_of, Serves, ServesAll, ServedAll, is_closed}
+use Rattle.server_core.specs.Sessions.{Session, IsLive, EndsPiece, ServesPiece, IsStop, IsUnjudged, IsUnread, ClosesForMemory, FeedsSession, FedFirst, Ended, ServedFrames, frames_taken, bytes_used, reading_end, ServesFrame, HasTaken, ClosesBeforeFrame, FeedsFirst}
 use Rattle.server_core.specs.Laws.{FirstsArePieces, StopsArePieces}
-use Rattle.server_core.proofs.Pieces.{stays_live, unread}
+use Rattle.server_core.proofs.Pieces.{stays_live, unread, ended}
+use Rattle.server_core.proofs.Runs.{serves_one}
 
 -- so many bytes of the piece are what the reader was fed
 pub fed_used : (old : Option (List ℕ)) (piece : List ℕ) (answer : Result Taken ReadFault) (new : Option (List ℕ)) → FeedsFrame old piece answer new →
@@ -74,47 +76,81 @@ first_well x h old piece store after u before new answer open_ reads s =
       each = all_append IsFrame a.replies s.more a.each s.each;
     }
 
--- where memory was refused nothing was served
-none_served : (answer : Result Taken ReadFault) (count : ℕ) → IsStop (reading_end answer) (frames_taken answer) count → take count (frames_taken answer) ≡ []
-none_served (Ok t) count stop = by_frame t.frame stop
-  where
-    by_frame : (o : Option Frame) → IsStop (Ok tt) (option_to_list o) count → take count (option_to_list o) ≡ []
-    by_frame None (inl lt) = absurd (omega (arith, lt))
-    by_frame None (inr e) = let bad : false ≡ true = e.1 in absurd cc
-    by_frame (Some f) (inl lt) = let none : count ≡ 0 = omega (arith, lt) in rw none refl
-    by_frame (Some f) (inr e) = let bad : false ≡ true = e.1 in absurd cc
-none_served (Err fault) count (inl lt) = absurd (omega (arith, lt))
-none_served (Err fault) count (inr e) = let none : count ≡ 0 = e.0 in rw none refl
-
-has_taken : (answer : Result Taken ReadFault) (count : ℕ) → IsStop (reading_end answer) (frames_taken answer) count → HasTaken answer
-has_taken (Ok t) count stop = by_frame t.frame stop
-  where
-    by_frame : (o : Option Frame) → IsStop (Ok tt) (option_to_list o) count → IsSome o
-    by_frame None (inl lt) = absurd (omega (arith, lt))
-    by_frame None (inr e) = let bad : false ≡ true = e.1 in absurd cc
-    by_frame (Some f) stop = refl
-has_taken (Err fault) count stop = tt
-
 pub first_short : (x : Setting) (h : History) (old : Session) (piece : List ℕ) (e : AllocError) (store : StoreState) (u : Option (List ℕ))
     (before new : List ℕ) (answer : Result Taken ReadFault) → is_closed old.standing ≡ false → FeedsFrame old.unfinished piece answer u →
-    StoppedFrames x h old.standing (frames_taken answer) (reading_end answer) store before new
+    HasTaken answer → setting_of store ≡ x → StandsFor store h → new ≡ before
     → FedFirst x h old piece (Err e) store (record { standing = Closed; unfinished = u }) before new
-first_short x h old piece e store u before new answer open_ reads s =
-    let a = s.frames_are in
-    let served : ServesAll x h old.standing [] a.history s.middle a.replies =
-    subst (λ (fs : List Frame). ServesAll x h old.standing fs a.history s.middle a.replies) (none_served answer s.count s.stop) a.serves in
-    record {
-      history = a.history;
-      replies = a.replies;
-      setting_is = a.setting_is;
-      store_is = a.store_is;
-      course = (
-        open_,
-        record { answer = answer; reads = reads; stop = has_taken answer s.count s.stop; same = served.0; none = served.2; shut = refl },
-      );
-      written = a.written;
-      each = a.each;
-    }
+first_short x h old piece e store u before new answer open_ reads stop set stands same = record {
+  history = h;
+  replies = [];
+  setting_is = set;
+  store_is = stands;
+  course = (open_, record { answer = answer; reads = reads; stop = stop; same = refl; none = refl; shut = refl });
+  written = same ∙ sym (append-nil before);
+  each = tt;
+}
+
+-- ---- the frame that was read
+
+served_none : (x : Setting) (h : History) (st : Standing) (store : StoreState) (before : List ℕ) → setting_of store ≡ x → StandsFor store h →
+    ServedAll x h st [] store st before before
+served_none x h st store before set stands = record {
+  history = h;
+  replies = [];
+  setting_is = set;
+  store_is = stands;
+  serves = (refl, refl, refl);
+  written = sym (append-nil before);
+  each = tt;
+}
+
+-- the frames of a piece that was read without a fault
+ends_well : (x : Setting) (h : History) (st : Standing) (frames : List Frame) (store : StoreState) (after : Standing) (before new : List ℕ) →
+    ServedAll x h st frames store after before new → ServedFrames x h st frames (Ok tt) store after before new
+ends_well x h st frames store after before new a = record {
+  middle = after;
+  bytes = new;
+  more = [];
+  frames_are = a;
+  ends = by_state (is_closed after);
+  written = sym (append-nil new);
+  each = tt;
+}
+  where
+    none : List Frame
+    none = []
+    by_state : (b : Bool) → MatchBool b ((after ≡ after) × (none ≡ [])) ((after ≡ after) × (none ≡ []))
+    by_state true = (refl, refl)
+    by_state false = (refl, refl)
+
+pub read_none : (h : History) (st : Standing) (store : StoreState) (before : List ℕ) → StandsFor store h →
+    ServedFrames (setting_of store) h st [] (Ok tt) store st before before
+read_none h st store before stands = ends_well (setting_of store) h st [] store st before before (served_none (setting_of store) h st store before refl stands)
+
+pub read_one : (h : History) (st : Standing) (f : Frame) (store store2 : StoreState) (before new : List ℕ) (r : Result Standing AllocError) →
+    is_closed st ≡ false → StandsFor store h
+    → IfOk r (λ after. (h1 : History) → StandsFor store h1 → Serves (setting_of store) h1 st f store2 after before new)
+    → IfOk r (λ after. ServedFrames (setting_of store) h st (f ∷ []) (Ok tt) store2 after before new)
+read_one h st f store store2 before new (Err e) open_ stands step = tt
+read_one h st f store store2 before new (Ok after) open_ stands step =
+    let x : Setting = setting_of store in
+    let a : ServedAll x h st (f ∷ []) store2 after before new =
+    serves_one x h st (f ∷ []) 0 store st before before store2 after new (omega arith) f refl open_ (served_none x h st store before refl stands) step in
+    ends_well x h st (f ∷ []) store2 after before new a
+
+pub read_fault : (h : History) (st : Standing) (fault : ReadFault) (store : StoreState) (before new : List ℕ) (r : Result Standing AllocError) →
+    is_closed st ≡ false → StandsFor store h → IfOk r (λ after. Ended (Err fault) st after before new)
+    → IfOk r (λ after. ServedFrames (setting_of store) h st [] (Err fault) store after before new)
+read_fault h st fault store before new (Err e) open_ stands step = tt
+read_fault h st fault store before new (Ok after) open_ stands step =
+    ended (setting_of store) h st [] (Err fault) store st after before before new open_
+    (served_none (setting_of store) h st store before refl stands) step
+
+-- what holds of each good answer for each history holds for each history of each good answer
+pub for_each : {T E : Type 0} (r : Result T E) (S : History → Type 0) (P : History → T → Type 0) → ((h : History) → S h → IfOk r (λ x. P h x)) →
+    IfOk r (λ x. (h : History) → S h → P h x)
+for_each (Ok x) S P f = f
+for_each (Err e) S P f = tt
 
 -- ---- laws
 
@@ -166,8 +202,3 @@ stops_are_pieces x h old piece e h2 new replies f =
         },
       ),
     )
-
--- a list of one frame or none
-pub slice_of : (o : Option Frame) (xs : List Frame) → MatchOption o (xs ≡ []) (λ x. xs ≡ x ∷ []) → xs ≡ option_to_list o
-slice_of None xs e = e
-slice_of (Some f) xs e = e

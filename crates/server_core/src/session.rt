@@ -1,19 +1,17 @@
 //! One session.
 
-ghost use Rattle.std.specs.Prelude.{◌≡◌, ◌≤◌, ◌⊎◌, ◌++◌, length, option_to_list, Result, IfOk, IsErr, IsOk, OnErr, OnOk, false};
-ghost use Rattle.frame_codec.specs.declared.reader.ReadFault.{ReadFault};
-ghost use Rattle.frame_codec.specs.declared.reader.Taken.{Taken};
-ghost use Rattle.frame_codec.specs.Streams.{FeedsFrame, unfinished_size};
+ghost use Rattle.std.specs.Prelude.{◌≡◌, ◌≤◌, ◌⊎◌, ◌++◌, length, ℕ, List, IfOk, IsErr, IsOk, OnErr, OnOk, false};
+ghost use Rattle.frame_codec.specs.Streams.{unfinished_size};
 ghost use Rattle.frame_codec.specs.Refusals.{refused};
 ghost use Rattle.frame_codec.specs.Frames.{IsFrame, encoding};
 ghost use Rattle.version_store.specs.Histories.{History, StandsFor};
 ghost use Rattle.server_core.specs.Serving.{setting_of, is_closed, IsFull};
-ghost use Rattle.server_core.specs.Sessions.{new_session, frames_taken, bytes_used, reading_end, Ended, Fed, FedFirst, ServedFrames, StoppedFrames, IsUnjudged, IsUnread};
+ghost use Rattle.server_core.specs.Sessions.{new_session, frames_taken, bytes_used, reading_end, HasTaken, Ended, Fed, FedFirst, ServedFrames, StoppedFrames, IsUnjudged, IsUnread};
 
 use crate::replies::{SHORT_REPLY, put_refused};
-use crate::serve::serve_frames;
+use crate::serve::{serve_frame, serve_frames};
 use crate::standing::Standing;
-use frame_codec::{Frame, ReadFault, Reader, Refusal};
+use frame_codec::{Frame, ReadFault, Reader, Refusal, Taken};
 use matrix_u32::Kernel;
 use std::alloc::{AllocError, Global};
 use std::marker::Model;
@@ -109,15 +107,17 @@ impl Session {
             FedFirst (setting_of store.old) h self.old piece.now result store.new self.new
             out.old.items out.new.items }
         ensures within { IfOk result (λ count. count ≤ length piece.now) }
+        ensures refused { OnErr result ((store.new ≡ store.old) ×
+            (out.new.items ≡ out.old.items)) }
         ensures full { OnErr result (IsFull out.new ⊎
             IsUnread self.old.unfinished piece.now self.new.unfinished) }
     {
         if self.standing.is_closed() {
             return Ok(piece.len());
         }
-        let (read, frame, count) = read_frame(&mut self.reader, piece);
-        let frames = frame.as_slice();
-        let Ok(standing) = serve_completed(alloc, store, self.standing, frames, read, out) else {
+        let read = self.reader.feed_frame(piece);
+        let count = used_of(&read, piece.len());
+        let Ok(standing) = serve_read(alloc, store, self.standing, read, out) else {
             self.standing = Standing::Closed;
             return Err(AllocError);
         };
@@ -126,15 +126,41 @@ impl Session {
     }
 }
 
-/// Reads the first frame of a piece. Answers how the reading ended, the frame, and how many bytes are used up.
-fn read_frame(reader: &mut Reader, piece: &[u8]) -> (Result<(), ReadFault>, Option<Frame>, usize)
-    ensures { (answer : Result Taken ReadFault) × FeedsFrame reader.old piece.now answer reader.new
-        × (result.0 ≡ reading_end answer) × (option_to_list result.1 ≡ frames_taken answer)
-        × (result.2 ≡ bytes_used piece.now answer) }
+/// How many bytes of a piece, which has so many, are used up: those that were read, and after a fault all.
+fn used_of(read: &Result<Taken, ReadFault>, len: usize) -> usize
+    ensures { (piece : List ℕ) → length piece ≡ len → result ≡ bytes_used piece read.now }
 {
-    match reader.feed_frame(piece) {
-        Ok(taken) => (Ok(()), taken.frame, taken.count),
-        Err(fault) => (Err(fault), None, piece.len()),
+    match read {
+        Ok(taken) => taken.count,
+        Err(_) => len,
+    }
+}
+
+/// Serves the frame that was read to an open session, if there is one, or reports the fault in its place. Answers the
+/// standing after it. At an `Err` memory was refused, and nothing was served.
+fn serve_read<K: Kernel>(
+    alloc: Global,
+    store: &mut Store<K>,
+    standing: Standing,
+    read: Result<Taken, ReadFault>,
+    out: &mut Vec<u8>,
+) -> Result<Standing, AllocError>
+    requires { is_closed standing ≡ false }
+    ensures ok { IfOk result (λ after. (h : History) → StandsFor store.old h →
+        ServedFrames (setting_of store.old) h standing (frames_taken read) (reading_end read)
+        store.new after out.old.items out.new.items) }
+    ensures same { OnErr result (store.new ≡ store.old) }
+    ensures none { OnErr result (out.new.items ≡ out.old.items) }
+    ensures stop { OnErr result (HasTaken read) }
+    ensures live { IfOk result (λ after. (is_closed after ≡ false) → IsOk (reading_end read)) }
+    ensures full { OnErr result (IsFull out.new ⊎ IsUnjudged (reading_end read)) }
+{
+    match read {
+        Ok(taken) => match taken.frame {
+            None => Ok(standing),
+            Some(frame) => serve_frame(alloc, store, standing, &frame, out),
+        },
+        Err(fault) => end_piece(standing, Err(fault), out),
     }
 }
 
