@@ -1,0 +1,54 @@
+-- The steps by which a file is replaced, and in which order they are taken.
+use Rattle.std.specs.Prelude.{ℕ, List, [], ◌∷◌, Option, Result, Ok, Err}
+use Rattle.std.specs.List.{FoldsTo}
+use Rattle.std.specs.Io.KnownBytes.{Appends}
+use Rattle.safe_files.specs.declared.replacing.ReplaceFault.{ReplaceFault}
+use Rattle.safe_files.specs.declared.replacing.ReplaceFault.TheVariants.{Make, Write, Memory, Sync, Rename, SyncFolder}
+
+-- One step, and what came of it. The bytes are those that the new file shows, if it shows them.
+pub data Step : Type 0 where
+  -- a new file was made beside the old one
+  Makes : Step
+  MakeFails : Step
+  -- the bytes of the new file went to the device
+  Syncs : Option (List ℕ) → Step
+  SyncFails : Step
+  -- the new file, with these bytes, was given the old one's name
+  Renames : Option (List ℕ) → Step
+  RenameFails : Step
+  -- the names in the folder went to the device
+  SyncsFolder : Step
+  SyncFolderFails : Step
+  -- the new file was removed, or is left where that failed
+  Removes : Step
+
+abbrev pub make_step : {T E : Type 0} → Result T E → Step
+make_step (Ok _) = Makes
+make_step (Err _) = MakeFails
+
+abbrev pub sync_step : {T E : Type 0} → Option (List ℕ) → Result T E → Step
+sync_step shown (Ok _) = Syncs shown
+sync_step shown (Err _) = SyncFails
+
+abbrev pub rename_step : {T E : Type 0} → Option (List ℕ) → Result T E → Step
+rename_step shown (Ok _) = Renames shown
+rename_step shown (Err _) = RenameFails
+
+abbrev pub sync_folder_step : {T E : Type 0} → Result T E → Step
+sync_folder_step (Ok _) = SyncsFolder
+sync_folder_step (Err _) = SyncFolderFails
+
+-- All steps of a replacement that ended so, in their order. A file that was made and not renamed is removed.
+abbrev pub course : {T : Type 0} → Option (List ℕ) → Result T ReplaceFault → List Step
+course shown (Ok _) = Makes ∷ Syncs shown ∷ Renames shown ∷ SyncsFolder ∷ []
+course shown (Err Make) = MakeFails ∷ []
+course shown (Err Write) = Makes ∷ Removes ∷ []
+course shown (Err Memory) = Makes ∷ Removes ∷ []
+course shown (Err Sync) = Makes ∷ SyncFails ∷ Removes ∷ []
+course shown (Err Rename) = Makes ∷ Syncs shown ∷ RenameFails ∷ Removes ∷ []
+course shown (Err SyncFolder) = Makes ∷ Syncs shown ∷ Renames shown ∷ SyncFolderFails ∷ []
+
+-- The disk took these steps and no others, and what the new file showed when it was synced and renamed is what a new file
+-- shows and then the bytes.
+abbrev pub Replaces : {D T : Type 0} → (D → Step → D → Type 0) → Option (List ℕ) → List ℕ → D → Result T ReplaceFault → D → Type 0
+Replaces does fresh bytes old result new = (shown : Option (List ℕ)) × Appends fresh shown bytes × FoldsTo does old (course shown result) new

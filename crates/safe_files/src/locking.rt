@@ -1,0 +1,111 @@
+//! Locks between processes.
+
+ghost use Rattle.std.specs.Prelude.{◌≡◌};
+
+use crate::place::{keep_owner, real_name};
+use std::alloc::AllocError;
+use std::fs::{File, Metadata, OpenOptions, TryLockError};
+use std::io::ErrorKind;
+use std::os::unix::fs::{MetadataExt, OpenOptionsExt};
+use std::{fs, io};
+use thiserror::Error;
+
+/// The mode of a lock's file that is made.
+const LOCK_MODE: u32 = 0o600;
+
+/// Why a lock was not taken.
+#[derive(Clone, Copy, Debug, PartialEq, Eq, Error)]
+pub enum LockFault {
+    /// Another process has it.
+    #[error("another process has the lock")]
+    Held,
+    /// Its file can't be opened or made, or is no file of its own.
+    #[error("the lock's file can't be opened")]
+    File,
+    /// Memory was refused.
+    #[error("out of memory")]
+    Memory,
+}
+
+impl From<AllocError> for LockFault {
+    ghost use Rattle.safe_files.specs.declared.locking.LockFault.TheVariants.{Memory};
+
+    ghost from_gives = { λ _ fault. fault ≡ Memory };
+
+    fn from(_refused: AllocError) -> Self {
+        LockFault::Memory
+    }
+}
+
+/// A lock that this process has. It is given back when the value is dropped, and by the system when the process ends,
+/// in whatever way.
+#[derive(Drop)]
+pub struct FileLock {
+    _file: File,
+}
+
+/// Takes the lock on a file of this name, which is made where there is none, and is never to be renamed or removed. It
+/// is not waited for.
+///
+/// # Errors
+///
+/// `Held` where another process has it; `File` where the file can't be opened or made, or is a link or no file.
+pub fn lock(rt: &HostRuntime, name: &str) -> Result<FileLock, LockFault> {
+    let Ok(file) = lock_file(rt, name) else {
+        return Err(LockFault::File);
+    };
+    if !is_own_file(rt, name, &file) {
+        return Err(LockFault::File);
+    }
+    match file.try_lock() {
+        Ok(()) => Ok(FileLock { _file: file }),
+        Err(TryLockError::WouldBlock) => Err(LockFault::Held),
+        Err(TryLockError::Error(_)) => Err(LockFault::File),
+    }
+}
+
+/// Takes the lock of a file that is to be replaced: that on `NAME.lock` beside it. Links in the name are followed first,
+/// so that each name of a file leads to one lock. A lock's file that is made gets the owner of the file.
+///
+/// # Errors
+///
+/// As [`lock`], and `Memory`.
+pub fn lock_beside(rt: &HostRuntime, name: &str) -> Result<FileLock, LockFault> {
+    let name = real_name(rt, name)?;
+    let name = name.as_str();
+    let beside = format!(in rt.alloc(); "{name}.lock")?;
+    let taken = lock(rt, beside.as_str())?;
+    if let Ok(old) = fs::metadata(rt, name) {
+        keep_owner(&taken._file, &old);
+    }
+    Ok(taken)
+}
+
+// Opens the lock's file, or makes it. What is in it is never read nor written.
+fn lock_file(rt: &HostRuntime, name: &str) -> io::Result<File> {
+    match fs::symlink_metadata(rt, name) {
+        Ok(found) if found.is_file() => File::open(rt, name),
+        // To open a pipe is to wait for who writes to it.
+        Ok(_) => Err(ErrorKind::InvalidInput.into()),
+        Err(fault) if fault.kind() == ErrorKind::NotFound => OpenOptions::new()
+            .read(true)
+            .write(true)
+            .create(true)
+            .mode(LOCK_MODE)
+            .open(rt, name),
+        Err(fault) => Err(fault),
+    }
+}
+
+// Whether the name is that of the open file itself, and neither a link nor something that is no file.
+fn is_own_file(rt: &HostRuntime, name: &str, file: &File) -> bool {
+    match (fs::symlink_metadata(rt, name), file.metadata()) {
+        (Ok(named), Ok(opened)) => named.is_file() && is_one_file(&named, &opened),
+        _ => false,
+    }
+}
+
+// Whether both are of one file.
+fn is_one_file(a: &Metadata, b: &Metadata) -> bool {
+    a.dev() == b.dev() && a.ino() == b.ino()
+}

@@ -1,0 +1,211 @@
+//! A file of the system, as a disk on which it is replaced.
+
+use crate::content::Content;
+use crate::disk::{Disk, DiskFailed};
+use crate::replacing::{ReplaceFault, replace};
+use std::alloc::AllocError;
+use std::fs::{File, Metadata, OpenOptions};
+use std::io::ErrorKind;
+use std::os::unix::fs::{MetadataExt, OpenOptionsExt, PermissionsExt, fchown};
+use std::random::RandomSource;
+use std::{fs, io, mem};
+
+/// How many names with random digits are tried for the file beside, after the first name.
+const RANDOM_NAMES: u32 = 7;
+
+/// The mode of a file where there was none: its owner reads and writes it, and nobody else.
+const NEW_MODE: u32 = 0o600;
+
+/// The bits of a mode that say who may read, write and run a file.
+const MODE_BITS: u32 = 0o7777;
+
+/// A file of the system that is to be replaced, or made.
+///
+/// The new file has `.new` after its name, or, where something stands there, random digits too: what stands beside is
+/// never opened, followed nor removed. It gets the old one's mode, and its owner where the system permits that; 0600
+/// where there was none. A file that a killed process left beside stays there.
+#[derive(Drop)]
+pub struct Place<'a> {
+    rt: &'a HostRuntime,
+    // The name of the file itself, where the name given leads to it by links.
+    name: String,
+    // The name of the file beside that was made last, or that is tried first.
+    beside: String,
+    // Names to try where something stands there. The memory for them is had before anything is done.
+    others: Vec<String>,
+    // The folder, open since the file was made, so that it can surely be sent to the device later.
+    folder: Option<File>,
+}
+
+impl<'a> Place<'a> {
+    /// The place of a file of this name. Nothing is opened.
+    ///
+    /// # Errors
+    ///
+    /// `AllocError` where there is no memory for the names.
+    pub fn of(rt: &'a HostRuntime, name: &str) -> Result<Place<'a>, AllocError> {
+        let name = real_name(rt, name)?;
+        let beside = format!(in rt.alloc(); "{name}.new")?;
+        let others = random_names(rt, name.as_str())?;
+        Ok(Place {
+            rt,
+            name,
+            beside,
+            others,
+            folder: None,
+        })
+    }
+
+    /// Whether something stands there that is no file, as a terminal or a pipe: it can't be replaced, only written to.
+    pub fn is_no_file(&self) -> bool {
+        match fs::metadata(self.rt, self.name.as_str()) {
+            Ok(found) => !found.is_file(),
+            Err(_) => false,
+        }
+    }
+
+    /// The name of the file itself, where the name given led to it by links.
+    pub fn name(&self) -> &str {
+        self.name.as_str()
+    }
+
+    // Makes a new file under the first of some names that nothing has.
+    fn make_beside(&mut self) -> io::Result<File> {
+        self.folder = Some(File::open(self.rt, folder_of(self.name.as_str()))?);
+        for at in 0..=self.others.len() {
+            match new_file(self.rt, self.beside.as_str()) {
+                Err(fault) if fault.kind() == ErrorKind::AlreadyExists => {}
+                made => return made,
+            }
+            if let Some(other) = self.others.get_mut(at) {
+                mem::swap(&mut self.beside, other);
+            }
+        }
+        Err(ErrorKind::AlreadyExists.into())
+    }
+
+    // Gives the new file what the old one has, but its bytes.
+    fn keep_access(&self, file: &File) -> io::Result<()> {
+        match fs::metadata(self.rt, self.name.as_str()) {
+            Ok(old) => {
+                keep_owner(file, &old);
+                let mut access = old.permissions();
+                access.set_mode(old.mode() & MODE_BITS);
+                file.set_permissions(access)
+            }
+            Err(fault) if fault.kind() == ErrorKind::NotFound => Ok(()),
+            Err(fault) => Err(fault),
+        }
+    }
+}
+
+impl Disk for Place<'_> {
+    type File = File;
+
+    fn make(&mut self) -> Result<File, DiskFailed> {
+        let Ok(file) = self.make_beside() else {
+            return Err(DiskFailed);
+        };
+        match self.keep_access(&file) {
+            Ok(()) => Ok(file),
+            Err(_) => {
+                self.remove();
+                Err(DiskFailed)
+            }
+        }
+    }
+
+    fn sync(&mut self, file: &File) -> Result<(), DiskFailed> {
+        match file.sync_all() {
+            Ok(()) => Ok(()),
+            Err(_) => Err(DiskFailed),
+        }
+    }
+
+    fn rename(&mut self, _file: File) -> Result<(), DiskFailed> {
+        match fs::rename(self.rt, self.beside.as_str(), self.name.as_str()) {
+            Ok(()) => Ok(()),
+            Err(_) => Err(DiskFailed),
+        }
+    }
+
+    fn sync_folder(&mut self) -> Result<(), DiskFailed> {
+        let Some(folder) = &self.folder else {
+            return Err(DiskFailed);
+        };
+        match folder.sync_all() {
+            Ok(()) => Ok(()),
+            // A file system on which a folder can't be synced: there is no more that could be done.
+            Err(fault) if fault.kind() == ErrorKind::InvalidInput => Ok(()),
+            Err(_) => Err(DiskFailed),
+        }
+    }
+
+    fn remove(&mut self) {
+        // Nothing better can be done where that fails: the file stays, and the next one gets another name.
+        let _ = fs::remove_file(self.rt, self.beside.as_str());
+    }
+}
+
+/// Replaces the file of this name by one with this content, or makes it, by a [`Place`].
+///
+/// # Errors
+///
+/// As [`replace`], and `Memory` where there was none for the names.
+pub fn replace_file<C: Content>(
+    rt: &HostRuntime,
+    name: &str,
+    content: &C,
+) -> Result<(), ReplaceFault> {
+    let Ok(mut place) = Place::of(rt, name) else {
+        return Err(ReplaceFault::Memory);
+    };
+    replace(rt.alloc(), &mut place, content)
+}
+
+/// The name of the file that a name leads to by links, where there is a file and its name is text; else the name itself.
+pub(crate) fn real_name(rt: &HostRuntime, name: &str) -> Result<String, AllocError> {
+    match fs::canonicalize(rt, name) {
+        Ok(path) => String::from_str(rt.alloc(), path.to_str().unwrap_or(name)),
+        Err(fault) if fault.kind() == ErrorKind::OutOfMemory => Err(AllocError),
+        Err(_) => String::from_str(rt.alloc(), name),
+    }
+}
+
+/// Gives a file the owner and the group of another, where the system permits that.
+pub(crate) fn keep_owner(file: &File, old: &Metadata) {
+    let _ = fchown(file, None, Some(old.gid()));
+    let _ = fchown(file, Some(old.uid()), None);
+}
+
+// The folder that a file is in.
+fn folder_of(name: &str) -> &str {
+    match name.rsplit_once('/') {
+        Some(("", _)) => "/",
+        Some((folder, _)) => folder,
+        None => ".",
+    }
+}
+
+// Names beside a file that nobody can guess; none where there is no randomness.
+fn random_names(rt: &HostRuntime, name: &str) -> Result<Vec<String>, AllocError> {
+    let mut names = Vec::new(rt.alloc());
+    for _ in 0..RANDOM_NAMES {
+        let mut digits = [0u8; 8];
+        if rt.fill_bytes(&mut digits).is_err() {
+            return Ok(names);
+        }
+        let digits = u64::from_le_bytes(digits);
+        names.push(format!(in rt.alloc(); "{name}.new-{digits:016x}")?)?;
+    }
+    Ok(names)
+}
+
+// Makes a file where nothing stands.
+fn new_file(rt: &HostRuntime, name: &str) -> io::Result<File> {
+    OpenOptions::new()
+        .write(true)
+        .create_new(true)
+        .mode(NEW_MODE)
+        .open(rt, name)
+}

@@ -1,0 +1,78 @@
+//! A file replaced, step by step.
+
+ghost use Rattle.safe_files.specs.Steps.{Replaces};
+
+use crate::content::{Content, ContentFault};
+use crate::disk::Disk;
+use std::alloc::Global;
+use thiserror::Error;
+
+/// Why a file was not replaced.
+///
+/// After all but `Rename` and `SyncFolder` the old file is surely still there. After these two a crash may leave the
+/// old one or the new one, whole.
+#[derive(Clone, Copy, Debug, PartialEq, Eq, Error)]
+pub enum ReplaceFault {
+    /// No file could be made beside the old one.
+    #[error("no file can be made beside the old one")]
+    Make,
+    /// The content could not be written.
+    #[error("a write failed")]
+    Write,
+    /// Memory was refused.
+    #[error("out of memory")]
+    Memory,
+    /// The new file's bytes could not be sent to the device.
+    #[error("the new file could not be synced")]
+    Sync,
+    /// The new file could not be given the name.
+    #[error("the new file could not be given the name")]
+    Rename,
+    /// The folder could not be sent to the device.
+    #[error("the folder could not be synced")]
+    SyncFolder,
+}
+
+/// Replaces a file by one with this content, or makes it: makes a new file beside it, writes the content, sends it to
+/// the device, gives it the old one's name, and sends the folder to the device.
+///
+/// `Ok` comes only after all five. Nothing is renamed before its bytes were written and sent to the device, and nothing
+/// is written after that. A new file that was not given the name is removed.
+///
+/// # Errors
+///
+/// Each exactly when its step failed; no further step but the removal is then taken.
+pub fn replace<D: Disk, C: Content>(
+    alloc: Global,
+    disk: &mut D,
+    content: &C,
+) -> Result<(), ReplaceFault>
+    ensures { Replaces D.does D.fresh (C.bytes content.now) disk.old result disk.new }
+{
+    let Ok(mut file) = disk.make() else {
+        return Err(ReplaceFault::Make);
+    };
+    match content.write_to(alloc, &mut file) {
+        Ok(()) => {}
+        Err(ContentFault::Write) => {
+            disk.remove();
+            return Err(ReplaceFault::Write);
+        }
+        Err(ContentFault::Memory) => {
+            disk.remove();
+            return Err(ReplaceFault::Memory);
+        }
+    }
+    if disk.sync(&file).is_err() {
+        disk.remove();
+        return Err(ReplaceFault::Sync);
+    }
+    if disk.rename(file).is_err() {
+        disk.remove();
+        return Err(ReplaceFault::Rename);
+    }
+    match disk.sync_folder() {
+        Ok(()) => Ok(()),
+        Err(_) => Err(ReplaceFault::SyncFolder),
+    }
+}
