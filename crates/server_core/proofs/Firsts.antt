@@ -1,7 +1,7 @@
 -- The first frame of a piece.
 use Rattle.std.proofs.Common.{◌≡◌, ◌≢◌, ℕ, ◌≤◌, ◌<◌, Bool, true, false, List, [], ◌∷◌, ◌++◌, length, take, Option, Some, None, Result, Ok, Err, refl, sym, ap, subst, ◌∙◌, append_assoc, arith, inl, inr}
 use Rattle.std.proofs.Math.Seq.{take-length}
-use Rattle.std.specs.Prelude.{MatchBool, IfOk, IsOk, option_to_list, IsSome}
+use Rattle.std.specs.Prelude.{MatchBool, IfOk, IfSome, IfNone, IsOk, option_to_list, IsSome}
 use Rattle.std.specs.List.{flat_map}
 use Rattle.std.specs.declared.alloc.AllocError.{AllocError}
 use Rattle.std.proofs.lemmas.List.{append-nil}
@@ -32,6 +32,16 @@ pub used_within : (old : Option (List ℕ)) (piece : List ℕ) (answer : Result 
     bytes_used piece answer ≤ length piece
 used_within old piece (Ok t) new f = f.within
 used_within old piece (Err fault) new f = omega arith
+
+-- a byte at least, where there is one
+pub used_some : (old : Option (List ℕ)) (piece : List ℕ) (answer : Result Taken ReadFault) (new : Option (List ℕ)) → FeedsFrame old piece answer new →
+    0 < length piece → 0 < bytes_used piece answer
+used_some old piece (Ok t) new f some = by_frame t.frame f.whole f.ends
+  where
+    by_frame : (o : Option Frame) → IfNone o (t.count ≡ length piece) → IfSome o (λ _. (0 < t.count) × (new ≡ Some [])) → 0 < t.count
+    by_frame None whole ends = omega (arith, whole, some)
+    by_frame (Some g) whole ends = ends.0
+used_some old piece (Err fault) new f some = some
 
 pub first_live : (old : Option (List ℕ)) (piece : List ℕ) (answer : Result Taken ReadFault) (new : Option (List ℕ)) (after : Standing) →
     FeedsFrame old piece answer new → (is_closed after ≡ false → IsOk (reading_end answer)) → IsLive after new

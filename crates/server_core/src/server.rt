@@ -241,6 +241,7 @@ impl<K: Kernel> ServerCore<K> {
             × FeedsCoreFirst (setting_of self.old.store) h old piece.now result self.new.store new
             out.old.items out.new.items }
         ensures within { IfOk result (λ count. count ≤ length piece.now) }
+        ensures some { IfOk result (λ count. 0 < length piece.now → 0 < count) }
         ensures refused { OnErr result ((self.new.store ≡ self.old.store) ×
             (out.new.items ≡ out.old.items)) }
         ensures no_session { IsErrOf result FeedError.NoSession ↔

@@ -1,6 +1,6 @@
 //! One session.
 
-ghost use Rattle.std.specs.Prelude.{◌≡◌, ◌≤◌, ◌⊎◌, ◌++◌, length, ℕ, List, IfOk, IsErr, IsOk, OnErr, OnOk, false};
+ghost use Rattle.std.specs.Prelude.{◌≡◌, ◌≤◌, ◌<◌, ◌⊎◌, ◌++◌, length, ℕ, List, IfOk, IsErr, IsOk, OnErr, OnOk, false};
 ghost use Rattle.frame_codec.specs.Streams.{unfinished_size};
 ghost use Rattle.frame_codec.specs.Refusals.{refused};
 ghost use Rattle.frame_codec.specs.Frames.{IsFrame, encoding};
@@ -107,6 +107,7 @@ impl Session {
             FedFirst (setting_of store.old) h self.old piece.now result store.new self.new
             out.old.items out.new.items }
         ensures within { IfOk result (λ count. count ≤ length piece.now) }
+        ensures some { IfOk result (λ count. 0 < length piece.now → 0 < count) }
         ensures refused { OnErr result ((store.new ≡ store.old) ×
             (out.new.items ≡ out.old.items)) }
         ensures full { OnErr result (IsFull out.new ⊎
