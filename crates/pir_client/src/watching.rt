@@ -4,13 +4,13 @@ use pir_schemes::PART_WORDS;
 use std::io;
 use std::io::{IsTerminal, Read};
 use std::net::TcpStream;
-use std::time::{Duration, Instant};
+use std::time::Instant;
 
 /// How many bytes a part of a hint has, with what stands before its words.
 const PART_BYTES: u64 = 4 * PART_WORDS as u64 + 18;
 
-/// How long nothing is said.
-const QUIET: Duration = Duration::from_secs(1);
+/// For how many seconds nothing is said.
+const QUIET_SECONDS: u64 = 1;
 
 /// The server's end of a connection. Where standard error is a terminal, the parts of a hint that have come are counted
 /// there from the second second on.
@@ -58,7 +58,7 @@ impl<'a> Watched<'a> {
             return;
         }
         match began.elapsed(self.rt) {
-            Ok(passed) if passed >= QUIET => {}
+            Ok(passed) if passed.as_secs() >= QUIET_SECONDS => {}
             _ => return,
         }
         self.shown = parts;
