@@ -12,7 +12,7 @@ pub record IsNoLower (old new : State) : Type 0 where
   pub durable : old.durable ≤ new.durable
   pub written : old.durable ≤ new.written
 
--- this error is reported only where the device has failed since, or failed too often to be counted
+-- an error that is reported only where the device has failed since, or failed too often to be counted
 pub record HasCause {T : Type 0} (before now : ℕ) (result : Result T DeviceError) (failed : DeviceError) : Type 0 where
   pub later : before ≤ now
   pub cause : IsErrOf result failed → min (before + 1) (2 ^ 64 - 1) ≤ now

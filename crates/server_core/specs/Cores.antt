@@ -42,7 +42,7 @@ FeedsCore x h old piece (Ok done) store new before after = Fed x h old piece (Ok
 FeedsCore x h old piece (Err Memory) store new before after = (e : AllocError) × Fed x h old piece (Err e) store new before after
 FeedsCore x h old piece (Err NoSession) store new before after = ⊥
 
--- The same of the first frame of a piece, of which so many bytes were used up.
+-- What the first frame of a piece does, of which so many bytes were used up.
 abbrev pub FeedsCoreFirst : Setting → History → Session → List ℕ → Result ℕ FeedError → StoreState → Session → List ℕ → List ℕ → Type 0
 FeedsCoreFirst x h old piece (Ok count) store new before after = FedFirst x h old piece (Ok count) store new before after
 FeedsCoreFirst x h old piece (Err Memory) store new before after = (e : AllocError) × FedFirst x h old piece (Err e) store new before after

@@ -43,7 +43,7 @@ abbrev pub FirstsArePieces : Type 0
 FirstsArePieces = (x : Setting) (h : History) (old : Session) (piece : List ℕ) (count : ℕ) (h2 : History) (new : Session) (replies : List Frame) →
     FeedsFirst x h old piece (Ok count) h2 new replies → FeedsSession x h old (take count piece) (Ok tt) h2 new replies
 
--- the same where memory was refused
+-- Where memory was refused, what the first frame of a piece leads to is what some bytes of the piece lead to as one of their own.
 abbrev pub StopsArePieces : Type 0
 StopsArePieces = (x : Setting) (h : History) (old : Session) (piece : List ℕ) (e : AllocError) (h2 : History) (new : Session) (replies : List Frame) →
     FeedsFirst x h old piece (Err e) h2 new replies

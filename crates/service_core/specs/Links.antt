@@ -105,6 +105,6 @@ pub record Keeps (moves : List Move) (l : LinkState) : Type 0 where
   pub input : flat_map bytes_received moves ≡ flat_map bytes_served moves ++ l.unserved
   pub output : flat_map bytes_replied moves ≡ flat_map bytes_written moves ++ l.owed
 
--- this is so after any moves of a connection that was accepted at any moment
+-- after any moves of a connection that was accepted at any moment no byte is lost, is there twice or goes elsewhere
 abbrev pub LinksKeep : Type 0
 LinksKeep = (moves : List Move) (now : ℕ) (l : LinkState) → FoldsTo MovesTo (accepted now) moves l → Keeps moves l

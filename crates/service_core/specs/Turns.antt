@@ -125,7 +125,7 @@ abbrev pub ServedFramesAreMoves : Type 0
 ServedFramesAreMoves = (x : Setting) (h : History) (s : Session) (id now : ℕ) (old new : LinkState) (after : Core) → ServesNext x h s id now old new after →
     MovesTo old (Answers (served_between old new) (replied_between old new) new.live now) new
 
--- and a deed of the run over one history
+-- a frame that was served is a deed of the run over one history
 abbrev pub ServedFramesAreDeeds : Type 0
 ServedFramesAreDeeds = (before after : Core) (id now : ℕ) (old new : LinkState) → session_of before.sessions id ≢ None →
     AtEach before id (λ x h s. ServesNext x h s id now old new after) → OthersStay id before after
