@@ -1,20 +1,19 @@
 -- What connections do to a server, as one run over one history.
-use Rattle.std.proofs.Common.{◌≡◌, ◌≢◌, ◌≤◌, ◌<◌, ◌+◌, ◌-◌, ℕ, List, [], ◌∷◌, ◌++◌, length, take, drop, Option, Some, None, Result, Ok, Err, Bool, true, false, refl, sym, ap, subst, ◌∙◌, arith, inl, inr}
-use Rattle.std.specs.Prelude.{not, MatchBool, option_to_list}
-use Rattle.std.specs.List.{FoldsTo, flat_map, AllByRecursion}
+use Rattle.std.proofs.Common.{◌≡◌, ◌≢◌, ◌≤◌, ◌-◌, ℕ, List, [], ◌∷◌, ◌++◌, length, take, drop, Option, Some, None, Result, Ok, Err, Bool, refl, sym, ap, subst, ◌∙◌, arith}
+use Rattle.std.specs.Prelude.{not}
+use Rattle.std.specs.List.{FoldsTo, flat_map}
 use Rattle.std.specs.declared.alloc.AllocError.{AllocError}
-use Rattle.std.proofs.lemmas.List.{append-nil, length-append, length-drop, length-take-le, take-append-drop}
+use Rattle.std.proofs.lemmas.List.{length-drop, length-take-le, take-append-drop}
 use Rattle.std.proofs.Math.Seq.{drop-append_seam}
-use Rattle.frame_codec.specs.declared.frame.Frame.{Frame}
-use Rattle.frame_codec.specs.Frames.{IsFrame, encoding}
+use Rattle.frame_codec.specs.Frames.{encoding}
 use Rattle.version_store.specs.Histories.{StoreState, History, StandsFor}
 use Rattle.server_core.specs.Cores.{Core, session_of}
 use Rattle.server_core.specs.Serving.{Setting, setting_of, is_closed}
-use Rattle.server_core.specs.Sessions.{Session, FeedsSession, FeedsFirst, Fed}
+use Rattle.server_core.specs.Sessions.{Session, FeedsSession, Fed}
 use Rattle.server_core.specs.Laws.{FirstsArePieces}
-use Rattle.service_core.specs.Links.{LinkState, MovesTo, Answers, after_frame}
-use Rattle.service_core.specs.Runs.{Deed, Opens, Serves, Stops, Closes, DoesToCore, FeedsLink, OthersStay, Moment, ServesOn, DoesToHistory, RunStep, DeedsAreOneRun}
-use Rattle.service_core.specs.Turns.{ServesNext, AtEach, served_between, replied_between, ServedFramesAreMoves, ServedFramesAreDeeds}
+use Rattle.service_core.specs.Links.{LinkState, after_frame}
+use Rattle.service_core.specs.Runs.{Deed, Opens, Serves, Stops, Closes, DoesToCore, FeedsLink, Moment, ServesOn, RunStep, DeedsAreOneRun}
+use Rattle.service_core.specs.Turns.{served_between, replied_between, ServedFramesAreMoves, ServedFramesAreDeeds}
 
 there_is : (o : Option Session) → o ≢ None → (s : Session) × (o ≡ Some s)
 there_is None n = absurd (n refl)

@@ -1,10 +1,10 @@
 -- What is done to a server by all its connections, and what that is to one history.
-use Rattle.std.specs.Prelude.{◌≡◌, ◌≢◌, ℕ, List, [], ◌∷◌, ◌++◌, length, Option, Some, None, Result, Ok, Err}
+use Rattle.std.specs.Prelude.{◌≡◌, ◌≢◌, ℕ, List, [], Some, None, Result, Ok, Err}
 use Rattle.std.specs.List.{FoldsTo, flat_map, AllByRecursion}
 use Rattle.std.specs.declared.alloc.AllocError.{AllocError}
 use Rattle.frame_codec.specs.declared.frame.Frame.{Frame}
 use Rattle.frame_codec.specs.Frames.{IsFrame, encoding}
-use Rattle.version_store.specs.Histories.{StoreState, History, StandsFor}
+use Rattle.version_store.specs.Histories.{History, StandsFor}
 use Rattle.server_core.specs.Cores.{Core, session_of}
 use Rattle.server_core.specs.Serving.{Setting, setting_of}
 use Rattle.server_core.specs.Sessions.{Session, new_session, FeedsSession, Fed}

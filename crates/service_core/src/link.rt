@@ -135,7 +135,6 @@ impl Link {
     /// Where memory was refused: nothing was served, the session is closed, and the connection is to be closed.
     pub fn serve_next<K: Kernel>(
         &mut self,
-        alloc: Global,
         core: &mut ServerCore<K>,
         id: u64,
         now: u64,
@@ -150,7 +149,7 @@ impl Link {
         ensures others { OthersStay id core.old core.new }
     {
         let owed = self.owed.len();
-        let mut out = self.owed.take_out(alloc);
+        let mut out = self.owed.take_out();
         match core.feed_frame(id, self.unserved.as_slice(), &mut out) {
             Ok(count) => {
                 self.owed.put_back(out);

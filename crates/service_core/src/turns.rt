@@ -9,7 +9,6 @@ use crate::link::Link;
 use crate::outside::{Outside, Stop};
 use matrix_u32::Kernel;
 use server_core::ServerCore;
-use std::alloc::Global;
 use thiserror::Error;
 
 /// Why a turn ended early.
@@ -69,7 +68,6 @@ fn read_once<K: Kernel, O: Outside<K>>(
 
 /// Serves one frame at most, where one may be served, and saves the version that it published.
 fn serve_once<K: Kernel, O: Outside<K>>(
-    alloc: Global,
     link: &mut Link,
     core: &mut ServerCore<K>,
     outside: &mut O,
@@ -87,7 +85,7 @@ fn serve_once<K: Kernel, O: Outside<K>>(
         return Ok(());
     }
     let before = core.store().version();
-    match link.serve_next(alloc, core, id, now) {
+    match link.serve_next(core, id, now) {
         Ok(()) => {}
         Err(_) => return Err(Fault::Memory),
     }
@@ -133,7 +131,6 @@ fn write_once<K: Kernel, O: Outside<K>>(
 /// connection is to be closed. `Save` exactly when a version could not be saved: no turn may follow, on any connection,
 /// since what is owed may say that it was published.
 pub fn turn<K: Kernel, O: Outside<K>>(
-    alloc: Global,
     link: &mut Link,
     core: &mut ServerCore<K>,
     outside: &mut O,
@@ -153,7 +150,7 @@ pub fn turn<K: Kernel, O: Outside<K>>(
         Ok(()) => {}
         Err(fault) => return Err(fault),
     }
-    match serve_once(alloc, link, core, outside, id, now) {
+    match serve_once(link, core, outside, id, now) {
         Ok(()) => {}
         Err(fault) => return Err(fault),
     }

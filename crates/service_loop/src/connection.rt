@@ -123,7 +123,6 @@ impl Connection {
             saved,
         };
         let ended = turn(
-            rt.alloc(),
             &mut self.link,
             &mut core,
             &mut device,

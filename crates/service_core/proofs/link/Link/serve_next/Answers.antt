@@ -1,4 +1,4 @@
-use Rattle.std.proofs.Common.{◌≡◌, ◌∙◌, ◌-◌, length, ap, sym, refl, ℕ, List}
+use Rattle.std.proofs.Common.{◌∙◌, ◌-◌, length, ap, ℕ}
 use Rattle.server_core.specs.Serving.{setting_of}
 use Rattle.service_core.specs.Links.{LinkState}
 use Rattle.service_core.proofs.Steps.{serves_next, stops_given, Saw}
