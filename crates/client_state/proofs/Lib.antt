@@ -1,2 +1,4 @@
 pub mod Bytes
 pub mod Fields
+pub mod FieldsBack
+pub mod HintFiles

@@ -1,6 +1,7 @@
 -- The bytes of the files in a client's folder.
-use Rattle.std.specs.Prelude.{ℕ, List, [], ◌∷◌, ◌++◌, codes}
+use Rattle.std.specs.Prelude.{◌≡◌, ◌≤◌, ◌<◌, ◌*◌, ◌^◌, ℕ, List, [], ◌∷◌, ◌++◌, length, codes}
 use Rattle.sha2.specs.Sha256.{sha256}
+use Rattle.matrix_u32.specs.Matrix.{IsWhole, most_words}
 use Rattle.frame_codec.specs.Numbers.{number_bytes, word_bytes}
 use Rattle.pir_schemes.specs.Schemes.{scheme_byte}
 use Rattle.client_core.specs.declared.state.ServerInfo.{ServerInfo}
@@ -53,3 +54,11 @@ field_bytes known hint =
 -- the file of a hint: the name of the seed beside it, the fields, the words row by row, four bytes each
 abbrev pub hint_bytes : List ℕ → ServerInfo → Hint → List ℕ
 hint_bytes name known hint = sealed (hint_magic ++ (name ++ (field_bytes known hint ++ word_bytes hint.matrix.words)))
+
+-- a hint that a file can have: a public seed of 32 bytes, and a matrix that there is
+pub record IsKeepable (known : ServerInfo) (hint : Hint) : Type 0 where
+  pub seed : length known.plan.seed ≡ 32
+  pub rows : hint.matrix.rows < 2 ^ 64
+  pub cols : hint.matrix.cols < 2 ^ 64
+  pub whole : IsWhole hint.matrix
+  pub small : hint.matrix.rows * hint.matrix.cols ≤ most_words

@@ -1,8 +1,11 @@
 //! The file of a hint.
 
-ghost use Rattle.std.specs.Prelude.{◌≡◌, ◌≤◌, ◌*◌, ◌++◌, ℕ, List, length, IfOk, IfSome};
+ghost use Rattle.std.specs.Prelude.{◌≡◌, ◌≢◌, ◌≤◌, ◌<◌, ◌*◌, ◌^◌, ◌++◌, ℕ, List, length, IfOk, IfSome, IfNone, IsErrOf};
 ghost use Rattle.frame_codec.specs.Numbers.{word_bytes};
-ghost use Rattle.client_state.specs.Files.{hint_magic, field_bytes, hint_bytes};
+ghost use Rattle.matrix_u32.specs.Matrix.{most_words};
+ghost use Rattle.client_core.specs.declared.state.ServerInfo.{ServerInfo};
+ghost use Rattle.client_core.specs.declared.state.Hint.{Hint};
+ghost use Rattle.client_state.specs.Files.{hint_magic, field_bytes, hint_bytes, IsKeepable};
 ghost use Rattle.client_state.specs.Reading.{with_words};
 
 use crate::numbers::{add_words, words_in};
@@ -112,10 +115,15 @@ struct Fields {
 // The fields that these bytes are; none where they name no scheme.
 fn fields_in(bytes: &[u8]) -> Option<Fields>
     requires { length bytes.now ≡ 78 }
-    ensures { IfSome result (λ f. (words : List ℕ) →
+    ensures read { IfSome result (λ f. (words : List ℕ) →
         field_bytes f.known (with_words f words) ≡ bytes.now) }
+    ensures none { IfNone result ((known : ServerInfo) (hint : Hint) →
+        length known.plan.seed ≡ 32 → bytes.now ≢ field_bytes known hint) }
+    ensures sizes { IfSome result (λ f. (f.rows < 2 ^ 64) × (f.cols < 2 ^ 64)) }
 {
-    let scheme = Scheme::of_byte(bytes[53])?;
+    let Some(scheme) = Scheme::of_byte(bytes[53]) else {
+        return None;
+    };
     Some(Fields {
         known: ServerInfo {
             version: LittleEndian::read_u64(&bytes[45..]),
@@ -138,8 +146,11 @@ fn fields_in(bytes: &[u8]) -> Option<Fields>
 
 // The hint of these fields and words.
 fn hint_of(alloc: Global, fields: &Fields, bytes: &[u8]) -> Result<Hint, HintError>
-    ensures { IfOk result (λ hint. (words : List ℕ) × (hint ≡ with_words fields.now words) ×
-        (word_bytes words ≡ bytes.now)) }
+    ensures read { IfOk result (λ hint. (words : List ℕ) ×
+        (hint ≡ with_words fields.now words) × (word_bytes words ≡ bytes.now)) }
+    ensures damaged { IsErrOf result HintError.Damaged → (words : List ℕ) →
+        length words ≡ fields.now.rows * fields.now.cols → length words ≤ most_words →
+        bytes.now ≢ word_bytes words }
 {
     if bytes.len() % 4 != 0 {
         return Err(HintError::Damaged);
@@ -159,9 +170,11 @@ fn hint_of(alloc: Global, fields: &Fields, bytes: &[u8]) -> Result<Hint, HintErr
 ///
 /// # Errors
 ///
-/// `Damaged` where the bytes are no file of a hint of this seed, `Memory` where memory was refused.
+/// `Damaged` exactly where the bytes are no file of a hint of this seed, `Memory` where memory was refused.
 pub fn hint_in(alloc: Global, name: &[u8; DIGEST_LEN], bytes: &[u8]) -> Result<KeptHint, HintError>
-    ensures { IfOk result (λ kept. bytes.now ≡ hint_bytes name.now kept.known kept.hint) }
+    ensures read { IfOk result (λ kept. bytes.now ≡ hint_bytes name.now kept.known kept.hint) }
+    ensures damaged { IsErrOf result HintError.Damaged → (known : ServerInfo) (hint : Hint) →
+        IsKeepable known hint → bytes.now ≢ hint_bytes name.now known hint }
 {
     let Some(body) = unsealed(bytes) else {
         return Err(HintError::Damaged);
@@ -179,9 +192,11 @@ pub fn hint_in(alloc: Global, name: &[u8; DIGEST_LEN], bytes: &[u8]) -> Result<K
     let Some(fields) = fields_in(fields) else {
         return Err(HintError::Damaged);
     };
-    let hint = hint_of(alloc, &fields, words)?;
-    Ok(KeptHint {
-        known: fields.known,
-        hint,
-    })
+    match hint_of(alloc, &fields, words) {
+        Ok(hint) => Ok(KeptHint {
+            known: fields.known,
+            hint,
+        }),
+        Err(fault) => Err(fault),
+    }
 }

@@ -84,24 +84,28 @@ fn get_command<'a>(alloc: Global) -> Result<Command<'a>, AllocError> {
         .about("Retrieves a record without telling the server which")
         .after_help(GET_EXAMPLE)
         .arg(option(alloc, "port", "P", "The server's port"))?
-        .arg(option(
-            alloc,
-            "seed",
-            "HEX",
-            "Your secret: 32 bytes as 64 hex digits, or @FILE, all that hides INDEX",
-        )
-        .required(false)
-        .required_unless_present("state")?
-        .conflicts_with("state")?)?
-        .arg(option(
-            alloc,
-            "number",
-            "N",
-            "The number of this retrieval, below 2^62: one that this seed has never been used with",
-        )
-        .required(false)
-        .required_unless_present("state")?
-        .conflicts_with("state")?)?
+        .arg(
+            option(
+                alloc,
+                "seed",
+                "HEX",
+                "Your secret: 32 bytes as 64 hex digits, or @FILE, all that hides INDEX",
+            )
+            .required(false)
+            .required_unless_present("state")?
+            .conflicts_with("state")?,
+        )?
+        .arg(
+            option(
+                alloc,
+                "number",
+                "N",
+                "The number of this retrieval, below 2^62: one that this seed has never been used with",
+            )
+            .required(false)
+            .required_unless_present("state")?
+            .conflicts_with("state")?,
+        )?
         .arg(option(
             alloc,
             "state",
@@ -109,14 +113,16 @@ fn get_command<'a>(alloc: Global) -> Result<Command<'a>, AllocError> {
             "A folder that init has made, in place of --seed and --number: its hint is used again",
         )
         .required(false))?
-        .arg(option(
-            alloc,
-            "host",
-            "ADDR",
-            "The server's address, with --state; 127.0.0.1 where none is given",
-        )
-        .required(false)
-        .requires_arg("state")?)?
+        .arg(
+            option(
+                alloc,
+                "host",
+                "ADDR",
+                "The server's address, with --state; 127.0.0.1 where none is given",
+            )
+            .required(false)
+            .requires_arg("state")?,
+        )?
         .arg(option(
             alloc,
             "least-dimension",
@@ -125,7 +131,12 @@ fn get_command<'a>(alloc: Global) -> Result<Command<'a>, AllocError> {
         )
         .required(false))?
         .arg(option(alloc, "scheme", "NAME", "simple or double"))?
-        .arg(word(alloc, "INDEX", "Which record, counted from 0; with --state one or more").num_args(1..))
+        .arg(word(
+            alloc,
+            "INDEX",
+            "Which record, counted from 0; with --state one or more",
+        )
+        .num_args(1..))
 }
 
 const GET_EXAMPLE: &str =
@@ -134,7 +145,9 @@ const GET_EXAMPLE: &str =
 // The command `init`.
 fn init_command<'a>(alloc: Global) -> Result<Command<'a>, AllocError> {
     Command::new(alloc, "init")
-        .about("Makes a folder with a secret seed, the number of its next retrieval, and room for a hint")
+        .about(
+            "Makes a folder with a secret seed, the number of its next retrieval, and room for a hint",
+        )
         .after_help(INIT_EXAMPLE)
         .arg(option(alloc, "state", "DIR", "The folder"))?
         .arg(option(
@@ -163,7 +176,9 @@ const STATE_EXAMPLE: &str =
 // The command `forget`.
 fn forget_command<'a>(alloc: Global) -> Result<Command<'a>, AllocError> {
     Command::new(alloc, "forget")
-        .about("Drops a folder's hint, so that the next retrieval fetches it anew; never its counter")
+        .about(
+            "Drops a folder's hint, so that the next retrieval fetches it anew; never its counter",
+        )
         .after_help(FORGET_EXAMPLE)
         .arg(option(alloc, "state", "DIR", "The folder"))
 }

@@ -127,7 +127,13 @@ impl Session<'_> {
     // Asks to be let in, judges the length of the server's secrets, and takes up the hint kept.
     fn begin(&mut self, least: usize) -> Result<(), Failure> {
         let alloc = self.rt.alloc();
-        greet(alloc, &mut self.client, &mut &self.stream, &mut &self.stream).map_err(failure_of)?;
+        greet(
+            alloc,
+            &mut self.client,
+            &mut &self.stream,
+            &mut &self.stream,
+        )
+        .map_err(failure_of)?;
         check_dimension(&self.client, least).map_err(failure_of)?;
         let Some(kept) = kept_hint(self.rt, &self.folder)? else {
             return Ok(());
@@ -199,7 +205,13 @@ impl Session<'_> {
     fn move_hint(&mut self, scheme: Scheme) -> Result<(), CommandError> {
         let alloc = self.rt.alloc();
         let mut watched = Watched::new(self.rt, &self.stream);
-        let synced = sync(alloc, &mut self.client, &mut watched, &mut &self.stream, scheme);
+        let synced = sync(
+            alloc,
+            &mut self.client,
+            &mut watched,
+            &mut &self.stream,
+            scheme,
+        );
         watched.end();
         synced?;
         let (Some(known), Some(hint)) = (self.client.known(), self.client.hint()) else {

@@ -2,10 +2,11 @@ use Rattle.std.proofs.Common.{◌<◌, ℕ, List, slice_index, take, sym, ap, �
 use Rattle.std.proofs.lemmas.List.{take_rest}
 use Rattle.byteorder.specs.Endian.{little_number}
 use Rattle.client_state.proofs.Fields.{fields_read, scheme_named}
+use Rattle.client_state.proofs.FieldsBack.{no_scheme}
 use Rattle.client_state.proofs.hints.fields_in.Goals as goal
 
-pub returns : goal.returns
-returns c = λ words.
+pub returns-clause-read : goal.returns-clause-read
+returns-clause-read c = λ words.
     let fields : List ℕ = c.args.bytes.now in
     let bytes : (i : ℕ) → slice_index c.args.bytes.now i < 256 = λ i. omega (arith, c.type_inv.bytes i) in
     fields_read _ _ c.args.bytes.now bytes c.requires
@@ -17,7 +18,10 @@ returns c = λ words.
     (c.first_32.ensures ∙ ap (take 32) (take_rest c.args.bytes.now 9))
     (c.read_u32.ensures ∙ ap (little_number 4) (take_rest c.args.bytes.now 41))
     (c.read_u64.ensures ∙ ap (little_number 8) (take_rest c.args.bytes.now 45))
-    (scheme_named c.in_ok-scheme.scheme _ (sym c.of_byte.ensures ∙ c.in_ok-scheme.was))
+    (scheme_named c.in-Some.scheme _ (sym c.of_byte.ensures ∙ c.in-Some.is))
     (c.read_u64-2.ensures ∙ ap (little_number 8) (take_rest c.args.bytes.now 54))
     (c.read_u64-3.ensures ∙ ap (little_number 8) (take_rest c.args.bytes.now 62))
     (c.read_u64-4.ensures ∙ ap (little_number 8) (take_rest c.args.bytes.now 70))
+
+pub returns-in_default-clause-none : goal.returns-in_default-clause-none
+returns-in_default-clause-none c = λ known hint len e. no_scheme known hint c.args.bytes.now len e (sym c.of_byte.ensures ∙ c.in_default.is)
