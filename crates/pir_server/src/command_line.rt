@@ -1,5 +1,6 @@
 //! The command line.
 
+use crate::run_line::{Running, run_command, running_of};
 use clap::{ArgMatches, Command};
 use command_words::{BadLine, Secret, key_at, number_at, option, seed_at, text_at};
 use std::alloc::{AllocError, Global};
@@ -87,8 +88,10 @@ pub enum Task<'a> {
     Rekey(Rekeying<'a>),
     /// What the snapshot file of this name holds.
     Show(&'a str),
-    /// A snapshot file served over connections.
+    /// A snapshot file served over connections, one after the other.
     Serve(Serving<'a>),
+    /// A snapshot file served over many connections side by side.
+    Run(Running<'a>),
     /// One database served over standard input and output.
     Once,
 }
@@ -248,6 +251,7 @@ fn whole_command<'a>(alloc: Global) -> Result<Command<'a>, AllocError> {
         .subcommand(rekey_command(alloc)?)?
         .subcommand(show_command(alloc)?)?
         .subcommand(serve_command(alloc)?)?
+        .subcommand(run_command(alloc)?)?
         .subcommand(once_command(alloc))
 }
 
@@ -328,6 +332,9 @@ pub fn task_of<'a>(alloc: Global, words: &'a [String]) -> Result<Task<'a>, BadLi
     }
     if let Some(found) = matches.subcommand_matches("serve") {
         return Ok(Task::Serve(serving_of(found)?));
+    }
+    if let Some(found) = matches.subcommand_matches("run") {
+        return Ok(Task::Run(running_of(found)?));
     }
     Ok(Task::Once)
 }

@@ -4,6 +4,7 @@ use crate::command_line::{Making, Migrating, Task, task_of};
 use crate::files::{RecordsOf, lock_of, moved_of, write_file};
 use crate::making::make;
 use crate::rekeying::rekey;
+use crate::running::run_file;
 use crate::serving::serve_file;
 use crate::showing::show;
 use command_words::{Failure, program_words};
@@ -40,6 +41,7 @@ fn done(rt: &HostRuntime, task: Task<'_>) -> Result<(), Failure> {
         Task::Rekey(rekeying) => rekey(rt, &rekeying),
         Task::Show(file) => show(rt, file),
         Task::Serve(serving) => serve_file(rt, &serving),
+        Task::Run(running) => run_file(rt, &running),
         Task::Once => serve_once(rt),
     }
 }

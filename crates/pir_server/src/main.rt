@@ -14,6 +14,7 @@ mod files;
 mod making;
 mod rekeying;
 mod run_line;
+mod running;
 mod serving;
 mod showing;
 
