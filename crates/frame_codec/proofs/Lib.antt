@@ -5,3 +5,4 @@ pub mod Prefixes
 pub mod Unique
 pub mod Runs
 pub mod Pieces
+pub mod Takings

@@ -1,12 +1,12 @@
 -- Frames one after another.
-use Rattle.std.proofs.Common.{◌≡◌, ℕ, List, [], ◌∷◌, ◌++◌, Option, Some, Result, Ok, Err, refl, sym, ap, subst, ◌∙◌, append_assoc}
+use Rattle.std.proofs.Common.{◌≡◌, ℕ, List, [], ◌∷◌, ◌++◌, Option, Some, Err, refl, sym, ap, subst, ◌∙◌, append_assoc}
 use Rattle.std.specs.List.{flat_map, AllByRecursion}
 use Rattle.std.proofs.lemmas.List.{append-nil}
 use Rattle.std.proofs.lemmas.List.Concat.{flat_map-cons, flat_map-append}
 use Rattle.frame_codec.specs.declared.frame.Frame.{Frame}
 use Rattle.frame_codec.specs.declared.reader.ReadFault.{ReadFault}
 use Rattle.frame_codec.specs.Frames.{encoding, IsFrame}
-use Rattle.frame_codec.specs.Streams.{Advances, Begins, Reads, Stops, Feeds, FeedsAll, IsPartial, joined_pieces}
+use Rattle.frame_codec.specs.Streams.{Begins, Reads, Stops, Feeds, FeedsAll, IsPartial, joined_pieces}
 use Rattle.frame_codec.proofs.Prefixes.{nothing_partial}
 use Rattle.frame_codec.proofs.Unique.{one_reading}
 
@@ -47,16 +47,6 @@ reads_on bytes fs gs rest more b r = record { begins = begins_both bytes fs gs r
 pub stops_on : (bytes : List ℕ) (fs gs : List Frame) (rest : List ℕ) (fault : ReadFault) → Begins bytes fs rest → Stops rest gs fault →
     Stops bytes (fs ++ gs) fault
 stops_on bytes fs gs rest fault b s = (s.0, begins_both bytes fs gs rest s.0 b s.1, s.2)
-
--- a frame was added, and then others
-pub added_on : (old mid new : List Frame) (f : Frame) (gs : List Frame) → mid ≡ old ++ f ∷ [] → new ≡ mid ++ gs → new ≡ old ++ (f ∷ [] ++ gs)
-added_on old mid new f gs one others = others ∙ ap (λ (x : List Frame). x ++ gs) one ∙ append_assoc old (f ∷ []) gs
-
--- what a piece does after frames that it has finished
-pub advances_on : (old piece : List ℕ) (fs : List Frame) (rest : List ℕ) (answer : Result (Unit {0}) ReadFault) (gs : List Frame) (new : List ℕ) →
-    Begins (old ++ piece) fs rest → Advances [] rest answer gs new → Advances old piece answer (fs ++ gs) new
-advances_on old piece fs rest (Ok done) gs new b a = reads_on (old ++ piece) fs gs rest new b a
-advances_on old piece fs rest (Err fault) gs new b a = stops_on (old ++ piece) fs gs rest fault b a
 
 -- ---- pieces one after another
 

@@ -1,8 +1,9 @@
 -- What a stream of bytes says: its frames, and what stands after them.
-use Rattle.std.specs.Prelude.{◌≡◌, ◌<◌, ◌≤◌, ◌+◌, ◌==◌, ℕ, List, [], ◌∷◌, ◌++◌, length, slice_index, Option, Some, None, Result, Ok, Err, ◌||◌, Bool, true, false}
+use Rattle.std.specs.Prelude.{◌≡◌, ◌<◌, ◌≤◌, ◌+◌, ◌==◌, ℕ, List, [], ◌∷◌, ◌++◌, length, slice_index, take, option_to_list, Option, Some, None, IfSome, IfNone, Result, Ok, Err, ◌||◌, Bool, true, false}
 use Rattle.std.specs.List.{flat_map, AllByRecursion}
 use Rattle.frame_codec.specs.declared.frame.Frame.{Frame}
 use Rattle.frame_codec.specs.declared.reader.ReadFault.{ReadFault}
+use Rattle.frame_codec.specs.declared.reader.Taken.{Taken}
 use Rattle.frame_codec.specs.declared.reader.ReadFault.TheVariants.{TooLong, UnknownKind, BadPayload, Memory, Failed}
 use Rattle.frame_codec.specs.Numbers.{number_in}
 use Rattle.frame_codec.specs.Frames.{IsFrame, encoding, payload_limit}
@@ -61,16 +62,29 @@ pub record Reads (stream : List ℕ) (frames : List Frame) (rest : List ℕ) : T
 abbrev pub Stops : List ℕ → List Frame → ReadFault → Type 0
 Stops stream frames fault = (rest : List ℕ) × Begins stream frames rest × StopsAt fault rest
 
--- What a piece does to the bytes of an unfinished frame: the answer, the frames that are whole now, and the unfinished frame's bytes then.
-abbrev pub Advances : List ℕ → List ℕ → Result (Unit {0}) ReadFault → List Frame → List ℕ → Type 0
-Advances old piece (Ok done) frames new = Reads (old ++ piece) frames new
-Advances old piece (Err fault) frames new = Stops (old ++ piece) frames fault
-
 -- What a piece does to a reader, which is None once it has stopped.
 abbrev pub Feeds : Option (List ℕ) → List ℕ → Result (Unit {0}) ReadFault → List Frame → Option (List ℕ) → Type 0
 Feeds None piece answer frames new = (answer ≡ Err Failed) × (frames ≡ []) × (new ≡ None)
 Feeds (Some old) piece (Ok done) frames new = (rest : List ℕ) × Reads (old ++ piece) frames rest × (new ≡ Some rest)
 Feeds (Some old) piece (Err fault) frames new = Stops (old ++ piece) frames fault × (new ≡ None)
+
+-- The first frame that a piece completes: the bytes taken are fed, they are those up to that frame's end, of which it needs one at
+-- least, or the whole piece where it completes none.
+pub record TakesFrame (old : Option (List ℕ)) (piece : List ℕ) (taken : Taken) (new : Option (List ℕ)) : Type 0 where
+  pub within : taken.count ≤ length piece
+  pub fed : Feeds old (take taken.count piece) (Ok tt) (option_to_list taken.frame) new
+  pub whole : IfNone taken.frame (taken.count ≡ length piece)
+  pub ends : IfSome taken.frame (λ _. (0 < taken.count) × (new ≡ Some []))
+
+-- What a piece does to a reader that stops at the end of the first frame. A fault comes in that frame's place.
+abbrev pub FeedsFrame : Option (List ℕ) → List ℕ → Result Taken ReadFault → Option (List ℕ) → Type 0
+FeedsFrame old piece (Ok taken) new = TakesFrame old piece taken new
+FeedsFrame old piece (Err fault) new = Feeds old piece (Err fault) [] new
+
+-- how many bytes of an unfinished frame a reader keeps
+abbrev pub unfinished_size : Option (List ℕ) → ℕ
+unfinished_size None = 0
+unfinished_size (Some bytes) = length bytes
 
 -- Pieces fed to a reader one after another, each without a fault: the frames that they gave, and the rest that the reader keeps.
 abbrev pub FeedsAll : List ℕ → List (List ℕ) → List Frame → List ℕ → Type 0

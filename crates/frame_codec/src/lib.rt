@@ -16,6 +16,6 @@ mod refusal;
 mod writer;
 
 pub use frame::{Bytes, Bytes32, Frame, Rows, Words};
-pub use reader::{ReadFault, Reader};
+pub use reader::{ReadFault, Reader, Taken};
 pub use refusal::Refusal;
 pub use writer::{write_frame, write_hint_part};

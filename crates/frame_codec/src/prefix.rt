@@ -3,7 +3,7 @@
 ghost use Rattle.std.specs.Prelude.{◌≡◌, ◌<◌, ◌≤◌, ℕ, List, ◌++◌, IfOk, IfErr, IfSome, IfNone, length, take};
 ghost use Rattle.frame_codec.specs.declared.frame.Frame.{Frame};
 ghost use Rattle.frame_codec.specs.Frames.{IsFrame, encoding};
-ghost use Rattle.frame_codec.specs.Streams.{Begins, HasFault, HasFrame, IsPartial, IsReadable, Reads, Stops, StopsAt, is_kind};
+ghost use Rattle.frame_codec.specs.Streams.{HasFault, HasFrame, IsPartial, IsReadable, StopsAt, is_kind};
 
 use crate::frame::Frame;
 use crate::numbers::u32_at;
@@ -90,22 +90,4 @@ pub fn frame_at<'a>(alloc: Global, bytes: &'a [u8]) -> Result<Option<(Frame, &'a
         None => Err(ReadFault::BadPayload),
         Some(frame) => Ok(Some((frame, beyond))),
     }
-}
-
-/// Adds the frames at the beginning, up to the first that is not whole or is bad, and answers what has
-/// come of that one. `Memory` comes only where another frame stands after those.
-pub fn scan<'a>(alloc: Global, bytes: &'a [u8], out: &mut Vec<Frame>) -> Result<&'a [u8], ReadFault>
-    ensures ok { IfOk result (λ rest. (frames : List Frame) ×
-        (out.new.items ≡ out.old.items ++ frames) × Reads bytes.now frames rest.now) }
-    ensures err { IfErr result (λ fault. (frames : List Frame) ×
-        (out.new.items ≡ out.old.items ++ frames) × Stops bytes.now frames fault) }
-    ensures memory { IfErr result (λ fault. fault ≡ ReadFault.Memory →
-        (frames : List Frame) × (rest : List ℕ) × Begins bytes.now frames rest × HasFrame rest) }
-{
-    let mut rest = bytes;
-    while let Some((frame, beyond)) = frame_at(alloc, rest)? {
-        out.push(frame)?;
-        rest = beyond;
-    }
-    Ok(rest)
 }

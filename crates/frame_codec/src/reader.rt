@@ -1,12 +1,12 @@
 //! Frames out of a stream that comes in pieces.
 
-ghost use Rattle.std.specs.Prelude.{◌≡◌, ◌↔◌, ◌-◌, IsTrue, ℕ, List, [], ◌∷◌, ◌++◌, length, take, drop, None, Some, IfOk, IfErr, IfSome, IfNone, OnOk, vec_capacity};
+ghost use Rattle.std.specs.Prelude.{◌≡◌, ◌≤◌, ◌↔◌, ◌-◌, IsTrue, ℕ, List, [], ◌∷◌, ◌++◌, length, take, drop, None, Some, IfOk, IfErr, IfSome, IfNone, OnOk, OnErr, vec_capacity};
 ghost use Rattle.frame_codec.specs.declared.frame.Frame.{Frame};
 ghost use Rattle.frame_codec.specs.Frames.{IsFrame, encoding};
-ghost use Rattle.frame_codec.specs.Streams.{Feeds, Advances, IsPartial, StopsAt};
+ghost use Rattle.frame_codec.specs.Streams.{Feeds, FeedsFrame, TakesFrame, IsPartial, StopsAt, unfinished_size};
 
 use crate::frame::Frame;
-use crate::prefix::{frame_at, scan, split_frame_len};
+use crate::prefix::{frame_at, split_frame_len};
 use std::alloc::{AllocError, AllocFailed, Global};
 use std::marker::Model;
 use thiserror::Error;
@@ -51,6 +51,15 @@ impl<T: Drop> From<AllocFailed<T>> for ReadFault {
     }
 }
 
+/// What a reader took of a piece: nothing after the first frame that the piece completes.
+#[derive(Drop)]
+pub struct Taken {
+    /// How many bytes of the piece, from its start on.
+    pub count: usize,
+    /// The frame that they complete. Without one the whole piece was taken.
+    pub frame: Option<Frame>,
+}
+
 /// The bytes of an unfinished frame, or that the stream has failed: then it keeps none, and no room for any.
 #[derive(Drop)]
 pub struct Reader {
@@ -90,6 +99,13 @@ impl Reader {
         !self.failed && self.pending.is_empty()
     }
 
+    /// How many bytes of an unfinished frame it keeps.
+    pub fn unfinished_len(&self) -> usize
+        ensures { result ≡ unfinished_size self.now }
+    {
+        if self.failed { 0 } else { self.pending.len() }
+    }
+
     /// Takes the next piece of the stream, and adds each frame that is whole now to `out`.
     ///
     /// A fault comes with the piece that has the byte by which it is judged. The whole frames before
@@ -101,82 +117,129 @@ impl Reader {
         ensures { (frames : List Frame) × (out.new.items ≡ out.old.items ++ frames) ×
             Feeds self.old piece.now result frames self.new }
     {
+        let mut rest = piece;
+        'frames: loop {
+            let Taken { count, frame } = self.feed_frame(rest)?;
+            let Some(frame) = frame else {
+                return Ok(());
+            };
+            let Ok(()) = add(frame, out) else {
+                self.fail();
+                return Err(ReadFault::Memory);
+            };
+            let (_, beyond) = rest.split_at(count);
+            rest = beyond;
+        }
+    }
+
+    /// Takes the next piece of the stream up to the end of the first frame that is whole then, and answers that
+    /// frame and how many bytes were taken. Where no frame is whole the whole piece was taken.
+    ///
+    /// # Errors
+    ///
+    /// As [`Reader::feed`], where the fault comes in the place of the first frame. What had come of that one is
+    /// given up with its room, and every later feed answers `Failed`.
+    pub fn feed_frame(&mut self, piece: &[u8]) -> Result<Taken, ReadFault>
+        ensures { FeedsFrame self.old piece.now result self.new }
+    {
         if self.failed {
             return Err(ReadFault::Failed);
         }
-        let answer = advance(self.alloc, &mut self.pending, piece, out);
+        let answer = advance(self.alloc, &mut self.pending, piece);
         if answer.is_err() {
-            // What had come of the bad frame is of no more use.
+            // What had come of the bad one is of no more use.
             self.pending = Vec::new(self.alloc);
             self.failed = true;
         }
         answer
     }
+
+    /// Stops for good. What had come of an unfinished frame is of no more use.
+    fn fail(&mut self)
+        ensures { self.new ≡ None }
+    {
+        self.pending = Vec::new(self.alloc);
+        self.failed = true;
+    }
 }
 
-/// Reads a piece after an unfinished frame, and keeps what has come of the next one.
-fn advance(
-    alloc: Global,
-    pending: &mut Vec<u8>,
-    piece: &[u8],
-    out: &mut Vec<Frame>,
-) -> Result<(), ReadFault>
+/// Adds a frame.
+fn add(frame: Frame, out: &mut Vec<Frame>) -> Result<(), AllocError>
+    ensures ok { OnOk result (out.new.items ≡ out.old.items ++ frame ∷ []) }
+    ensures err { OnErr result (out.new.items ≡ out.old.items) }
+{
+    out.push(frame)?;
+    Ok(())
+}
+
+/// Reads a piece after an unfinished frame, up to the end of the first frame that is whole then, and keeps what
+/// has come of an unfinished one.
+fn advance(alloc: Global, pending: &mut Vec<u8>, piece: &[u8]) -> Result<Taken, ReadFault>
     requires { IsPartial pending.old.items }
-    ensures { (frames : List Frame) × (out.new.items ≡ out.old.items ++ frames) ×
-        Advances pending.old.items piece.now result frames pending.new.items }
+    ensures ok { IfOk result (λ taken. TakesFrame (Some pending.old.items) piece.now taken
+        (Some pending.new.items)) }
+    ensures err { IfErr result (λ fault. StopsAt fault (pending.old.items ++ piece.now)) }
 {
     if pending.is_empty() {
-        return start(alloc, pending, piece, out);
+        return start(alloc, pending, piece);
     }
-    match finish(alloc, pending, piece, out)? {
-        None => Ok(()),
-        Some(rest) => start(alloc, pending, rest, out),
+    match finish(alloc, pending, piece)? {
+        None => Ok(Taken {
+            count: piece.len(),
+            frame: None,
+        }),
+        Some((frame, rest)) => Ok(Taken {
+            count: piece.len() - rest.len(),
+            frame: Some(frame),
+        }),
     }
 }
 
 /// Reads a piece where no frame is unfinished.
-fn start(
-    alloc: Global,
-    pending: &mut Vec<u8>,
-    piece: &[u8],
-    out: &mut Vec<Frame>,
-) -> Result<(), ReadFault>
+fn start(alloc: Global, pending: &mut Vec<u8>, piece: &[u8]) -> Result<Taken, ReadFault>
     requires { pending.old.items ≡ [] }
-    ensures { (frames : List Frame) × (out.new.items ≡ out.old.items ++ frames) ×
-        Advances [] piece.now result frames pending.new.items }
+    ensures ok { IfOk result (λ taken. TakesFrame (Some []) piece.now taken
+        (Some pending.new.items)) }
+    ensures err { IfErr result (λ fault. StopsAt fault piece.now) }
 {
-    let rest = scan(alloc, piece, out)?;
-    pending.extend_from_slice(rest)?;
-    Ok(())
+    match frame_at(alloc, piece)? {
+        None => {
+            pending.extend_from_slice(piece)?;
+            Ok(Taken {
+                count: piece.len(),
+                frame: None,
+            })
+        }
+        Some((frame, rest)) => Ok(Taken {
+            count: piece.len() - rest.len(),
+            frame: Some(frame),
+        }),
+    }
 }
 
-/// Gives an unfinished frame what it lacks. Where it is whole then, it is added, its room is given back,
-/// and what is left of the piece is answered.
+/// Gives an unfinished frame what it lacks. Where it is whole then, its room is given back, and it is answered
+/// with what is left of the piece.
 fn finish<'a>(
     alloc: Global,
     pending: &mut Vec<u8>,
     piece: &'a [u8],
-    out: &mut Vec<Frame>,
-) -> Result<Option<&'a [u8]>, ReadFault>
+) -> Result<Option<(Frame, &'a [u8])>, ReadFault>
     requires { IsPartial pending.old.items }
-    ensures whole { IfOk result (λ o. IfSome o (λ rest. (frame : Frame) ×
-        (out.new.items ≡ out.old.items ++ frame ∷ [])
-        × IsFrame frame × (pending.old.items ++ piece.now ≡ encoding frame ++ rest.now) ×
-        (pending.new.items ≡ []))) }
+    ensures whole { IfOk result (λ o. IfSome o (λ found. IsFrame found.0
+        × (pending.old.items ++ piece.now ≡ encoding found.0 ++ found.1.now)
+        × (length found.1.now ≤ length piece.now) × (pending.new.items ≡ []))) }
     ensures room { IfOk result (λ o. IfSome o (λ _. vec_capacity pending.new ≡ 0)) }
-    ensures partial { IfOk result (λ o. IfNone o ((out.new.items ≡ out.old.items) ×
-        (pending.new.items ≡ pending.old.items ++ piece.now) × IsPartial pending.new.items)) }
-    ensures err { IfErr result (λ fault. (out.new.items ≡ out.old.items) ×
-        StopsAt fault (pending.old.items ++ piece.now)) }
+    ensures partial { IfOk result (λ o. IfNone o
+        ((pending.new.items ≡ pending.old.items ++ piece.now) × IsPartial pending.new.items)) }
+    ensures err { IfErr result (λ fault. StopsAt fault (pending.old.items ++ piece.now)) }
 {
     let rest = fill(pending, piece)?;
     let Some((frame, _)) = frame_at(alloc, pending)? else {
         return Ok(None);
     };
-    out.push(frame)?;
     // A long frame's room is given back.
     *pending = Vec::new(alloc);
-    Ok(Some(rest))
+    Ok(Some((frame, rest)))
 }
 
 /// Gives an unfinished frame what it lacks: its header and its payload. Answers the rest of the piece. The
@@ -188,6 +251,7 @@ fn fill<'a>(pending: &mut Vec<u8>, piece: &'a [u8]) -> Result<&'a [u8], ReadFaul
     ensures alone { OnOk result ((f : Frame) (more : List ℕ) → IsFrame f →
         pending.new.items ≡ encoding f ++ more → more ≡ []) }
     ensures until { IfOk result (λ rest. IsPartial pending.new.items → rest.now ≡ []) }
+    ensures rest { IfOk result (λ rest. length rest.now ≤ length piece.now) }
     ensures err { IfErr result (λ fault. StopsAt fault (pending.old.items ++ piece.now)) }
 {
     let size = split_frame_len(pending, piece)?;

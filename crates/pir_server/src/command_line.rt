@@ -1,5 +1,6 @@
 //! The command line.
 
+use crate::run_line::{Running, run_command, running_of};
 use clap::{ArgMatches, Command};
 use command_words::{BadLine, Secret, key_at, number_at, option, seed_at, text_at};
 use std::alloc::{AllocError, Global};
@@ -67,6 +68,15 @@ pub struct Migrating<'a> {
     pub out: &'a str,
 }
 
+/// Whose publisher's key is to be changed.
+#[derive(Clone, Copy)]
+pub struct Rekeying<'a> {
+    /// The snapshot file.
+    pub file: &'a str,
+    /// The publisher's key from now on.
+    pub key: Secret<'a>,
+}
+
 /// What the words ask for.
 #[derive(Clone, Copy)]
 pub enum Task<'a> {
@@ -74,10 +84,14 @@ pub enum Task<'a> {
     Make(Making<'a>),
     /// A snapshot file of the same records in slots.
     Migrate(Migrating<'a>),
+    /// A snapshot file whose publisher gets another key.
+    Rekey(Rekeying<'a>),
     /// What the snapshot file of this name holds.
     Show(&'a str),
-    /// A snapshot file served over connections.
+    /// A snapshot file served over connections, one after the other.
     Serve(Serving<'a>),
+    /// A snapshot file served over many connections side by side.
+    Run(Running<'a>),
     /// One database served over standard input and output.
     Once,
 }
@@ -149,6 +163,28 @@ fn migrate_command<'a>(alloc: Global) -> Result<Command<'a>, AllocError> {
 const MIGRATE_EXAMPLE: &str =
     "Prints 'migrated COUNT VERSION'. A slot has two bytes more than the record had: its length. Version, seed and the\npublisher's key stay; hints of the old file are of no use with the new one.\n\nExample: pir_server migrate --file two.pir --out slots.pir";
 
+// The command `rekey`.
+fn rekey_command<'a>(alloc: Global) -> Result<Command<'a>, AllocError> {
+    Command::new(alloc, "rekey")
+        .about("Gives a snapshot file another publisher's key, while no server serves it")
+        .after_help(REKEY_EXAMPLE)
+        .arg(option(
+            alloc,
+            "file",
+            "FILE",
+            "The snapshot file, which is replaced",
+        ))?
+        .arg(option(
+            alloc,
+            "key",
+            "HEX",
+            "The publisher's key from now on: 32 bytes as 64 hex digits, not all 0, or @FILE; the snapshot keeps its SHA-256 alone",
+        ))
+}
+
+const REKEY_EXAMPLE: &str =
+    "Prints 'rekeyed COUNT VERSION'. Records, version and seed stay, so all hints stay good. The old key is of no use from\nthen on.\n\nExample: pir_server rekey --file two.pir --key @key.txt";
+
 // The command `show`.
 fn show_command<'a>(alloc: Global) -> Result<Command<'a>, AllocError> {
     Command::new(alloc, "show")
@@ -174,7 +210,7 @@ fn serve_command<'a>(alloc: Global) -> Result<Command<'a>, AllocError> {
             alloc,
             "file",
             "FILE",
-            "The snapshot file; it is written anew at the end where a version was published",
+            "The snapshot file; it is replaced after each connection that published a version",
         ))?
         .arg(option(
             alloc,
@@ -212,8 +248,10 @@ fn whole_command<'a>(alloc: Global) -> Result<Command<'a>, AllocError> {
         .after_help(EXIT_STATUSES)
         .subcommand(make_command(alloc)?)?
         .subcommand(migrate_command(alloc)?)?
+        .subcommand(rekey_command(alloc)?)?
         .subcommand(show_command(alloc)?)?
         .subcommand(serve_command(alloc)?)?
+        .subcommand(run_command(alloc)?)?
         .subcommand(once_command(alloc))
 }
 
@@ -221,7 +259,7 @@ fn whole_command<'a>(alloc: Global) -> Result<Command<'a>, AllocError> {
 const VERSION: &str = "0.1.0";
 
 const EXIT_STATUSES: &str =
-    "Without a command: once.\n\nA value @FILE of --seed or --key is read from that file; one on the command line itself stands in the list of\nprocesses, for other users of this machine to see.\n\nExit status: 0 done, 2 a bad command line, 3 a fault, 4 out of memory.\n\nA fault is one line on standard error, 'fault: NAME':\n  File           a file can't be opened or made\n  Read, Write    reading or writing failed\n  BadRecords     the input of make is not whole records, or lines that are none, or too many bytes\n  BadLayout      no store has these sizes\n  NotSnapshot, Short, BadDigest, TrailingBytes, BadSlot   a file that is no whole snapshot\n  NotFormOne     the records that migrate is to move stand in slots already\n  TooWide        no store has records of two bytes more\n  Connect        the port can't be listened on\n  BadInput       the input of once can't be served; its last reply is Refused 1\n  TurnsUsedUp    more reads than a session has\n  Memory         memory was refused (status 4)";
+    "Without a command: once.\n\nA value @FILE of --seed or --key is read from that file; one on the command line itself stands in the list of\nprocesses, for other users of this machine to see.\n\nExit status: 0 done, 2 a bad command line, 3 a fault, 4 out of memory.\n\nA fault is one line on standard error, 'fault: NAME':\n  File           a file can't be opened or made\n  Read, Write    reading or writing failed\n  BadRecords     the input of make is not whole records, or lines that are none, or too many bytes\n  BadLayout      no store has these sizes\n  NotSnapshot, Short, BadDigest, TrailingBytes, BadSlot   a file that is no whole snapshot\n  NotFormOne     the records that migrate is to move stand in slots already\n  TooWide        no store has records of two bytes more\n  Locked         another process serves or replaces the file\n  Connect        the port can't be listened on\n  BadInput       the input of once can't be served; its last reply is Refused 1\n  TurnsUsedUp    more reads than a session has\n  Memory         memory was refused (status 4)";
 
 // What the words of `make` ask for.
 fn making_of<'a>(found: &ArgMatches<'a>) -> Result<Making<'a>, BadLine<'a>> {
@@ -255,6 +293,14 @@ fn migrating_of<'a>(found: &ArgMatches<'a>) -> Result<Migrating<'a>, BadLine<'a>
     })
 }
 
+// What the words of `rekey` ask for.
+fn rekeying_of<'a>(found: &ArgMatches<'a>) -> Result<Rekeying<'a>, BadLine<'a>> {
+    Ok(Rekeying {
+        file: text_at(found, "file", FILE_TAKES)?,
+        key: key_at(found, "key", KEY_TAKES)?,
+    })
+}
+
 // What the words of `serve` ask for.
 fn serving_of<'a>(found: &ArgMatches<'a>) -> Result<Serving<'a>, BadLine<'a>> {
     Ok(Serving {
@@ -278,11 +324,17 @@ pub fn task_of<'a>(alloc: Global, words: &'a [String]) -> Result<Task<'a>, BadLi
     if let Some(found) = matches.subcommand_matches("migrate") {
         return Ok(Task::Migrate(migrating_of(found)?));
     }
+    if let Some(found) = matches.subcommand_matches("rekey") {
+        return Ok(Task::Rekey(rekeying_of(found)?));
+    }
     if let Some(found) = matches.subcommand_matches("show") {
         return Ok(Task::Show(text_at(found, "file", FILE_TAKES)?));
     }
     if let Some(found) = matches.subcommand_matches("serve") {
         return Ok(Task::Serve(serving_of(found)?));
+    }
+    if let Some(found) = matches.subcommand_matches("run") {
+        return Ok(Task::Run(running_of(found)?));
     }
     Ok(Task::Once)
 }

@@ -1,8 +1,10 @@
 //! The commands, and how each ends.
 
 use crate::command_line::{Making, Migrating, Task, task_of};
-use crate::files::{Content, moved_of, write_file};
+use crate::files::{RecordsOf, lock_of, moved_of, write_file};
 use crate::making::make;
+use crate::rekeying::rekey;
+use crate::running::run_file;
 use crate::serving::serve_file;
 use crate::showing::show;
 use command_words::{Failure, program_words};
@@ -36,8 +38,10 @@ fn done(rt: &HostRuntime, task: Task<'_>) -> Result<(), Failure> {
     match task {
         Task::Make(making) => make_file(rt, &making),
         Task::Migrate(migrating) => migrate_file(rt, &migrating),
+        Task::Rekey(rekeying) => rekey(rt, &rekeying),
         Task::Show(file) => show(rt, file),
         Task::Serve(serving) => serve_file(rt, &serving),
+        Task::Run(running) => run_file(rt, &running),
         Task::Once => serve_once(rt),
     }
 }
@@ -53,9 +57,10 @@ fn make_file(rt: &HostRuntime, making: &Making<'_>) -> Result<(), Failure> {
 
 // Moves the records of a snapshot file into slots, and tells how many there are and their version.
 fn migrate_file(rt: &HostRuntime, migrating: &Migrating<'_>) -> Result<(), Failure> {
+    let _lock = lock_of(rt, migrating.out)?;
     let moved = moved_of(rt, migrating.file)?;
     let header = moved.header();
-    let content = Content::Records {
+    let content = RecordsOf {
         header: &header,
         bytes: &moved.records,
     };

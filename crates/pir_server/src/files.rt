@@ -1,32 +1,62 @@
 //! Snapshot files.
 
 ghost use Rattle.std.specs.Prelude.{◌≤◌, IfOk};
-ghost use Rattle.snapshot_file.specs.Snapshots.{IsSnapshot, header_of};
+ghost use Rattle.snapshot_file.specs.Snapshots.{IsSnapshot, header_of, snapshot_bytes};
+ghost use Rattle.version_store.specs.Openings.{snapshot_of};
 
 use command_words::Failure;
+use safe_files::{
+    Content, ContentFault, FileLock, LockFault, Place, ReplaceFault, lock_beside, replace,
+};
 use session_core::{
     Header, Lanes, MigrateError, OpenError, Snapshot, SnapshotFault, Store, WriteFault, migrate,
     read_snapshot, write_snapshot, write_snapshot_bytes,
 };
+use std::alloc::Global;
 use std::fs;
 use std::fs::File;
+use std::io::Write;
 
-/// What a snapshot file is made of.
+/// The snapshot of a store's current version, as a file is to hold it.
 #[derive(Clone, Copy)]
-pub enum Content<'a> {
-    /// The current version of a store.
-    Version(&'a Store<Lanes>),
-    /// Records of which no store is made.
-    Records {
-        /// What they are records of.
-        header: &'a Header,
-        /// Their bytes, one record after the other.
-        bytes: &'a [u8],
-    },
+pub struct VersionOf<'a>(pub &'a Store<Lanes>);
+
+/// The snapshot of records of which no store is made.
+#[derive(Clone, Copy)]
+pub struct RecordsOf<'a> {
+    /// What they are records of.
+    pub header: &'a Header,
+    /// Their bytes, one record after the other.
+    pub bytes: &'a [u8],
+}
+
+impl Content for VersionOf<'_> {
+    ghost bytes = { λ content. snapshot_of content.0.now };
+
+    fn write_to<W: Write>(&self, alloc: Global, writer: &mut W) -> Result<(), ContentFault> {
+        match write_snapshot(alloc, self.0, writer) {
+            Ok(()) => Ok(()),
+            Err(fault) => Err(content_fault(fault)),
+        }
+    }
+}
+
+impl Content for RecordsOf<'_> {
+    ghost bytes = { λ content. snapshot_bytes content.header.now content.bytes.now };
+
+    fn write_to<W: Write>(&self, alloc: Global, writer: &mut W) -> Result<(), ContentFault> {
+        match write_snapshot_bytes(alloc, self.header, self.bytes, writer) {
+            Ok(()) => Ok(()),
+            Err(fault) => Err(content_fault(fault)),
+        }
+    }
 }
 
 /// The failure of a file that can't be opened or made.
 const NO_FILE: Failure = Failure::Fault("File");
+
+/// The failure of a file that can't be written.
+const NOT_WRITTEN: Failure = Failure::Fault("Write");
 
 /// The store of a snapshot file.
 ///
@@ -66,76 +96,73 @@ pub fn moved_of(rt: &HostRuntime, name: &str) -> Result<Snapshot, Failure> {
     migrate(rt.alloc(), &snapshot).map_err(migrate_failure)
 }
 
-/// Writes a snapshot to a file that is made, or takes the place of the file of this name: first to a file beside it, with
-/// `.new` after its name, which is then given its name. So the file is whole at any time, the old one or the new one.
-/// What is no file, as a terminal, is written to as it is.
+/// Writes a snapshot to a file that is made, or replaces the file of this name: the file is whole at any moment, the old
+/// one or the new one. What is no file, as a terminal, is written to as it is.
 ///
 /// # Errors
 ///
-/// `File` where the file beside it can't be made or can't be given the name, `Write`, `Memory`. The old file is then left
-/// as it was, and none stands beside it.
-pub fn write_file(rt: &HostRuntime, name: &str, content: &Content<'_>) -> Result<(), Failure> {
-    let real = real_name(rt, name);
-    let name = real.as_ref().map_or(name, |real| real.as_str());
-    if is_written_in_place(rt, name) {
-        return write_new(rt, name, content);
+/// `File` where no file can be made beside it, or can't be given the name; `Write` where it can't be written or sent to
+/// the device; `Memory`. None is left beside it.
+pub fn write_file<C: Content>(rt: &HostRuntime, name: &str, content: &C) -> Result<(), Failure> {
+    let mut place = Place::of(rt, name)?;
+    if place.is_no_file() {
+        return write_in_place(rt, place.name(), content);
     }
-    let beside = format!(in rt.alloc(); "{name}.new")?;
-    let Err(failure) = write_beside(rt, name, &beside, content) else {
-        return Ok(());
-    };
-    // It has done what it could; the first failure is the one to report.
-    let _ = fs::remove_file(rt, beside.as_str());
-    Err(failure)
-}
-
-// The name of the file that a link leads to, where there is a file and its name is text.
-fn real_name(rt: &HostRuntime, name: &str) -> Option<String> {
-    let path = fs::canonicalize(rt, name).ok()?;
-    String::from_str(rt.alloc(), path.to_str()?).ok()
-}
-
-// Whether there is something of this name that is no file.
-fn is_written_in_place(rt: &HostRuntime, name: &str) -> bool {
-    match fs::metadata(rt, name) {
-        Ok(found) => !found.is_file(),
-        Err(_) => false,
-    }
-}
-
-// Writes a file beside another, and gives it that one's name.
-fn write_beside(
-    rt: &HostRuntime,
-    name: &str,
-    beside: &str,
-    content: &Content<'_>,
-) -> Result<(), Failure> {
-    write_new(rt, beside, content)?;
-    match fs::rename(rt, beside, name) {
+    match replace(rt.alloc(), &mut place, content) {
         Ok(()) => Ok(()),
-        Err(_) => Err(NO_FILE),
+        Err(fault) => Err(replace_failure(fault)),
     }
 }
 
-// Makes a file, or empties it, and writes a snapshot to it, all the way to its device.
-fn write_new(rt: &HostRuntime, name: &str, content: &Content<'_>) -> Result<(), Failure> {
+/// Takes the lock of a file that is to be read and replaced, until the value is dropped. There is none where nothing
+/// stands of this name, or no file.
+///
+/// # Errors
+///
+/// `Locked` where another process has it, `File` where it can't be taken, `Memory`.
+pub fn lock_of(rt: &HostRuntime, name: &str) -> Result<Option<FileLock>, Failure> {
+    match fs::metadata(rt, name) {
+        Ok(found) if found.is_file() => {}
+        _ => return Ok(None),
+    }
+    match lock_beside(rt, name) {
+        Ok(lock) => Ok(Some(lock)),
+        Err(LockFault::Held) => Err(Failure::Fault("Locked")),
+        Err(LockFault::File) => Err(NO_FILE),
+        Err(LockFault::Memory) => Err(Failure::Memory),
+    }
+}
+
+// Writes a content to what is no file.
+fn write_in_place<C: Content>(rt: &HostRuntime, name: &str, content: &C) -> Result<(), Failure> {
     let Ok(mut file) = File::create(rt, name) else {
         return Err(NO_FILE);
     };
-    let written = match content {
-        Content::Version(store) => write_snapshot(rt.alloc(), store, &mut file),
-        Content::Records { header, bytes } => {
-            write_snapshot_bytes(rt.alloc(), header, bytes, &mut file)
-        }
-    };
-    match written {
+    match content.write_to(rt.alloc(), &mut file) {
         Ok(()) => {}
-        Err(WriteFault::Write) => return Err(Failure::Fault("Write")),
-        Err(WriteFault::Memory) => return Err(Failure::Memory),
+        Err(ContentFault::Write) => return Err(NOT_WRITTEN),
+        Err(ContentFault::Memory) => return Err(Failure::Memory),
     }
     match file.sync_all() {
         Ok(()) => Ok(()),
-        Err(_) => Err(Failure::Fault("Write")),
+        Err(_) => Err(NOT_WRITTEN),
+    }
+}
+
+// The failure that a file which was not replaced is.
+fn replace_failure(fault: ReplaceFault) -> Failure {
+    match fault {
+        ReplaceFault::Make | ReplaceFault::Rename => NO_FILE,
+        ReplaceFault::Write | ReplaceFault::Sync | ReplaceFault::SyncFolder => NOT_WRITTEN,
+        ReplaceFault::Memory => Failure::Memory,
+    }
+}
+
+// What a snapshot that was not written is to a file.
+fn content_fault(fault: WriteFault) -> ContentFault {
+    match fault {
+        WriteFault::Write => ContentFault::Write,
+        WriteFault::Memory => ContentFault::Memory,
     }
 }
 

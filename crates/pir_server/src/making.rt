@@ -4,7 +4,7 @@ ghost use Rattle.std.specs.Prelude.{◌≡◌, ◌≤◌, ◌+◌, ◌*◌, leng
 ghost use Rattle.std.specs.Io.KnownBytes.{Consumes, IsAtEnd};
 
 use crate::command_line::{KEY_TAKES, Making, SEED_TAKES};
-use crate::files::{Content, write_file};
+use crate::files::{RecordsOf, lock_of, write_file};
 use command_words::{Failure, bytes_from_hex};
 use connection_io::{piece_buffer, read_piece};
 use digit_pack::write_slot;
@@ -45,8 +45,8 @@ struct Keys {
 ///
 /// In this order: those of the files of the seed and of the key (`File`, `Value`), those of the input (`Read`,
 /// `BadRecords` where there are more bytes than the largest store has), `BadLayout` where no store has this layout,
-/// `BadRecords` where these are not whole records or a line is none that fits, those of the file (`File`, `Write`).
-/// `Memory` where there was none.
+/// `BadRecords` where these are not whole records or a line is none that fits, those of the file (`Locked` where another
+/// process has the file that is to be replaced, `File`, `Write`). `Memory` where there was none.
 pub fn make(rt: &HostRuntime, making: &Making<'_>) -> Result<u32, Failure> {
     let keys = Keys {
         seed: making.seed.seed(rt, SEED_TAKES)?,
@@ -90,7 +90,8 @@ fn write_made(
     header: &Header,
     bytes: &[u8],
 ) -> Result<u32, Failure> {
-    write_file(rt, making.out, &Content::Records { header, bytes })?;
+    let _lock = lock_of(rt, making.out)?;
+    write_file(rt, making.out, &RecordsOf { header, bytes })?;
     Ok(header.count)
 }
 

@@ -1,10 +1,12 @@
 //! The command `serve`.
 
+ghost use Rattle.std.specs.Prelude.{◌≡◌, IfOk};
+
 use crate::command_line::Serving;
-use crate::files::{Content, store_of, write_file};
+use crate::files::{VersionOf, lock_of, store_of, write_file};
 use command_words::Failure;
 use connection_io::{piece_buffer, read_piece};
-use session_core::{Lanes, ServeFault, ServerCore, serve};
+use session_core::{Lanes, ServeFault, ServerCore, Store, serve};
 use std::io;
 use std::net::{Ipv4Addr, Shutdown, TcpListener, TcpStream};
 use std::time::Duration;
@@ -21,17 +23,19 @@ const DRAIN_WAIT: u64 = 100;
 /// The failure of a port or a connection that can't be opened.
 const NO_CONNECTION: Failure = Failure::Fault("Connect");
 
-/// Serves a snapshot file over connections, one after the other, and writes the file anew where a version was
-/// published.
+/// Serves a snapshot file over connections, one after the other. After each in which a version was published the file is
+/// replaced. No other process serves or replaces it meanwhile.
 ///
 /// # Errors
 ///
-/// In this order: those of the file, the snapshot and the store, `Connect` where the port can't be listened
-/// on, and at the end `File` where the file can't be made anew and `Write` where it can't be written. `Memory`
-/// where there was none. A connection that ends with a fault is reported on standard error, and ends nothing else.
+/// In this order: `Locked` where another process has the file, those of the file, the snapshot and the store, `Connect`
+/// where the port can't be listened on, and after a connection that published `File` where the file can't be made anew
+/// and `Write` where it can't be written. `Memory` where there was none. A connection that ends with a fault is reported
+/// on standard error, and ends nothing else.
 pub fn serve_file(rt: &HostRuntime, serving: &Serving<'_>) -> Result<(), Failure> {
+    let _lock = lock_of(rt, serving.file)?;
     let store = store_of(rt, serving.file)?;
-    let opened = store.version();
+    let mut saved = store.version();
     let mut core = ServerCore::new(rt.alloc(), store);
     let listener = listen(rt, serving.port)?;
     for id in 0..serving.connections {
@@ -39,11 +43,25 @@ pub fn serve_file(rt: &HostRuntime, serving: &Serving<'_>) -> Result<(), Failure
             let name = fault_name(fault);
             let _ = eprintln!(rt; "connection: {name}");
         }
+        saved = save_published(rt, serving.file, core.store(), saved)?;
     }
-    if core.store().version() == opened {
-        return Ok(());
+    Ok(())
+}
+
+// Saves the current version, unless it is the one that was saved last, and answers it.
+fn save_published(
+    rt: &HostRuntime,
+    file: &str,
+    store: &Store<Lanes>,
+    saved: u64,
+) -> Result<u64, Failure>
+    ensures { IfOk result (λ version. version ≡ store.now.version) }
+{
+    let version = store.version();
+    if version != saved {
+        write_file(rt, file, &VersionOf(store))?;
     }
-    write_file(rt, serving.file, &Content::Version(core.store()))
+    Ok(version)
 }
 
 // Listens on a port of 127.0.0.1, and tells which one it is.

@@ -39,6 +39,7 @@ after_step device SyncsFolder = record device { lead = settled device.lead }
 after_step device SyncFolderFails = device
 after_step device Removes = device
 
+-- where steps lead, one after the other
 abbrev pub after_steps : Device → List Step → Device
 after_steps device [] = device
 after_steps device (step ∷ steps) = after_steps (after_step device step) steps

@@ -22,18 +22,22 @@ pub data Step : Type 0 where
   -- the new file was removed, or is left where that failed
   Removes : Step
 
+-- the step that a making was, by its answer
 abbrev pub make_step : {T E : Type 0} → Result T E → Step
 make_step (Ok _) = Makes
 make_step (Err _) = MakeFails
 
+-- the step that a sync of a file was, by what the file shows and the answer
 abbrev pub sync_step : {T E : Type 0} → Option (List ℕ) → Result T E → Step
 sync_step shown (Ok _) = Syncs shown
 sync_step shown (Err _) = SyncFails
 
+-- the step that a renaming was, by what the file shows and the answer
 abbrev pub rename_step : {T E : Type 0} → Option (List ℕ) → Result T E → Step
 rename_step shown (Ok _) = Renames shown
 rename_step shown (Err _) = RenameFails
 
+-- the step that a sync of the folder was, by its answer
 abbrev pub sync_folder_step : {T E : Type 0} → Result T E → Step
 sync_folder_step (Ok _) = SyncsFolder
 sync_folder_step (Err _) = SyncFolderFails

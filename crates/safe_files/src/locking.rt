@@ -41,7 +41,7 @@ impl From<AllocError> for LockFault {
 /// in whatever way.
 #[derive(Drop)]
 pub struct FileLock {
-    _file: File,
+    file: File,
 }
 
 /// Takes the lock on a file of this name, which is made where there is none, and is never to be renamed or removed. It
@@ -58,7 +58,7 @@ pub fn lock(rt: &HostRuntime, name: &str) -> Result<FileLock, LockFault> {
         return Err(LockFault::File);
     }
     match file.try_lock() {
-        Ok(()) => Ok(FileLock { _file: file }),
+        Ok(()) => Ok(FileLock { file }),
         Err(TryLockError::WouldBlock) => Err(LockFault::Held),
         Err(TryLockError::Error(_)) => Err(LockFault::File),
     }
@@ -76,7 +76,7 @@ pub fn lock_beside(rt: &HostRuntime, name: &str) -> Result<FileLock, LockFault> 
     let beside = format!(in rt.alloc(); "{name}.lock")?;
     let taken = lock(rt, beside.as_str())?;
     if let Ok(old) = fs::metadata(rt, name) {
-        keep_owner(&taken._file, &old);
+        keep_owner(&taken.file, &old);
     }
     Ok(taken)
 }

@@ -8,10 +8,10 @@ use std::fs::{File, Metadata, OpenOptions};
 use std::io::ErrorKind;
 use std::os::unix::fs::{MetadataExt, OpenOptionsExt, PermissionsExt, fchown};
 use std::random::RandomSource;
-use std::{fs, io};
+use std::{fs, io, mem};
 
-/// How many names are tried for the file beside.
-const NAMES: u32 = 8;
+/// How many names with random digits are tried for the file beside, after the first name.
+const RANDOM_NAMES: u32 = 7;
 
 /// The mode of a file where there was none: its owner reads and writes it, and nobody else.
 const NEW_MODE: u32 = 0o600;
@@ -29,8 +29,10 @@ pub struct Place<'a> {
     rt: &'a HostRuntime,
     // The name of the file itself, where the name given leads to it by links.
     name: String,
-    // The name of the file that was made.
+    // The name of the file beside that was made last, or that is tried first.
     beside: String,
+    // Names to try where something stands there. The memory for them is had before anything is done.
+    others: Vec<String>,
     // The folder, open since the file was made, so that it can surely be sent to the device later.
     folder: Option<File>,
 }
@@ -42,10 +44,14 @@ impl<'a> Place<'a> {
     ///
     /// `AllocError` where there is no memory for the names.
     pub fn of(rt: &'a HostRuntime, name: &str) -> Result<Place<'a>, AllocError> {
+        let name = real_name(rt, name)?;
+        let beside = format!(in rt.alloc(); "{name}.new")?;
+        let others = random_names(rt, name.as_str())?;
         Ok(Place {
             rt,
-            name: real_name(rt, name)?,
-            beside: String::new(rt.alloc()),
+            name,
+            beside,
+            others,
             folder: None,
         })
     }
@@ -66,11 +72,13 @@ impl<'a> Place<'a> {
     // Makes a new file under the first of some names that nothing has.
     fn make_beside(&mut self) -> io::Result<File> {
         self.folder = Some(File::open(self.rt, folder_of(self.name.as_str()))?);
-        for number in 0..NAMES {
-            self.beside = name_beside(self.rt, self.name.as_str(), number)?;
+        for at in 0..=self.others.len() {
             match new_file(self.rt, self.beside.as_str()) {
                 Err(fault) if fault.kind() == ErrorKind::AlreadyExists => {}
                 made => return made,
+            }
+            if let Some(other) = self.others.get_mut(at) {
+                mem::swap(&mut self.beside, other);
             }
         }
         Err(ErrorKind::AlreadyExists.into())
@@ -157,10 +165,11 @@ pub fn replace_file<C: Content>(
 
 /// The name of the file that a name leads to by links, where there is a file and its name is text; else the name itself.
 pub(crate) fn real_name(rt: &HostRuntime, name: &str) -> Result<String, AllocError> {
-    let Ok(path) = fs::canonicalize(rt, name) else {
-        return String::from_str(rt.alloc(), name);
-    };
-    String::from_str(rt.alloc(), path.to_str().unwrap_or(name))
+    match fs::canonicalize(rt, name) {
+        Ok(path) => String::from_str(rt.alloc(), path.to_str().unwrap_or(name)),
+        Err(fault) if fault.kind() == ErrorKind::OutOfMemory => Err(AllocError),
+        Err(_) => String::from_str(rt.alloc(), name),
+    }
 }
 
 /// Gives a file the owner and the group of another, where the system permits that.
@@ -178,15 +187,18 @@ fn folder_of(name: &str) -> &str {
     }
 }
 
-// A name beside a file: the first is always the same, the others nobody can guess.
-fn name_beside(rt: &HostRuntime, name: &str, number: u32) -> io::Result<String> {
-    if number == 0 {
-        return Ok(format!(in rt.alloc(); "{name}.new")?);
+// Names beside a file that nobody can guess; none where there is no randomness.
+fn random_names(rt: &HostRuntime, name: &str) -> Result<Vec<String>, AllocError> {
+    let mut names = Vec::new(rt.alloc());
+    for _ in 0..RANDOM_NAMES {
+        let mut digits = [0u8; 8];
+        if rt.fill_bytes(&mut digits).is_err() {
+            return Ok(names);
+        }
+        let digits = u64::from_le_bytes(digits);
+        names.push(format!(in rt.alloc(); "{name}.new-{digits:016x}")?)?;
     }
-    let mut digits = [0u8; 8];
-    rt.fill_bytes(&mut digits)?;
-    let digits = u64::from_le_bytes(digits);
-    Ok(format!(in rt.alloc(); "{name}.new-{digits:016x}")?)
+    Ok(names)
 }
 
 // Makes a file where nothing stands.

@@ -3,6 +3,7 @@ pub mod AnswerSizes
 pub mod Courses
 pub mod Hints
 pub mod Pieces
+pub mod Firsts
 pub mod Runs
 pub mod Alike
 pub mod Deltas

@@ -4,9 +4,10 @@ use Rattle.std.specs.Map.{lookup}
 use Rattle.std.specs.BTreeMap.{is_at}
 use Rattle.std.specs.Ordering.{nat_cmp}
 use Rattle.std.specs.declared.alloc.AllocError.{AllocError}
+use Rattle.frame_codec.specs.Streams.{unfinished_size}
 use Rattle.version_store.specs.Histories.{StoreState, History}
 use Rattle.server_core.specs.Serving.{Setting, is_closed}
-use Rattle.server_core.specs.Sessions.{Session, Fed, IsUnread}
+use Rattle.server_core.specs.Sessions.{Session, Fed, FedFirst, IsUnread}
 use Rattle.server_core.specs.declared.server.FeedError.{FeedError}
 use Rattle.server_core.specs.declared.server.FeedError.TheVariants.{NoSession, Memory}
 
@@ -24,6 +25,11 @@ abbrev pub is_open : Option Session → Bool
 is_open None = false
 is_open (Some s) = not (is_closed s.standing)
 
+-- how many bytes of an unfinished frame a session keeps; none where there is no session
+abbrev pub unfinished_in : Option Session → ℕ
+unfinished_in None = 0
+unfinished_in (Some s) = unfinished_size s.unfinished
+
 -- memory was refused to the reading of a session's piece, and its stream has failed
 abbrev pub IsUnreadBy : Option Session → List ℕ → Option Session → Type 0
 IsUnreadBy None piece new = ⊥
@@ -36,8 +42,14 @@ FeedsCore x h old piece (Ok done) store new before after = Fed x h old piece (Ok
 FeedsCore x h old piece (Err Memory) store new before after = (e : AllocError) × Fed x h old piece (Err e) store new before after
 FeedsCore x h old piece (Err NoSession) store new before after = ⊥
 
+-- The same of the first frame of a piece, of which so many bytes were used up.
+abbrev pub FeedsCoreFirst : Setting → History → Session → List ℕ → Result ℕ FeedError → StoreState → Session → List ℕ → List ℕ → Type 0
+FeedsCoreFirst x h old piece (Ok count) store new before after = FedFirst x h old piece (Ok count) store new before after
+FeedsCoreFirst x h old piece (Err Memory) store new before after = (e : AllocError) × FedFirst x h old piece (Err e) store new before after
+FeedsCoreFirst x h old piece (Err NoSession) store new before after = ⊥
+
 -- where there is no session
-abbrev pub OnNoSession : Result (Unit {0}) FeedError → Type 0 → Type 0
+abbrev pub OnNoSession : {T : Type 0} → Result T FeedError → Type 0 → Type 0
 OnNoSession (Ok done) P = Unit {0}
 OnNoSession (Err NoSession) P = P
 OnNoSession (Err Memory) P = Unit {0}

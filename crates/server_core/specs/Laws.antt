@@ -1,5 +1,6 @@
 -- Laws of sessions.
-use Rattle.std.specs.Prelude.{◌≡◌, ◌≢◌, ℕ, List, [], ◌∷◌, ◌++◌, length, false, Option, Result, Ok, Err}
+use Rattle.std.specs.Prelude.{◌≡◌, ◌≢◌, ◌≤◌, ℕ, List, [], ◌∷◌, ◌++◌, length, take, false, Option, Result, Ok, Err}
+use Rattle.std.specs.declared.alloc.AllocError.{AllocError}
 use Rattle.pir_schemes.specs.declared.scheme.Scheme.{Scheme}
 use Rattle.pir_schemes.specs.Retrievals.{answer_words}
 use Rattle.frame_codec.specs.declared.frame.Frame.{Frame}
@@ -12,7 +13,7 @@ use Rattle.version_store.specs.Histories.{StoreState, History, current_version}
 use Rattle.server_core.specs.declared.standing.Standing.{Standing}
 use Rattle.server_core.specs.Courses.{course_of_piece, lacks_memory}
 use Rattle.server_core.specs.Serving.{Setting, is_closed, outcome_of_frame, replies_with, words_answered}
-use Rattle.server_core.specs.Sessions.{Session, FeedsSession, Fed}
+use Rattle.server_core.specs.Sessions.{Session, FeedsSession, FeedsFirst, Fed}
 
 -- Sessions that nobody can tell apart: the same standing and the same unfinished bytes, of which a closed session reads no more.
 abbrev pub IsAlike : Session → Session → Type 0
@@ -36,6 +37,17 @@ PiecesAgree = (x : Setting) (h : History) (old old2 : Session) (piece : List ℕ
     → IsAlike old old2 → FeedsSession x h old piece (Ok done) after new replies → FeedsSession x h old2 piece (Ok done2) after2 new2 replies2 →
     lacks_memory replies ≡ false → lacks_memory replies2 ≡ false
     → (after ≡ after2) × IsAlike new new2 × (replies ≡ replies2)
+
+-- What the first frame of a piece leads to is what the bytes used up for it lead to as a piece of their own.
+abbrev pub FirstsArePieces : Type 0
+FirstsArePieces = (x : Setting) (h : History) (old : Session) (piece : List ℕ) (count : ℕ) (h2 : History) (new : Session) (replies : List Frame) →
+    FeedsFirst x h old piece (Ok count) h2 new replies → FeedsSession x h old (take count piece) (Ok tt) h2 new replies
+
+-- the same where memory was refused
+abbrev pub StopsArePieces : Type 0
+StopsArePieces = (x : Setting) (h : History) (old : Session) (piece : List ℕ) (e : AllocError) (h2 : History) (new : Session) (replies : List Frame) →
+    FeedsFirst x h old piece (Err e) h2 new replies
+    → (count : ℕ) × (count ≤ length piece) × FeedsSession x h old (take count piece) (Err e) h2 new replies
 
 -- A session's pieces one after another, each with the history on which it is served, whatever others did between
 -- them: the history after each and its replies, and the session after them all. Memory is never refused.

@@ -1,5 +1,5 @@
 -- What a piece of its stream does to a session.
-use Rattle.std.specs.Prelude.{◌≡◌, ◌≢◌, ◌⊎◌, ℕ, ◌<◌, List, [], ◌∷◌, ◌++◌, length, take, false, Option, Some, None, MatchBool, Result, Ok, Err, IsErr}
+use Rattle.std.specs.Prelude.{◌≡◌, ◌≢◌, ◌⊎◌, ℕ, ◌<◌, List, [], ◌∷◌, ◌++◌, length, take, false, Option, Some, None, MatchBool, Result, Ok, Err, IsErr, IsSome, option_to_list}
 use Rattle.std.specs.List.{flat_map, AllByRecursion}
 use Rattle.std.specs.declared.alloc.AllocError.{AllocError}
 use Rattle.version_store.specs.Histories.{StoreState, History, StandsFor}
@@ -9,7 +9,8 @@ use Rattle.frame_codec.specs.Refusals.{refused}
 use Rattle.frame_codec.specs.declared.reader.ReadFault.{ReadFault}
 use Rattle.frame_codec.specs.declared.reader.ReadFault.TheVariants.{TooLong, UnknownKind, BadPayload, Memory, Failed}
 use Rattle.frame_codec.specs.Frames.{IsFrame, encoding}
-use Rattle.frame_codec.specs.Streams.{Feeds}
+use Rattle.frame_codec.specs.declared.reader.Taken.{Taken}
+use Rattle.frame_codec.specs.Streams.{Feeds, FeedsFrame}
 use Rattle.server_core.specs.declared.standing.Standing.{Standing}
 use Rattle.server_core.specs.declared.standing.Standing.TheVariants.{Stranger, Closed}
 use Rattle.server_core.specs.Serving.{Setting, setting_of, ServesAll, ServedAll, is_closed}
@@ -124,3 +125,64 @@ pub record StoppedFrames (x : Setting) (h : History) (st : Standing) (frames : L
   pub stop : IsStop answer frames count
   pub goes_on : is_closed middle ≡ false
   pub frames_are : ServedAll x h st (take count frames) store middle before new
+
+-- ---- one frame of a piece
+
+-- the frame that a reader completed, if it completed one
+abbrev pub frames_taken : Result Taken ReadFault → List Frame
+frames_taken (Ok taken) = option_to_list taken.frame
+frames_taken (Err fault) = []
+
+-- how many bytes of a piece are used up: those that the reader took, or, after a fault, all
+abbrev pub bytes_used : List ℕ → Result Taken ReadFault → ℕ
+bytes_used piece (Ok taken) = taken.count
+bytes_used piece (Err fault) = length piece
+
+-- how the reading ended
+abbrev pub reading_end : Result Taken ReadFault → Result (Unit {0}) ReadFault
+reading_end (Ok taken) = Ok tt
+reading_end (Err fault) = Err fault
+
+-- The first frame that a piece completes is served, or a fault in its place is reported: so many bytes of the piece are used up.
+pub record ServesFrame (x : Setting) (h : History) (old : Session) (piece : List ℕ) (count : ℕ) (h2 : History) (new : Session) (replies : List Frame) : Type 0 where
+  pub answer : Result Taken ReadFault
+  pub middle : Standing
+  pub reported : List Frame
+  pub more : List Frame
+  pub reads : FeedsFrame old.unfinished piece answer new.unfinished
+  pub count_is : count ≡ bytes_used piece answer
+  pub serves : ServesAll x h old.standing (frames_taken answer) h2 middle reported
+  pub ends : EndsPiece (reading_end answer) middle new.standing more
+  pub all : replies ≡ reported ++ more
+
+-- there was a frame to be served, or a fault to be reported
+abbrev pub HasTaken : Result Taken ReadFault → Type 0
+HasTaken (Ok taken) = IsSome taken.frame
+HasTaken (Err fault) = Unit {0}
+
+-- memory for that was refused: nothing was served, and the session is closed
+pub record ClosesBeforeFrame (x : Setting) (h : History) (old : Session) (piece : List ℕ) (h2 : History) (new : Session) (replies : List Frame) : Type 0 where
+  pub answer : Result Taken ReadFault
+  pub reads : FeedsFrame old.unfinished piece answer new.unfinished
+  pub stop : HasTaken answer
+  pub same : h2 ≡ h
+  pub none : replies ≡ []
+  pub shut : new.standing ≡ Closed
+
+-- What the first frame of a piece does to a session, as `FeedsSession` of a whole piece. A closed session takes all of it.
+abbrev pub FeedsFirst : Setting → History → Session → List ℕ → Result ℕ AllocError → History → Session → List Frame → Type 0
+FeedsFirst x h old piece (Ok count) h2 new replies =
+    MatchBool (is_closed old.standing) ((count ≡ length piece) × (h2 ≡ h) × (new ≡ old) × (replies ≡ []))
+    (ServesFrame x h old piece count h2 new replies)
+FeedsFirst x h old piece (Err e) h2 new replies = (is_closed old.standing ≡ false) × ClosesBeforeFrame x h old piece h2 new replies
+
+-- A store was fed the first frame of a session's piece: it stands for the history after it in the same setting, and the reply is written.
+pub record FedFirst (x : Setting) (h : History) (old : Session) (piece : List ℕ) (result : Result ℕ AllocError) (store : StoreState) (new : Session)
+    (before after : List ℕ) : Type 0 where
+  pub history : History
+  pub replies : List Frame
+  pub setting_is : setting_of store ≡ x
+  pub store_is : StandsFor store history
+  pub course : FeedsFirst x h old piece result history new replies
+  pub written : after ≡ before ++ flat_map encoding replies
+  pub each : AllByRecursion IsFrame replies

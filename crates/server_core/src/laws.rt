@@ -6,6 +6,8 @@ ghost use Rattle.version_store.specs.Histories.{History};
 ghost use Rattle.server_core.specs.declared.standing.Standing.{Standing};
 ghost use Rattle.server_core.specs.Laws.{
   PiecesDecide,
+  FirstsArePieces,
+  StopsArePieces,
   PiecesAgree,
   SessionsNeverMeet,
   FeedsAreAlike,
@@ -33,6 +35,12 @@ pub fn pieces_decide()
 {
     frame_codec::laws::feeds_decide();
 }
+
+/// One frame at a time is the same session: what `feed_frame` does with a piece is what `feed` does with the bytes that it took.
+pub fn firsts_are_pieces()
+    ensures served { FirstsArePieces }
+    ensures stopped { StopsArePieces }
+{}
 
 /// Sessions don't meet: all that a session is answered is decided by its own pieces and by the histories on which they are served,
 /// whatever other sessions send between them.

@@ -308,7 +308,7 @@ fn serve_with_room<K: Kernel>(
 
 /// Serves a frame, and answers the standing after it. An `Err` comes only from the 64 bytes for the reply, and
 /// then the frame isn't served.
-fn serve_frame<K: Kernel>(
+pub fn serve_frame<K: Kernel>(
     alloc: Global,
     store: &mut Store<K>,
     standing: Standing,

@@ -4,7 +4,7 @@ ghost use Rattle.std.specs.Prelude.{◌≡◌, ◌≢◌, ◌⊎◌, ◌≤◌, 
 ghost use Rattle.digit_pack.specs.Layout.{is_layout};
 ghost use Rattle.pir_schemes.specs.Plans.{fits, shape_at};
 ghost use Rattle.version_store.specs.Histories.{History, StandsFor, after_edit, after_append, published, held_appended, held_published};
-ghost use Rattle.server_core.specs.Cores.{session_of, is_open, FeedsCore, IsUnreadBy, OnNoSession};
+ghost use Rattle.server_core.specs.Cores.{session_of, is_open, FeedsCore, FeedsCoreFirst, IsUnreadBy, OnNoSession, unfinished_in};
 ghost use Rattle.server_core.specs.Serving.{setting_of, IsFull};
 ghost use Rattle.server_core.specs.Sessions as sessions;
 
@@ -120,6 +120,16 @@ impl<K: Kernel> ServerCore<K> {
         }
     }
 
+    /// How many bytes of an unfinished frame the session of this number keeps, and 0 where there is none.
+    pub fn unfinished_len(&self, id: u64) -> usize
+        ensures { result ≡ unfinished_in (session_of self.now.sessions id) }
+    {
+        match self.sessions.get(&id) {
+            Some(session) => session.unfinished_len(),
+            None => 0,
+        }
+    }
+
     /// The store.
     pub fn store(&self) -> &Store<K>
         ensures { result.now ≡ self.now.store }
@@ -211,5 +221,44 @@ impl<K: Kernel> ServerCore<K> {
             return Err(FeedError::Memory);
         }
         Ok(())
+    }
+
+    /// Takes the next piece of a session's stream up to the end of the first frame that is whole then, adds to `out`
+    /// the reply to it, and answers how many bytes it took: what [`ServerCore::feed`] of just these bytes does. Where no
+    /// frame is whole it takes all, and where a fault stands in the frame's place.
+    ///
+    /// `NoSession` exactly when there is no session of this number: nothing changes. At `Memory` the session
+    /// is closed, and nothing was served. A closed session takes all and replies nothing. No other session changes.
+    pub fn feed_frame(
+        &mut self,
+        id: u64,
+        piece: &[u8],
+        out: &mut Vec<u8>,
+    ) -> Result<usize, FeedError>
+        ensures fed { (h : History) → StandsFor self.old.store h → (old : sessions.Session) →
+            session_of self.old.sessions id ≡ Some old →
+            (new : sessions.Session) × (session_of self.new.sessions id ≡ Some new)
+            × FeedsCoreFirst (setting_of self.old.store) h old piece.now result self.new.store new
+            out.old.items out.new.items }
+        ensures within { IfOk result (λ count. count ≤ length piece.now) }
+        ensures some { IfOk result (λ count. 0 < length piece.now → 0 < count) }
+        ensures refused { OnErr result ((self.new.store ≡ self.old.store) ×
+            (out.new.items ≡ out.old.items)) }
+        ensures no_session { IsErrOf result FeedError.NoSession ↔
+            (session_of self.old.sessions id ≡ None) }
+        ensures full { IsErrOf result FeedError.Memory → IsFull out.new ⊎ IsUnreadBy
+            (session_of self.old.sessions id) piece.now (session_of self.new.sessions id) }
+        ensures unchanged { OnNoSession result ((self.new ≡ self.old) ×
+            (out.new.items ≡ out.old.items)) }
+        ensures others { (other : ℕ) → other ≢ id →
+            session_of self.new.sessions other ≡ session_of self.old.sessions other }
+    {
+        let Some(found) = self.sessions.get_mut(&id) else {
+            return Err(FeedError::NoSession);
+        };
+        match found.feed_frame(self.alloc, &mut self.store, piece, out) {
+            Ok(count) => Ok(count),
+            Err(_) => return Err(FeedError::Memory),
+        }
     }
 }

@@ -1,16 +1,17 @@
 //! One session.
 
-ghost use Rattle.std.specs.Prelude.{◌≡◌, ◌⊎◌, ◌++◌, IfOk, IsErr, IsOk, OnErr, OnOk, false};
+ghost use Rattle.std.specs.Prelude.{◌≡◌, ◌≤◌, ◌<◌, ◌⊎◌, ◌++◌, length, ℕ, List, IfOk, IsErr, IsOk, OnErr, OnOk, false};
+ghost use Rattle.frame_codec.specs.Streams.{unfinished_size};
 ghost use Rattle.frame_codec.specs.Refusals.{refused};
 ghost use Rattle.frame_codec.specs.Frames.{IsFrame, encoding};
 ghost use Rattle.version_store.specs.Histories.{History, StandsFor};
 ghost use Rattle.server_core.specs.Serving.{setting_of, is_closed, IsFull};
-ghost use Rattle.server_core.specs.Sessions.{new_session, Ended, Fed, ServedFrames, StoppedFrames, IsUnjudged, IsUnread};
+ghost use Rattle.server_core.specs.Sessions.{new_session, frames_taken, bytes_used, reading_end, HasTaken, Ended, Fed, FedFirst, ServedFrames, StoppedFrames, IsUnjudged, IsUnread};
 
 use crate::replies::{SHORT_REPLY, put_refused};
-use crate::serve::serve_frames;
+use crate::serve::{serve_frame, serve_frames};
 use crate::standing::Standing;
-use frame_codec::{Frame, ReadFault, Reader, Refusal};
+use frame_codec::{Frame, ReadFault, Reader, Refusal, Taken};
 use matrix_u32::Kernel;
 use std::alloc::{AllocError, Global};
 use std::marker::Model;
@@ -51,6 +52,13 @@ impl Session {
         self.standing.is_closed()
     }
 
+    /// How many bytes of an unfinished frame it keeps.
+    pub fn unfinished_len(&self) -> usize
+        ensures { result ≡ unfinished_size self.now.unfinished }
+    {
+        self.reader.unfinished_len()
+    }
+
     /// Takes the next piece of the stream, and adds the replies to the frames that are whole now. A closed
     /// session takes it and adds nothing. At an `Err` memory was refused: the session is closed, and `out` has
     /// the replies to the frames before.
@@ -82,6 +90,78 @@ impl Session {
                 Err(fault)
             }
         }
+    }
+
+    /// Takes the next piece of the stream up to the end of the first frame that is whole then, adds the reply to
+    /// it, and answers how many bytes it took. Where no frame is whole it takes all, and where a fault stands in
+    /// the frame's place. A closed session takes all and adds nothing. At an `Err` memory was refused: the session
+    /// is closed, and nothing was served.
+    pub fn feed_frame<K: Kernel>(
+        &mut self,
+        alloc: Global,
+        store: &mut Store<K>,
+        piece: &[u8],
+        out: &mut Vec<u8>,
+    ) -> Result<usize, AllocError>
+        ensures fed { (h : History) → StandsFor store.old h →
+            FedFirst (setting_of store.old) h self.old piece.now result store.new self.new
+            out.old.items out.new.items }
+        ensures within { IfOk result (λ count. count ≤ length piece.now) }
+        ensures some { IfOk result (λ count. 0 < length piece.now → 0 < count) }
+        ensures refused { OnErr result ((store.new ≡ store.old) ×
+            (out.new.items ≡ out.old.items)) }
+        ensures full { OnErr result (IsFull out.new ⊎
+            IsUnread self.old.unfinished piece.now self.new.unfinished) }
+    {
+        if self.standing.is_closed() {
+            return Ok(piece.len());
+        }
+        let read = self.reader.feed_frame(piece);
+        let count = used_of(&read, piece.len());
+        let Ok(standing) = serve_read(alloc, store, self.standing, read, out) else {
+            self.standing = Standing::Closed;
+            return Err(AllocError);
+        };
+        self.standing = standing;
+        Ok(count)
+    }
+}
+
+/// How many bytes of a piece, which has so many, are used up: those that were read, and after a fault all.
+fn used_of(read: &Result<Taken, ReadFault>, len: usize) -> usize
+    ensures { (piece : List ℕ) → length piece ≡ len → result ≡ bytes_used piece read.now }
+{
+    match read {
+        Ok(taken) => taken.count,
+        Err(_) => len,
+    }
+}
+
+/// Serves the frame that was read to an open session, if there is one, or reports the fault in its place. Answers the
+/// standing after it. At an `Err` memory was refused, and nothing was served.
+fn serve_read<K: Kernel>(
+    alloc: Global,
+    store: &mut Store<K>,
+    standing: Standing,
+    read: Result<Taken, ReadFault>,
+    out: &mut Vec<u8>,
+) -> Result<Standing, AllocError>
+    requires { is_closed standing ≡ false }
+    ensures ok { IfOk result (λ after. (h : History) → StandsFor store.old h →
+        ServedFrames (setting_of store.old) h standing (frames_taken read) (reading_end read)
+        store.new after out.old.items out.new.items) }
+    ensures same { OnErr result (store.new ≡ store.old) }
+    ensures none { OnErr result (out.new.items ≡ out.old.items) }
+    ensures stop { OnErr result (HasTaken read) }
+    ensures live { IfOk result (λ after. (is_closed after ≡ false) → IsOk (reading_end read)) }
+    ensures full { OnErr result (IsFull out.new ⊎ IsUnjudged (reading_end read)) }
+{
+    match read {
+        Ok(taken) => match taken.frame {
+            None => Ok(standing),
+            Some(frame) => serve_frame(alloc, store, standing, &frame, out),
+        },
+        Err(fault) => end_piece(standing, Err(fault), out),
     }
 }
 

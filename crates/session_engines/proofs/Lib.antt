@@ -1,5 +1,6 @@
 pub mod Streams
 pub mod Sessions
+pub mod Frames
 pub mod Clients
 pub mod Conversations
 pub mod Turns

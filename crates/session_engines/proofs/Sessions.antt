@@ -23,7 +23,7 @@ use Rattle.server_core.specs.Sessions.{Session, new_session, AfterReading, EndsP
 use Rattle.session_engines.specs.declared.serving.Ending.{Ending}
 use Rattle.session_engines.specs.declared.serving.ServeFault.{ServeFault}
 use Rattle.session_engines.specs.declared.serving.ServeFault.TheVariants as fault
-use Rattle.session_engines.specs.Serving.{IsStreamServed, ServesStream, ServesStreamPiece as TurnServes}
+use Rattle.session_engines.specs.Serving.{FedPart, FedWhole, IsStreamServed, ServesStream, ServesStreamPiece as TurnServes}
 use Rattle.session_engines.proofs.Streams.{take_both, feeds_both, cut_after}
 
 not_both : {P : Type 0} (b : Bool) → b ≡ true → b ≡ false → P
@@ -87,34 +87,34 @@ left_open answer middle after more e open_ = by_middle (is_closed middle) refl e
 -- ---- two pieces
 
 -- what the first of them did
-record First (x : Setting) (h : History) (read : List ℕ) (h1 : History) (s1 : Session) (rs : List Frame) : Type 0 where
+record First (x : Setting) (h : History) (old : Session) (read : List ℕ) (h1 : History) (s1 : Session) (rs : List Frame) : Type 0 where
   frames : List Frame
-  reads : Feeds (Some []) read (Ok tt) frames s1.unfinished
-  serves : ServesAll x h standing.Stranger frames h1 s1.standing rs
+  reads : Feeds old.unfinished read (Ok tt) frames s1.unfinished
+  serves : ServesAll x h old.standing frames h1 s1.standing rs
 
-first_of : (x : Setting) (h : History) (read : List ℕ) (h1 : History) (s1 : Session) (rs : List Frame) → ServesPiece x h new_session read h1 s1 rs →
-    is_closed s1.standing ≡ false → First x h read h1 s1 rs
-first_of x h read h1 s1 rs a open_ =
+first_of : (x : Setting) (h : History) (old : Session) (read : List ℕ) (h1 : History) (s1 : Session) (rs : List Frame) → ServesPiece x h old read h1 s1 rs →
+    is_closed s1.standing ≡ false → First x h old read h1 s1 rs
+first_of x h old read h1 s1 rs a open_ =
     let left = left_open a.answer a.middle s1.standing a.more a.ends open_ in
     let rs_is : rs ≡ a.reported = a.all ∙ ap (λ (m : List Frame). a.reported ++ m) left.none ∙ append-nil a.reported in
     record {
       frames = a.frames;
-      reads = subst (λ (r : Result (Unit {0}) ReadFault). Feeds (Some []) read r a.frames s1.unfinished) left.answer_is a.reads;
-      serves = subst (λ (r : List Frame). ServesAll x h standing.Stranger a.frames h1 s1.standing r) (sym rs_is)
-          (subst (λ (st : Standing). ServesAll x h standing.Stranger a.frames h1 st a.reported) (sym left.after_is) a.serves);
+      reads = subst (λ (r : Result (Unit {0}) ReadFault). Feeds old.unfinished read r a.frames s1.unfinished) left.answer_is a.reads;
+      serves = subst (λ (r : List Frame). ServesAll x h old.standing a.frames h1 s1.standing r) (sym rs_is)
+          (subst (λ (st : Standing). ServesAll x h old.standing a.frames h1 st a.reported) (sym left.after_is) a.serves);
     }
 
-then_whole : (x : Setting) (h : History) (read piece : List ℕ) (h1 h2 : History) (s1 s2 : Session) (rs more : List Frame) → First x h read h1 s1 rs →
-    is_closed s1.standing ≡ false → ServesPiece x h1 s1 piece h2 s2 more
-    → ServesPiece x h new_session (read ++ piece) h2 s2 (rs ++ more)
-then_whole x h read piece h1 h2 s1 s2 rs more a open_ b = record {
+then_whole : (x : Setting) (h : History) (old : Session) (read piece : List ℕ) (h1 h2 : History) (s1 s2 : Session) (rs more : List Frame) →
+    First x h old read h1 s1 rs → is_closed s1.standing ≡ false → ServesPiece x h1 s1 piece h2 s2 more
+    → ServesPiece x h old (read ++ piece) h2 s2 (rs ++ more)
+then_whole x h old read piece h1 h2 s1 s2 rs more a open_ b = record {
   answer = b.answer;
   frames = a.frames ++ b.frames;
   middle = b.middle;
   reported = rs ++ b.reported;
   more = b.more;
-  reads = feeds_both (Some []) read piece b.answer a.frames b.frames s1.unfinished s2.unfinished a.reads b.reads;
-  serves = serves_both x h standing.Stranger a.frames b.frames h1 h2 s1.standing b.middle rs b.reported a.serves open_ b.serves;
+  reads = feeds_both old.unfinished read piece b.answer a.frames b.frames s1.unfinished s2.unfinished a.reads b.reads;
+  serves = serves_both x h old.standing a.frames b.frames h1 h2 s1.standing b.middle rs b.reported a.serves open_ b.serves;
   ends = b.ends;
   all = ap (λ (m : List Frame). rs ++ m) b.all ∙ sym (append_assoc rs b.reported b.more);
 }
@@ -123,41 +123,48 @@ stop_after : (answer : Result (Unit {0}) ReadFault) (fs gs : List Frame) (n : �
 stop_after answer fs gs n (inl lt) = inl (omega (arith, length-append fs gs, lt))
 stop_after answer fs gs n (inr e) = inr (omega (arith, length-append fs gs, e.0), e.1)
 
-then_broken : (x : Setting) (h : History) (read piece : List ℕ) (h1 h2 : History) (s1 s2 : Session) (rs more : List Frame) → First x h read h1 s1 rs →
-    is_closed s1.standing ≡ false → ClosesForMemory x h1 s1 piece h2 s2 more
-    → ClosesForMemory x h new_session (read ++ piece) h2 s2 (rs ++ more)
-then_broken x h read piece h1 h2 s1 s2 rs more a open_ b = record {
+then_broken : (x : Setting) (h : History) (old : Session) (read piece : List ℕ) (h1 h2 : History) (s1 s2 : Session) (rs more : List Frame) →
+    First x h old read h1 s1 rs → is_closed s1.standing ≡ false → ClosesForMemory x h1 s1 piece h2 s2 more
+    → ClosesForMemory x h old (read ++ piece) h2 s2 (rs ++ more)
+then_broken x h old read piece h1 h2 s1 s2 rs more a open_ b = record {
   answer = b.answer;
   frames = a.frames ++ b.frames;
   count = length a.frames + b.count;
   middle = b.middle;
-  reads = feeds_both (Some []) read piece b.answer a.frames b.frames s1.unfinished s2.unfinished a.reads b.reads;
+  reads = feeds_both old.unfinished read piece b.answer a.frames b.frames s1.unfinished s2.unfinished a.reads b.reads;
   stop = stop_after b.answer a.frames b.frames b.count b.stop;
-  serves = subst (λ (fs : List Frame). ServesAll x h standing.Stranger fs h2 b.middle (rs ++ more)) (sym (take_both b.count a.frames b.frames))
-      (serves_both x h standing.Stranger a.frames (take b.count b.frames) h1 h2 s1.standing b.middle rs more a.serves open_ b.serves);
+  serves = subst (λ (fs : List Frame). ServesAll x h old.standing fs h2 b.middle (rs ++ more)) (sym (take_both b.count a.frames b.frames))
+      (serves_both x h old.standing a.frames (take b.count b.frames) h1 h2 s1.standing b.middle rs more a.serves open_ b.serves);
   goes_on = b.goes_on;
   shut = b.shut;
 }
 
-then_feeds : (x : Setting) (h : History) (read piece : List ℕ) (h1 h2 : History) (s1 s2 : Session) (rs more : List Frame)
-    (answer : Result (Unit {0}) AllocError) → FeedsSession x h new_session read (Ok tt) h1 s1 rs → is_closed s1.standing ≡ false
-    → FeedsSession x h1 s1 piece answer h2 s2 more → FeedsSession x h new_session (read ++ piece) answer h2 s2 (rs ++ more)
-then_feeds x h read piece h1 h2 s1 s2 rs more (Ok d) a open_ b =
-    let second : ServesPiece x h1 s1 piece h2 s2 more = at_open (is_closed s1.standing) open_ b in
-    then_whole x h read piece h1 h2 s1 s2 rs more (first_of x h read h1 s1 rs a open_) open_ second
+-- what a piece does to an open session
+at_open : (x : Setting) (h : History) (old : Session) (piece : List ℕ) (h2 : History) (new : Session) (more : List Frame) → is_closed old.standing ≡ false →
+    FeedsSession x h old piece (Ok tt) h2 new more → ServesPiece x h old piece h2 new more
+at_open x h old piece h2 new more open_ f = by_state (is_closed old.standing) open_ f
   where
-    at_open : (b : Bool) → b ≡ false → MatchBool b ((h2 ≡ h1) × (s2 ≡ s1) × (more ≡ [])) (ServesPiece x h1 s1 piece h2 s2 more) →
-        ServesPiece x h1 s1 piece h2 s2 more
-    at_open true e m = let no : true ≡ false = e in absurd cc
-    at_open false e m = m
-then_feeds x h read piece h1 h2 s1 s2 rs more (Err e) a open_ b =
-    (refl, then_broken x h read piece h1 h2 s1 s2 rs more (first_of x h read h1 s1 rs a open_) open_ b.1)
+    by_state : (b : Bool) → b ≡ false → MatchBool b ((h2 ≡ h) × (new ≡ old) × (more ≡ [])) (ServesPiece x h old piece h2 new more) →
+        ServesPiece x h old piece h2 new more
+    by_state true e m = let no : true ≡ false = e in absurd cc
+    by_state false e m = m
+
+then_feeds : (x : Setting) (h : History) (old : Session) (read piece : List ℕ) (h1 h2 : History) (s1 s2 : Session) (rs more : List Frame)
+    (answer : Result (Unit {0}) AllocError) → is_closed old.standing ≡ false → FeedsSession x h old read (Ok tt) h1 s1 rs → is_closed s1.standing ≡ false
+    → FeedsSession x h1 s1 piece answer h2 s2 more → FeedsSession x h old (read ++ piece) answer h2 s2 (rs ++ more)
+then_feeds x h old read piece h1 h2 s1 s2 rs more (Ok d) live a open_ b =
+    let first = first_of x h old read h1 s1 rs (at_open x h old read h1 s1 rs live a) open_ in
+    let second : ServesPiece x h1 s1 piece h2 s2 more = at_open x h1 s1 piece h2 s2 more open_ b in
+    rw live (then_whole x h old read piece h1 h2 s1 s2 rs more first open_ second)
+then_feeds x h old read piece h1 h2 s1 s2 rs more (Err e) live a open_ b =
+    let first = first_of x h old read h1 s1 rs (at_open x h old read h1 s1 rs live a) open_ in
+    (live, then_broken x h old read piece h1 h2 s1 s2 rs more first open_ b.1)
 
 -- a stream that left the session open, and another piece of it
-fed_both : (x : Setting) (h : History) (read piece out bytes : List ℕ) (answer : Result (Unit {0}) AllocError) (store1 store2 : StoreState) (s1 s2 : Session)
-    (a : Fed x h new_session read (Ok tt) store1 s1 [] out) → is_closed s1.standing ≡ false
-    → Fed (setting_of store1) a.history s1 piece answer store2 s2 [] bytes → Fed x h new_session (read ++ piece) answer store2 s2 [] (out ++ bytes)
-fed_both x h read piece out bytes answer store1 store2 s1 s2 a open_ step =
+pub fed_both : (x : Setting) (h : History) (old : Session) (read piece out bytes : List ℕ) (answer : Result (Unit {0}) AllocError) (store1 store2 : StoreState)
+    (s1 s2 : Session) → is_closed old.standing ≡ false → (a : Fed x h old read (Ok tt) store1 s1 [] out) → is_closed s1.standing ≡ false
+    → Fed (setting_of store1) a.history s1 piece answer store2 s2 [] bytes → Fed x h old (read ++ piece) answer store2 s2 [] (out ++ bytes)
+fed_both x h old read piece out bytes answer store1 store2 s1 s2 live a open_ step =
     let b : Fed x a.history s1 piece answer store2 s2 [] bytes =
     subst (λ (y : Setting). Fed y a.history s1 piece answer store2 s2 [] bytes) a.setting_is step in
     record {
@@ -165,11 +172,27 @@ fed_both x h read piece out bytes answer store1 store2 s1 s2 a open_ step =
       replies = a.replies ++ b.replies;
       setting_is = b.setting_is;
       store_is = b.store_is;
-      course = then_feeds x h read piece a.history b.history s1 s2 a.replies b.replies answer a.course open_ b.course;
+      course = then_feeds x h old read piece a.history b.history s1 s2 a.replies b.replies answer live a.course open_ b.course;
       written = ap (λ (y : List ℕ). y ++ bytes) a.written ∙ ap (λ (y : List ℕ). flat_map encoding a.replies ++ y) b.written
           ∙ sym (flat_map-append encoding a.replies b.replies);
       each = all_append IsFrame a.replies b.replies a.each b.each;
     }
+
+-- the same where of the other piece a part was served
+pub fed_parts : (x : Setting) (h : History) (old : Session) (read piece out bytes : List ℕ) (answer : Result (Unit {0}) AllocError) (store1 store2 : StoreState)
+    (s1 s2 : Session) → is_closed old.standing ≡ false → (a : Fed x h old read (Ok tt) store1 s1 [] out) → is_closed s1.standing ≡ false
+    → FedPart (setting_of store1) a.history s1 piece answer store2 s2 bytes → FedPart x h old (read ++ piece) answer store2 s2 (out ++ bytes)
+fed_parts x h old read piece out bytes answer store1 store2 s1 s2 live a open_ step = record {
+  part = read ++ step.part;
+  rest = step.rest;
+  whole = ap (λ (y : List ℕ). read ++ y) step.whole ∙ sym (append_assoc read step.part step.rest);
+  fed = fed_both x h old read step.part out bytes answer store1 store2 s1 s2 live a open_ step.fed;
+}
+
+-- all of some bytes, as a part of them
+pub all_fed : (x : Setting) (h : History) (old : Session) (piece : List ℕ) (answer : Result (Unit {0}) AllocError) (store : StoreState) (new : Session)
+    (out : List ℕ) → Fed x h old piece answer store new [] out → FedPart x h old piece answer store new out
+all_fed x h old piece answer store new out f = record { part = piece; rest = []; whole = sym (append-nil piece); fed = f }
 
 -- nothing was read yet
 fed_none : (h : History) (store : StoreState) → StandsFor store h → Fed (setting_of store) h new_session [] (Ok tt) store new_session [] []
@@ -201,7 +224,7 @@ IsOpenStill x h read out store found = (s : Session) × (found ≡ Some s) × (i
 
 -- it was served, whether it is open or not
 abbrev pub IsThere : Setting → History → List ℕ → List ℕ → StoreState → Option Session → Type 0
-IsThere x h read out store found = (s : Session) × (found ≡ Some s) × Fed x h new_session read (Ok tt) store s [] out
+IsThere x h read out store found = (s : Session) × (found ≡ Some s) × FedWhole x h new_session read store s out
 
 -- what a piece does to the session that is there
 abbrev pub ServesOnePiece : StoreState → Option Session → List ℕ → Result (Unit {0}) ServeFault → StoreState → Option Session → List ℕ → Type 0
@@ -214,18 +237,28 @@ opened h store found stands e = (new_session, e, refl, fed_none h store stands)
 
 pub not_begun : (h : History) (store : StoreState) (turns : ℕ) (left : Option (List ℕ)) → StandsFor store h →
     ServesStream (setting_of store) h turns (Err fault.Memory) [] [] left store
-not_begun h store turns left stands = (new_session, Ok tt, fed_none h store stands, λ _. refl)
+not_begun h store turns left stands =
+    (new_session, Ok tt, all_fed (setting_of store) h new_session [] (Ok tt) store new_session [] (fed_none h store stands), λ _. refl)
 
 pub left_so : (x : Setting) (h : History) (read out : List ℕ) (store : StoreState) (found : Option Session) → IsOpenStill x h read out store found →
     IsStreamServed x h read out store false
-left_so x h read out store found o = (o.0, o.3, o.2)
+unfolding all_fed
+left_so x h read out store found o =
+    (o.0, record { parts = all_fed x h new_session read (Ok tt) store o.0 out o.3; all = λ _. refl }, o.2)
 
 pub step_well : (x : Setting) (h : History) (read out piece bytes : List ℕ) (store1 store2 : StoreState) (found new : Option Session) →
     IsOpenStill x h read out store1 found → ServesOnePiece store1 found piece (Ok tt) store2 new bytes
     → IsThere x h (read ++ piece) (out ++ bytes) store2 new
+unfolding fed_parts
 step_well x h read out piece bytes store1 store2 found new o step =
-    let t = step o.3.history o.3.store_is o.0 o.1 in
-    (t.0, t.1, fed_both x h read piece out bytes (Ok tt) store1 store2 o.0 t.0 o.3 o.2 t.2)
+    let t = step o.3.history o.3.store_is o.0 o.1 in (
+      t.0,
+      t.1,
+      record {
+        parts = fed_parts x h new_session read piece out bytes (Ok tt) store1 store2 o.0 t.0 refl o.3 o.2 t.2.parts;
+        all = t.2.all;
+      },
+    )
 
 pub step_faulty : (e : ServeFault) (x : Setting) (h : History) (turns : ℕ) (read out piece bytes : List ℕ) (left : Option (List ℕ))
     (store1 store2 : StoreState) (found new : Option Session) → IsOpenStill x h read out store1 found
@@ -234,10 +267,14 @@ step_faulty fault.IdInUse x h turns read out piece bytes left store1 store2 foun
 step_faulty fault.Read x h turns read out piece bytes left store1 store2 found new o step other = absurd (step o.3.history o.3.store_is o.0 o.1)
 step_faulty fault.Write x h turns read out piece bytes left store1 store2 found new o step other =
     let t = step o.3.history o.3.store_is o.0 o.1 in
-    (t.0, t.1, out ++ t.2, fed_both x h read piece out t.2 t.1 store1 store2 o.0 t.0 o.3 o.2 t.3, cut_after out bytes t.2 t.4)
+    (t.0, t.1, out ++ t.2, fed_parts x h new_session read piece out t.2 t.1 store1 store2 o.0 t.0 refl o.3 o.2 t.3, cut_after out bytes t.2 t.4)
 step_faulty fault.Memory x h turns read out piece bytes left store1 store2 found new o step other =
-    let t = step o.3.history o.3.store_is o.0 o.1 in
-    (t.0, Err t.1, fed_both x h read piece out bytes (Err t.1) store1 store2 o.0 t.0 o.3 o.2 t.2, λ e. absurd (let no : Err t.1 ≡ Ok tt = e in cc))
+    let t = step o.3.history o.3.store_is o.0 o.1 in (
+      t.0,
+      Err t.1,
+      fed_parts x h new_session read piece out bytes (Err t.1) store1 store2 o.0 t.0 refl o.3 o.2 t.2,
+      λ e. absurd (let no : Err t.1 ≡ Ok tt = e in cc),
+    )
 step_faulty fault.TurnsUsedUp x h turns read out piece bytes left store1 store2 found new o step other = absurd (step o.3.history o.3.store_is o.0 o.1)
 
 negated : (b c : Bool) → not b ≡ c → b ≡ not c
@@ -246,7 +283,11 @@ negated false c e = ap not e
 
 pub found_open : (x : Setting) (h : History) (read out : List ℕ) (store : StoreState) (found : Option Session) → IsThere x h read out store found →
     is_open found ≡ true → IsOpenStill x h read out store found
-found_open x h read out store found t e = (t.0, t.1, negated (is_closed t.0.standing) true (ap is_open (sym t.1) ∙ e), t.2)
+found_open x h read out store found t e =
+    let open_ : is_closed t.0.standing ≡ false = negated (is_closed t.0.standing) true (ap is_open (sym t.1) ∙ e) in
+    let p = t.2.parts in
+    let whole : read ≡ p.part = p.whole ∙ ap (λ (y : List ℕ). p.part ++ y) (t.2.all open_) ∙ append-nil p.part in
+    (t.0, t.1, open_, subst (λ (y : List ℕ). Fed x h new_session y (Ok tt) store t.0 [] out) (sym whole) p.fed)
 
 pub found_shut : (x : Setting) (h : History) (read out : List ℕ) (store : StoreState) (found : Option Session) → IsThere x h read out store found →
     is_open found ≡ false → IsStreamServed x h read out store true
@@ -259,30 +300,6 @@ pub same_stores : (h : History) (turns : ℕ) (answer : Result Ending ServeFault
 same_stores h turns answer read out left a b c d first last served =
     subst (λ (y : StoreState). StandsFor a h → ServesStream (setting_of a) h turns answer read out left y) (sym last)
     (subst (λ (y : StoreState). StandsFor y h → ServesStream (setting_of y) h turns answer read out left c) first served)
-
--- ---- one piece
-
-pub core_served : (x : Setting) (h : History) (old : Session) (piece : List ℕ) (answer : Result (Unit {0}) FeedError) (store : StoreState) (new : Session)
-    (before after : List ℕ) → before ≡ [] → FeedsCore x h old piece answer store new before after
-    → (r : Result (Unit {0}) AllocError) × Fed x h old piece r store new [] after
-core_served x h old piece (Ok d) store new before after e f = (Ok tt, subst (λ (y : List ℕ). Fed x h old piece (Ok tt) store new y after) e f)
-core_served x h old piece (Err feed_error.NoSession) store new before after e f = absurd f
-core_served x h old piece (Err feed_error.Memory) store new before after e f =
-    (Err f.0, subst (λ (y : List ℕ). Fed x h old piece (Err f.0) store new y after) e f.1)
-
-pub core_whole : (x : Setting) (h : History) (old : Session) (piece : List ℕ) (d : Unit {0}) (store : StoreState) (new : Session) (before after : List ℕ) →
-    before ≡ [] → Fed x h old piece (Ok d) store new before after → Fed x h old piece (Ok tt) store new [] after
-core_whole x h old piece d store new before after e f = subst (λ (y : List ℕ). Fed x h old piece (Ok tt) store new y after) e f
-
-pub core_short : (x : Setting) (h : History) (old : Session) (piece : List ℕ) (answer : Result (Unit {0}) FeedError) (e : FeedError) (store : StoreState)
-    (new : Session) (before after : List ℕ) → answer ≡ Err e → before ≡ [] → FeedsCore x h old piece answer store new before after
-    → (r : AllocError) × Fed x h old piece (Err r) store new [] after
-core_short x h old piece answer e store new before after is none f =
-    by_fault e (subst (λ (r : Result (Unit {0}) FeedError). FeedsCore x h old piece r store new before after) is f)
-  where
-    by_fault : (e : FeedError) → FeedsCore x h old piece (Err e) store new before after → (r : AllocError) × Fed x h old piece (Err r) store new [] after
-    by_fault feed_error.NoSession f = absurd f
-    by_fault feed_error.Memory f = (f.0, subst (λ (y : List ℕ). Fed x h old piece (Err f.0) store new y after) none f.1)
 
 -- ---- one fault, of a piece and of the whole
 

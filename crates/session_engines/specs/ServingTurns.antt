@@ -14,7 +14,7 @@ use Rattle.connection_io.specs.Turns.{CallTurn, ReadsPiece}
 use Rattle.session_engines.specs.Serving.{ServesStreamPiece}
 
 -- how the replies to a piece went out: all of them, or a part until a write failed
-abbrev pub WritesReplies : {C : Type 0} → (C → Call → C → Type 0) → Result (Unit {0}) ServeFault → C → List ℕ → C → Type 0
+abbrev pub WritesReplies : {T C : Type 0} → (C → Call → C → Type 0) → Result T ServeFault → C → List ℕ → C → Type 0
 WritesReplies does (Err fault.Write) a bytes b = SendsUntilFault does a bytes b
 WritesReplies does _ a bytes b = Sends does a bytes b
 

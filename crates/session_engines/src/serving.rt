@@ -1,12 +1,12 @@
 //! The server's side.
 
-ghost use Rattle.std.specs.Prelude.{◌≡◌, ◌≢◌, ◌≤◌, ◌<◌, ◌*◌, ◌↔◌, ◌⊎◌, true, ℕ, List, length, IfErr, IsErrOf, IsSome, Some, None, Err};
+ghost use Rattle.std.specs.Prelude.{◌≡◌, ◌≢◌, ◌≤◌, ◌<◌, ◌*◌, ◌↔◌, ◌⊎◌, true, ℕ, List, length, IfOk, IfErr, IsErrOf, IsSome, Some, None, Err};
 ghost use Rattle.std.specs.Io.KnownBytes.{Appends, Consumes};
 ghost use Rattle.version_store.specs.Histories.{History, StandsFor};
 ghost use Rattle.server_core.specs.Cores.{session_of, is_open};
 ghost use Rattle.server_core.specs.Serving.{setting_of};
 ghost use Rattle.server_core.specs.Sessions.{Session, new_session};
-ghost use Rattle.session_engines.specs.Serving.{ServesStreamPiece, ServesStream};
+ghost use Rattle.session_engines.specs.Serving.{ServesStreamPiece, ServesFrameThere, ServesStream};
 ghost use Rattle.session_engines.specs.ServingTurns.{WritesReplies, ServesTurn, ServesTurns, NeverServes, ServesOver};
 ghost use Rattle.session_engines.specs.Names.{serve_fault_name};
 
@@ -62,7 +62,36 @@ impl ServeFault {
     }
 }
 
-// Gives the session a piece, and writes what it is replied, also where there was no memory for all of it.
+// Gives the session the first frame of a piece, and writes what it is replied. Answers how many bytes of the piece are used
+// up.
+fn answer_frame<K: Kernel, C: Connection>(
+    core: &mut ServerCore<K>,
+    id: u64,
+    piece: &[u8],
+    out: &mut Vec<u8>,
+    connection: &mut C,
+) -> Result<usize, ServeFault>
+    ensures served { (bytes : List ℕ)
+        × WritesReplies C.does result connection.old bytes connection.new
+        × ServesFrameThere core.old id piece.now result core.new bytes }
+    ensures within { IfOk result (λ count. count ≤ length piece.now) }
+    ensures some { IfOk result (λ count. 0 < length piece.now → 0 < count) }
+    ensures fault { IfErr result (λ e. (e ≡ ServeFault.Write) ⊎ (e ≡ ServeFault.Memory)) }
+    ensures others { (other : ℕ) → other ≢ id →
+        session_of core.new.sessions other ≡ session_of core.old.sessions other }
+{
+    out.clear();
+    let fed = core.feed_frame(id, piece, out);
+    let Ok(()) = send(connection, out) else {
+        return Err(ServeFault::Write);
+    };
+    match fed {
+        Ok(count) => Ok(count),
+        Err(FeedError::Memory | FeedError::NoSession) => Err(ServeFault::Memory),
+    }
+}
+
+// Gives the session a piece, and writes the reply to each frame before the next one is looked at.
 fn answer_piece<K: Kernel, C: Connection>(
     core: &mut ServerCore<K>,
     id: u64,
@@ -70,6 +99,8 @@ fn answer_piece<K: Kernel, C: Connection>(
     out: &mut Vec<u8>,
     connection: &mut C,
 ) -> Result<(), ServeFault>
+    requires open { is_open (session_of core.old.sessions id) ≡ true }
+    requires some { 0 < length piece.now }
     ensures served { (bytes : List ℕ)
         × WritesReplies C.does result connection.old bytes connection.new
         × ((h : History) → StandsFor core.old.store h → (old : Session) →
@@ -80,19 +111,23 @@ fn answer_piece<K: Kernel, C: Connection>(
     ensures others { (other : ℕ) → other ≢ id →
         session_of core.new.sessions other ≡ session_of core.old.sessions other }
 {
-    out.clear();
-    let fed = core.feed(id, piece, out);
-    let Ok(()) = send(connection, out) else {
-        return Err(ServeFault::Write);
-    };
-    match fed {
-        Ok(()) => Ok(()),
-        Err(FeedError::Memory | FeedError::NoSession) => Err(ServeFault::Memory),
+    let mut rest = piece;
+    'frames: while !rest.is_empty() {
+        let count = match answer_frame(core, id, rest, out, connection) {
+            Ok(count) => count,
+            Err(fault) => return Err(fault),
+        };
+        let (_, beyond) = rest.split_at(count);
+        rest = beyond;
+        if !core.is_open(id) {
+            return Ok(());
+        }
     }
+    Ok(())
 }
 
-/// Makes one turn of session `id`: reads a piece of at most 65,536 bytes, serves it, and writes all the replies
-/// to it. Answers how the session came to its end, or `None` where it is open still.
+/// Makes one turn of session `id`: reads a piece of at most 65,536 bytes and serves it, frame by frame. The reply to each
+/// frame is written before the next one is looked at, so that one reply is kept at most. Answers how the session came to its end, or `None` where it is open still.
 ///
 /// `buffer` has room for a piece, as `connection_io::piece_buffer` makes it, and `out` is for the replies: what they
 /// held is lost.

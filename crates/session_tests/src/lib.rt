@@ -13,3 +13,5 @@ mod commands;
 mod engines;
 #[cfg(test)]
 mod server;
+#[cfg(test)]
+mod service;

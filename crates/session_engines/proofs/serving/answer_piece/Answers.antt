@@ -1,37 +1,65 @@
-use Rattle.std.proofs.Common.{List, ℕ, take, subst}
-use Rattle.connection_io.specs.Calls.{Sends}
-use Rattle.session_engines.specs.Prefixes.{IsCutOff}
-use Rattle.session_engines.proofs.Streams.{cut_taken}
-use Rattle.session_engines.proofs.Sessions.{core_served, core_whole, core_short}
+use Rattle.std.proofs.Common.{◌≡◌, ◌++◌, ◌∙◌, ◌<◌, false, [], List, ℕ, Ok, Err, length, take, sym, ap, subst, arith}
+use Rattle.std.proofs.lemmas.List.{length-append}
+use Rattle.connection_io.proofs.Parts.{sends_both}
+use Rattle.server_core.specs.Cores.{session_of, is_open}
+use Rattle.server_core.specs.Serving.{setting_of}
+use Rattle.session_engines.specs.Serving.{ServesStreamPiece}
+use Rattle.session_engines.proofs.Frames.{reached_more, reached_fault, reached_end, writes_on, some_part, shut_is, whole_on, some_bytes, no_bytes}
 use Rattle.session_engines.proofs.serving.answer_piece.Goals as goal
 
-pub returns-in_default-clause-served : goal.returns-in_default-clause-served
-returns-in_default-clause-served g c =
-    let f = c.in_default.ensures.prefix in
-    let bytes : List ℕ = take f.0 c.deref.result.now in (
-      bytes,
-      f.2,
-      λ h s old e.
-          let fed = c.feed-fed.ensures.fed h s old e in
-          let a = core_served _ h old c.args.piece.now c.feed-fed.result _ fed.0 _ _ c.clear.ensures.items fed.2 in
-          (fed.0, a.0, c.feed-fed.new.out.items, a.1, subst (λ (b : List ℕ). IsCutOff bytes b) c.deref.ensures.value (cut_taken f.0 c.deref.result.now f.1)),
+pub returns-in-Err-clause-served : goal.returns-in-Err-clause-served
+returns-in-Err-clause-served g c =
+    let i = c.frames.invariant in
+    let t = c.in-Err.ensures.served in (
+      i.bytes ++ t.0,
+      writes_on g.C.Connection.does c.in-Err.fault c.args.connection.now c.frames.connection c.answer_frame.new.connection i.bytes t.0 i.sent t.1,
+      λ h s old is.
+          subst (λ (p : List ℕ). ServesStreamPiece (setting_of c.args.core.now.store) h old p (Err c.in-Err.fault) c.answer_frame.new.core.store
+          (session_of c.answer_frame.new.core.sessions c.args.id) (i.bytes ++ t.0)) (sym i.whole)
+          (reached_fault c.args.id c.args.core.now c.frames.core c.answer_frame.new.core i.part i.bytes c.frames.rest.now t.0 c.requires.open i.open_ i.reached
+          c.in-Err.fault t.2 h s old is),
     )
 
-pub returns-in-Ok-fed-clause-served : goal.returns-in-Ok-fed-clause-served
-returns-in-Ok-fed-clause-served g c = (
-  c.feed-fed.new.out.items,
-  subst (λ (b : List ℕ). Sends g.C.Connection.does c.args.connection.now b c.send.new.connection) c.deref.ensures.value c.in-Ok.ensures.all,
-  λ h s old e.
-      let fed = c.in-Ok-fed.ensures.fed h s old e in
-      (fed.0, fed.1, core_whole _ h old c.args.piece.now _ _ fed.0 _ _ c.clear.ensures.items fed.2),
-)
+pub returns-then-not-is_open-clause-served : goal.returns-then-not-is_open-clause-served
+returns-then-not-is_open-clause-served g c =
+    let i = c.frames.invariant in
+    let t = c.in-Ok.ensures.served in
+    let n : ℕ = c.in-Ok.count in
+    let some : 0 < n = c.in-Ok.ensures.some (some_bytes c.frames.rest.now c.is_empty.result c.is_empty.ensures c.frames-test.true) in
+    let le = c.in-Ok.ensures.within in
+    let shut : is_open (session_of c.answer_frame.new.core.sessions c.args.id) ≡ false = sym c.is_open.ensures ∙ c.if-not-is_open.true in (
+      i.bytes ++ t.0,
+      sends_both g.C.Connection.does c.args.connection.now c.frames.connection c.answer_frame.new.connection i.bytes t.0 i.sent t.1,
+      reached_end c.args.id c.args.core.now c.answer_frame.new.core (i.part ++ take n c.frames.rest.now) c.split_at.result.1.now (i.bytes ++ t.0) c.args.piece.now
+          (reached_more c.args.id c.args.core.now c.frames.core c.answer_frame.new.core i.part i.bytes c.frames.rest.now t.0 c.requires.open i.open_ i.reached n t.2)
+          (whole_on c.args.piece.now i.part c.frames.rest.now c.split_at.result.1.now n i.whole c.split_at.ensures.back)
+          (some_part i.part c.frames.rest.now n some le)
+          (λ s is open_. absurd (shut_is (session_of c.answer_frame.new.core.sessions c.args.id) s is shut open_)),
+    )
 
-pub returns-in-Err-Memory-clause-served : goal.returns-in-Err-Memory-clause-served
-returns-in-Err-Memory-clause-served g c = (
-  c.feed-fed.new.out.items,
-  subst (λ (b : List ℕ). Sends g.C.Connection.does c.args.connection.now b c.send.new.connection) c.deref.ensures.value c.in-Ok.ensures.all,
-  λ h s old e.
-      let fed = c.feed-fed.ensures.fed h s old e in
-      let a = core_short _ h old c.args.piece.now c.feed-fed.result _ _ fed.0 _ _ c.in-Err-Memory.is c.clear.ensures.items fed.2 in
-      (fed.0, a.0, a.1),
-)
+pub frames-preserved : goal.frames-preserved
+frames-preserved g c =
+    let i = c.frames.invariant in
+    let t = c.in-Ok.ensures.served in
+    let n : ℕ = c.in-Ok.count in
+    record {
+      part = i.part ++ take n c.frames.rest.now;
+      bytes = i.bytes ++ t.0;
+      whole = whole_on c.args.piece.now i.part c.frames.rest.now c.split_at.result.1.now n i.whole c.split_at.ensures.back;
+      sent = sends_both g.C.Connection.does c.args.connection.now c.frames.connection c.answer_frame.new.connection i.bytes t.0 i.sent t.1;
+      reached = reached_more c.args.id c.args.core.now c.frames.core c.answer_frame.new.core i.part i.bytes c.frames.rest.now t.0 c.requires.open i.open_ i.reached
+          n t.2;
+      open_ = sym c.is_open.ensures ∙ c.if-not-is_open.false;
+      others = λ o e. c.in-Ok.ensures.others o e ∙ i.others o e;
+    }
+
+pub returns-clause-served : goal.returns-clause-served
+returns-clause-served g c =
+    let i = c.frames.invariant in
+    let empty : c.frames.rest.now ≡ [] = no_bytes c.frames.rest.now c.is_empty.result c.is_empty.ensures c.frames-test.false in (
+      i.bytes,
+      i.sent,
+      reached_end c.args.id c.args.core.now c.frames.core i.part c.frames.rest.now i.bytes c.args.piece.now i.reached i.whole
+          (λ e. absurd (omega (arith, ap length i.whole, length-append i.part c.frames.rest.now, ap length e, ap length empty, c.requires.some)))
+          (λ s is open_. empty),
+    )

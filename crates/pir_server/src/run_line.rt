@@ -1,0 +1,142 @@
+//! The words of the command `run`.
+
+ghost use Rattle.std.specs.Prelude.{◌≤◌, IfOk};
+
+use clap::{Arg, ArgAction, ArgMatches, Command};
+use command_words::{BadLine, number_at, option, text_at};
+use std::alloc::{AllocError, Global};
+use std::net::SocketAddr;
+
+const FILE_TAKES: &str = "--file takes a file's name";
+
+const LISTEN_TAKES: &str = "--listen takes an address and a port, as 127.0.0.1:7000 or [::1]:7000";
+
+const MOST_TAKES: &str = "--most takes a number from 1 to 65535";
+
+const IDLE_TAKES: &str = "--idle takes a number of seconds from 1 to 86400";
+
+const MEMORY_TAKES: &str = "--memory takes a number of MiB from 1 to 1048576";
+
+/// How many connections there may be at once where `--most` is not given.
+const MOST: u64 = 256;
+
+/// After how many seconds without progress a connection is closed where `--idle` is not given.
+const IDLE: u64 = 60;
+
+/// How many MiB the unfinished frames of all connections may have together where `--memory` is not given.
+const MEMORY: u64 = 256;
+
+/// What `run` is to serve.
+#[derive(Clone, Copy)]
+pub struct Running<'a> {
+    /// The snapshot file.
+    pub file: &'a str,
+    /// Where it listens; port 0 is any that is free.
+    pub listen: SocketAddr,
+    /// How many connections there may be at once: 1 to 65535.
+    pub most: usize,
+    /// After how many seconds without progress a connection is closed: 1 to 86400.
+    pub idle: u64,
+    /// How many MiB the unfinished frames of all connections may have together: 1 to 1048576.
+    pub memory: u64,
+    /// Whether the faults of connections are left out on standard error.
+    pub quiet: bool,
+}
+
+/// The command `run`.
+pub fn run_command<'a>(alloc: Global) -> Result<Command<'a>, AllocError> {
+    Command::new(alloc, "run")
+        .about("Serves a snapshot file, many connections side by side, until it is killed")
+        .after_help(RUN_EXAMPLE)
+        .arg(option(
+            alloc,
+            "file",
+            "FILE",
+            "The snapshot file; it is replaced before a publication is acknowledged",
+        ))?
+        .arg(option(
+            alloc,
+            "listen",
+            "ADDR:PORT",
+            "The address and the port to listen on, as 127.0.0.1:7000 or [::1]:7000; port 0 takes any that is free",
+        ))?
+        .arg(optional(
+            alloc,
+            "most",
+            "N",
+            "How many connections there may be at once, 1 to 65535; others wait until one ends (256 if not given)",
+        ))?
+        .arg(optional(
+            alloc,
+            "idle",
+            "SECONDS",
+            "After how many seconds without progress a connection is closed, 1 to 86400 (60 if not given)",
+        ))?
+        .arg(optional(
+            alloc,
+            "memory",
+            "MIB",
+            "How many MiB the unfinished frames of all connections may have together; past that the connection with the largest is closed (256 if not given)",
+        ))?
+        .arg(
+            Arg::new(alloc, "quiet")
+                .long("quiet")
+                .help("Leaves out the lines on standard error about faults of connections")
+                .action(ArgAction::SetTrue),
+        )
+}
+
+const RUN_EXAMPLE: &str =
+    "Prints 'listening ADDR:PORT' once it listens. A connection that ends with a fault is reported on standard error,\nas 'connection: NAME', and the others go on. A publication is acknowledged only once the file has it on the disk; where\nit can't be saved the server ends. What is sent is not encrypted: listen on 127.0.0.1 or [::1] unless a tunnel or a proxy\nstands before the port.\n\nExample: pir_server run --file two.pir --listen 127.0.0.1:7000";
+
+// An option that may be left out.
+fn optional<'a>(alloc: Global, name: &'a str, value: &'a str, help: &'a str) -> Arg<'a> {
+    option(alloc, name, value, help).required(false)
+}
+
+/// What the words of `run` ask for.
+pub fn running_of<'a>(found: &ArgMatches<'a>) -> Result<Running<'a>, BadLine<'a>>
+    ensures most { IfOk result (λ running. (1 ≤ running.most) × (running.most ≤ 65535)) }
+    ensures idle { IfOk result (λ running. (1 ≤ running.idle) × (running.idle ≤ 86400)) }
+    ensures memory { IfOk result (λ running. (1 ≤ running.memory) × (running.memory ≤ 1048576)) }
+{
+    Ok(Running {
+        file: text_at(found, "file", FILE_TAKES)?,
+        listen: address_at(found)?,
+        most: number_or(found, "most", MOST, 65_535, MOST_TAKES)? as usize,
+        idle: number_or(found, "idle", IDLE, 86_400, IDLE_TAKES)?,
+        memory: number_or(found, "memory", MEMORY, 1_048_576, MEMORY_TAKES)?,
+        quiet: found.get_flag("quiet"),
+    })
+}
+
+// The address and the port to listen on.
+fn address_at<'a>(found: &ArgMatches<'a>) -> Result<SocketAddr, BadLine<'a>> {
+    let text = text_at(found, "listen", LISTEN_TAKES)?;
+    match text.parse::<SocketAddr>() {
+        Ok(address) => Ok(address),
+        Err(_) => Err(BadLine::Given(LISTEN_TAKES, text)),
+    }
+}
+
+// The number given for an option, from 1 to the most, or the usual one where none is given.
+fn number_or<'a>(
+    found: &ArgMatches<'a>,
+    name: &str,
+    usual: u64,
+    most: u64,
+    takes: &'static str,
+) -> Result<u64, BadLine<'a>>
+    requires usual { 1 ≤ usual }
+    requires most { usual ≤ most }
+    ensures least { IfOk result (λ n. 1 ≤ n) }
+    ensures most { IfOk result (λ n. n ≤ most) }
+{
+    let Some(text) = found.get_str(name) else {
+        return Ok(usual);
+    };
+    match number_at(found, name, most, takes)? {
+        0 => Err(BadLine::Given(takes, text)),
+        number => Ok(number),
+    }
+}

@@ -1,0 +1,4 @@
+pub mod Moves
+pub mod Deeds
+pub mod Replies
+pub mod Steps

@@ -1,0 +1,38 @@
+-- What a server does to what lies outside of it, in order: the socket of a connection, and the disk.
+use Rattle.std.specs.Prelude.{ℕ, List, length, take, Result, Ok, Err}
+use Rattle.service_core.specs.declared.outside.Stop.{Stop}
+use Rattle.service_core.specs.declared.outside.Stop.TheVariants.{Later, Failed}
+
+-- one call, and what came of it
+pub data Call : Type 0 where
+  -- a read with room for so many bytes gave these; none are the end
+  Read : (room : ℕ) (bytes : List ℕ) → Call
+  -- a read would have waited
+  ReadLater : Call
+  ReadFails : Call
+  -- a write took these bytes
+  Write : (bytes : List ℕ) → Call
+  -- a write would have waited
+  WriteLater : Call
+  WriteFails : Call
+  -- this version was saved
+  Save : (version : ℕ) → Call
+  -- it could not be saved
+  SaveFails : (version : ℕ) → Call
+
+-- what a read did, into a buffer that holds these bytes after it
+abbrev pub read_call : Result ℕ Stop → List ℕ → Call
+read_call (Ok n) buffer = Read (length buffer) (take n buffer)
+read_call (Err Later) buffer = ReadLater
+read_call (Err Failed) buffer = ReadFails
+
+-- what a write of these bytes did
+abbrev pub write_call : Result ℕ Stop → List ℕ → Call
+write_call (Ok n) bytes = Write (take n bytes)
+write_call (Err Later) bytes = WriteLater
+write_call (Err Failed) bytes = WriteFails
+
+-- what a save of this version did
+abbrev pub save_call : {E : Type 0} → Result (Unit {0}) E → ℕ → Call
+save_call (Ok done) version = Save version
+save_call (Err e) version = SaveFails version

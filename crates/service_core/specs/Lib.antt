@@ -1,0 +1,5 @@
+pub mod Calls
+pub mod Sizes
+pub mod Links
+pub mod Runs
+pub mod Turns

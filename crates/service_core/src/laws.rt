@@ -1,0 +1,27 @@
+//! Laws of connections. Each function does nothing: its clause is the law.
+
+ghost use Rattle.service_core.specs.Links.{LinksKeep};
+ghost use Rattle.service_core.specs.Runs.{DeedsAreOneRun};
+ghost use Rattle.service_core.specs.Turns.{OwedIsBounded, ServedFramesAreDeeds, ServedFramesAreMoves};
+
+/// After any moves of a connection, in any order, what came is what was served and then what is not yet served, and what
+/// was replied is what was written and then what is owed.
+pub fn links_keep()
+    ensures { LinksKeep }
+{}
+
+/// What all connections do to a server, in the order in which they do it, is one run over one history: each piece of a stream
+/// is served on the history of its moment, whichever connection it is of.
+pub fn deeds_are_one_run()
+    ensures { DeedsAreOneRun }
+{}
+
+/// A frame that a turn serves is a move of its connection and a deed of the one run, and what is owed after it is at most
+/// 65,535 bytes and one reply.
+pub fn served_frames_are_moves()
+    ensures moves { ServedFramesAreMoves }
+    ensures deeds { ServedFramesAreDeeds }
+    ensures bounded { OwedIsBounded }
+{
+    server_core::laws::firsts_are_pieces();
+}

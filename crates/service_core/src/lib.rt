@@ -1,0 +1,17 @@
+//! What a server keeps for each of its connections, with no socket in it: the bytes received and not yet served, the
+//! bytes owed and not yet written, and the moment of the last progress; and the turn of a connection.
+//!
+//! A connection is one [`Link`], and a call has no other one at hand: so no connection can change what is kept for
+//! another. A [`turn`] reads once at most, serves one frame at most, saves the version that it published, and writes
+//! once at most. No byte is written while a version is not saved.
+#![tactic(auto)]
+
+pub mod laws;
+mod link;
+mod outside;
+mod tail;
+mod turns;
+
+pub use link::{Link, PIECE_LEN};
+pub use outside::{Outside, SaveFailed, Stop};
+pub use turns::{Fault, turn};

@@ -1,0 +1,194 @@
+//! A connection.
+
+ghost use Rattle.std.specs.Prelude.{◌≡◌, ◌≢◌, ◌≤◌, ◌<◌, ◌+◌, ◌-◌, ◌^◌, ◌↔◌, List, ℕ, None, [], length, true, false, IsTrue, OnOk, OnErr};
+ghost use Rattle.server_core.specs.Cores.{session_of};
+ghost use Rattle.service_core.specs.Links.{accepted, after_end, after_receipt, after_write, IsDone, MayRead, MayServe};
+ghost use Rattle.service_core.specs.Runs.{OthersStay};
+ghost use Rattle.service_core.specs.Turns.{AtEach, ServesNext, StopsNext};
+
+use crate::tail::Tail;
+use matrix_u32::Kernel;
+use server_core::ServerCore;
+use std::alloc::{AllocError, Global};
+use std::marker::Model;
+
+/// The most bytes that one read brings.
+pub const PIECE_LEN: usize = 65_536;
+
+/// Where so many bytes are owed no further frame is served, and nothing more is read.
+const OWED_LIMIT: usize = 65_536;
+
+/// A connection: what was received and not yet served, what is owed and not yet written.
+#[derive(Drop)]
+pub struct Link {
+    unserved: Tail,
+    owed: Tail,
+    // The session is open.
+    live: bool,
+    // A read found the end of the input.
+    ended: bool,
+    // When a frame was replied to last, or the session closed, or bytes written.
+    progress: u64,
+}
+
+impl Model for Link {
+    ghost use Rattle.std.specs.Prelude.{◌≤◌, length};
+    ghost use Rattle.service_core.specs.Sizes.{piece_size};
+    ghost use Rattle.service_core.specs.Links.{LinkState};
+
+    ghost Value = { LinkState };
+
+    ghost view = { λ l. record {
+      unserved = l.unserved;
+      owed = l.owed;
+      live = l.live;
+      ended = l.ended;
+      progress = l.progress;
+    } };
+
+    ghost invariant = { λ l. length l.unserved ≤ piece_size };
+}
+
+impl Link {
+    /// A connection that was accepted just now, at a moment in milliseconds.
+    pub fn new(alloc: Global, now: u64) -> Link
+        ensures { result ≡ accepted now }
+    {
+        Link {
+            unserved: Tail::new(alloc),
+            owed: Tail::new(alloc),
+            live: true,
+            ended: false,
+            progress: now,
+        }
+    }
+
+    /// Whether more may be read: the session is open, all that came was served, and little is owed.
+    pub fn may_read(&self) -> bool
+        ensures { IsTrue result ↔ MayRead self.now }
+    {
+        self.live && !self.ended && self.unserved.is_empty() && self.owed.len() < OWED_LIMIT
+    }
+
+    /// Whether a frame may be served: the session is open, something came, and little is owed.
+    pub fn may_serve(&self) -> bool
+        ensures { IsTrue result ↔ MayServe self.now }
+    {
+        self.live && self.unserved.len() > 0 && self.owed.len() < OWED_LIMIT
+    }
+
+    /// Whether something is owed.
+    pub fn owes(&self) -> bool
+        ensures { IsTrue result ↔ (0 < length self.now.owed) }
+    {
+        self.owed.len() > 0
+    }
+
+    /// Whether there is nothing more to do: all was written, and the session is closed, or all that will ever come was
+    /// served.
+    pub fn is_done(&self) -> bool
+        ensures { IsTrue result ↔ IsDone self.now }
+    {
+        self.owed.is_empty() && (!self.live || self.ended && self.unserved.is_empty())
+    }
+
+    /// The moment from which on it is expired, unless there is progress before.
+    pub fn expires_at(&self, idle: u64) -> u64
+        ensures { self.now.progress + idle < 2 ^ 64 → result ≡ self.now.progress + idle }
+    {
+        self.progress.saturating_add(idle)
+    }
+
+    /// Whether there was no progress for so many milliseconds: no frame was replied to, its session was not closed, and
+    /// nothing was written. Bytes of a frame that is unfinished are no progress.
+    pub fn is_expired(&self, now: u64, idle: u64) -> bool
+        ensures { IsTrue result ↔ (idle ≤ now - self.now.progress) }
+    {
+        now.saturating_sub(self.progress) >= idle
+    }
+
+    /// A read brought bytes.
+    ///
+    /// # Errors
+    ///
+    /// Where memory was refused: nothing changes, and the bytes are lost, so the connection is to be closed.
+    pub fn receive(&mut self, bytes: &[u8]) -> Result<(), AllocError>
+        requires all_served { self.old.unserved ≡ [] }
+        requires piece { length bytes.now ≤ 65536 }
+        ensures ok { OnOk result (self.new ≡ after_receipt bytes.now self.old) }
+        ensures err { OnErr result (self.new ≡ self.old) }
+    {
+        self.unserved.fill(bytes)
+    }
+
+    /// A read found the end of the input.
+    pub fn end(&mut self)
+        ensures { self.new ≡ after_end self.old }
+    {
+        self.ended = true;
+    }
+
+    /// Serves one frame at most of what was received, to the session of a number.
+    ///
+    /// # Errors
+    ///
+    /// Where memory was refused: nothing was served, the session is closed, and the connection is to be closed.
+    pub fn serve_next<K: Kernel>(
+        &mut self,
+        core: &mut ServerCore<K>,
+        id: u64,
+        now: u64,
+    ) -> Result<(), AllocError>
+        requires may { MayServe self.old }
+        requires there { session_of core.old.sessions id ≢ None }
+        ensures served { OnOk result (AtEach core.old id (λ x h s.
+            ServesNext x h s id now self.old self.new core.new)) }
+        ensures stopped { OnErr result (AtEach core.old id (λ x h s.
+            StopsNext x h s id self.old self.new core.new)) }
+        ensures same { OnErr result (core.new.store ≡ core.old.store) }
+        ensures others { OthersStay id core.old core.new }
+    {
+        let owed = self.owed.len();
+        let mut out = self.owed.take_out();
+        match core.feed_frame(id, self.unserved.as_slice(), &mut out) {
+            Ok(count) => {
+                self.owed.put_back(out);
+                let replied = self.owed.len().saturating_sub(owed);
+                self.unserved.skip(count);
+                self.live = core.is_open(id);
+                self.progress = progress_after(replied, self.live, now, self.progress);
+                Ok(())
+            }
+            Err(_) => {
+                self.owed.put_back(out);
+                Err(AllocError)
+            }
+        }
+    }
+
+    /// What is owed.
+    pub fn owed(&self) -> &[u8]
+        ensures { result.now ≡ self.now.owed }
+    {
+        self.owed.as_slice()
+    }
+
+    /// A write took the first `n` bytes of what is owed.
+    pub fn wrote(&mut self, n: usize, now: u64)
+        requires { n ≤ length self.old.owed }
+        ensures { self.new ≡ after_write n now self.old }
+    {
+        self.owed.skip(n);
+        self.progress = now;
+    }
+}
+
+// The moment of the last progress after a step that replied so many bytes: now, if there were any, or if the session was
+// closed.
+fn progress_after(replied: usize, live: bool, now: u64, before: u64) -> u64
+    ensures none { replied ≡ 0 → live ≡ true → result ≡ before }
+    ensures some { 0 < replied → result ≡ now }
+    ensures closed { live ≡ false → result ≡ now }
+{
+    if replied > 0 || !live { now } else { before }
+}

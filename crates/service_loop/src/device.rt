@@ -1,0 +1,91 @@
+//! The disk, and the socket of one connection.
+
+use lane_kernels::Lanes;
+use mio::net::TcpStream;
+use service_core::{Outside, SaveFailed, Stop};
+use std::io::{Error, ErrorKind, Read, Write};
+use version_store::Store;
+
+/// What saves versions, so that they are there after a crash.
+pub trait Saver {
+    /// Saves the store's current version.
+    ///
+    /// # Errors
+    ///
+    /// Where it could not be saved: the old version is there still, or the new one.
+    fn save(&mut self, rt: &HostRuntime, store: &Store<Lanes>) -> Result<(), SaveFailed>;
+}
+
+/// The disk, and the socket of a connection. A flag is put out when a call would have waited, and set by an event.
+#[derive(Drop)]
+pub struct Device<'a, S> {
+    /// The runtime.
+    pub rt: &'a HostRuntime,
+    /// What saves versions.
+    pub saver: &'a mut S,
+    /// The connection.
+    pub stream: &'a TcpStream,
+    /// There may be something to read.
+    pub readable: bool,
+    /// There may be room to write.
+    pub writable: bool,
+    /// The version of the last save that succeeded.
+    pub saved: u64,
+}
+
+impl<S: Saver> Outside<Lanes> for Device<'_, S> {
+    ghost saved = { λ s. s.saved };
+
+    fn save(&mut self, store: &Store<Lanes>) -> Result<(), SaveFailed> {
+        match self.saver.save(self.rt, store) {
+            Ok(()) => {
+                self.saved = store.version();
+                Ok(())
+            }
+            Err(_) => Err(SaveFailed),
+        }
+    }
+
+    fn read(&mut self, buffer: &mut [u8]) -> Result<usize, Stop> {
+        if !self.readable {
+            return Err(Stop::Later);
+        }
+        let mut stream = self.stream;
+        match stream.read(buffer) {
+            Ok(n) => Ok(n),
+            Err(e) => {
+                let stop = stop_of(&e);
+                self.readable = stop != Stop::Later;
+                Err(stop)
+            }
+        }
+    }
+
+    fn write(&mut self, _store: &Store<Lanes>, bytes: &[u8]) -> Result<usize, Stop> {
+        if bytes.is_empty() {
+            return Ok(0);
+        }
+        if !self.writable {
+            return Err(Stop::Later);
+        }
+        let mut stream = self.stream;
+        match stream.write(bytes) {
+            Ok(0) => Err(Stop::Failed),
+            Ok(n) => Ok(n),
+            Err(e) => {
+                let stop = stop_of(&e);
+                self.writable = stop != Stop::Later;
+                Err(stop)
+            }
+        }
+    }
+}
+
+// Why a call gave nothing. A signal does not interrupt a call that does not wait.
+fn stop_of(e: &Error) -> Stop {
+    if e.kind() == ErrorKind::WouldBlock {
+        Stop::Later
+    } else {
+        Stop::Failed
+    }
+}

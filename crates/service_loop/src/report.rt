@@ -1,0 +1,64 @@
+//! How a service ends, and what is said of its connections.
+
+use service_core::Fault;
+use std::io;
+use thiserror::Error;
+
+/// Why a service came to an end.
+#[derive(Clone, Copy, Debug, PartialEq, Eq, Error)]
+pub enum RunFault {
+    /// The address can't be listened on, or the system gives no events.
+    #[error("no connection can be accepted")]
+    Connect,
+    /// A version could not be saved, or the address could not be printed.
+    #[error("a write failed")]
+    Write,
+    /// There was no memory.
+    #[error("out of memory")]
+    Memory,
+}
+
+impl RunFault {
+    /// That of a call of the system which gave no memory, or else no connection.
+    pub fn of_system(error: &io::Error) -> RunFault {
+        if error.kind() == io::ErrorKind::OutOfMemory {
+            RunFault::Memory
+        } else {
+            RunFault::Connect
+        }
+    }
+}
+
+/// Why a connection was closed before its session had come to its end.
+#[derive(Clone, Copy, Debug, PartialEq, Eq)]
+pub enum Closing {
+    /// It could not be accepted.
+    Connect,
+    /// A turn ended with a fault.
+    Turn(Fault),
+    /// There was no progress for too long.
+    Idle,
+    /// The unfinished frames of all connections had too many bytes, and this one's the most.
+    Crowded,
+}
+
+impl Closing {
+    /// Its name, as the line has it.
+    pub fn name(self) -> &'static str {
+        match self {
+            Closing::Connect => "Connect",
+            Closing::Turn(fault) => fault.name(),
+            Closing::Idle => "Idle",
+            Closing::Crowded => "Memory",
+        }
+    }
+}
+
+/// Prints why a connection was closed, unless nothing is to be said.
+pub fn report(rt: &HostRuntime, quiet: bool, closing: Closing) {
+    if !quiet {
+        let name = closing.name();
+        // Where this can't be printed there is no one to tell.
+        let _ = eprintln!(rt; "connection: {name}");
+    }
+}
