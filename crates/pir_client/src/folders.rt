@@ -8,11 +8,10 @@ use crate::watching::Watched;
 use client_commands::{
     AskError, CommandError, Retrieved, ask_claimed, check_dimension, greet, sync,
 };
-use client_core::SavedClient;
 use client_state::{Folder, HintError, Kept, KeptHint, state_lines};
 use command_words::{Failure, Secret};
 use rehearsal::shown_bytes;
-use session_core::{ClientCore, Event, Lanes, Scheme};
+use session_core::{ClientCore, Event, Lanes, SavedClient, Scheme};
 use std::net::TcpStream;
 
 /// How often an answer may be stale before a retrieval is given up.

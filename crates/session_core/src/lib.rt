@@ -46,11 +46,13 @@
 //! Its test is in `tests`.
 #![tactic(auto)]
 
-pub use client_core::{CallFault, ClientCore, ClientFault, Event, Fed, Scheme, ServerInfo};
+pub use client_core::{
+    CallFault, ClientCore, ClientFault, Event, Fed, Hint, SavedClient, Scheme, ServerInfo,
+};
 pub use digit_pack::Layout;
 pub use frame_codec::{Bytes, Words};
 pub use lane_kernels::Lanes;
-pub use matrix_u32::{Kernel, Plain};
+pub use matrix_u32::{Kernel, Matrix, Plain};
 pub use once_session::{OnceFault, once};
 pub use pir_schemes::{Plan, answer_count, hint_len, is_certain, query_count};
 pub use server_core::{FeedError, ServerCore, SessionError, Standing};
