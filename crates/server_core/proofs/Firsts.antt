@@ -129,6 +129,7 @@ ends_well x h st frames store after before new a = record {
   where
     none : List Frame
     none = []
+
     by_state : (b : Bool) → MatchBool b ((after ≡ after) × (none ≡ [])) ((after ≡ after) × (none ≡ []))
     by_state true = (refl, refl)
     by_state false = (refl, refl)

@@ -122,14 +122,7 @@ impl Connection {
             writable: self.writable,
             saved,
         };
-        let ended = turn(
-            &mut self.link,
-            &mut core,
-            &mut device,
-            self.id,
-            now,
-            buffer,
-        );
+        let ended = turn(&mut self.link, &mut core, &mut device, self.id, now, buffer);
         let Device {
             readable,
             writable,

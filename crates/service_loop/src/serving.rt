@@ -313,6 +313,9 @@ impl<S: Saver> Service<'_, S> {
         place: usize,
         kept: Kept,
     ) -> Result<(Kept, bool), RunFault> {
+        if let None | Some(None) = self.connections.get(place) {
+            return Ok((kept, false));
+        }
         let now = self.now(rt)?;
         let Some(Some(connection)) = self.connections.get_mut(place) else {
             return Ok((kept, false));

@@ -13,5 +13,3 @@ mod commands;
 mod engines;
 #[cfg(test)]
 mod server;
-#[cfg(test)]
-mod service;
