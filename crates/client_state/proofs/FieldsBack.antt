@@ -1,4 +1,4 @@
--- What the bytes of fields tell of them.
+-- What the bytes of fields determine of them.
 use Rattle.std.proofs.Common.{◌≡◌, ℕ, ◌^◌, ◌<◌, List, [], ◌∷◌, ◌++◌, length, slice_index, Some, None, refl, sym, ap, ◌∙◌, append_assoc}
 use Rattle.std.proofs.lemmas.List.{length-append, drop_at, get_or-drop}
 use Rattle.frame_codec.specs.Numbers.{number_bytes, number_in}

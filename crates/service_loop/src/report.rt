@@ -58,7 +58,7 @@ impl Closing {
 pub fn report(rt: &HostRuntime, quiet: bool, closing: Closing) {
     if !quiet {
         let name = closing.name();
-        // Where this can't be printed there is no one to tell.
+        // Where this can't be printed there is nobody to report to.
         let _ = eprintln!(rt; "connection: {name}");
     }
 }
