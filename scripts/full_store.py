@@ -45,10 +45,10 @@ def build():
         stop(f"kernel_bench failed:\n{done.stdout}{done.stderr}")
 
 
-def kernel_millis(*wanted):
-    """The milliseconds of some work of the kernels alone, in one run."""
+def kernel_millis(*wanted, task="full"):
+    """The milliseconds of some work of the kernels alone, in one run of a task of kernel_bench."""
     program = os.path.join(KERNELS, "out", "kernel_bench")
-    done = subprocess.run([program, "full"], capture_output=True, text=True)
+    done = subprocess.run([program, task], capture_output=True, text=True)
     lines = (line.split("\t")[:2] for line in done.stdout.splitlines())
     found = {name: float(millis.split()[0]) for name, millis in lines}
     for name in wanted:

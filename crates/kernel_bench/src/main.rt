@@ -2,8 +2,9 @@
 //!
 //! With no argument each piece of work is done once at small sizes, and its line is printed with one fixed time. With the
 //! argument `full` the kernels and the schemes' setups are timed at the sizes of a large server, with `store` a
-//! publication in a store of the largest size, and one of 1,024 records of one byte in a store of 4,096. Each has a line of its own: the time of its quickest turn, what it read in
-//! a second, how many products it added in a second, and a sum of the words that it made. Fields are parted by tabs.
+//! publication in a store of the largest size, and one of 1,024 records of one byte in a store of 4,096. Each has a line of
+//! its own: the time of its quickest turn, what it read in a second, how many products it added in a second, and a sum of
+//! the words that it made. With `rate` one product is made 1,000 times, and its line has the mean. Fields are parted by tabs.
 #![tactic(auto)]
 
 mod data;
@@ -32,17 +33,21 @@ const FULL: BenchSizes = BenchSizes {
     nanos: None,
 };
 
+/// How many products `rate` makes.
+const IN_A_ROW: u32 = 1_000;
+
 // What the program's words ask for.
 #[derive(Clone, Copy)]
 enum Task {
     Small,
     Full,
     Store,
+    Rate,
 }
 
 fn main(rt: HostRuntime) -> ExitCode {
     let Some(task) = asked(&rt) else {
-        let _ = eprintln!(&rt; "usage: kernel_bench [full | store]");
+        let _ = eprintln!(&rt; "usage: kernel_bench [full | store | rate]");
         return ExitCode::FAILURE;
     };
     match done(&rt, task) {
@@ -63,6 +68,7 @@ fn asked(rt: &HostRuntime) -> Option<Task> {
     match word.as_str() {
         "full" => Some(Task::Full),
         "store" => Some(Task::Store),
+        "rate" => Some(Task::Rate),
         _ => None,
     }
 }
@@ -73,6 +79,7 @@ fn done(rt: &HostRuntime, task: Task) -> Option<()> {
             work::time_kernels(rt, SMALL)?;
             stores::time_publication(rt, SMALL)?;
             stores::time_neighbours(rt, SMALL)?;
+            work::time_rate(rt, SMALL, SMALL.turns)?;
             println!(rt; "kernels timed").ok()
         }
         Task::Full => work::time_kernels(rt, FULL),
@@ -80,5 +87,6 @@ fn done(rt: &HostRuntime, task: Task) -> Option<()> {
             stores::time_publication(rt, FULL)?;
             stores::time_neighbours(rt, FULL)
         }
+        Task::Rate => work::time_rate(rt, FULL, IN_A_ROW),
     }
 }

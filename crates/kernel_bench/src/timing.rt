@@ -66,6 +66,24 @@ pub fn packed(
     Some(least)
 }
 
+/// The same product so many times one after another: the time of all together.
+pub fn packed_in_a_row(
+    rt: &HostRuntime,
+    turns: u32,
+    digits: &Packed3,
+    x: &[u32],
+    out: &mut [u32],
+) -> Option<u64>
+    requires x_fits { length x.now ≡ digits.now.cols }
+    requires out_fits { length out.old ≡ digits.now.rows }
+{
+    let start = now(rt)?;
+    for _turn in 0..turns {
+        digits.mul_vec(Lanes, x, out);
+    }
+    nanos_since(rt, start)
+}
+
 /// The answer to a query, over digits as a store keeps them.
 pub fn answer(
     rt: &HostRuntime,

@@ -93,6 +93,25 @@ fn packed_product(rt: &HostRuntime, turns: u32, store: &Packed3) -> Option<Figur
     ))
 }
 
+/// Multiplies the digits of a store by a vector so many times one after another, and prints how long one took at the mean.
+pub fn time_rate(rt: &HostRuntime, sizes: BenchSizes, turns: u32) -> Option<()> {
+    let side = usize::from(sizes.side);
+    let digits = filled(rt.alloc(), side, side, 1, DIGIT)?;
+    let store = stored(rt.alloc(), &digits)?;
+    let x = vector(rt.alloc(), store.cols(), 3)?;
+    let mut out = vector(rt.alloc(), store.rows(), 4)?;
+    let took = timing::packed_in_a_row(rt, turns, &store, &x, &mut out)?;
+    let products = store.rows().saturating_mul(store.cols());
+    Figure::new(
+        "packed matrix by vector, in a row",
+        store.words().len(),
+        products,
+        took / u64::from(turns.max(1)),
+        &out,
+    )
+    .print(rt, sizes.nanos)
+}
+
 // The answer to a query.
 fn query(rt: &HostRuntime, turns: u32, store: &Packed3) -> Option<Figure> {
     let asked = vector(rt.alloc(), store.cols(), 3)?;
