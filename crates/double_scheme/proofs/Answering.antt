@@ -27,6 +27,15 @@ one_part f prefix n =
     ∙ ap (λ l. prefix ++ l) (ap (λ k. flat_map f (range_with_len 0 n) ++ f k) (omega arith) ∙ sym (parts_more f 0 n)
     ∙ ap (λ k. flat_map f (range_with_len 0 k)) (sym (add-one n)))
 
+-- blocks that are the same, one by one
+pub same_parts : (n : ℕ) (f g : ℕ → List ℕ) → ((k : ℕ) → k < n → f k ≡ g k) → flat_map f (range_with_len 0 n) ≡ flat_map g (range_with_len 0 n)
+same_parts zero f g h = refl
+same_parts (suc n) f g h =
+    parts_more f 0 n
+    ∙ ap (λ l. l ++ f (0 + n)) (same_parts n f g (λ k l. h k (omega (arith, l))))
+    ∙ ap (λ l. flat_map g (range_with_len 0 n) ++ l) (h (0 + n) (omega arith))
+    ∙ sym (parts_more g 0 n)
+
 div_small : (t k : ℕ) → t < k → t / k ≡ 0
 div_small t k l =
     let e : t ≡ 0 * k + t = omega arith in

@@ -6,3 +6,4 @@ pub mod Filled
 pub mod Answering
 pub mod Sizes
 pub mod Reading
+pub mod Products

@@ -24,6 +24,7 @@ mod hints;
 pub mod laws;
 mod queries;
 mod records;
+mod secrets;
 
 pub use answers::{AnswerRoom, answer, answer_count};
 pub use hints::setup;

@@ -1,16 +1,31 @@
 //! Queries.
 
-ghost use Rattle.std.specs.Prelude.{◌≡◌, ◌*◌, ◌^◌, ◌<◌, ◌≤◌, IfOk, length};
+ghost use Rattle.std.specs.Prelude.{◌≡◌, ◌+◌, ◌*◌, ◌^◌, ◌<◌, ◌≤◌, IfOk, length};
+ghost use Rattle.matrix_u32.specs.Matrix.{WordMatrix};
 ghost use Rattle.digit_pack.specs.Layout.{digit_rows, digit_cols, digits_per_record};
-ghost use Rattle.regev_core.specs.Encryption.{cipher};
-ghost use Rattle.simple_scheme.specs.Rooms.{HasSize};
-ghost use Rattle.double_scheme.specs.Double.{part_secret, part_noise, part_queries_of, double_query_count, double_query};
+ghost use Rattle.seed_expand.specs.Words.{rows_from};
+ghost use Rattle.regev_core.specs.Encryption.{with_noise};
+ghost use Rattle.double_scheme.specs.Double.{part_noise, part_queries_of, double_query_count, double_query};
+ghost use Rattle.double_scheme.specs.Rooms.{HasPartRoom, HasProducts};
 
+use crate::secrets::{part_secrets, put_matrix_products, put_products};
 use digit_pack::Layout;
 use matrix_u32::{Kernel, Matrix};
-use simple_scheme::{Mask, put_query};
+use seed_expand::WordSource;
+use simple_scheme::{Mask, draw_noise, put_query, put_query_under};
 use std::alloc::{AllocError, Global};
 use std::marker::Model;
+
+/// The memory of a query's parts: their secrets, the noise of one, a row of the second public matrix, its products with all
+/// secrets, and the products of each secret.
+#[derive(Drop)]
+struct PartRoom {
+    secrets: Vec<u32>,
+    noise: Vec<i32>,
+    row: Vec<u32>,
+    column: Vec<u32>,
+    products: Matrix,
+}
 
 /// The memory that a query is made in. It is taken by sizes alone: no index, number or seed is known where it
 /// is refused.
@@ -19,8 +34,8 @@ use std::marker::Model;
 #[derive(Drop)]
 pub struct QueryRoom {
     layout: Layout,
-    column_mask: Mask,
-    row_mask: Mask,
+    mask: Mask,
+    parts: PartRoom,
     words: Vec<u32>,
 }
 
@@ -32,11 +47,11 @@ impl Model for QueryRoom {
 
     ghost view = { λ r. record {
       layout = r.layout;
-      first_dimension = length r.column_mask.secret;
-      second_dimension = length r.row_mask.secret;
+      first_dimension = length r.mask.secret;
+      second_dimension = length r.parts.row.items;
     } };
 
-    ghost invariant = { λ r. HasQueryRoom r.layout r.column_mask r.row_mask r.words.items };
+    ghost invariant = { λ r. HasQueryRoom r.layout r.mask r.parts r.words.items };
 }
 
 impl QueryRoom {
@@ -55,125 +70,210 @@ impl QueryRoom {
         }) }
     {
         let cols = layout.cols();
-        let rows = layout.rows();
-        let count = cols + layout.digits_per_record() * rows;
+        let count = cols + layout.digits_per_record() * layout.rows();
         Ok(QueryRoom {
             layout: *layout,
-            column_mask: Mask::zeros(alloc, cols, first_dimension)?,
-            row_mask: Mask::zeros(alloc, rows, second_dimension)?,
+            mask: Mask::zeros(alloc, cols, first_dimension)?,
+            parts: part_room(alloc, layout, second_dimension)?,
             words: vec![in alloc; 0; count]?,
         })
     }
 
-    /// The query for record i, as [`query`] says it. It takes no memory.
+    /// The query for record i, as [`query`] says it, where the words of both public matrices come from sources, row by
+    /// row. No matrix is held as a whole, and each is gone through once. No memory is taken.
     pub fn fill<K: Kernel>(
         self,
         kernel: K,
+        first: WordSource,
+        second: WordSource,
         seed: &[u8; 32],
         number: u64,
-        a1: &Matrix,
-        a2: &Matrix,
         i: usize,
     ) -> Vec<u32>
         requires number { number < 2 ^ 62 }
-        requires rows { a1.now.rows ≡ digit_cols self.layout }
-        requires cols { a1.now.cols ≡ self.first_dimension }
-        requires second_rows { a2.now.rows ≡ digit_rows self.layout }
-        requires second_cols { a2.now.cols ≡ self.second_dimension }
         requires record { i < self.layout.count }
-        ensures words { result.items ≡ double_query self.layout a1.now a2.now seed.now number i }
+        ensures words { result.items ≡ double_query self.layout
+            (rows_from first (digit_cols self.layout) self.first_dimension)
+            (rows_from second (digit_rows self.layout) self.second_dimension)
+            seed.now number i }
         ensures count { length result.items ≡ double_query_count self.layout }
     {
         let QueryRoom {
             layout,
-            mut column_mask,
-            mut row_mask,
+            mut mask,
+            parts: room,
             words: mut out,
         } = self;
         let (prefix, parts) = out.split_at_mut(layout.cols());
-        put_query(
-            kernel,
-            seed,
-            number,
-            a1,
-            &layout,
-            i,
-            &mut column_mask,
-            prefix,
-        );
-        put_part_queries(kernel, seed, number, a2, &layout, i, &mut row_mask, parts);
+        put_query_under(kernel, first, seed, number, &layout, i, &mut mask, prefix);
+        put_parts_under(kernel, second, seed, number, &layout, i, room, parts);
         out
     }
 }
 
-// Writes all parts of a query.
-fn put_part_queries<K: Kernel>(
+// Memory for the parts of a query on a layout, under a second public matrix of n columns.
+fn part_room(alloc: Global, layout: &Layout, n: usize) -> Result<PartRoom, AllocError>
+    requires { n ≤ 1024 }
+    ensures room { IfOk result (HasPartRoom layout.now) }
+    ensures dimension { IfOk result (λ room. length room.row.items ≡ n) }
+{
+    let rows = layout.rows();
+    let parts = layout.digits_per_record();
+    Ok(PartRoom {
+        secrets: vec![in alloc; 0; parts * n]?,
+        noise: vec![in alloc; 0; rows]?,
+        row: vec![in alloc; 0; n]?,
+        column: vec![in alloc; 0; parts]?,
+        products: zero_products(alloc, parts, rows)?,
+    })
+}
+
+// Zeros, a row of them for each part.
+fn zero_products(alloc: Global, parts: usize, rows: usize) -> Result<Matrix, AllocError>
+    requires { (parts ≤ 4096) × (rows ≤ 4096) }
+    ensures rows { IfOk result (λ m. m.rows ≡ parts) }
+    ensures cols { IfOk result (λ m. m.cols ≡ rows) }
+{
+    match Matrix::zeros(alloc, parts, rows) {
+        Ok(products) => Ok(products),
+        // At most 4096 * 4096 words are wanted, so memory was refused.
+        Err(_) => Err(AllocError),
+    }
+}
+
+// Writes all parts of a query in one pass over the second public matrix, whose words a source gives, row by row.
+fn put_parts_under<K: Kernel>(
     kernel: K,
+    source: WordSource,
     seed: &[u8; 32],
     number: u64,
-    a2: &Matrix,
     layout: &Layout,
     i: usize,
-    mask: &mut Mask,
+    room: PartRoom,
     out: &mut [u32],
 )
     requires number { number < 2 ^ 62 }
-    requires rows { a2.now.rows ≡ digit_rows layout.now }
-    requires cols { a2.now.cols ≤ 1024 }
     requires record { i < layout.now.count }
-    requires mask { HasSize a2.now.rows a2.now.cols mask.old }
+    requires part_room { HasPartRoom layout.now room }
+    requires room { length out.old ≡ digits_per_record layout.now * digit_rows layout.now }
+    ensures { out.new ≡ part_queries_of layout.now
+        (rows_from source (digit_rows layout.now) (length room.row.items)) seed.now number i }
+{
+    let PartRoom {
+        secrets,
+        mut noise,
+        mut row,
+        mut column,
+        mut products,
+    } = room;
+    let parts = layout.digits_per_record();
+    let secrets = part_secrets(seed, number, parts, row.len(), secrets);
+    put_products(
+        kernel,
+        source,
+        &secrets,
+        &mut row,
+        &mut column,
+        &mut products,
+    );
+    put_noisy_parts(seed, number, layout, i, &products, &mut noise, out);
+}
+
+// The same under a second public matrix that is held as a whole.
+fn put_parts<K: Kernel>(
+    kernel: K,
+    a2: &Matrix,
+    seed: &[u8; 32],
+    number: u64,
+    layout: &Layout,
+    i: usize,
+    room: PartRoom,
+    out: &mut [u32],
+)
+    requires number { number < 2 ^ 62 }
+    requires record { i < layout.now.count }
+    requires rows { a2.now.rows ≡ digit_rows layout.now }
+    requires cols { a2.now.cols ≡ length room.row.items }
+    requires part_room { HasPartRoom layout.now room }
     requires room { length out.old ≡ digits_per_record layout.now * digit_rows layout.now }
     ensures { out.new ≡ part_queries_of layout.now a2.now seed.now number i }
+{
+    let PartRoom {
+        secrets,
+        mut noise,
+        row,
+        mut column,
+        mut products,
+    } = room;
+    let parts = layout.digits_per_record();
+    let secrets = part_secrets(seed, number, parts, row.len(), secrets);
+    put_matrix_products(kernel, a2, &secrets, &mut column, &mut products);
+    put_noisy_parts(seed, number, layout, i, &products, &mut noise, out);
+}
+
+// Writes all parts of a query from the products of the second public matrix with the secrets, a row for each part.
+fn put_noisy_parts(
+    seed: &[u8; 32],
+    number: u64,
+    layout: &Layout,
+    i: usize,
+    products: &Matrix,
+    noise: &mut [i32],
+    out: &mut [u32],
+)
+    requires number { number < 2 ^ 62 }
+    requires record { i < layout.now.count }
+    requires parts { products.now.rows ≡ digits_per_record layout.now }
+    requires rows { products.now.cols ≡ digit_rows layout.now }
+    requires noise { length noise.old ≡ digit_rows layout.now }
+    requires room { length out.old ≡ digits_per_record layout.now * digit_rows layout.now }
+    ensures { (a2 : WordMatrix) → a2.rows ≡ digit_rows layout.now →
+        HasProducts (digits_per_record layout.now) a2 seed.now number products.now →
+        out.new ≡ part_queries_of layout.now a2 seed.now number i }
 {
     let w = layout.width();
     let rows = layout.rows();
     let (first, _) = layout.place(i);
     for d in 0..layout.digits_per_record() {
         let at = d * rows;
-        put_part_query(
-            kernel,
+        put_noisy_part(
             seed,
             number,
-            a2,
+            products.row(d),
             w,
             first + d,
             d,
-            mask,
+            noise,
             &mut out[at..at + rows],
         );
     }
 }
 
-// Writes part d of a query: the encryption of a row under the second public matrix, with the part's own secret
-// and noise.
-fn put_part_query<K: Kernel>(
-    kernel: K,
+// Writes part d of a query: products, the part's own noise, and delta at its place.
+fn put_noisy_part(
     seed: &[u8; 32],
     number: u64,
-    a2: &Matrix,
+    products: &[u32],
     w: u32,
     place: usize,
     d: usize,
-    mask: &mut Mask,
+    noise: &mut [i32],
     out: &mut [u32],
 )
     requires number { number < 2 ^ 62 }
     requires width { (6 ≤ w) × (w ≤ 10) }
-    requires place { place < a2.now.rows }
     requires part { d < 4096 }
-    requires rows { a2.now.rows ≤ 4096 }
-    requires cols { a2.now.cols ≤ 1024 }
-    requires mask { HasSize a2.now.rows a2.now.cols mask.old }
-    requires room { length out.old ≡ a2.now.rows }
-    ensures words { out.new ≡
-        cipher w a2.now (part_secret seed.now number a2.now.cols d)
-        (part_noise seed.now number a2.now.rows d) place }
-    ensures mask { HasSize a2.now.rows a2.now.cols mask.new }
+    requires place { place < length products.now }
+    requires rows { length products.now ≤ 4096 }
+    requires noise { length noise.old ≡ length products.now }
+    requires room { length out.old ≡ length products.now }
+    ensures words { out.new ≡ with_noise w products.now
+        (part_noise seed.now number (length products.now) d) place }
+    ensures noise { length noise.new ≡ length noise.old }
 {
-    let secret_at = (d * a2.cols()) as u64;
-    let noise_at = (d * a2.rows()) as u64;
-    mask.draw(seed, 4 * number + 2, secret_at, noise_at);
-    mask.encrypt(kernel, a2, w, place, out);
+    draw_noise(seed, 4 * number + 3, (d * products.len()) as u64, noise);
+    out.copy_from_slice(products);
+    regev_core::add_noise(noise, place, w, out);
 }
 
 /// The query for record i: the encryption of its column under `a1`, which has a row for each column of the
@@ -199,6 +299,13 @@ pub fn query<K: Kernel>(
         double_query layout.now a1.now a2.now seed.now number i) }
     ensures count { IfOk result (λ v. length v.items ≡ double_query_count layout.now) }
 {
-    let room = QueryRoom::new(alloc, layout, a1.cols(), a2.cols())?;
-    Ok(room.fill(kernel, seed, number, a1, a2, i))
+    let rows = layout.rows();
+    let mut mask = Mask::zeros(alloc, a1.rows(), a1.cols())?;
+    let room = part_room(alloc, layout, a2.cols())?;
+    let count = a1.rows() + layout.digits_per_record() * rows;
+    let mut out = vec![in alloc; 0; count]?;
+    let (prefix, parts) = out.split_at_mut(a1.rows());
+    put_query(kernel, seed, number, a1, layout, i, &mut mask, prefix);
+    put_parts(kernel, a2, seed, number, layout, i, room, parts);
+    Ok(out)
 }

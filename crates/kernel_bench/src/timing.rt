@@ -70,16 +70,16 @@ pub fn packed(
 pub fn packed_in_a_row(
     rt: &HostRuntime,
     turns: u32,
-    digits: &Packed3,
+    store: &Packed3,
     x: &[u32],
     out: &mut [u32],
 ) -> Option<u64>
-    requires x_fits { length x.now ≡ digits.now.cols }
-    requires out_fits { length out.old ≡ digits.now.rows }
+    requires x_fits { length x.now ≡ store.now.cols }
+    requires out_fits { length out.old ≡ store.now.rows }
 {
     let start = now(rt)?;
     for _turn in 0..turns {
-        digits.mul_vec(Lanes, x, out);
+        store.mul_vec(Lanes, x, out);
     }
     nanos_since(rt, start)
 }

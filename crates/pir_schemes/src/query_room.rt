@@ -8,27 +8,26 @@ ghost use Rattle.pir_schemes.specs.Rooms.{scheme_asked, IsSchemeRoom};
 use crate::plan::{Plan, SecretSeed};
 use crate::scheme::Scheme;
 use digit_pack::Layout;
-use matrix_u32::{Kernel, Matrix};
-use seed_expand::expand;
+use matrix_u32::Kernel;
+use seed_expand::{WordSource, source_gives_rows};
 use std::alloc::{AllocError, Global};
 use std::marker::Model;
 
-// What the schemes do not have in common. In DoublePIR the second public matrix comes first.
+// What the schemes do not have in common.
 #[derive(Drop)]
 enum SchemeRoom {
     Simple(simple_scheme::QueryRoom),
-    Double(Matrix, double_scheme::QueryRoom),
+    Double(double_scheme::QueryRoom),
 }
 
-/// The memory that a query is made in, with the public matrices of a plan. It is taken for a scheme, a plan and a
-/// count of records: no index, number or secret seed is known where it is refused.
+/// The memory that a query is made in. It is taken for a scheme, a plan and a count of records: no index, number or
+/// secret seed is known where it is refused. The public matrices are made row by row where a query is, and not held.
 ///
 /// A contract sees it as these three.
 #[derive(Drop)]
 pub struct QueryRoom {
     plan: Plan,
     count: usize,
-    a1: Matrix,
     words: SchemeRoom,
 }
 
@@ -40,7 +39,7 @@ impl Model for QueryRoom {
     ghost view = { λ r.
         record { scheme = scheme_asked r.words; plan = r.plan; count = r.count } };
 
-    ghost invariant = { λ r. IsQueryRoom r.plan r.count r.a1 r.words };
+    ghost invariant = { λ r. IsQueryRoom r.plan r.count r.words };
 }
 
 impl QueryRoom {
@@ -58,12 +57,10 @@ impl QueryRoom {
         // The sizes are within the limits: no refusal is left.
         let layout = plan.layout(count).unwrap();
         let n = usize::from(plan.dimension);
-        let a1 = expand(alloc, &plan.seed, 0, 0, layout.cols(), n)?;
-        let words = scheme_room(alloc, scheme, &plan.seed, &layout, n)?;
+        let words = scheme_room(alloc, scheme, &layout, n)?;
         Ok(QueryRoom {
             plan: *plan,
             count,
-            a1,
             words,
         })
     }
@@ -76,26 +73,30 @@ impl QueryRoom {
         ensures { result.items ≡ query_words self.scheme (shape_at self.plan self.count)
             self.plan.dimension self.plan.seed seed.now number i }
     {
-        let QueryRoom { a1, words, .. } = self;
+        let QueryRoom { plan, words, .. } = self;
+        source_gives_rows();
+        let first = WordSource::at(&plan.seed, 0, 0);
         let seed = seed.bytes();
         match words {
-            SchemeRoom::Simple(room) => room.fill(kernel, seed, number, &a1, i),
-            SchemeRoom::Double(a2, room) => room.fill(kernel, seed, number, &a1, &a2, i),
+            SchemeRoom::Simple(room) => room.fill(kernel, first, seed, number, i),
+            SchemeRoom::Double(room) => {
+                let second = WordSource::at(&plan.seed, 1, 0);
+                room.fill(kernel, first, second, seed, number, i)
+            }
         }
     }
 }
 
-// Memory for a query of a scheme, under public matrices of n columns from a public seed.
+// Memory for a query of a scheme, under public matrices of n columns.
 fn scheme_room(
     alloc: Global,
     scheme: Scheme,
-    public: &[u8; 32],
     layout: &Layout,
     n: usize,
 ) -> Result<SchemeRoom, AllocError>
-    requires { (1 ≤ n) × (n ≤ 1024) }
+    requires { n ≤ 1024 }
     ensures scheme { IfOk result (λ room. scheme_asked room ≡ scheme) }
-    ensures room { IfOk result (IsSchemeRoom layout.now n public.now) }
+    ensures room { IfOk result (IsSchemeRoom layout.now n) }
 {
     match scheme {
         Scheme::Simple => {
@@ -103,9 +104,8 @@ fn scheme_room(
             Ok(SchemeRoom::Simple(room))
         }
         Scheme::Double => {
-            let a2 = expand(alloc, public, 1, 0, layout.rows(), n)?;
             let room = double_scheme::QueryRoom::new(alloc, layout, n, n)?;
-            Ok(SchemeRoom::Double(a2, room))
+            Ok(SchemeRoom::Double(room))
         }
     }
 }

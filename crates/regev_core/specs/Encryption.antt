@@ -1,5 +1,5 @@
 -- One layer of Regev encryption: 'One Server for the Price of Two' (USENIX Security 2023), section 3.
-use Rattle.std.specs.Prelude.{ℕ, ◌+◌, ◌*◌, ◌/◌, ◌%◌, ◌^◌, ◌<◌, ◌==◌, List, ℤ, pos, ◌-ℤ◌, slice_index_or, if◌then◌else◌}
+use Rattle.std.specs.Prelude.{ℕ, ◌+◌, ◌*◌, ◌/◌, ◌%◌, ◌^◌, ◌<◌, ◌==◌, List, length, ℤ, pos, ◌-ℤ◌, slice_index, slice_index_or, if◌then◌else◌}
 use Rattle.matrix_u32.specs.Sum.{list_of, residue, dot}
 use Rattle.matrix_u32.specs.Matrix.{WordMatrix, row}
 use Rattle.noise_table.specs.Margin.{delta}
@@ -9,6 +9,11 @@ use Rattle.noise_table.specs.Margin.{delta}
 abbrev pub cipher : ℕ → WordMatrix → List ℕ → List ℤ → ℕ → List ℕ
 cipher w a s e place =
     list_of a.rows (λ j. (dot (row a j) s + residue (slice_index_or e j (pos 0)) + (if j == place then delta w else 0)) % 2 ^ 32)
+
+-- words with noise, and at the place delta more
+abbrev pub with_noise : ℕ → List ℕ → List ℤ → ℕ → List ℕ
+with_noise w words e place =
+    list_of (length words) (λ j. (slice_index words j + residue (slice_index_or e j (pos 0)) + (if j == place then delta w else 0)) % 2 ^ 32)
 
 -- a word without a row of the hint times the secret
 abbrev pub stripped : ℕ → List ℕ → List ℕ → ℕ

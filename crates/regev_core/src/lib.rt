@@ -9,7 +9,7 @@
 
 ghost use Rattle.std.specs.Prelude.{◌≡◌, ◌≤◌, ◌<◌, length};
 ghost use Rattle.noise_table.specs.Margin.{delta};
-ghost use Rattle.regev_core.specs.Encryption.{cipher, stripped, nearest, IsNearest};
+ghost use Rattle.regev_core.specs.Encryption.{cipher, with_noise, stripped, nearest, IsNearest};
 
 use matrix_u32::{Kernel, Matrix};
 
@@ -45,6 +45,16 @@ pub fn encrypt<K: Kernel>(
     ensures { out.new ≡ cipher w a.now s.now e.now place }
 {
     kernel.mul_vec(a, s, out);
+    add_noise(e, place, w, out);
+}
+
+/// Adds the noise `e`, word by word, and delta at `place`: what makes the products of a matrix and a secret an encryption.
+pub fn add_noise(e: &[i32], place: usize, w: u32, out: &mut [u32])
+    requires width { (6 ≤ w) × (w ≤ 10) }
+    requires place { place < length out.old }
+    requires noise { length e.now ≡ length out.old }
+    ensures { out.new ≡ with_noise w out.old e.now place }
+{
     for j in 0..out.len() {
         out[j] = out[j].wrapping_add_signed(e[j]);
     }

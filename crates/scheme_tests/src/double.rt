@@ -2,10 +2,10 @@
 //! record are in tests/long.
 
 use digit_pack::{DigitStore, Flat, Layout, Packed3, digits_of_records};
-use double_scheme::{answer, query, recover, setup};
+use double_scheme::{QueryRoom, answer, query, recover, setup};
 use lane_kernels::Lanes;
 use matrix_u32::{Kernel, Matrix, Plain};
-use seed_expand::expand;
+use seed_expand::{WordSource, expand};
 use std::process::Abort;
 use std::test::Fail;
 
@@ -143,6 +143,22 @@ const SECOND_ANSWER: [u32; 12] = [
     2_427_445_751,
     1_866_561_690,
 ];
+
+// Public matrices whose rows are made one after another give the query that the whole ones give.
+#[test]
+fn a_query_under_rows_made_in_turn(rt: HostRuntime) -> Result<(), Fail> {
+    let layout = Layout::new(8, 2, 3, 10)?;
+    assert!(rt; layout.cols() <= 4096 && layout.rows() <= 4096 && layout.count() == 10);
+    let a1 = expand(rt.alloc(), &ZERO_SEED, 0, 0, layout.cols(), 5)?;
+    let a2 = expand(rt.alloc(), &ZERO_SEED, 1, 0, layout.rows(), 5)?;
+    let whole = query(rt.alloc(), Lanes, &ZERO_SEED, 3, &a1, &a2, &layout, 7)?;
+    let room = QueryRoom::new(rt.alloc(), &layout, 5, 5)?;
+    let first = WordSource::at(&ZERO_SEED, 0, 0);
+    let second = WordSource::at(&ZERO_SEED, 1, 0);
+    let in_turn = room.fill(Lanes, first, second, &ZERO_SEED, 3, 7);
+    assert_eq!(rt; in_turn.as_slice(), whole.as_slice());
+    Ok(())
+}
 
 #[test]
 fn both_records_of_a_store_of_two(rt: HostRuntime) -> Result<(), Fail> {

@@ -1,8 +1,8 @@
 use digit_pack::{DigitStore, Flat, Layout, Packed3, pack};
 use lane_kernels::Lanes;
 use matrix_u32::{Kernel, Matrix, Plain};
-use seed_expand::expand;
-use simple_scheme::{RecoverError, answer, query, recover, setup};
+use seed_expand::{WordSource, expand};
+use simple_scheme::{QueryRoom, RecoverError, answer, query, recover, setup};
 use std::process::Abort;
 use std::test::Fail;
 
@@ -171,6 +171,20 @@ fn packed_and_flat_digits_have_the_same_hint(rt: HostRuntime) -> Result<(), Fail
             assert_eq!(rt; flat.words(), packed.words(), "{rows} rows, {cols} columns");
         }
     }
+    Ok(())
+}
+
+// A public matrix whose rows are made one after another gives the query that the whole gives.
+#[test]
+fn a_query_under_rows_made_in_turn(rt: HostRuntime) -> Result<(), Fail> {
+    let layout = Layout::new(8, 1, 3, 10)?;
+    assert!(rt; layout.cols() <= 4096 && layout.count() == 10);
+    let a1 = expand(rt.alloc(), &ZERO_SEED, 0, 0, layout.cols(), 5)?;
+    let whole = query(rt.alloc(), Lanes, &ZERO_SEED, 3, &a1, &layout, 7)?;
+    let room = QueryRoom::new(rt.alloc(), &layout, 5)?;
+    let source = WordSource::at(&ZERO_SEED, 0, 0);
+    let in_turn = room.fill(Lanes, source, &ZERO_SEED, 3, 7);
+    assert_eq!(rt; in_turn.as_slice(), whole.as_slice());
     Ok(())
 }
 

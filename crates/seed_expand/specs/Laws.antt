@@ -2,11 +2,15 @@
 use Rattle.std.specs.Prelude.{◌≡◌, ℕ, ◌+◌, ◌-◌, ◌^◌, ◌<◌, ◌≤◌, List}
 use Rattle.rand_chacha.specs.ChaCha.{ChaCha}
 use Rattle.matrix_u32.specs.Matrix.{with_rows, first_rows}
-use Rattle.seed_expand.specs.Words.{word, source_at, further, source_word, public_rows}
+use Rattle.seed_expand.specs.Words.{word, source_at, further, source_word, public_rows, rows_from}
 
 -- a source gives the words of its seed and stream from its place on
 abbrev pub SourceGivesWords : Type 0
 SourceGivesWords = (seed : List ℕ) (stream place k : ℕ) → source_word (source_at seed stream place) k ≡ word seed stream (place + k)
+
+-- a source that stands at the start of a stream gives the rows of its public matrix
+abbrev pub SourceGivesRows : Type 0
+SourceGivesRows = (seed : List ℕ) (stream rows n : ℕ) → rows_from (source_at seed stream 0) rows n ≡ public_rows seed stream 0 rows n
 
 -- what reading on does
 pub record PlacesRunOn : Type 0 where

@@ -32,3 +32,7 @@ word_here source = word_at 10 source.key source.stream source.word_pos
 -- the word that a source gives after that many others
 abbrev pub source_word : ChaCha → ℕ → ℕ
 source_word source count = word_here (further source count)
+
+-- the matrix whose words a source gives, row by row
+abbrev pub rows_from : ChaCha → ℕ → ℕ → WordMatrix
+rows_from source rows n = matrix_of rows n (λ i j. source_word source (i * n + j))

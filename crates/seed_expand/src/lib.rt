@@ -9,10 +9,11 @@
 
 ghost use Rattle.std.specs.Prelude.{◌≡◌, ℕ, ◌+◌, ◌%◌, ◌^◌, ◌<◌, ◌≤◌, IfOk, length};
 ghost use Rattle.matrix_u32.specs.Sum.{list_of};
-ghost use Rattle.seed_expand.specs.Words.{source_at, further, word_here, source_word, words_from, public_rows};
-ghost use Rattle.seed_expand.specs.Laws.{SourceGivesWords, PlacesRunOn, RowsRunOn};
+ghost use Rattle.matrix_u32.specs.Matrix.{times_vector};
+ghost use Rattle.seed_expand.specs.Words.{source_at, further, word_here, source_word, words_from, public_rows, rows_from};
+ghost use Rattle.seed_expand.specs.Laws.{SourceGivesWords, SourceGivesRows, PlacesRunOn, RowsRunOn};
 
-use matrix_u32::Matrix;
+use matrix_u32::{Kernel, Matrix};
 use rand_chacha::ChaCha20Rng;
 use rand_core::SeedableRng;
 use rand_core::utils::NextWord;
@@ -129,9 +130,36 @@ pub fn expand(
     Ok(Matrix::from_words(rows, n, words).unwrap())
 }
 
+/// The matrix whose words a source gives, row by row, times a vector: a word for each row, of which there are as many as
+/// `out` has words; a row has as many words as `x`. The rows are made one after another in the memory of one, which is `row`.
+pub fn expand_times<K: Kernel>(
+    kernel: K,
+    mut source: WordSource,
+    x: &[u32],
+    row: &mut [u32],
+    out: &mut [u32],
+)
+    requires { length row.old ≡ length x.now }
+    ensures words { out.new ≡
+        times_vector (rows_from source (length out.old) (length x.now)) x.now }
+    ensures row { length row.new ≡ length row.old }
+{
+    // Called for its bound: a place below 2^68 stays where it is when there are no rows.
+    source.place();
+    for word in out.iter_mut() {
+        fill_words(&mut source, row);
+        *word = kernel.dot(row, x);
+    }
+}
+
 /// A source that was opened at a place gives the seed's words from that place on.
 pub fn source_gives_words()
     ensures { SourceGivesWords }
+{}
+
+/// A source that was opened at the start of a stream gives the rows of its public matrix.
+pub fn source_gives_rows()
+    ensures { SourceGivesRows }
 {}
 
 /// Places run on: a source that was read on is read on from there, and after the last place, 2^68 - 1,

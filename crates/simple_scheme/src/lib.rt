@@ -16,6 +16,6 @@ mod queries;
 mod records;
 
 pub use hints::setup;
-pub use mask::Mask;
-pub use queries::{QueryRoom, answer, put_query, query};
+pub use mask::{Mask, draw_noise};
+pub use queries::{QueryRoom, answer, put_query, put_query_under, query};
 pub use records::{RecoverError, read_digits, record_of_digits, recover};

@@ -1,31 +1,38 @@
 //! What hides a column or a row in an encryption.
 
 ghost use Rattle.std.specs.Prelude.{◌≡◌, ◌+◌, ◌^◌, ◌<◌, ◌≤◌, length, IfOk};
-ghost use Rattle.seed_expand.specs.Words.{words_from};
+ghost use Rattle.seed_expand.specs.Words.{words_from, rows_from};
 ghost use Rattle.noise_table.specs.Noise.{noise_from};
 ghost use Rattle.regev_core.specs.Encryption.{cipher};
 ghost use Rattle.simple_scheme.specs.Rooms.{HasSize};
 
 use matrix_u32::{Kernel, Matrix};
 use noise_table::fill_noise;
-use seed_expand::{WordSource, fill_words};
+use seed_expand::{WordSource, expand_times, fill_words};
 use std::alloc::{AllocError, Global};
 use std::marker::Model;
 
-/// The secret of an encryption and its noise. Its memory is taken by their sizes alone, and kept from one
-/// encryption to the next.
+/// The secret of an encryption and its noise, with memory for a row of a public matrix. The memory is taken by sizes
+/// alone, and kept from one encryption to the next.
+///
+/// A contract sees the secret and the noise.
 #[derive(Drop)]
 pub struct Mask {
     secret: Vec<u32>,
     noise: Vec<i32>,
+    // As long as the secret.
+    row: Vec<u32>,
 }
 
 impl Model for Mask {
+    ghost use Rattle.std.specs.Prelude.{◌≡◌, length};
     ghost use Rattle.simple_scheme.specs.Rooms.{Masking};
 
     ghost Value = { Masking };
 
     ghost view = { λ m. record { secret = m.secret.items; noise = m.noise.items } };
+
+    ghost invariant = { λ m. length m.row.items ≡ length m.secret.items };
 }
 
 impl Mask {
@@ -36,6 +43,7 @@ impl Mask {
         Ok(Mask {
             secret: vec![in alloc; 0; cols]?,
             noise: vec![in alloc; 0; rows]?,
+            row: vec![in alloc; 0; cols]?,
         })
     }
 
@@ -64,6 +72,28 @@ impl Mask {
     {
         regev_core::encrypt(kernel, a, &self.secret, &self.noise, place, w, out);
     }
+
+    /// Writes the same under the matrix whose words a source gives, row by row, as many as there are words. No more than
+    /// a row of it is held at any time.
+    pub fn encrypt_under<K: Kernel>(
+        &mut self,
+        kernel: K,
+        source: WordSource,
+        w: u32,
+        place: usize,
+        out: &mut [u32],
+    )
+        requires width { (6 ≤ w) × (w ≤ 10) }
+        requires place { place < length out.old }
+        requires size { length self.old.noise ≡ length out.old }
+        ensures words { out.new ≡
+            cipher w (rows_from source (length out.old) (length self.old.secret))
+            self.old.secret self.old.noise place }
+        ensures same { self.new ≡ self.old }
+    {
+        expand_times(kernel, source, &self.secret, &mut self.row, out);
+        regev_core::add_noise(&self.noise, place, w, out);
+    }
 }
 
 // Fills a slice with the words of a stream of the seed, from a place on.
@@ -74,8 +104,8 @@ fn draw_words(seed: &[u8; 32], stream: u64, place: u64, out: &mut [u32])
     fill_words(&mut WordSource::at(seed, stream, place), out);
 }
 
-// Fills a slice with the noise of a stream of the seed, from a place on.
-fn draw_noise(seed: &[u8; 32], stream: u64, place: u64, out: &mut [i32])
+/// Fills a slice with the noise of a stream of the seed, from a place on.
+pub fn draw_noise(seed: &[u8; 32], stream: u64, place: u64, out: &mut [i32])
     ensures { out.new ≡ noise_from seed.now stream place (length out.old) }
 {
     seed_expand::source_gives_words();

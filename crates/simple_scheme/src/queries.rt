@@ -1,13 +1,15 @@
 //! Queries and their answers.
 
 ghost use Rattle.std.specs.Prelude.{◌≡◌, ◌^◌, ◌<◌, IfOk, length};
-ghost use Rattle.digit_pack.specs.Layout.{digit_cols};
-ghost use Rattle.simple_scheme.specs.Simple.{simple_query, simple_answer};
+ghost use Rattle.digit_pack.specs.Layout.{digit_cols, column_of};
+ghost use Rattle.seed_expand.specs.Words.{rows_from};
+ghost use Rattle.simple_scheme.specs.Simple.{secret, query_noise, simple_query, simple_answer};
 ghost use Rattle.simple_scheme.specs.Rooms.{HasSize};
 
 use crate::mask::Mask;
 use digit_pack::{DigitStore, Layout};
 use matrix_u32::{Kernel, Matrix};
+use seed_expand::WordSource;
 use std::alloc::{AllocError, Global};
 use std::marker::Model;
 
@@ -24,7 +26,7 @@ pub struct QueryRoom {
 
 impl Model for QueryRoom {
     ghost use Rattle.std.specs.Prelude.{◌≡◌, length};
-    ghost use Rattle.digit_pack.specs.Layout.{digit_cols};
+    ghost use Rattle.digit_pack.specs.Layout.{digit_cols, column_of};
     ghost use Rattle.simple_scheme.specs.Rooms.{RoomSizes};
 
     ghost Value = { RoomSizes };
@@ -48,27 +50,29 @@ impl QueryRoom {
         })
     }
 
-    /// The query for record i, as [`query`] says it. It takes no memory.
+    /// The query for record i, as [`query`] says it, under the public matrix whose words a source gives, row by row. The
+    /// matrix is never held as a whole. No memory is taken.
     pub fn fill<K: Kernel>(
         self,
         kernel: K,
+        source: WordSource,
         seed: &[u8; 32],
         number: u64,
-        a1: &Matrix,
         i: usize,
     ) -> Vec<u32>
         requires number { number < 2 ^ 62 }
-        requires rows { a1.now.rows ≡ digit_cols self.layout }
-        requires cols { a1.now.cols ≡ self.dimension }
         requires record { i < self.layout.count }
-        ensures { result.items ≡ simple_query self.layout a1.now seed.now number i }
+        ensures { result.items ≡ simple_query self.layout
+            (rows_from source (digit_cols self.layout) self.dimension) seed.now number i }
     {
         let QueryRoom {
             layout,
             mut mask,
             words: mut out,
         } = self;
-        put_query(kernel, seed, number, a1, &layout, i, &mut mask, &mut out);
+        put_query_under(
+            kernel, source, seed, number, &layout, i, &mut mask, &mut out,
+        );
         out
     }
 }
@@ -92,9 +96,47 @@ pub fn put_query<K: Kernel>(
     requires room { length out.old ≡ a1.now.rows }
     ensures { out.new ≡ simple_query layout.now a1.now seed.now number i }
 {
+    let column = draw_for(seed, number, layout, i, mask);
+    mask.encrypt(kernel, a1, layout.width(), column, out);
+}
+
+/// Writes the query for record i under the public matrix whose words a source gives, row by row, one for each column of
+/// the layout; a row has as many words as the mask's secret. What the mask held is lost.
+#[tactic(auto, unfolding(crate::specs::Simple::simple_query))]
+pub fn put_query_under<K: Kernel>(
+    kernel: K,
+    source: WordSource,
+    seed: &[u8; 32],
+    number: u64,
+    layout: &Layout,
+    i: usize,
+    mask: &mut Mask,
+    out: &mut [u32],
+)
+    requires number { number < 2 ^ 62 }
+    requires record { i < layout.now.count }
+    requires mask { length mask.old.noise ≡ digit_cols layout.now }
+    requires room { length out.old ≡ digit_cols layout.now }
+    ensures { out.new ≡ simple_query layout.now
+        (rows_from source (digit_cols layout.now) (length mask.old.secret)) seed.now number i }
+{
+    let column = draw_for(seed, number, layout, i, mask);
+    mask.encrypt_under(kernel, source, layout.width(), column, out);
+}
+
+// Draws what hides the column of record i in a retrieval, and gives the column.
+fn draw_for(seed: &[u8; 32], number: u64, layout: &Layout, i: usize, mask: &mut Mask) -> usize
+    requires number { number < 2 ^ 62 }
+    requires record { i < layout.now.count }
+    ensures column { result ≡ column_of layout.now i }
+    ensures inside { result < digit_cols layout.now }
+    ensures secret { mask.new.secret ≡ secret seed.now number (length mask.old.secret) }
+    ensures noise { mask.new.noise ≡ query_noise seed.now number (length mask.old.noise) }
+    ensures size { HasSize (length mask.old.noise) (length mask.old.secret) mask.new }
+{
     let (_, column) = layout.place(i);
     mask.draw(seed, 4 * number, 0, 0);
-    mask.encrypt(kernel, a1, layout.width(), column, out);
+    column
 }
 
 /// The query for record i: the encryption of its column under the public matrix `a1`, which has a row for
@@ -113,8 +155,10 @@ pub fn query<K: Kernel>(
     requires record { i < layout.now.count }
     ensures { IfOk result (λ v. v.items ≡ simple_query layout.now a1.now seed.now number i) }
 {
-    let room = QueryRoom::new(alloc, layout, a1.cols())?;
-    Ok(room.fill(kernel, seed, number, a1, i))
+    let mut mask = Mask::zeros(alloc, a1.rows(), a1.cols())?;
+    let mut out = vec![in alloc; 0; a1.rows()]?;
+    put_query(kernel, seed, number, a1, layout, i, &mut mask, &mut out);
+    Ok(out)
 }
 
 /// The answer to the words of a query: the digits times the query, one word for each digit row. Its memory is
