@@ -8,7 +8,7 @@ ghost use Rattle.regev_core.specs.Encryption.{with_noise};
 ghost use Rattle.double_scheme.specs.Double.{part_noise, part_queries_of, double_query_count, double_query};
 ghost use Rattle.double_scheme.specs.Rooms.{HasPartRoom, HasProducts};
 
-use crate::secrets::{part_secrets, put_matrix_products, put_products};
+use crate::secrets::{part_secrets, put_matrix_products, put_products, zero_products};
 use digit_pack::Layout;
 use matrix_u32::{Kernel, Matrix};
 use seed_expand::WordSource;
@@ -126,19 +126,6 @@ fn part_room(alloc: Global, layout: &Layout, n: usize) -> Result<PartRoom, Alloc
         column: vec![in alloc; 0; parts]?,
         products: zero_products(alloc, parts, rows)?,
     })
-}
-
-// Zeros, a row of them for each part.
-fn zero_products(alloc: Global, parts: usize, rows: usize) -> Result<Matrix, AllocError>
-    requires { (parts ≤ 4096) × (rows ≤ 4096) }
-    ensures rows { IfOk result (λ m. m.rows ≡ parts) }
-    ensures cols { IfOk result (λ m. m.cols ≡ rows) }
-{
-    match Matrix::zeros(alloc, parts, rows) {
-        Ok(products) => Ok(products),
-        // At most 4096 * 4096 words are wanted, so memory was refused.
-        Err(_) => Err(AllocError),
-    }
 }
 
 // Writes all parts of a query in one pass over the second public matrix, whose words a source gives, row by row.

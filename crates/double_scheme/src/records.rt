@@ -1,14 +1,17 @@
 //! How an answer is read.
 
-ghost use Rattle.std.specs.Prelude.{◌≡◌, ◌+◌, ◌*◌, ◌^◌, ◌<◌, ◌≤◌, ◌↔◌, IfOk, IsTrue, All, length, drop};
+ghost use Rattle.std.specs.Prelude.{◌≡◌, ◌≢◌, ◌+◌, ◌*◌, ◌^◌, ◌<◌, ◌≤◌, ◌↔◌, ℕ, IfOk, IsTrue, All, length, drop};
 ghost use Rattle.matrix_u32.specs.Sum.{list_of};
+ghost use Rattle.matrix_u32.specs.Matrix.{entry, row};
+ghost use Rattle.regev_core.specs.Encryption.{nearest, stripped};
 ghost use Rattle.lane_kernels.specs.Digit.{split_count};
 ghost use Rattle.digit_pack.specs.Layout.{digits_per_record};
-ghost use Rattle.double_scheme.specs.Double.{words_of_part, double_answer_count, answer_hint, second_word, part_read, double_digit_read, double_reading};
+ghost use Rattle.double_scheme.specs.Double.{words_of_part, double_answer_count, answer_hint, answer_part, hint_part_words, second_word, row_read, word_read, double_reading};
 ghost use Rattle.double_scheme.specs.Recovery.{DoubleReadsRecord, DoubleGivesQuietRecord};
 
 use crate::answers::{answer_count, part_of};
 use crate::laws;
+use crate::secrets::{part_secrets, zero_products};
 use digit_pack::{Layout, join_word, split_count};
 use matrix_u32::{Kernel, Matrix};
 use seed_expand::stream_words;
@@ -38,25 +41,71 @@ fn read_word<K: Kernel>(
     join_word(digits, w)
 }
 
-// The words that the second layer's words give, κ digits to a word: one for each place of `out`.
-fn read_words<K: Kernel>(
+// Word k of the row of D A1 that each part of an answer gives, in its row of `out`.
+fn read_column<K: Kernel>(
     kernel: K,
     w: u32,
-    hint: &Matrix,
-    s: &[u32],
-    words: &[u32],
+    client_hint: &Matrix,
+    secrets: &Matrix,
+    answer: &[u32],
+    k: usize,
     digits: &mut [u32],
-    out: &mut [u32],
+    out: &mut Matrix,
 )
     requires width { (6 ≤ w) × (w ≤ 10) }
-    requires secret { length s.now ≡ hint.now.cols }
-    requires words { length words.now ≡ hint.now.rows }
-    requires rows { hint.now.rows ≡ length out.old * split_count w }
+    requires rows { client_hint.now.rows ≡ client_hint.now.cols * split_count w }
+    requires inside { k < client_hint.now.cols }
+    requires secrets { secrets.now.cols ≡ client_hint.now.cols }
+    requires words { client_hint.now.cols * split_count w
+        + secrets.now.rows * words_of_part w client_hint.now.cols ≤ length answer.now }
     requires scratch { length digits.old ≡ split_count w }
-    ensures { out.new ≡ list_of (length out.old) (second_word w hint.now s.now words.now) }
+    requires out_rows { out.old.rows ≡ secrets.now.rows }
+    requires out_cols { out.old.cols ≡ client_hint.now.cols }
+    ensures here { (d : ℕ) → d < secrets.now.rows → entry out.new d k
+        ≡ second_word w client_hint.now (row secrets.now d)
+        (hint_part_words w client_hint.now.cols
+        (answer_part w client_hint.now.cols answer.now d)) k }
+    ensures others { (d j : ℕ) → d < out.old.rows → j < out.old.cols → j ≢ k →
+        entry out.new d j ≡ entry out.old d j }
+    ensures rows { out.new.rows ≡ out.old.rows }
+    ensures cols { out.new.cols ≡ out.old.cols }
 {
-    for k in 0..out.len() {
-        out[k] = read_word(kernel, w, hint, s, words, k, digits);
+    let _rows = out.rows();
+    let prefix = client_hint.rows();
+    let count = prefix + split_count(w);
+    for d in 0..secrets.rows() {
+        let words = part_of(answer, prefix + d * count, prefix);
+        let word = read_word(kernel, w, client_hint, secrets.row(d), words, k, digits);
+        out.set(d, k, word);
+    }
+}
+
+// The row of D A1 that each part of an answer gives, in its row of `out`: in one pass over the client's hint.
+fn read_rows<K: Kernel>(
+    kernel: K,
+    w: u32,
+    client_hint: &Matrix,
+    secrets: &Matrix,
+    answer: &[u32],
+    digits: &mut [u32],
+    out: &mut Matrix,
+)
+    requires width { (6 ≤ w) × (w ≤ 10) }
+    requires rows { client_hint.now.rows ≡ client_hint.now.cols * split_count w }
+    requires secrets { secrets.now.cols ≡ client_hint.now.cols }
+    requires words { client_hint.now.cols * split_count w
+        + secrets.now.rows * words_of_part w client_hint.now.cols ≤ length answer.now }
+    requires scratch { length digits.old ≡ split_count w }
+    requires out_rows { out.old.rows ≡ secrets.now.rows }
+    requires out_cols { out.old.cols ≡ client_hint.now.cols }
+    ensures rows { (d : ℕ) → d < secrets.now.rows → row out.new d
+        ≡ row_read w client_hint.now.cols client_hint.now (row secrets.now d)
+        (answer_part w client_hint.now.cols answer.now d) }
+    ensures count { out.new.rows ≡ out.old.rows }
+    ensures cols { out.new.cols ≡ out.old.cols }
+{
+    for k in 0..client_hint.cols() {
+        read_column(kernel, w, client_hint, secrets, answer, k, digits, out);
     }
 }
 
@@ -69,45 +118,32 @@ fn rest_of(words: &[u32], start: usize) -> &[u32]
     &words[start..]
 }
 
-// The digit that a part of an answer reads as, with the first answer's hint and both secrets.
+// The digit that a part of an answer reads as, with the row of D A1 that it gives, the first answer's hint and both secrets.
 fn read_part<K: Kernel>(
-    alloc: Global,
     kernel: K,
     w: u32,
-    client_hint: &Matrix,
+    row: &[u32],
     first_hint: &Matrix,
     first_secret: &[u32],
     part_secret: &[u32],
     part: &[u32],
-) -> Result<u32, AllocError>
+    digits: &mut [u32],
+) -> u32
     requires width { (6 ≤ w) × (w ≤ 10) }
-    requires rows { client_hint.now.rows ≡ client_hint.now.cols * split_count w }
     requires first_rows { first_hint.now.rows ≡ split_count w }
-    requires first_cols { first_hint.now.cols ≡ client_hint.now.cols }
-    requires first_words { length first_secret.now ≡ client_hint.now.cols }
-    requires part_words { length part_secret.now ≡ client_hint.now.cols }
-    requires part { length part.now ≡ words_of_part w client_hint.now.cols }
-    ensures { IfOk result (λ digit. digit ≡
-        part_read w client_hint.now.cols client_hint.now first_hint.now first_secret.now
-        part_secret.now part.now) }
+    requires row { length row.now ≡ first_hint.now.cols }
+    requires first_words { length first_secret.now ≡ first_hint.now.cols }
+    requires part_words { length part_secret.now ≡ first_hint.now.cols }
+    requires part { length part.now ≡ words_of_part w first_hint.now.cols }
+    requires scratch { length digits.old ≡ split_count w }
+    ensures { result ≡ nearest w (stripped
+        (word_read w first_hint.now.cols first_hint.now part_secret.now part.now)
+        row.now first_secret.now) }
 {
-    let prefix = client_hint.rows();
-    let mut digits = vec![in alloc; 0; split_count(w)]?;
-    let mut row = vec![in alloc; 0; client_hint.cols()]?;
-    let row_words = part_of(part, 0, prefix);
-    read_words(
-        kernel,
-        w,
-        client_hint,
-        part_secret,
-        row_words,
-        &mut digits,
-        &mut row,
-    );
-    let rest = rest_of(part, prefix);
-    let word = read_word(kernel, w, first_hint, part_secret, rest, 0, &mut digits);
-    let stripped = regev_core::strip(kernel, word, &row, first_secret);
-    Ok(regev_core::round(stripped, w))
+    let rest = rest_of(part, first_hint.cols() * split_count(w));
+    let word = read_word(kernel, w, first_hint, part_secret, rest, 0, digits);
+    let stripped = regev_core::strip(kernel, word, row, first_secret);
+    regev_core::round(stripped, w)
 }
 
 // The prefix of an answer: the hint of the first answer.
@@ -146,16 +182,67 @@ fn read_parts<K: Kernel>(
 {
     let w = layout.width();
     let n = client_hint.cols();
-    let prefix = client_hint.rows();
-    let count = prefix + split_count(w);
+    let parts = layout.digits_per_record();
     let hint = first_hint(alloc, w, n, answer)?;
     let s = stream_words(alloc, seed, 4 * number, 0, n)?;
-    for d in 0..out.len() {
-        let part_s = stream_words(alloc, seed, 4 * number + 2, (d * n) as u64, n)?;
-        let part = part_of(answer, prefix + d * count, count);
-        out[d] = read_part(alloc, kernel, w, client_hint, &hint, &s, &part_s, part)?;
-    }
+    let mut digits = vec![in alloc; 0; split_count(w)]?;
+    let mut rows = zero_products(alloc, parts, n)?;
+    let secrets = part_secrets(seed, number, parts, n, vec![in alloc; 0; parts * n]?);
+    read_rows(
+        kernel,
+        w,
+        client_hint,
+        &secrets,
+        answer,
+        &mut digits,
+        &mut rows,
+    );
+    read_digits_of_parts(kernel, w, &rows, &hint, &s, &secrets, answer, &mut digits, out);
     Ok(())
+}
+
+// The digits of all parts, from the row of D A1 that each gives.
+fn read_digits_of_parts<K: Kernel>(
+    kernel: K,
+    w: u32,
+    rows: &Matrix,
+    first_hint: &Matrix,
+    first_secret: &[u32],
+    secrets: &Matrix,
+    answer: &[u32],
+    digits: &mut [u32],
+    out: &mut [u32],
+)
+    requires width { (6 ≤ w) × (w ≤ 10) }
+    requires cols { first_hint.now.cols ≤ 1024 }
+    requires first_rows { first_hint.now.rows ≡ split_count w }
+    requires row_cols { rows.now.cols ≡ first_hint.now.cols }
+    requires first_words { length first_secret.now ≡ first_hint.now.cols }
+    requires secrets { secrets.now.cols ≡ first_hint.now.cols }
+    requires parts { (rows.now.rows ≡ length out.old) × (secrets.now.rows ≡ length out.old) }
+    requires words { first_hint.now.cols * split_count w
+        + length out.old * words_of_part w first_hint.now.cols ≤ length answer.now }
+    requires scratch { length digits.old ≡ split_count w }
+    ensures { out.new ≡ list_of (length out.old) (λ d. nearest w (stripped
+        (word_read w first_hint.now.cols first_hint.now (row secrets.now d)
+        (answer_part w first_hint.now.cols answer.now d))
+        (row rows.now d) first_secret.now)) }
+{
+    let prefix = first_hint.cols() * split_count(w);
+    let count = prefix + split_count(w);
+    for d in 0..out.len() {
+        let part = part_of(answer, prefix + d * count, count);
+        out[d] = read_part(
+            kernel,
+            w,
+            rows.row(d),
+            first_hint,
+            first_secret,
+            secrets.row(d),
+            part,
+            digits,
+        );
+    }
 }
 
 // The digits that an answer reads as.

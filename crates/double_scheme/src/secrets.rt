@@ -1,12 +1,13 @@
 //! What all parts of a query or an answer take from a matrix, in one pass over it.
 
-ghost use Rattle.std.specs.Prelude.{◌≡◌, ◌≢◌, ◌*◌, ◌^◌, ◌<◌, ◌≤◌, ℕ, length, slice_index};
+ghost use Rattle.std.specs.Prelude.{◌≡◌, ◌≢◌, ◌*◌, ◌^◌, ◌<◌, ◌≤◌, ℕ, IfOk, length, slice_index};
 ghost use Rattle.matrix_u32.specs.Matrix.{entry, row, times_vector};
 ghost use Rattle.seed_expand.specs.Words.{rows_from};
 ghost use Rattle.double_scheme.specs.Double.{part_secret};
 
 use matrix_u32::{Kernel, Matrix};
 use seed_expand::{WordSource, fill_words};
+use std::alloc::{AllocError, Global};
 
 /// The secrets of a retrieval's parts, a row for each, in the memory of `words`.
 pub fn part_secrets(
@@ -28,6 +29,19 @@ pub fn part_secrets(
     fill_words(&mut WordSource::at(seed, 4 * number + 2, 0), &mut words);
     // There are parts * n words, and at most 4096 * 1024 of them: no refusal is left.
     Matrix::from_words(parts, n, words).unwrap()
+}
+
+/// Zeros, a row of them for each part. Only refused memory gives an `Err`.
+pub fn zero_products(alloc: Global, parts: usize, cols: usize) -> Result<Matrix, AllocError>
+    requires { (parts ≤ 4096) × (cols ≤ 4096) }
+    ensures rows { IfOk result (λ m. m.rows ≡ parts) }
+    ensures cols { IfOk result (λ m. m.cols ≡ cols) }
+{
+    match Matrix::zeros(alloc, parts, cols) {
+        Ok(zeros) => Ok(zeros),
+        // At most 4096 * 4096 words are wanted, so memory was refused.
+        Err(_) => Err(AllocError),
+    }
 }
 
 /// Writes the products of the matrix whose words a source gives, row by row, and each secret: row d of `out` is the matrix

@@ -1,48 +1,36 @@
-use Rattle.std.proofs.Common.{arith, ap, ◌∙◌, ◌≡◌, ℕ, ◌+◌, ◌*◌, ◌≤◌, mul-le-mul_right}
-use Rattle.matrix_u32.proofs.Products.{filled_more, words_are}
-use Rattle.lane_kernels.specs.Digit.{split_count}
+use Rattle.std.proofs.Common.{arith, ap, ◌∙◌, ◌≡◌, ℕ, ◌<◌, List, length}
+use Rattle.matrix_u32.specs.Sum.{list_of}
+use Rattle.matrix_u32.specs.Matrix.{WordMatrix, row}
+use Rattle.matrix_u32.proofs.Products.{same-list_of}
+use Rattle.regev_core.specs.Encryption.{nearest, stripped}
 use Rattle.digit_pack.specs.Layout.{digits_per_record}
 use Rattle.simple_scheme.specs.Simple.{secret}
-use Rattle.double_scheme.specs.Double.{words_of_part, answer_hint, part_secret, double_digit_read, double_reading}
-use Rattle.double_scheme.proofs.Reading.{part_is}
+use Rattle.double_scheme.specs.Double.{answer_hint, answer_part, part_secret, word_read, double_digit_read, double_reading}
+use Rattle.double_scheme.proofs.Reading.{digit_is}
 use Rattle.double_scheme.proofs.records.read_parts.Goals as goal
 
-pub part_of-part-requires : goal.part_of-part-requires
-part_of-part-requires g c =
-    let l = c.args.layout.now in
-    let n : ℕ = c.args.client_hint.now.cols in
-    let size : ℕ = c.rows-prefix.result + c.split_count.result in
-    let count : c.split_count.result ≡ split_count l.width = c.split_count.ensures ∙ ap split_count c.width-w.ensures.value in
-    let same : size ≡ words_of_part l.width n = omega (arith, c.rows-prefix.ensures.value, c.requires.rows, count) in
-    let last : (c.loop-d.d + 1) * size ≤ digits_per_record l * size = mul-le-mul_right size (omega (arith, c.loop-d-test.true, c.requires.room)) in
-    let all : digits_per_record l * size ≡ digits_per_record l * words_of_part l.width n = ap (λ k. digits_per_record l * k) same in
-    omega (arith, last, all, c.requires.words, c.rows-prefix.ensures.value, c.requires.rows)
-
-pub loop-d-preserved : goal.loop-d-preserved
-loop-d-preserved g c =
-    let l = c.args.layout.now in
-    let hint = c.args.client_hint.now in
-    let n : ℕ = hint.cols in
-    let count : c.split_count.result ≡ split_count l.width = c.split_count.ensures ∙ ap split_count c.width-w.ensures.value in
-    let prefix : c.rows-prefix.result ≡ n * split_count l.width = c.rows-prefix.ensures.value ∙ c.requires.rows in
-    let size : c.rows-prefix.result + c.split_count.result ≡ words_of_part l.width n = omega (arith, prefix, count) in
-    let s1 : c.deref.result.now ≡ secret c.args.seed.now c.args.number n =
-    c.deref.ensures.value ∙ c.in_ok-s.ensures.words ∙ ap (λ n. secret c.args.seed.now c.args.number n) c.cols-n.ensures in
-    let s2 : c.deref-in-loop-d.result.now ≡ part_secret c.args.seed.now c.args.number n c.loop-d.d =
-    c.deref-in-loop-d.ensures.value ∙ c.in_ok-part_s.ensures.words ∙ ap (λ n. part_secret c.args.seed.now c.args.number n c.loop-d.d) c.cols-n.ensures in
-    let h : c.in_ok-hint.hint ≡ answer_hint c.width-w.result n c.args.answer.now =
-    c.in_ok-hint.ensures ∙ ap (λ n. answer_hint c.width-w.result n c.args.answer.now) c.cols-n.ensures in
-    filled_more c.loop-d.out c.loop-d.d c.in_ok-out.field-0 (double_digit_read l hint c.args.seed.now c.args.number c.args.answer.now)
-    (omega (arith, c.loop-d-test.true, c.loop-d.auto.out))
-    (part_is l hint c.args.seed.now c.args.number c.args.answer.now c.loop-d.d c.width-w.result c.rows-prefix.result
-    (c.rows-prefix.result + c.split_count.result) c.in_ok-out.field-0
-    c.in_ok-hint.hint c.deref.result.now c.deref-in-loop-d.result.now c.part_of-part.result.now
-    c.width-w.ensures.value prefix size h s1 s2 c.part_of-part.ensures.value c.in_ok-out.ensures)
-    c.loop-d.invariant
+pub read_digits_of_parts-requires-clause-row_cols : goal.read_digits_of_parts-requires-clause-row_cols
+read_digits_of_parts-requires-clause-row_cols g c =
+    omega (arith, c.read_rows.ensures.cols, c.in_ok-rows.ensures.cols, ap (λ (h : WordMatrix). h.cols) c.in_ok-hint.ensures)
 
 pub returns : goal.returns
 unfolding double_reading
 returns g c =
     let l = c.args.layout.now in
-    words_are c.loop-d.out (digits_per_record l) (double_digit_read l c.args.client_hint.now c.args.seed.now c.args.number c.args.answer.now)
-    (c.loop-d.auto.out ∙ c.requires.room) (λ k p. c.loop-d.invariant k (omega (arith, c.loop-d-test.false, c.loop-d.auto.out, c.requires.room)))
+    let seed : List ℕ = c.args.seed.now in
+    let number : ℕ = c.args.number in
+    let answer : List ℕ = c.args.answer.now in
+    let hint : WordMatrix = c.args.client_hint.now in
+    let w : ℕ = c.width-w.result in
+    let h : WordMatrix = c.in_ok-hint.hint in
+    let secrets : WordMatrix = c.part_secrets-secrets.result in
+    let s1 : List ℕ = c.deref.result.now in
+    let first : h ≡ answer_hint w hint.cols answer = c.in_ok-hint.ensures ∙ ap (λ n. answer_hint w n answer) c.cols-n.ensures in
+    let same : s1 ≡ secret seed number hint.cols = c.deref.ensures.value ∙ c.in_ok-s.ensures.words ∙ ap (λ n. secret seed number n) c.cols-n.ensures in
+    let parts : c.digits_per_record-parts.result ≡ digits_per_record l = c.digits_per_record-parts.ensures.value in
+    c.read_digits_of_parts.ensures
+    ∙ ap (λ k. list_of k (λ d. nearest w (stripped (word_read w h.cols h (row secrets d) (answer_part w h.cols answer d)) (row c.read_rows.new.out d) s1))) c.requires.room
+    ∙ same-list_of (digits_per_record l) _ (double_digit_read l hint seed number answer) (λ d p.
+    digit_is l hint seed number answer d w h s1 (row secrets d) (row c.read_rows.new.out d) c.width-w.ensures.value first same
+    (c.part_secrets-secrets.ensures.secrets d (omega (arith, p, parts)) ∙ ap (λ n. part_secret seed number n d) c.cols-n.ensures)
+    (c.read_rows.ensures.rows d (omega (arith, p, parts, c.part_secrets-secrets.ensures.rows))))

@@ -1,0 +1,13 @@
+use Rattle.std.proofs.Common.{◌≡◌, ℕ, ◌<◌}
+use Rattle.matrix_u32.specs.Matrix.{entry, row}
+use Rattle.double_scheme.specs.Double.{answer_part, hint_part_words, second_word}
+use Rattle.double_scheme.proofs.records.read_rows.Given as goal
+
+-- the words before k of all rows
+abbrev pub invariant-loop-k : goal.invariant-loop-k
+invariant-loop-k g l = record {
+  rows : l.out.rows ≡ l.fn.out.rows;
+  cols : l.out.cols ≡ l.fn.out.cols;
+  read : (d j : ℕ) → d < l.secrets.rows → j < l.k → entry l.out d j
+      ≡ second_word l.w l.client_hint (row l.secrets d) (hint_part_words l.w l.client_hint.cols (answer_part l.w l.client_hint.cols l.answer d)) j;
+}
