@@ -87,6 +87,11 @@ pub words_none : (a : List ℕ) → a ++ word_bytes [] ≡ a
 unfolding word_bytes
 words_none a = append-nil a
 
+-- no words, before what is left
+pub no_words : (rest : List ℕ) → word_bytes [] ++ rest ≡ rest
+unfolding word_bytes
+no_words rest = refl
+
 -- the bytes of words as they are written in one call
 pub words_written : (ws : List ℕ) → word_bytes ws ≡ flat_map (little_bytes 4) ws
 unfolding word_bytes number_bytes

@@ -1,6 +1,6 @@
 //! Numbers read and written with their lowest byte first.
 
-ghost use Rattle.std.specs.Prelude.{◌≡◌, ◌≤◌, ◌+◌, ◌*◌, ◌++◌, length, vec_len, vec_capacity};
+ghost use Rattle.std.specs.Prelude.{◌≡◌, ◌≤◌, ◌+◌, ◌*◌, ◌/◌, ◌++◌, length, vec_len, vec_capacity};
 ghost use Rattle.frame_codec.specs.Numbers.{number_bytes, number_in, word_bytes};
 
 use byteorder::{ByteOrder, LittleEndian};
@@ -81,8 +81,8 @@ pub fn put_u64(out: &mut Vec<u8>, number: u64)
     put(out, &bytes);
 }
 
-/// How many words are encoded at once.
-const BLOCK_WORDS: usize = 256;
+/// How many words are encoded or decoded at once.
+pub const BLOCK_WORDS: usize = 256;
 
 /// Adds four bytes for each word of a block, for which there is room.
 fn put_block(out: &mut Vec<u8>, words: &[u32])
@@ -111,4 +111,38 @@ pub fn put_words(out: &mut Vec<u8>, words: &[u32])
         put_block(out, block);
         rest = beyond;
     }
+}
+
+/// Adds words for which there is room.
+fn push_words(out: &mut Vec<u32>, words: &[u32])
+    requires { vec_len out.old + length words.now ≤ vec_capacity out.old }
+    ensures items { out.new.items ≡ out.old.items ++ words.now }
+    ensures len { vec_len out.new ≡ vec_len out.old + length words.now }
+    ensures room { vec_capacity out.old ≤ vec_capacity out.new }
+{
+    let _ = out.extend_from_slice(words);
+}
+
+/// Reads the words that bytes encode.
+fn read_words(bytes: &[u8], words: &mut [u32])
+    requires { length bytes.now ≡ 4 * length words.old }
+    ensures bytes { word_bytes words.new ≡ bytes.now }
+    ensures len { length words.new ≡ length words.old }
+{
+    LittleEndian::read_u32_into(bytes, words);
+}
+
+/// Adds the words that a block of bytes encodes, for which there is room.
+pub fn push_block(out: &mut Vec<u32>, bytes: &[u8])
+    requires whole { length bytes.now ≡ 4 * (length bytes.now / 4) }
+    requires block { length bytes.now ≤ 1024 }
+    requires space { vec_len out.old + length bytes.now / 4 ≤ vec_capacity out.old }
+    ensures items { word_bytes out.new.items ≡ word_bytes out.old.items ++ bytes.now }
+    ensures len { vec_len out.new ≡ vec_len out.old + length bytes.now / 4 }
+    ensures room { vec_capacity out.old ≤ vec_capacity out.new }
+{
+    let mut block = [0u32; BLOCK_WORDS];
+    let words = &mut block[..bytes.len() / 4];
+    read_words(bytes, words);
+    push_words(out, words);
 }

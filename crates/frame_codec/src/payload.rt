@@ -5,18 +5,22 @@ ghost use Rattle.frame_codec.specs.Numbers.{number_bytes, word_bytes};
 ghost use Rattle.frame_codec.specs.Frames.{IsPayload, ReadsAs};
 
 use crate::frame::{Bytes, Bytes32, Frame, Rows, Words};
-use crate::numbers::{u16_at, u32_at, u64_at};
-use byteorder::{ByteOrder, LittleEndian};
+use crate::numbers::{BLOCK_WORDS, push_block, u16_at, u32_at, u64_at};
 use std::alloc::{AllocError, Global};
 
-/// The words that the bytes encode.
+/// The words that the bytes encode, read block by block, so that their memory is written once.
 fn words_of(alloc: Global, bytes: &[u8]) -> Result<Words, AllocError>
     requires { (n : ℕ) × (length bytes.now ≡ 4 * n) }
     ensures bytes { IfOk result (λ words. word_bytes words ≡ bytes.now) }
     ensures fields { IfOk result (λ words. All (λ w. w < 2 ^ 32) words) }
 {
-    let mut items = vec![in alloc; 0u32; bytes.len() / 4]?;
-    LittleEndian::read_u32_into(bytes, &mut items);
+    let mut items = Vec::with_capacity(alloc, bytes.len() / 4)?;
+    let mut rest = bytes;
+    while !rest.is_empty() {
+        let (block, beyond) = rest.split_at(rest.len().min(4 * BLOCK_WORDS));
+        push_block(&mut items, block);
+        rest = beyond;
+    }
     Ok(Words::new(items))
 }
 
