@@ -6,7 +6,7 @@ ghost use Rattle.digit_pack.specs.Packed.{packed, IsReplaced};
 
 use crate::store::{DigitStore, judge_size};
 use crate::widening::widened_words;
-use lane_kernels::packed_mul_vec;
+use lane_kernels::{packed_mul_two, packed_mul_vec};
 use matrix_u32::{Kernel, MatrixError};
 use std::alloc::Global;
 use std::marker::Model;
@@ -128,5 +128,16 @@ impl DigitStore for Packed3 {
 
     fn mul_vec<K: Kernel>(&self, _kernel: K, x: &[u32], out: &mut [u32]) {
         packed_mul_vec(&self.words, self.cols, x, out);
+    }
+
+    fn mul_two<K: Kernel>(
+        &self,
+        _kernel: K,
+        x: &[u32],
+        y: &[u32],
+        x_out: &mut [u32],
+        y_out: &mut [u32],
+    ) {
+        packed_mul_two(&self.words, self.cols, x, y, x_out, y_out);
     }
 }

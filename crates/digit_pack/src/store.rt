@@ -65,6 +65,27 @@ pub trait DigitStore: Sized + Drop {
         requires x_fits { length x.now ≡ (digits self.now).cols }
         requires out_fits { length out.old ≡ (digits self.now).rows }
         ensures { out.new ≡ times_vector (digits self.now) x.now };
+
+    /// Writes the digits times x into `x_out` and the digits times y into `y_out`, whatever they held. A store of
+    /// many digits reads them once for both.
+    fn mul_two<K: Kernel>(
+        &self,
+        kernel: K,
+        x: &[u32],
+        y: &[u32],
+        x_out: &mut [u32],
+        y_out: &mut [u32],
+    )
+        requires x_fits { length x.now ≡ (digits self.now).cols }
+        requires y_fits { length y.now ≡ (digits self.now).cols }
+        requires x_room { length x_out.old ≡ (digits self.now).rows }
+        requires y_room { length y_out.old ≡ (digits self.now).rows }
+        ensures x { x_out.new ≡ times_vector (digits self.now) x.now }
+        ensures y { y_out.new ≡ times_vector (digits self.now) y.now }
+    {
+        self.mul_vec(kernel, x, x_out);
+        self.mul_vec(kernel, y, y_out);
+    }
 }
 
 /// Judges whether a store may have so many digits. It takes no memory.

@@ -1,5 +1,5 @@
 -- Answers, put together from their parts.
-use Rattle.std.proofs.Common.{◌≡◌, ℕ, zero, suc, ◌+◌, ◌*◌, ◌/◌, ◌%◌, ◌<◌, ◌++◌, arith, ap, ◌∙◌, sym, refl, List, length, append_assoc, add-one, append-nil}
+use Rattle.std.proofs.Common.{◌≡◌, ℕ, zero, suc, ◌+◌, ◌*◌, ◌/◌, ◌%◌, ◌<◌, ◌++◌, arith, ap, ◌∙◌, sym, refl, List, [], length, append_assoc, add-one, append-nil}
 use Rattle.std.proofs.lemmas.Nat.{div-mul-add, mod-mul-add}
 use Rattle.std.specs.Prelude.{slice_index, flat_map}
 use Rattle.std.specs.List.{range_with_len}
@@ -35,6 +35,15 @@ same_parts (suc n) f g h =
     ∙ ap (λ l. l ++ f (0 + n)) (same_parts n f g (λ k l. h k (omega (arith, l))))
     ∙ ap (λ l. flat_map g (range_with_len 0 n) ++ l) (h (0 + n) (omega arith))
     ∙ sym (parts_more g 0 n)
+
+-- two parts more
+pub two_parts : (f : ℕ → List ℕ) (n : ℕ) → flat_map f (range_with_len 0 n) ++ (f n ++ f (n + 1)) ≡ flat_map f (range_with_len 0 (n + 2))
+two_parts f n =
+    let next : n + 1 + 1 ≡ n + 2 = omega arith in
+    sym (append_assoc (flat_map f (range_with_len 0 n)) (f n) (f (n + 1)))
+    ∙ ap (λ (ws : List ℕ). ws ++ f (n + 1)) (one_part f [] n)
+    ∙ one_part f [] (n + 1)
+    ∙ ap (λ k. flat_map f (range_with_len 0 k)) next
 
 div_small : (t k : ℕ) → t < k → t / k ≡ 0
 div_small t k l =

@@ -190,7 +190,7 @@ fn put_answer<K: Kernel, S: DigitStore>(
     put_part_answers(kernel, layout, server_hint, first, words, parts);
 }
 
-// Writes the answers to all parts of a query.
+// Writes the answers to all parts of a query: two by two, and the last of an odd number alone.
 fn put_part_answers<K: Kernel, S: DigitStore>(
     kernel: K,
     layout: &Layout,
@@ -208,12 +208,48 @@ fn put_part_answers<K: Kernel, S: DigitStore>(
 {
     let cols = layout.cols();
     let rows = layout.rows();
+    let parts = layout.digits_per_record();
     let count = server_hint.rows() + first.rows();
-    for d in 0..layout.digits_per_record() {
-        let part = part_of(words, cols + d * rows, rows);
+    let mut d = 0;
+    while d < parts {
+        let x = part_of(words, cols + d * rows, rows);
         let at = d * count;
-        put_part_answer(kernel, server_hint, first, part, &mut out[at..at + count]);
+        if d + 1 < parts {
+            let y = part_of(words, cols + (d + 1) * rows, rows);
+            let two = &mut out[at..at + 2 * count];
+            put_two_part_answers(kernel, server_hint, first, x, y, two);
+            d += 2;
+        } else {
+            put_part_answer(kernel, server_hint, first, x, &mut out[at..at + count]);
+            d += 1;
+        }
     }
+}
+
+// Writes the answers to two parts of a query, for which the server's hint is read once.
+fn put_two_part_answers<K: Kernel, S: DigitStore>(
+    kernel: K,
+    server_hint: &S,
+    first: &Matrix,
+    x: &[u32],
+    y: &[u32],
+    out: &mut [u32],
+)
+    requires x_server { length x.now ≡ (S.digits server_hint.now).cols }
+    requires x_first { length x.now ≡ first.now.cols }
+    requires y_server { length y.now ≡ (S.digits server_hint.now).cols }
+    requires y_first { length y.now ≡ first.now.cols }
+    requires room { length out.old ≡ 2 * ((S.digits server_hint.now).rows + first.now.rows) }
+    ensures { out.new ≡ part_answer_of (S.digits server_hint.now) first.now x.now
+        ++ part_answer_of (S.digits server_hint.now) first.now y.now }
+{
+    let rows = server_hint.rows();
+    let (x_out, y_out) = out.split_at_mut(rows + first.rows());
+    let (x_hint, x_first) = x_out.split_at_mut(rows);
+    let (y_hint, y_first) = y_out.split_at_mut(rows);
+    server_hint.mul_two(kernel, x, y, x_hint, y_hint);
+    kernel.mul_vec(first, x, x_first);
+    kernel.mul_vec(first, y, y_first);
 }
 
 // Writes the answer to one part of a query.

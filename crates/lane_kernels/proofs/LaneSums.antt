@@ -144,6 +144,12 @@ below_four P p0 p1 p2 p3 (suc (suc zero)) h = p2
 below_four P p0 p1 p2 p3 (suc (suc (suc zero))) h = p3
 below_four P p0 p1 p2 p3 (suc (suc (suc (suc n)))) h = absurd (omega arith)
 
+-- and at each of two
+pub below_two : (P : ℕ → Type 0) → P 0 → P 1 → (j : ℕ) → j < 2 → P j
+below_two P p0 p1 zero h = p0
+below_two P p0 p1 (suc zero) h = p1
+below_two P p0 p1 (suc (suc n)) h = absurd (omega arith)
+
 -- a chunk, by index
 pub chunk_is_map : (at n : ℕ) (xs : List ℕ) → at + n ≤ length xs → chunk at n xs ≡ map (λ k. slice_index xs (at + k)) (range_with_len 0 n)
 chunk_is_map at n xs p = fill_by_all (λ k. slice_index xs (at + k)) (chunk at n xs) n 0 (length-chunk at n xs p) (λ k h. get_or-chunk at n xs k 0 h)

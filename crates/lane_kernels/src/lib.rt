@@ -10,8 +10,10 @@
 
 mod lanes;
 mod packed;
+mod packed_two;
 mod split;
 
 pub use lanes::Lanes;
 pub use packed::packed_mul_vec;
+pub use packed_two::packed_mul_two;
 pub use split::split_row;

@@ -14,7 +14,7 @@ use std::simd::prelude::*;
 
 // As many words of a row as are taken at a time: the prepared vector of so many words stands on the stack.
 // Rows of 4128 columns or fewer are done in one part.
-const PART: usize = 1376;
+pub(crate) const PART: usize = 1376;
 
 /// Writes the product of a packed matrix of digits and `x` into `out`, whatever it held.
 ///
@@ -70,7 +70,7 @@ fn add_part(packed: &[u32], words: usize, start: usize, count: usize, x: &[u32],
 }
 
 // The rows from one on, one by one, with the prepared vector.
-fn add_part_singly(
+pub(crate) fn add_part_singly(
     packed: &[u32],
     words: usize,
     start: usize,
@@ -97,14 +97,14 @@ fn add_part_singly(
     }
 }
 
-fn row_words(cols: usize) -> usize
+pub(crate) fn row_words(cols: usize) -> usize
     ensures { result ≡ packed_cols cols }
 {
     cols.div_ceil(3)
 }
 
 // Each third word of x from a place on, and 0 past its end.
-fn part(x: &[u32], first: usize) -> [u32; PART]
+pub(crate) fn part(x: &[u32], first: usize) -> [u32; PART]
     requires { first < 2 ^ 63 }
     ensures { result ≡ thirds x.now first 1376 }
 {
@@ -116,7 +116,7 @@ fn part(x: &[u32], first: usize) -> [u32; PART]
 }
 
 // Each third word of x from the next place on, less 2^10 times the word before it.
-fn carried(x: &[u32], first: usize) -> [u32; PART]
+pub(crate) fn carried(x: &[u32], first: usize) -> [u32; PART]
     requires { first < 2 ^ 63 }
     ensures long { length result ≡ 1376 }
     ensures words { (t : ℕ) → t < 1376 →
@@ -140,7 +140,7 @@ fn word_or_zero(x: &[u32], j: usize) -> u32
 }
 
 // Part of a row.
-fn piece(packed: &[u32], row: usize, words: usize, start: usize, count: usize) -> &[u32]
+pub(crate) fn piece(packed: &[u32], row: usize, words: usize, start: usize, count: usize) -> &[u32]
     requires { row * words + start + count ≤ length packed.now }
     ensures words { result.now
         ≡ slice_range packed.now (row * words + start) (row * words + start + count) }
@@ -228,7 +228,7 @@ fn row_sum(words: &[u32], a: &[u32], b: &[u32], c: &[u32]) -> u32
 }
 
 // Word by word, for what is left after the last whole vector.
-fn rest_sum(words: &[u32], a: &[u32], b: &[u32], c: &[u32]) -> u32
+pub(crate) fn rest_sum(words: &[u32], a: &[u32], b: &[u32], c: &[u32]) -> u32
     requires first { length a.now ≡ length words.now }
     requires second { length b.now ≡ length words.now }
     requires third { length c.now ≡ length words.now }
