@@ -1,13 +1,15 @@
 -- Answers, put together from their parts.
-use Rattle.std.proofs.Common.{◌≡◌, ℕ, zero, suc, ◌+◌, ◌*◌, ◌/◌, ◌%◌, ◌<◌, ◌++◌, arith, ap, ◌∙◌, sym, refl, List, [], length, append_assoc, add-one, append-nil}
+use Rattle.std.proofs.Common.{◌≡◌, ◌≢◌, inl, inr, add_assoc, mul_comm, ℕ, zero, suc, ◌+◌, ◌*◌, ◌/◌, ◌%◌, ◌<◌, ◌++◌, arith, ap, ◌∙◌, sym, refl, List, [], length, append_assoc, add-one, append-nil}
 use Rattle.std.proofs.lemmas.Nat.{div-mul-add, mod-mul-add}
+use Rattle.std.proofs.lemmas.Bool.{cases_lt}
+use Rattle.std.proofs.Math.Nat.{mod-lt, div-add-mod, add-mul}
 use Rattle.std.specs.Prelude.{slice_index, flat_map}
 use Rattle.std.specs.List.{range_with_len}
-use Rattle.matrix_u32.specs.Sum.{dot}
+use Rattle.matrix_u32.specs.Sum.{dot, list_of}
 use Rattle.matrix_u32.specs.Matrix.{WordMatrix, entry, matrix_of, row, column, product, transpose, times_vector}
 use Rattle.matrix_u32.proofs.Changes.{same-matrix_of, matrix_by_entries}
-use Rattle.matrix_u32.proofs.Products.{at-list_of, list_of-at, same-list_of, dot_comm, column-transpose, length-list_of, entry-matrix_of}
-use Rattle.lane_kernels.specs.Digit.{digit, split_count}
+use Rattle.matrix_u32.proofs.Products.{at-list_of, list_of-at, same-list_of, dot_comm, column-transpose, length-list_of, entry-matrix_of, row-matrix_of}
+use Rattle.lane_kernels.specs.Digit.{digit, split_count, split_words}
 use Rattle.digit_pack.specs.Digits.{decomposed, decomposed_at}
 use Rattle.double_scheme.specs.Double.{one_row, one_column}
 
@@ -54,6 +56,33 @@ mod_small : (t k : ℕ) → t < k → t % k ≡ t
 mod_small t k l =
     let e : t ≡ 0 * k + t = omega arith in
     ap (λ n. n % k) e ∙ mod-mul-add 0 k t l
+
+-- the row after has digits of the same column, where it isn't the first of its column
+pub same_column : (r n : ℕ) → 0 < n → (r + 1) % n ≢ 0 → (r + 1) / n ≡ r / n
+same_column r n some inside =
+    let q : ℕ = r / n in
+    let t : ℕ = r % n in
+    let below : t < n = mod-lt r some in
+    let whole : r ≡ q * n + t = sym (div-add-mod r n) ∙ ap (λ k. k + t) (mul_comm n q) in
+    elim (cases_lt (t + 1) n) [
+      | inl lt ↦ ap (λ k. k / n) (ap (λ k. k + 1) whole ∙ add_assoc (q * n) t 1) ∙ div-mul-add q n (t + 1) lt
+      | inr le ↦
+          let last : t + 1 ≡ n = omega arith in
+          let next : r + 1 ≡ (q + 1) * n + 0 = omega (arith, whole, last, add-mul q 1 n) in
+          absurd (inside (ap (λ k. k % n) next ∙ mod-mul-add (q + 1) n 0 some))
+    ]
+
+-- a row of the digits of columns
+pub digits_of_column : (w r : ℕ) (a : WordMatrix) → r < a.cols * split_count w → r / split_count w < a.cols →
+    split_words w (r % split_count w) (column a (r / split_count w)) ≡ row (decomposed w (transpose a)) r
+digits_of_column w r a inside low =
+    let n : ℕ = split_count w in
+    let c : List ℕ = column a (r / n) in
+    ap (λ k. list_of k (λ j. digit w (slice_index c j) (r % n))) (length-list_of a.rows (λ i. entry a i (r / n)))
+    ∙ same-list_of a.rows (λ j. digit w (slice_index c j) (r % n)) (decomposed_at w (transpose a) r) (λ j h.
+    ap (λ x. digit w x (r % n)) (at-list_of a.rows (λ i. entry a i (r / n)) j h
+    ∙ sym (entry-matrix_of a.cols a.rows (λ i j. entry a j i) (r / n) j low h)))
+    ∙ sym (row-matrix_of (a.cols * n) a.rows (decomposed_at w (transpose a)) r inside)
 
 -- the digits of words, a row for each place of a digit, are those of the words as a column, read across
 pub digits_across : (w : ℕ) (words : List ℕ) →

@@ -1,5 +1,5 @@
 -- A row of a matrix that is filled place by place.
-use Rattle.std.proofs.Common.{◌≡◌, ◌≢◌, ℕ, ◌+◌, ◌<◌, arith, ap, ◌∙◌, refl, inl, inr}
+use Rattle.std.proofs.Common.{◌≡◌, ◌≢◌, ℕ, ◌+◌, ◌<◌, ◌≤◌, arith, ap, ◌∙◌, refl, inl, inr}
 use Rattle.std.proofs.lemmas.Bool.{cases_lt}
 use Rattle.std.proofs.lemmas.List.{length-set}
 use Rattle.matrix_u32.specs.Sum.{list_of}
@@ -52,6 +52,10 @@ pub filled_row_is : (old a m : WordMatrix) (r n : ℕ) (f : ℕ → ℕ) → old
 filled_row_is old a m r n f wide all same h =
     ap (λ k. list_of k (λ j. entry m r j)) (h.cols ∙ wide)
     ∙ same-list_of a.cols (λ j. entry m r j) (λ j. entry a r j) (λ j q. h.written j (omega arith) (omega arith) ∙ same j q)
+
+pub filled_row_list : (old m : WordMatrix) (r n k : ℕ) (f : ℕ → ℕ) → old.cols ≡ k → k ≤ n → RowFilled old r n f m → row m r ≡ list_of k f
+filled_row_list old m r n k f wide all h =
+    ap (λ k. list_of k (λ j. entry m r j)) (h.cols ∙ wide) ∙ same-list_of k (λ j. entry m r j) f (λ j q. h.written j (omega arith) (omega arith))
 
 pub kept_row_is : (old m : WordMatrix) (r n i : ℕ) (f : ℕ → ℕ) → RowFilled old r n f m → i < r → row m i ≡ row old i
 kept_row_is old m r n i f h lt =

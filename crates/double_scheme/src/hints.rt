@@ -1,8 +1,8 @@
 //! The hints of both sides, and the digits of a matrix read across.
 
-ghost use Rattle.std.specs.Prelude.{◌≡◌, ℕ, ◌+◌, ◌*◌, ◌<◌, ◌≤◌, IfOk};
-ghost use Rattle.matrix_u32.specs.Matrix.{WordMatrix, IsWhole, row, transpose};
-ghost use Rattle.lane_kernels.specs.Digit.{split_count};
+ghost use Rattle.std.specs.Prelude.{◌≡◌, ◌≢◌, ◌/◌, ◌%◌, length, ℕ, ◌+◌, ◌*◌, ◌<◌, ◌≤◌, IfOk};
+ghost use Rattle.matrix_u32.specs.Matrix.{WordMatrix, IsWhole, row, column, transpose};
+ghost use Rattle.lane_kernels.specs.Digit.{split_count, split_words};
 ghost use Rattle.digit_pack.specs.Digits.{decomposed};
 ghost use Rattle.simple_scheme.specs.Simple.{hint_of};
 ghost use Rattle.double_scheme.specs.Double.{server_hint_of, client_hint_of};
@@ -11,7 +11,8 @@ use digit_pack::{DigitStore, split_count, word_digit};
 use matrix_u32::{Kernel, Matrix};
 use std::alloc::{AllocError, Global};
 
-// The columns of a matrix as rows, each word as a column of its digits.
+// The columns of a matrix as rows, each word as a column of its digits. A column is read once, into a list of its
+// own, since its words stand far apart.
 pub(crate) fn decompose<S: DigitStore>(alloc: Global, a: &Matrix, w: u32) -> Result<S, AllocError>
     requires width { (6 ≤ w) × (w ≤ 10) }
     requires size { a.now.cols * split_count w * a.now.rows ≤ 33554432 }
@@ -26,28 +27,54 @@ pub(crate) fn decompose<S: DigitStore>(alloc: Global, a: &Matrix, w: u32) -> Res
     };
     // Called for what it says of the store: there are rows * cols digits.
     store.rows();
+    let mut words = vec![in alloc; 0; a.rows()]?;
     for r in 0..rows {
-        decompose_row(&mut store, a, w, r);
+        turn_to_row(a, w, r, &mut words);
+        put_digit_row(&mut store, &words, w, r);
     }
     Ok(store)
 }
 
-// Writes row r of the digits, and leaves the rows before it.
-fn decompose_row<S: DigitStore>(store: &mut S, a: &Matrix, w: u32, r: usize)
+// Makes `words` the column of a whose digits stand in row r, where they are that of the row before.
+fn turn_to_row(a: &Matrix, w: u32, r: usize, words: &mut [u32])
     requires width { (6 ≤ w) × (w ≤ 10) }
     requires row { r < a.now.cols * split_count w }
-    requires high { (S.digits store.old).rows ≡ a.now.cols * split_count w }
-    requires wide { (S.digits store.old).cols ≡ a.now.rows }
+    requires room { length words.old ≡ a.now.rows }
+    requires before { r % split_count w ≢ 0 → words.old ≡ column a.now (r / split_count w) }
+    ensures { words.new ≡ column a.now (r / split_count w) }
+{
+    let count = split_count(w);
+    if r % count == 0 {
+        read_column(a, r / count, words);
+    }
+}
+
+// The words of column j.
+fn read_column(a: &Matrix, j: usize, words: &mut [u32])
+    requires col { j < a.now.cols }
+    requires room { length words.old ≡ a.now.rows }
+    ensures { words.new ≡ column a.now j }
+{
+    for i in 0..words.len() {
+        words[i] = a.get(i, j);
+    }
+}
+
+// Writes a digit of each word into row r, and leaves the rows before it.
+fn put_digit_row<S: DigitStore>(store: &mut S, words: &[u32], w: u32, r: usize)
+    requires width { (6 ≤ w) × (w ≤ 10) }
+    requires row { r < (S.digits store.old).rows }
+    requires wide { length words.now ≡ (S.digits store.old).cols }
     requires whole { IsWhole (S.digits store.old) }
     ensures shape { ((S.digits store.new).rows ≡ (S.digits store.old).rows) ×
         ((S.digits store.new).cols ≡ (S.digits store.old).cols) × IsWhole (S.digits store.new) }
-    ensures written { row (S.digits store.new) r ≡ row (decomposed w (transpose a.now)) r }
+    ensures written { row (S.digits store.new) r
+        ≡ split_words w (r % split_count w) words.now }
     ensures kept { (i : ℕ) → i < r → row (S.digits store.new) i ≡ row (S.digits store.old) i }
 {
-    let count = split_count(w);
-    for j in 0..a.rows() {
-        let digit = word_digit(a.get(j, r / count), w, r % count);
-        store.set(r, j, digit);
+    let t = r % split_count(w);
+    for j in 0..words.len() {
+        store.set(r, j, word_digit(words[j], w, t));
     }
 }
 
@@ -55,7 +82,8 @@ fn decompose_row<S: DigitStore>(store: &mut S, a: &Matrix, w: u32, r: usize)
 /// many rows and columns as each other, ℓ and n: the server's, the κ n rows of digits of A1^T D^T, w bits to a digit, and the
 /// client's, the server's times A2.
 ///
-/// The first layer's hint is read across: no transposed copy is made, and nothing is held but the two hints.
+/// The first layer's hint is read across: no transposed copy is made, and nothing is held but the two hints and one of its
+/// columns.
 /// There are at most 4096 rows and 1024 columns, so only memory can be wanting.
 pub fn setup<K: Kernel, S: DigitStore>(
     alloc: Global,
