@@ -204,9 +204,27 @@ static void vectors(const word *digits, sizes n)
     say("rows scaled and added", count, count, took, sum, n.cols);
     took = LEAST(TURNS, packed_eight(packed, n.rows, n.width, padded, out));
     say("packed matrix by vector", packed_count, count, took, out, n.rows);
+    // Products with two vectors, one after the other.
+    word *y = filled(n.cols, 8, ~0u), *padded_y = zeros(3 * n.width), *both = zeros(2 * n.rows);
+    memcpy(padded_y, y, sizeof(word) * n.cols);
+    took = LEAST(TURNS, (packed_eight(packed, n.rows, n.width, padded, both), packed_eight(packed, n.rows, n.width, padded_y, both + n.rows)));
+    say("packed matrix by two vectors", packed_count, 2 * count, took, both, 2 * n.rows);
     took = LEAST(TURNS, packed_one(packed, n.rows, n.width, padded, out));
     say("packed matrix by vector, one row at once", packed_count, count, took, out, n.rows);
-    free(x), free(padded), free(out), free(sum), free(packed);
+    free(x), free(padded), free(out), free(sum), free(packed), free(y), free(padded_y), free(both);
+}
+
+// The words of a frame of 16 MiB, after its header and nine other bytes, copied as bytes and back.
+static void frame(sizes n)
+{
+    size_t limit = ((1 << 24) - 9) / 4, hint = n.rows * n.secret, count = hint < limit ? hint : limit;
+    word *words = filled(count, 7, ~0u), *read = NULL;
+    unsigned char *bytes = malloc(14 + 4 * count);
+    double took = LEAST(TURNS, memcpy(bytes + 14, words, 4 * count));
+    say("words copied", count, 0, took, words, count);
+    took = LEAST(TURNS, (free(read), read = malloc(4 * count), memcpy(read, bytes + 14, 4 * count)));
+    say("words copied into fresh memory", count, 0, took, read, count);
+    free(words), free(bytes), free(read);
 }
 
 int main(int argc, char **argv)
@@ -218,6 +236,7 @@ int main(int argc, char **argv)
     double products = (double)count * n.secret;
     word *digits = filled(count, 1, DIGIT), *public = filled(n.cols * n.secret, 2, ~0u);
     vectors(digits, n);
+    frame(n);
 
     word *out = zeros(made);
     double took = LEAST(1, product_blocked(digits, public, n.rows, n.cols, n.secret, out));

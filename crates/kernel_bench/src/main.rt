@@ -1,7 +1,7 @@
 //! Times the kernels over lanes, and what is made with them.
 //!
 //! With no argument each piece of work is done once at small sizes, and its line is printed with one fixed time. With the
-//! argument `full` the kernels and the schemes' setups are timed at the sizes of a large server, with `store` a
+//! argument `full` the kernels, the schemes' setups and a frame of 16 MiB are timed at the sizes of a large server, with `store` a
 //! publication in a store of the largest size, and one of 1,024 records of one byte in a store of 4,096. Each has a line of
 //! its own: the time of its quickest turn, what it read in a second, how many products it added in a second, and a sum of
 //! the words that it made. With `rate` one product is made 1,000 times, and its line has the mean. Fields are parted by tabs.
@@ -9,6 +9,7 @@
 
 mod data;
 mod figure;
+mod frames;
 mod stores;
 mod timing;
 mod work;
@@ -77,12 +78,16 @@ fn done(rt: &HostRuntime, task: Task) -> Option<()> {
     match task {
         Task::Small => {
             work::time_kernels(rt, SMALL)?;
+            frames::time_frames(rt, SMALL)?;
             stores::time_publication(rt, SMALL)?;
             stores::time_neighbours(rt, SMALL)?;
             work::time_rate(rt, SMALL, SMALL.turns)?;
             println!(rt; "kernels timed").ok()
         }
-        Task::Full => work::time_kernels(rt, FULL),
+        Task::Full => {
+            work::time_kernels(rt, FULL)?;
+            frames::time_frames(rt, FULL)
+        }
         Task::Store => {
             stores::time_publication(rt, FULL)?;
             stores::time_neighbours(rt, FULL)

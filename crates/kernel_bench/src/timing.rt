@@ -84,6 +84,30 @@ pub fn packed_in_a_row(
     nanos_since(rt, start)
 }
 
+/// Products of such digits with two vectors.
+pub fn packed_two(
+    rt: &HostRuntime,
+    turns: u32,
+    digits: &Packed3,
+    x: &[u32],
+    y: &[u32],
+    x_out: &mut [u32],
+    y_out: &mut [u32],
+) -> Option<u64>
+    requires x_fits { length x.now ≡ digits.now.cols }
+    requires y_fits { length y.now ≡ digits.now.cols }
+    requires x_room { length x_out.old ≡ digits.now.rows }
+    requires y_room { length y_out.old ≡ digits.now.rows }
+{
+    let mut least = u64::MAX;
+    for _turn in 0..turns {
+        let start = now(rt)?;
+        digits.mul_two(Lanes, x, y, x_out, y_out);
+        least = least.min(nanos_since(rt, start)?);
+    }
+    Some(least)
+}
+
 /// The answer to a query, over digits as a store keeps them.
 pub fn answer(
     rt: &HostRuntime,

@@ -74,6 +74,7 @@ fn time_packed(rt: &HostRuntime, sizes: BenchSizes, digits: &Matrix, public: &Ma
 {
     let store = stored(rt.alloc(), digits)?;
     packed_product(rt, sizes.turns, &store)?.print(rt, sizes.nanos)?;
+    two_products(rt, sizes.turns, &store)?.print(rt, sizes.nanos)?;
     query(rt, sizes.turns, &store)?.print(rt, sizes.nanos)?;
     simple_hint(rt, &store, public)?.print(rt, sizes.nanos)
 }
@@ -110,6 +111,24 @@ pub fn time_rate(rt: &HostRuntime, sizes: BenchSizes, turns: u32) -> Option<()> 
         &out,
     )
     .print(rt, sizes.nanos)
+}
+
+// D x and D y for a packed D, which is read once for both.
+fn two_products(rt: &HostRuntime, turns: u32, store: &Packed3) -> Option<Figure> {
+    let x = vector(rt.alloc(), store.cols(), 3)?;
+    let y = vector(rt.alloc(), store.cols(), 8)?;
+    let mut out = vector(rt.alloc(), store.rows(), 4)?;
+    let mut last = vector(rt.alloc(), store.rows(), 4)?;
+    let took = timing::packed_two(rt, turns, store, &x, &y, &mut out, &mut last)?;
+    let products = store.rows().saturating_mul(store.cols());
+    out.extend_from_slice(&last).ok()?;
+    Some(Figure::new(
+        "packed matrix by two vectors",
+        store.words().len(),
+        products.saturating_mul(2),
+        took,
+        &out,
+    ))
 }
 
 // The answer to a query.
