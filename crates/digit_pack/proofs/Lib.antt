@@ -9,3 +9,4 @@ pub mod Triples
 pub mod Layouts
 pub mod SlotLemmas
 pub mod WiderRows
+pub mod Turns

@@ -46,6 +46,9 @@ pub fn write_digits<S: DigitStore>(digits: &mut S, first: usize, col: usize, wri
 
 /// The digit matrix of records that stand one after another in `bytes`, kept in a store. Only refused memory
 /// gives an `Err`.
+///
+/// The records of a group, which have their rows in common, are written one after another, so that these rows stay near
+/// the processor.
 pub fn digits_of_records<S: DigitStore>(
     alloc: Global,
     layout: &Layout,
@@ -59,7 +62,12 @@ pub fn digits_of_records<S: DigitStore>(
         return Err(AllocError);
     };
     let mut packed = vec![in alloc; 0; layout.digits_per_record()]?;
-    for i in 0..layout.count() {
+    let cols = layout.cols();
+    for n in 0..layout.groups() * cols {
+        let i = n % cols * layout.groups() + n / cols;
+        if i >= layout.count() {
+            continue;
+        }
         let (first, col) = layout.place(i);
         pack(layout, nth_record(layout, bytes, i), &mut packed);
         write_digits(&mut store, first, col, &packed);
