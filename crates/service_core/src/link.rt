@@ -1,6 +1,6 @@
 //! A connection.
 
-ghost use Rattle.std.specs.Prelude.{◌≡◌, ◌≢◌, ◌≤◌, ◌<◌, ◌+◌, ◌-◌, ◌^◌, ◌↔◌, List, ℕ, None, [], length, true, false, IsTrue, OnOk, OnErr};
+ghost use Rattle.std.specs.Prelude.{◌≡◌, ◌≢◌, ◌≤◌, ◌<◌, ◌+◌, ◌-◌, ◌^◌, ◌↔◌, min, List, ℕ, None, [], length, true, false, IsTrue, OnOk, OnErr};
 ghost use Rattle.server_core.specs.Cores.{session_of};
 ghost use Rattle.service_core.specs.Links.{accepted, after_end, after_receipt, after_write, IsDone, MayRead, MayServe};
 ghost use Rattle.service_core.specs.Runs.{OthersStay};
@@ -94,7 +94,7 @@ impl Link {
 
     /// The moment from which on it is expired, unless there is progress before.
     pub fn expires_at(&self, idle: u64) -> u64
-        ensures { self.now.progress + idle < 2 ^ 64 → result ≡ self.now.progress + idle }
+        ensures { result ≡ min (self.now.progress + idle) (2 ^ 64 - 1) }
     {
         self.progress.saturating_add(idle)
     }
