@@ -1,16 +1,15 @@
 //! Snapshot files.
 
-ghost use Rattle.std.specs.Prelude.{◌≤◌, IfOk};
+ghost use Rattle.std.specs.Prelude.{◌≡◌, ◌≤◌, IfOk};
 ghost use Rattle.snapshot_file.specs.Snapshots.{IsSnapshot, header_of, snapshot_bytes};
 ghost use Rattle.version_store.specs.Openings.{snapshot_of};
 
+use crate::file_version::{FileVersion, Versioned, read_version, replace_version, write_version};
 use command_words::Failure;
-use safe_files::{
-    Content, ContentFault, FileLock, LockFault, Place, ReplaceFault, lock_beside, replace,
-};
+use safe_files::{Content, ContentFault, FileLock, LockFault, Place, ReplaceFault, lock_beside};
 use session_core::{
     Header, Lanes, MigrateError, OpenError, Snapshot, SnapshotFault, Store, WriteFault, migrate,
-    read_snapshot, write_snapshot, write_snapshot_bytes,
+    write_snapshot, write_snapshot_bytes,
 };
 use std::alloc::Global;
 use std::fs;
@@ -52,20 +51,41 @@ impl Content for RecordsOf<'_> {
     }
 }
 
+impl Versioned for VersionOf<'_> {
+    ghost version = { λ content. content.0.now.version };
+
+    fn version(&self) -> u64 {
+        self.0.version()
+    }
+}
+
+impl Versioned for RecordsOf<'_> {
+    ghost version = { λ content. content.header.now.version };
+
+    fn version(&self) -> u64 {
+        self.header.version
+    }
+}
+
 /// The failure of a file that can't be opened or made.
 const NO_FILE: Failure = Failure::Fault("File");
 
 /// The failure of a file that can't be written.
 const NOT_WRITTEN: Failure = Failure::Fault("Write");
 
-/// The store of a snapshot file.
+/// The store of a snapshot file, and the version that the file has: the store's.
 ///
 /// # Errors
 ///
 /// In this order: `File`, the refusals of the snapshot, those of the store.
-pub fn store_of(rt: &HostRuntime, name: &str) -> Result<Store<Lanes>, Failure> {
-    let snapshot = snapshot_of(rt, name)?;
-    Store::open(rt.alloc(), Lanes, snapshot).map_err(open_failure)
+pub fn store_of(rt: &HostRuntime, name: &str) -> Result<(Store<Lanes>, FileVersion), Failure>
+    ensures { IfOk result (λ it. it.1.version ≡ it.0.version) }
+{
+    let (snapshot, version) = read_file(rt, name)?;
+    match Store::open(rt.alloc(), Lanes, snapshot) {
+        Ok(store) => Ok((store, version)),
+        Err(fault) => Err(open_failure(fault)),
+    }
 }
 
 /// The snapshot in a file.
@@ -77,11 +97,20 @@ pub fn snapshot_of(rt: &HostRuntime, name: &str) -> Result<Snapshot, Failure>
     ensures sound { IfOk result (λ s. IsSnapshot (header_of s) s.records.items) }
     ensures dimension { IfOk result (λ s. s.dimension ≤ 1024) }
 {
+    let (snapshot, _) = read_file(rt, name)?;
+    Ok(snapshot)
+}
+
+// The snapshot in a file, and its version.
+fn read_file(rt: &HostRuntime, name: &str) -> Result<(Snapshot, FileVersion), Failure>
+    ensures sound { IfOk result (λ it. IsSnapshot (header_of it.0) it.0.records.items) }
+    ensures version { IfOk result (λ it. it.1.version ≡ it.0.version) }
+{
     let Ok(mut file) = File::open(rt, name) else {
         return Err(NO_FILE);
     };
-    match read_snapshot(rt.alloc(), &mut file) {
-        Ok(snapshot) => Ok(snapshot),
+    match read_version(rt.alloc(), &mut file) {
+        Ok(both) => Ok(both),
         Err(fault) => Err(snapshot_failure(fault)),
     }
 }
@@ -96,20 +125,26 @@ pub fn moved_of(rt: &HostRuntime, name: &str) -> Result<Snapshot, Failure> {
     migrate(rt.alloc(), &snapshot).map_err(migrate_failure)
 }
 
-/// Writes a snapshot to a file that is made, or replaces the file of this name: the file is whole at any moment, the old
-/// one or the new one. What is no file, as a terminal, is written to as it is.
+/// Writes a snapshot to a file that is made, or replaces the file of this name, and answers the version that it has then: the
+/// file is whole at any moment, the old one or the new one. What is no file, as a terminal, is written to as it is.
 ///
 /// # Errors
 ///
 /// `File` where no file can be made beside it, or can't be given the name; `Write` where it can't be written or sent to
 /// the device; `Memory`. None is left beside it.
-pub fn write_file<C: Content>(rt: &HostRuntime, name: &str, content: &C) -> Result<(), Failure> {
+pub fn write_file<C: Versioned>(
+    rt: &HostRuntime,
+    name: &str,
+    content: &C,
+) -> Result<FileVersion, Failure>
+    ensures { IfOk result (λ it. it.version ≡ C.version content.now) }
+{
     let mut place = Place::of(rt, name)?;
     if place.is_no_file() {
         return write_in_place(rt, place.name(), content);
     }
-    match replace(rt.alloc(), &mut place, content) {
-        Ok(()) => Ok(()),
+    match replace_version(rt.alloc(), &mut place, content) {
+        Ok(version) => Ok(version),
         Err(fault) => Err(replace_failure(fault)),
     }
 }
@@ -133,18 +168,24 @@ pub fn lock_of(rt: &HostRuntime, name: &str) -> Result<Option<FileLock>, Failure
     }
 }
 
-// Writes a content to what is no file.
-fn write_in_place<C: Content>(rt: &HostRuntime, name: &str, content: &C) -> Result<(), Failure> {
+// Writes a snapshot to what is no file.
+fn write_in_place<C: Versioned>(
+    rt: &HostRuntime,
+    name: &str,
+    content: &C,
+) -> Result<FileVersion, Failure>
+    ensures { IfOk result (λ it. it.version ≡ C.version content.now) }
+{
     let Ok(mut file) = File::create(rt, name) else {
         return Err(NO_FILE);
     };
-    match content.write_to(rt.alloc(), &mut file) {
-        Ok(()) => {}
+    let version = match write_version(rt.alloc(), &mut file, content) {
+        Ok(version) => version,
         Err(ContentFault::Write) => return Err(NOT_WRITTEN),
         Err(ContentFault::Memory) => return Err(Failure::Memory),
-    }
+    };
     match file.sync_all() {
-        Ok(()) => Ok(()),
+        Ok(()) => Ok(version),
         Err(_) => Err(NOT_WRITTEN),
     }
 }

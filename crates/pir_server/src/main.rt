@@ -10,6 +10,7 @@
 
 mod command_line;
 mod commands;
+mod file_version;
 mod files;
 mod making;
 mod rekeying;

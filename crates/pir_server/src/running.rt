@@ -1,5 +1,6 @@
 //! The command `run`.
 
+use crate::file_version::FileVersion;
 use crate::files::{VersionOf, lock_of, store_of, write_file};
 use crate::run_line::Running;
 use command_words::Failure;
@@ -9,16 +10,22 @@ use session_core::{Lanes, ServerCore, Store};
 /// How many bytes a MiB has.
 const MIB: u64 = 1_048_576;
 
-// Saves versions to the snapshot file.
-#[derive(Clone, Copy)]
+// Saves versions to the snapshot file. What it counts as saved is what the file has.
+#[derive(Drop)]
 struct FileSaver<'a> {
     file: &'a str,
+    has: FileVersion,
 }
 
 impl Saver for FileSaver<'_> {
+    ghost saved = { λ s. s.has.version };
+
     fn save(&mut self, rt: &HostRuntime, store: &Store<Lanes>) -> Result<(), SaveFailed> {
         match write_file(rt, self.file, &VersionOf(store)) {
-            Ok(()) => Ok(()),
+            Ok(has) => {
+                self.has = has;
+                Ok(())
+            }
             Err(_) => Err(SaveFailed),
         }
     }
@@ -34,7 +41,7 @@ impl Saver for FileSaver<'_> {
 /// where there was none. A connection that is closed before its end is reported on standard error, and ends nothing else.
 pub fn run_file(rt: &HostRuntime, running: &Running<'_>) -> Result<(), Failure> {
     let _lock = lock_of(rt, running.file)?;
-    let store = store_of(rt, running.file)?;
+    let (store, has) = store_of(rt, running.file)?;
     let core = ServerCore::new(rt.alloc(), store);
     let memory = running.memory.saturating_mul(MIB);
     let limits = Limits {
@@ -43,8 +50,11 @@ pub fn run_file(rt: &HostRuntime, running: &Running<'_>) -> Result<(), Failure> 
         memory: usize::try_from(memory).unwrap_or(usize::MAX),
         quiet: running.quiet,
     };
-    let mut saver = FileSaver { file: running.file };
-    match run_service(rt, core, running.listen, limits, &mut saver) {
+    let saver = FileSaver {
+        file: running.file,
+        has,
+    };
+    match run_service(rt, core, running.listen, limits, saver) {
         Ok(()) => Ok(()),
         Err(RunFault::Connect) => Err(Failure::Fault("Connect")),
         Err(RunFault::Write) => Err(Failure::Fault("Write")),

@@ -3,6 +3,7 @@
 ghost use Rattle.std.specs.Prelude.{◌≡◌, IfOk};
 
 use crate::command_line::Serving;
+use crate::file_version::FileVersion;
 use crate::files::{VersionOf, lock_of, store_of, write_file};
 use command_words::Failure;
 use connection_io::{piece_buffer, read_piece};
@@ -34,8 +35,7 @@ const NO_CONNECTION: Failure = Failure::Fault("Connect");
 /// on standard error, and ends nothing else.
 pub fn serve_file(rt: &HostRuntime, serving: &Serving<'_>) -> Result<(), Failure> {
     let _lock = lock_of(rt, serving.file)?;
-    let store = store_of(rt, serving.file)?;
-    let mut saved = store.version();
+    let (store, mut saved) = store_of(rt, serving.file)?;
     let mut core = ServerCore::new(rt.alloc(), store);
     let listener = listen(rt, serving.port)?;
     for id in 0..serving.connections {
@@ -48,20 +48,19 @@ pub fn serve_file(rt: &HostRuntime, serving: &Serving<'_>) -> Result<(), Failure
     Ok(())
 }
 
-// Saves the current version, unless it is the one that was saved last, and answers it.
+// Saves the current version, unless the file has it, and answers what it has then.
 fn save_published(
     rt: &HostRuntime,
     file: &str,
     store: &Store<Lanes>,
-    saved: u64,
-) -> Result<u64, Failure>
-    ensures { IfOk result (λ version. version ≡ store.now.version) }
+    saved: FileVersion,
+) -> Result<FileVersion, Failure>
+    ensures { IfOk result (λ has. has.version ≡ store.now.version) }
 {
-    let version = store.version();
-    if version != saved {
-        write_file(rt, file, &VersionOf(store))?;
+    if store.version() == saved.number() {
+        return Ok(saved);
     }
-    Ok(version)
+    write_file(rt, file, &VersionOf(store))
 }
 
 // Listens on a port of 127.0.0.1, and tells which one it is.

@@ -1,7 +1,9 @@
 //! A connection, and its turns.
 
-ghost use Rattle.std.specs.Prelude.{◌≡◌, ◌≢◌, None, length};
-ghost use Rattle.server_core.specs.Cores.{session_of};
+ghost use Rattle.std.specs.Prelude.{◌≡◌, ◌≢◌, ◌↔◌, None, IfOk, IsTrue, length, true};
+ghost use Rattle.server_core.specs.Cores.{session_of, unfinished_in};
+ghost use Rattle.service_core.specs.Runs.{OthersStay};
+ghost use Rattle.service_loop.specs.Judging.{GoesOn, IsIdle, due_of};
 
 use crate::device::{Device, Saver};
 use crate::kept::Kept;
@@ -46,100 +48,155 @@ pub enum Outcome {
     Closed(Closing),
 }
 
+impl Outcome {
+    /// Whether the connection would go on.
+    pub fn goes_on(self) -> bool
+        ensures { IsTrue result ↔ GoesOn self }
+    {
+        match self {
+            Outcome::Busy | Outcome::Waits => true,
+            Outcome::Over | Outcome::Closed(_) => false,
+        }
+    }
+}
+
 impl Connection {
+    /// A connection that was accepted, and has a session of this number.
+    pub fn opened(stream: TcpStream, id: u64, link: Link) -> Connection
+        ensures { result ≡ record {
+          stream = stream;
+          id = id;
+          link = link;
+          readable = true;
+          writable = true;
+          lingers = None;
+          unfinished = 0;
+        } }
+    {
+        Connection {
+            stream,
+            id,
+            link,
+            readable: true,
+            writable: true,
+            lingers: None,
+            unfinished: 0,
+        }
+    }
+
     /// The moment at which something is to be done even if no event comes.
-    pub fn due(&self, idle: u64) -> u64 {
+    pub fn due(&self, idle: u64) -> u64
+        ensures { result ≡ due_of idle self.now }
+    {
         match self.lingers {
             Some(until) => until,
             None => self.link.expires_at(idle),
         }
     }
 
-    /// Makes a turn: one read at most, one frame, and one write, or, where all was written, a read that is forgotten.
+    /// Makes a turn: one read at most, one frame, and one write, or, where all was written, a read that is forgotten. No
+    /// other connection's session changes.
     ///
     /// # Errors
     ///
     /// Where a version could not be saved: no other turn can be made.
-    pub fn take_turn<S: Saver>(
+    pub fn take_turn<S: Saver + Drop>(
         &mut self,
         rt: &HostRuntime,
-        saver: &mut S,
         now: u64,
-        kept: Kept,
+        kept: Kept<S>,
         buffer: &mut [u8],
-    ) -> Result<(Kept, Outcome), RunFault> {
+    ) -> Result<(Kept<S>, Outcome), RunFault>
+        ensures id { self.new.id ≡ self.old.id }
+        ensures unfinished { self.new.unfinished ≡ self.old.unfinished }
+        ensures others { IfOk result (λ it. OthersStay self.old.id kept.core it.0.core) }
+    {
         if let Some(until) = self.lingers {
             return Ok((kept, self.linger(now, until, buffer)));
         }
         if !kept.core.has_session(self.id) || buffer.len() != PIECE_LEN {
             return Ok((kept, Outcome::Over));
         }
-        let (kept, ended) = self.serve(rt, saver, now, kept, buffer)?;
+        let (kept, ended) = self.serve(rt, now, kept, buffer)?;
         match ended {
             Ok(()) => Ok((kept, self.next(now))),
             Err(fault) => Ok((kept, Outcome::Closed(Closing::Turn(fault)))),
         }
     }
 
-    /// What is to be done with it after a turn: one that waits, and made no progress for too long, is closed.
-    pub fn judged(&self, now: u64, idle: u64, outcome: Outcome) -> Outcome {
-        match outcome {
-            Outcome::Busy | Outcome::Waits
-                if self.lingers.is_none()
-                    && !self.link.may_serve()
-                    && self.link.is_expired(now, idle) => { Outcome::Closed(Closing::Idle) }
-            other => other,
+    /// What is to be done with it after a turn: one that would go on is closed exactly where it is idle.
+    pub fn judged(&self, now: u64, idle: u64, outcome: Outcome) -> Outcome
+        ensures idle { GoesOn outcome → IsIdle self.now now idle →
+            result ≡ Outcome.Closed Closing.Idle }
+        ensures over { (GoesOn outcome → ⊥) → result ≡ outcome }
+        ensures active { (IsIdle self.now now idle → ⊥) → result ≡ outcome }
+    {
+        if outcome.goes_on() && self.is_idle(now, idle) {
+            Outcome::Closed(Closing::Idle)
+        } else {
+            outcome
         }
     }
 
-    /// Notes how many bytes of an unfinished frame its session keeps, and answers those of all connections, which were so
-    /// many with what it noted last.
-    pub fn counted(&mut self, kept: &Kept, all: usize) -> usize {
-        let unfinished = kept.core.unfinished_len(self.id);
-        let others = all.saturating_sub(self.unfinished);
-        self.unfinished = unfinished;
-        others.saturating_add(unfinished)
+    // Whether it has nothing to serve, and made no progress for too long.
+    fn is_idle(&self, now: u64, idle: u64) -> bool
+        ensures { IsTrue result ↔ IsIdle self.now now idle }
+    {
+        self.lingers.is_none() && !self.link.may_serve() && self.link.is_expired(now, idle)
+    }
+
+    /// Notes how many bytes of an unfinished frame its session keeps.
+    pub fn note_unfinished<S: Saver>(&mut self, kept: &Kept<S>)
+        ensures { self.new ≡ record self.old {
+          unfinished = unfinished_in (session_of kept.now.core.sessions self.old.id);
+        } }
+    {
+        self.unfinished = kept.core.unfinished_len(self.id);
     }
 
     // The turn of a connection that is not over.
-    fn serve<S: Saver>(
+    fn serve<S: Saver + Drop>(
         &mut self,
         rt: &HostRuntime,
-        saver: &mut S,
         now: u64,
-        kept: Kept,
+        kept: Kept<S>,
         buffer: &mut [u8],
-    ) -> Result<(Kept, Result<(), Fault>), RunFault>
+    ) -> Result<(Kept<S>, Result<(), Fault>), RunFault>
         requires there { session_of kept.core.sessions self.old.id ≢ None }
         requires room { length buffer.old ≡ 65536 }
+        ensures id { self.new.id ≡ self.old.id }
+        ensures unfinished { self.new.unfinished ≡ self.old.unfinished }
+        ensures others { IfOk result (λ it. OthersStay self.old.id kept.core it.0.core) }
     {
-        let Kept { mut core, saved } = kept;
+        let Kept { mut core, saver } = kept;
         let mut device = Device {
             rt,
             saver,
             stream: &self.stream,
             readable: self.readable,
             writable: self.writable,
-            saved,
         };
         let ended = turn(&mut self.link, &mut core, &mut device, self.id, now, buffer);
         let Device {
+            saver,
             readable,
             writable,
-            saved,
             ..
         } = device;
         self.readable = readable;
         self.writable = writable;
         match ended {
-            Ok(()) => Ok((Kept { core, saved }, Ok(()))),
+            Ok(()) => Ok((Kept { core, saver }, Ok(()))),
             Err(Fault::Save) => Err(RunFault::Write),
-            Err(fault) => Ok((Kept { core, saved }, Err(fault))),
+            Err(fault) => Ok((Kept { core, saver }, Err(fault))),
         }
     }
 
     // What is next after a turn.
-    fn next(&mut self, now: u64) -> Outcome {
+    fn next(&mut self, now: u64) -> Outcome
+        ensures id { self.new.id ≡ self.old.id }
+        ensures unfinished { self.new.unfinished ≡ self.old.unfinished }
+    {
         if self.link.is_done() {
             return self.end(now);
         }
@@ -154,7 +211,10 @@ impl Connection {
     }
 
     // Ends the writing.
-    fn end(&mut self, now: u64) -> Outcome {
+    fn end(&mut self, now: u64) -> Outcome
+        ensures id { self.new.id ≡ self.old.id }
+        ensures unfinished { self.new.unfinished ≡ self.old.unfinished }
+    {
         if self.stream.shutdown(Shutdown::Write).is_err() {
             return Outcome::Over;
         }
@@ -167,7 +227,10 @@ impl Connection {
     }
 
     // Reads and forgets, until the peer has ended too, or has had its time.
-    fn linger(&mut self, now: u64, until: u64, buffer: &mut [u8]) -> Outcome {
+    fn linger(&mut self, now: u64, until: u64, buffer: &mut [u8]) -> Outcome
+        ensures id { self.new.id ≡ self.old.id }
+        ensures unfinished { self.new.unfinished ≡ self.old.unfinished }
+    {
         if now >= until {
             return Outcome::Over;
         }

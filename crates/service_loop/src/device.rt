@@ -1,5 +1,7 @@
 //! The disk, and the socket of one connection.
 
+ghost use Rattle.std.specs.Prelude.{◌≡◌, ℕ, OnOk, OnErr};
+
 use lane_kernels::Lanes;
 use mio::net::TcpStream;
 use service_core::{Outside, SaveFailed, Stop};
@@ -8,12 +10,17 @@ use version_store::Store;
 
 /// What saves versions, so that they are there after a crash.
 pub trait Saver {
+    /// The version of the last save that succeeded, or the one that was there to begin with.
+    ghost saved: { Self → ℕ };
+
     /// Saves the store's current version.
     ///
     /// # Errors
     ///
     /// Where it could not be saved: the old version is there still, or the new one.
-    fn save(&mut self, rt: &HostRuntime, store: &Store<Lanes>) -> Result<(), SaveFailed>;
+    fn save(&mut self, rt: &HostRuntime, store: &Store<Lanes>) -> Result<(), SaveFailed>
+        ensures ok { OnOk result (saved self.new ≡ store.now.version) }
+        ensures err { OnErr result (saved self.new ≡ saved self.old) };
 }
 
 /// The disk, and the socket of a connection. A flag is put out when a call would have waited, and set by an event.
@@ -22,28 +29,20 @@ pub struct Device<'a, S> {
     /// The runtime.
     pub rt: &'a HostRuntime,
     /// What saves versions.
-    pub saver: &'a mut S,
+    pub saver: S,
     /// The connection.
     pub stream: &'a TcpStream,
     /// There may be something to read.
     pub readable: bool,
     /// There may be room to write.
     pub writable: bool,
-    /// The version of the last save that succeeded.
-    pub saved: u64,
 }
 
 impl<S: Saver> Outside<Lanes> for Device<'_, S> {
-    ghost saved = { λ s. s.saved };
+    ghost saved = { λ d. S.saved d.saver };
 
     fn save(&mut self, store: &Store<Lanes>) -> Result<(), SaveFailed> {
-        match self.saver.save(self.rt, store) {
-            Ok(()) => {
-                self.saved = store.version();
-                Ok(())
-            }
-            Err(_) => Err(SaveFailed),
-        }
+        self.saver.save(self.rt, store)
     }
 
     fn read(&mut self, buffer: &mut [u8]) -> Result<usize, Stop> {

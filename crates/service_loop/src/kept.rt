@@ -1,26 +1,31 @@
 //! What is served, while its version is saved.
 
-ghost use Rattle.std.specs.Prelude.{◌≡◌};
+ghost use Rattle.std.specs.Prelude.{◌≡◌, OnOk, OnErr};
+ghost use Rattle.service_core.specs.Runs.{DoesToCore, Opens, Closes};
 
+use crate::device::Saver;
 use lane_kernels::Lanes;
 use server_core::{ServerCore, SessionError};
 
-/// A server whose current version is saved. A turn takes it and gives it back, unless a save failed: then there is none
-/// with which another turn could be made, and nothing is written any more.
+/// A server whose current version is saved, and what saves its versions. A turn takes it and gives it back, unless a save
+/// failed: then there is none with which another turn could be made, and nothing is written any more.
 #[derive(Drop)]
-pub struct Kept {
+pub struct Kept<S: Saver> {
     /// The server.
     pub core: ServerCore<Lanes>,
-    /// The version of the last save that succeeded.
-    pub saved: u64,
-    ghost is_saved: { saved ≡ core.store.version },
+    /// What saves its versions.
+    pub saver: S,
+    ghost is_saved: { S.saved saver ≡ core.store.version },
 }
 
-impl Kept {
-    /// A server that was opened from the file that its versions are saved to.
-    pub fn opened(core: ServerCore<Lanes>) -> Kept {
-        let saved = core.store().version();
-        Kept { core, saved }
+impl<S: Saver> Kept<S> {
+    /// A server whose version was saved by this saver, or was there to begin with.
+    pub fn opened(core: ServerCore<Lanes>, saver: S) -> Kept<S>
+        requires saved { S.saved saver ≡ core.store.version }
+        ensures core { result.core ≡ core }
+        ensures saver { result.saver ≡ saver }
+    {
+        Kept { core, saver }
     }
 
     /// Opens the session of a connection.
@@ -28,12 +33,17 @@ impl Kept {
     /// # Errors
     ///
     /// Those of [`ServerCore::open_session`].
-    pub fn open_session(&mut self, id: u64) -> Result<(), SessionError> {
+    pub fn open_session(&mut self, id: u64) -> Result<(), SessionError>
+        ensures opened { OnOk result (DoesToCore self.old.core (Opens id) self.new.core) }
+        ensures refused { OnErr result (self.new.core ≡ self.old.core) }
+    {
         self.core.open_session(id)
     }
 
-    /// Takes the session of a connection away, where it has one.
-    pub fn close_session(&mut self, id: u64) {
+    /// Takes the session of a connection away, where it has one, and no other.
+    pub fn close_session(&mut self, id: u64)
+        ensures { DoesToCore self.old.core (Closes id) self.new.core }
+    {
         self.core.close_session(id);
     }
 }

@@ -7,6 +7,7 @@
 mod connection;
 mod device;
 mod kept;
+mod places;
 mod report;
 mod serving;
 

@@ -1,4 +1,4 @@
-use Rattle.std.proofs.Common.{◌≡◌, ◌≢◌, ◌∙◌, Bool, true, false, Option, None, ap, sym}
+use Rattle.std.proofs.Common.{◌≡◌, ◌≢◌, ◌∙◌, true, false, Option, None, ap, sym}
 use Rattle.std.specs.Prelude.{is_some}
 use Rattle.service_loop.proofs.connection.Connection.take_turn.Goals as goal
 

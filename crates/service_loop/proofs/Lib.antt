@@ -1,0 +1,4 @@
+pub mod Concluding
+pub mod Flags
+pub mod Leaving
+pub mod Noted

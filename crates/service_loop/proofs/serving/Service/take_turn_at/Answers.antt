@@ -1,0 +1,44 @@
+use Rattle.std.proofs.Common.{◌≡◌, List, Option, Some, IfSome, sym, ap, subst, ◌∙◌}
+use Rattle.server_core.specs.Cores.{session_of, unfinished_in}
+use Rattle.service_loop.specs.declared.connection.Connection.{Connection}
+use Rattle.service_loop.specs.Places.{connection_at}
+use Rattle.service_loop.specs.Sessions.{AreNoted, SessionsStayOrGo}
+use Rattle.service_loop.proofs.Leaving.{is_within}
+use Rattle.service_loop.proofs.Noted.{freed_noted}
+use Rattle.service_loop.proofs.Concluding.{concluded_others, concluded_sessions, concluded_noted}
+use Rattle.service_loop.proofs.serving.Service.take_turn_at.Goals as goal
+
+pub returns-in_default-clause-noted : goal.returns-in_default-clause-noted
+returns-in_default-clause-noted g c = subst (λ (k : List (Option Connection)). AreNoted k c.args.kept.core c.args.self.now.next_id) (sym c.in_default.ensures.places)
+    (freed_noted c.args.self.now.places.connections.items c.args.place c.args.kept.core c.args.self.now.next_id c.requires.noted)
+
+pub returns-clause-noted : goal.returns-clause-noted
+returns-clause-noted g c =
+    let before = c.args.self.now.places.connections.items in
+    let there : connection_at before c.args.place ≡ Some c.in-Some.connection = sym c.in-Some.ensures.taken in
+    let note = c.note_unfinished.ensures in
+    let mid = c.in_ok-kept.kept.core in
+    let same : c.note_unfinished.new.self.id ≡ c.take_turn.new.self.id = ap (λ (k : Connection). k.id) note in
+    let id : c.note_unfinished.new.self.id ≡ c.in-Some.connection.id = same ∙ c.in_ok-kept.ensures.id in
+    let is : c.note_unfinished.new.self.unfinished ≡ unfinished_in (session_of mid.sessions c.note_unfinished.new.self.id) =
+    ap (λ (k : Connection). k.unfinished) note ∙ ap (λ k. unfinished_in (session_of mid.sessions k)) (sym same) in
+    subst (λ n. AreNoted c.conclude-more.new.self.places.connections.items c.conclude-more.new.kept.core n) (sym c.conclude-more.ensures.number)
+    (concluded_noted c.judged-outcome.result c.args.place c.in-Some.connection c.note_unfinished.new.self before c.take.new.self.connections.items
+    c.args.kept.core mid c.conclude-more.new.self.places.connections.items c.conclude-more.new.kept.core c.in-Some.ensures.places
+    c.conclude-more.ensures.goes_on c.conclude-more.ensures.over id c.in_ok-kept.ensures.others
+    c.args.self.now.next_id (is_within before c.args.place c.in-Some.connection there) there c.requires.noted is)
+
+pub returns-clause-others : goal.returns-clause-others
+returns-clause-others g c =
+    let id : c.note_unfinished.new.self.id ≡ c.in-Some.connection.id = ap (λ (k : Connection). k.id) c.note_unfinished.ensures ∙ c.in_ok-kept.ensures.id in
+    concluded_others c.judged-outcome.result c.args.place c.in-Some.connection c.note_unfinished.new.self c.args.self.now.places.connections.items
+    c.take.new.self.connections.items c.args.kept.core c.in_ok-kept.kept.core c.conclude-more.new.self.places.connections.items c.conclude-more.new.kept.core
+    c.in-Some.ensures.places c.conclude-more.ensures.goes_on c.conclude-more.ensures.over id c.in_ok-kept.ensures.others
+
+pub returns-clause-sessions : goal.returns-clause-sessions
+returns-clause-sessions g c =
+    let id : c.note_unfinished.new.self.id ≡ c.in-Some.connection.id = ap (λ (k : Connection). k.id) c.note_unfinished.ensures ∙ c.in_ok-kept.ensures.id in
+    subst (λ (o : Option Connection). IfSome o (λ k. SessionsStayOrGo k.id c.args.kept.core c.conclude-more.new.kept.core)) c.in-Some.ensures.taken
+    (concluded_sessions c.judged-outcome.result c.args.place c.in-Some.connection c.note_unfinished.new.self c.args.self.now.places.connections.items
+    c.take.new.self.connections.items c.args.kept.core c.in_ok-kept.kept.core c.conclude-more.new.self.places.connections.items c.conclude-more.new.kept.core
+    c.in-Some.ensures.places c.conclude-more.ensures.goes_on c.conclude-more.ensures.over id c.in_ok-kept.ensures.others)
