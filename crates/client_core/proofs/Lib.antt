@@ -8,3 +8,4 @@ pub mod EndingLaws
 pub mod ShapeLaws
 pub mod HappeningLaws
 pub mod HintKeeping
+pub mod RowLaws

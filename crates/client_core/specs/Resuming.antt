@@ -1,6 +1,9 @@
 -- A client that goes on with what was saved of another.
-use Rattle.std.specs.Prelude.{◌≡◌, ◌≢◌, ◌≤◌, ℕ, List, [], true, false, Bool, Option, Some, None, Result, Ok, Err}
-use Rattle.pir_schemes.specs.declared.plan.Plan.{Plan}
+use Rattle.std.specs.Prelude.{◌≡◌, ◌≢◌, ◌≤◌, ◌<◌, ◌+◌, ℕ, List, [], true, false, Bool, Option, Some, None, Result, Ok, Err}
+use Rattle.matrix_u32.specs.Matrix.{row}
+use Rattle.digit_pack.specs.Layout.{digits_per_record, first_row}
+use Rattle.frame_codec.specs.declared.frame.Frame.{Frame}
+use Rattle.pir_schemes.specs.declared.scheme.Scheme.TheVariants.{Simple}
 use Rattle.pir_schemes.specs.Retrievals.{hint_rows}
 use Rattle.client_core.specs.declared.state.ClientState.{ClientState}
 use Rattle.client_core.specs.declared.state.ServerInfo.{ServerInfo}
@@ -9,8 +12,9 @@ use Rattle.client_core.specs.declared.state.CallFault.{CallFault}
 use Rattle.client_core.specs.declared.state.Call.TheVariants as call
 use Rattle.client_core.specs.declared.resuming.SavedClient.{SavedClient}
 use Rattle.client_core.specs.States.{IsState, shape_known, fresh, is_ready}
-use Rattle.client_core.specs.Calls.{change_refusal, state_after_call, Hello}
+use Rattle.client_core.specs.Calls.{Ask, refusal, change_refusal, state_after_call, call_frame, Hello}
 use Rattle.client_core.specs.Replies.{takes_welcome, is_accepted_welcome}
+use Rattle.client_core.specs.Feeding.{Course, takes_all}
 
 -- what is saved of a client: all that lasts but for its seed
 abbrev pub saved_of : ClientState → SavedClient
@@ -80,3 +84,41 @@ AnotherPlanDropsTheHint = (saved : SavedClient) (new : ClientState) (seed key : 
     saved.known ≡ Some then → then.plan ≢ now.plan → is_accepted_welcome now.plan now.count now.version ≡ true →
     IsResumed (let_in seed number key now) saved result new →
     (result ≡ Ok false) × (new ≡ let_in seed number key now) × (new.hint ≡ None)
+
+-- what came of dropping a client's hint: it holds none; refused as a sync is, it is as it was
+abbrev pub IsDropped : ClientState → Result (Unit {0}) CallFault → ClientState → Type 0
+IsDropped old (Ok done) new = (change_refusal old ≡ None) × (new ≡ record old { hint = None })
+IsDropped old (Err fault) new = (change_refusal old ≡ Some fault) × (new ≡ old)
+
+-- ---- a client that holds the rows of one record alone
+
+-- the hint is of SimplePIR, and so is another, of one version and width with it, that has its rows of record i
+pub record HasRowsOf (k : ServerInfo) (h : Hint) (i : ℕ) (part : Hint) : Type 0 where
+  pub simple : h.scheme ≡ Simple
+  pub scheme : part.scheme ≡ Simple
+  pub version : part.version ≡ h.version
+  pub cols : part.matrix.cols ≡ h.matrix.cols
+  pub each : (d : ℕ) → d < digits_per_record (shape_known k) →
+      row part.matrix (first_row (shape_known k) i + d) ≡ row h.matrix (first_row (shape_known k) i + d)
+
+-- a client with this hint in place of its own
+abbrev pub holding : ClientState → Hint → ClientState
+holding c h = record c { hint = Some h }
+
+-- where replies have led a client, with this hint in place of its own
+abbrev pub course_holding : Course → Hint → Course
+course_holding k h = record k { state = holding k.state h }
+
+-- With the one hint as with the other a client that asks for record i is refused alike and sends the same frame; and whatever replies come then lead to the
+-- same events, frames, fault and state but for the hint.
+pub record AsksAlike (c : ClientState) (i : ℕ) (part : Hint) : Type 0 where
+  pub refusal : refusal (Ask i) (holding c part) ≡ refusal (Ask i) c
+  pub frame : call_frame (state_after_call (Ask i) (holding c part)) (state_after_call (Ask i) (holding c part)).call
+      ≡ call_frame (state_after_call (Ask i) c) (state_after_call (Ask i) c).call
+  pub replies : (replies : List Frame) → takes_all (state_after_call (Ask i) (holding c part)) replies
+      ≡ course_holding (takes_all (state_after_call (Ask i) c) replies) part
+
+-- so it is with every client that holds a hint: the rows of the record suffice
+abbrev pub RowsOfTheRecordSuffice : Type 0
+RowsOfTheRecordSuffice = (c : ClientState) (k : ServerInfo) (h part : Hint) (i : ℕ) → c.known ≡ Some k → c.hint ≡ Some h → HasRowsOf k h i part →
+    AsksAlike c i part

@@ -9,7 +9,7 @@ ghost use Rattle.client_core.specs.declared.state.ServerInfo.{ServerInfo};
 ghost use Rattle.client_core.specs.States.{fresh, scheme_held, shape_known};
 ghost use Rattle.client_core.specs.Calls.{Want, Accepts, Refuses};
 ghost use Rattle.client_core.specs.Feeding.{Client, FeedsClient};
-ghost use Rattle.client_core.specs.Resuming.{IsResumed, saved_of};
+ghost use Rattle.client_core.specs.Resuming.{IsDropped, IsResumed, saved_of};
 
 use crate::calls::{
     append_bytes, ask_room, base_of, edit_bytes, encoded, may_ask, may_change, may_hello,
@@ -150,6 +150,18 @@ impl<K: Kernel> ClientCore<K> {
         }
         self.state.hint = saved.hint;
         Ok(true)
+    }
+
+    /// Drops the hint held, where there is one: the next sync goes by parts.
+    ///
+    /// Refused in this order: `Failed`, `NotReady` (no Welcome came yet), `Busy`. A refusal changes nothing.
+    pub fn drop_hint(&mut self) -> Result<(), CallFault>
+        ensures dropped { IsDropped self.old.state result self.new.state }
+        ensures reader { self.new.reader ≡ self.old.reader }
+    {
+        may_change(&self.state)?;
+        let _dropped = self.state.hint.take();
+        Ok(())
     }
 
     /// Asks to be let in: with a key of 32 zero bytes as a reader, with the publisher's key as the

@@ -12,7 +12,11 @@ ghost use Rattle.client_core.specs.Laws.{
   PartsOfAHintMakeIt,
   DeltaMakesTheHint,
 };
-ghost use Rattle.client_core.specs.Resuming.{ResumedIsTheSaved, AnotherPlanDropsTheHint};
+ghost use Rattle.client_core.specs.Resuming.{
+  ResumedIsTheSaved,
+  AnotherPlanDropsTheHint,
+  RowsOfTheRecordSuffice,
+};
 ghost use Rattle.client_core.specs.Shapes.{EqualShapes, ClientsHappen};
 
 /// The numbers of the queries that a client sends grow, whatever calls and replies come: no number is used
@@ -77,4 +81,10 @@ pub fn resumed_is_the_saved()
 /// A hint of another plan is dropped.
 pub fn another_plan_drops_the_hint()
     ensures { AnotherPlanDropsTheHint }
+{}
+
+/// A client that holds of a SimplePIR hint the rows of one record alone asks for that record as one that holds the whole hint: it
+/// is refused alike, sends the same frame, and of all replies that come then reports the same.
+pub fn rows_of_the_record_suffice()
+    ensures { RowsOfTheRecordSuffice }
 {}

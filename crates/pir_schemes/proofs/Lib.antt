@@ -4,3 +4,4 @@ pub mod Sizes
 pub mod Places
 pub mod SlotLists
 pub mod Layouts
+pub mod RecordRows
