@@ -8,8 +8,7 @@ use Rattle.frame_codec.proofs.NumberBytes.{IsBytes, IsBytes-drop, only_bytes}
 use Rattle.pir_schemes.specs.declared.scheme.Scheme.{Scheme}
 use Rattle.pir_schemes.specs.declared.scheme.Scheme.TheVariants.{Simple, Double}
 use Rattle.pir_schemes.specs.Schemes.{scheme_byte, scheme_of_byte}
-use Rattle.client_core.specs.declared.state.ServerInfo.{ServerInfo}
-use Rattle.client_core.specs.declared.state.Hint.{Hint}
+use Rattle.client_state.specs.declared.heads.HintFields.{HintFields}
 use Rattle.client_state.specs.Files.{field_bytes}
 
 -- a number after the bytes before it
@@ -32,27 +31,27 @@ byte_after b (x ∷ xs) zero lt e = ap (λ (y : ℕ). y ∷ []) e
 byte_after b (x ∷ xs) (suc k) lt e = let lt2 : k < length xs = omega arith in ap (λ (y : List ℕ). x ∷ y) (byte_after b xs k lt2 e)
 
 -- fields that were read encode the bytes
-pub fields_read : (known : ServerInfo) (hint : Hint) (fields : List ℕ) → IsBytes fields → length fields ≡ 78
-    → known.plan.form ≡ little_number 2 fields → known.plan.width ≡ slice_index fields 2 → known.plan.record_len ≡ little_number 2 (drop 3 fields)
-    → known.plan.groups ≡ little_number 2 (drop 5 fields) → known.plan.dimension ≡ little_number 2 (drop 7 fields)
-    → known.plan.seed ≡ take 32 (drop 9 fields) → known.count ≡ little_number 4 (drop 41 fields) → known.version ≡ little_number 8 (drop 45 fields)
-    → scheme_byte hint.scheme ≡ slice_index fields 53 → hint.version ≡ little_number 8 (drop 54 fields)
-    → hint.matrix.rows ≡ little_number 8 (drop 62 fields) → hint.matrix.cols ≡ little_number 8 (drop 70 fields)
-    → field_bytes known hint ≡ fields
+pub fields_read : (f : HintFields) (fields : List ℕ) → IsBytes fields → length fields ≡ 78
+    → f.known.plan.form ≡ little_number 2 fields → f.known.plan.width ≡ slice_index fields 2 → f.known.plan.record_len ≡ little_number 2 (drop 3 fields)
+    → f.known.plan.groups ≡ little_number 2 (drop 5 fields) → f.known.plan.dimension ≡ little_number 2 (drop 7 fields)
+    → f.known.plan.seed ≡ take 32 (drop 9 fields) → f.known.count ≡ little_number 4 (drop 41 fields) → f.known.version ≡ little_number 8 (drop 45 fields)
+    → scheme_byte f.scheme ≡ slice_index fields 53 → f.version ≡ little_number 8 (drop 54 fields)
+    → f.rows ≡ little_number 8 (drop 62 fields) → f.cols ≡ little_number 8 (drop 70 fields)
+    → field_bytes f ≡ fields
 unfolding field_bytes
-fields_read known hint fields fits len form width record_len groups dimension seed count version scheme of rows cols =
-    let at2 : number_bytes 2 known.plan.form ≡ take 2 fields = number_after 2 known.plan.form fields 0 fits (omega arith) form in
-    let at3 = ap (λ (x : List ℕ). x ++ (known.plan.width ∷ [])) at2 ∙ byte_after known.plan.width fields 2 (omega arith) width in
-    let at5 = ap (λ (x : List ℕ). x ++ number_bytes 2 known.plan.record_len) at3 ∙ number_after 2 known.plan.record_len fields 3 fits (omega arith) record_len in
-    let at7 = ap (λ (x : List ℕ). x ++ number_bytes 2 known.plan.groups) at5 ∙ number_after 2 known.plan.groups fields 5 fits (omega arith) groups in
-    let at9 = ap (λ (x : List ℕ). x ++ number_bytes 2 known.plan.dimension) at7 ∙ number_after 2 known.plan.dimension fields 7 fits (omega arith) dimension in
-    let at41 = ap (λ (x : List ℕ). x ++ known.plan.seed) at9 ∙ bytes_after 32 known.plan.seed fields 9 seed in
-    let at45 = ap (λ (x : List ℕ). x ++ number_bytes 4 known.count) at41 ∙ number_after 4 known.count fields 41 fits (omega arith) count in
-    let at53 = ap (λ (x : List ℕ). x ++ number_bytes 8 known.version) at45 ∙ number_after 8 known.version fields 45 fits (omega arith) version in
-    let at54 = ap (λ (x : List ℕ). x ++ (scheme_byte hint.scheme ∷ [])) at53 ∙ byte_after (scheme_byte hint.scheme) fields 53 (omega arith) scheme in
-    let at62 = ap (λ (x : List ℕ). x ++ number_bytes 8 hint.version) at54 ∙ number_after 8 hint.version fields 54 fits (omega arith) of in
-    let at70 = ap (λ (x : List ℕ). x ++ number_bytes 8 hint.matrix.rows) at62 ∙ number_after 8 hint.matrix.rows fields 62 fits (omega arith) rows in
-    let at78 = ap (λ (x : List ℕ). x ++ number_bytes 8 hint.matrix.cols) at70 ∙ number_after 8 hint.matrix.cols fields 70 fits (omega arith) cols in
+fields_read f fields fits len form width record_len groups dimension seed count version scheme of rows cols =
+    let at2 : number_bytes 2 f.known.plan.form ≡ take 2 fields = number_after 2 f.known.plan.form fields 0 fits (omega arith) form in
+    let at3 = ap (λ (x : List ℕ). x ++ (f.known.plan.width ∷ [])) at2 ∙ byte_after f.known.plan.width fields 2 (omega arith) width in
+    let at5 = ap (λ (x : List ℕ). x ++ number_bytes 2 f.known.plan.record_len) at3 ∙ number_after 2 f.known.plan.record_len fields 3 fits (omega arith) record_len in
+    let at7 = ap (λ (x : List ℕ). x ++ number_bytes 2 f.known.plan.groups) at5 ∙ number_after 2 f.known.plan.groups fields 5 fits (omega arith) groups in
+    let at9 = ap (λ (x : List ℕ). x ++ number_bytes 2 f.known.plan.dimension) at7 ∙ number_after 2 f.known.plan.dimension fields 7 fits (omega arith) dimension in
+    let at41 = ap (λ (x : List ℕ). x ++ f.known.plan.seed) at9 ∙ bytes_after 32 f.known.plan.seed fields 9 seed in
+    let at45 = ap (λ (x : List ℕ). x ++ number_bytes 4 f.known.count) at41 ∙ number_after 4 f.known.count fields 41 fits (omega arith) count in
+    let at53 = ap (λ (x : List ℕ). x ++ number_bytes 8 f.known.version) at45 ∙ number_after 8 f.known.version fields 45 fits (omega arith) version in
+    let at54 = ap (λ (x : List ℕ). x ++ (scheme_byte f.scheme ∷ [])) at53 ∙ byte_after (scheme_byte f.scheme) fields 53 (omega arith) scheme in
+    let at62 = ap (λ (x : List ℕ). x ++ number_bytes 8 f.version) at54 ∙ number_after 8 f.version fields 54 fits (omega arith) of in
+    let at70 = ap (λ (x : List ℕ). x ++ number_bytes 8 f.rows) at62 ∙ number_after 8 f.rows fields 62 fits (omega arith) rows in
+    let at78 = ap (λ (x : List ℕ). x ++ number_bytes 8 f.cols) at70 ∙ number_after 8 f.cols fields 70 fits (omega arith) cols in
     at78 ∙ take_all 78 fields (omega arith)
 
 -- a byte that names a scheme is the scheme's

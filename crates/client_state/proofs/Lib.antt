@@ -1,4 +1,7 @@
 pub mod Bytes
 pub mod Fields
 pub mod FieldsBack
-pub mod HintFiles
+pub mod PartDigests
+pub mod HeadBytes
+pub mod WordsRead
+pub mod PartsRead

@@ -1,3 +1,4 @@
 pub mod Files
 pub mod Reading
+pub mod Laws
 pub mod Texts

@@ -3,16 +3,18 @@
 ghost use Rattle.std.specs.Prelude.{◌≡◌, ◌≤◌};
 
 use crate::counters::{counter_bytes, counter_in};
-use crate::hints::{HintError, KeptHint, hint_bytes, hint_in};
+use crate::heads::{HintError, KeptHead, MOST_HEAD, head_in};
+use crate::hints::{KeptHint, hint_file, hint_in};
+use crate::parts::{PartSpan, parts_in, place_of};
 use crate::seeds::{seed_bytes, seed_in, seed_name};
 use claim_counter::{DeviceError, Register};
 use client_core::{Hint, ServerInfo};
-use safe_files::{Bytes, FileLock, LockFault, ReplaceFault, lock, replace_file};
+use safe_files::{Bytes, Content, FileLock, LockFault, ReplaceFault, lock, replace_file};
 use std::alloc::AllocError;
 use std::fs;
 use std::fs::{DirBuilder, File};
 use std::io::{ErrorKind, Read};
-use std::os::unix::fs::{DirBuilderExt, MetadataExt};
+use std::os::unix::fs::{DirBuilderExt, FileExt, MetadataExt};
 use std::random::RandomSource;
 use thiserror::Error;
 
@@ -46,6 +48,15 @@ impl From<AllocError> for FolderFault {
 
     fn from(_refused: AllocError) -> Self {
         FolderFault::Memory
+    }
+}
+
+impl From<FolderFault> for HintError {
+    fn from(fault: FolderFault) -> Self {
+        match fault {
+            FolderFault::Memory => HintError::Memory,
+            FolderFault::Locked | FolderFault::State => HintError::Damaged,
+        }
     }
 }
 
@@ -90,9 +101,9 @@ impl<'a> Folder<'a> {
         };
         // The counter stands before its seed: a seed without one would begin at the first number again.
         let counter = counter_bytes(rt.alloc(), &seed_name(&seed), 0)?;
-        write_file(rt, path, "counter", &counter)?;
+        write_file(rt, path, "counter", &Bytes(&counter))?;
         let bytes = seed_bytes(rt.alloc(), &seed)?;
-        write_file(rt, path, "seed", &bytes)
+        write_file(rt, path, "seed", &Bytes(&bytes))
     }
 
     /// Opens a folder, and keeps other processes from it.
@@ -148,12 +159,52 @@ impl<'a> Folder<'a> {
     ///
     /// `Damaged` where its file is no hint's of this seed or can't be read, `Memory` where memory was refused.
     pub fn hint(&self) -> Result<Option<KeptHint>, HintError> {
-        match read_file(self.rt, self.path, "hint") {
-            Ok(None) => Ok(None),
-            Ok(Some(bytes)) => Ok(Some(hint_in(self.rt.alloc(), &self.name, &bytes)?)),
-            Err(FolderFault::Memory) => Err(HintError::Memory),
-            Err(_) => Err(HintError::Damaged),
+        match read_file(self.rt, self.path, "hint")? {
+            Some(bytes) => Ok(Some(hint_in(self.rt.alloc(), &self.name, &bytes)?)),
+            None => Ok(None),
         }
+    }
+
+    /// The head of the hint that was kept, where there is one: which hint it is, and the digests of its parts. Its words are not
+    /// read.
+    ///
+    /// # Errors
+    ///
+    /// `Damaged` where its file begins with no head of a hint of this seed, is longer or shorter than that head says, or can't be read;
+    /// `Memory` where memory was refused.
+    pub fn hint_head(&self) -> Result<Option<KeptHead>, HintError> {
+        let Some(file) = open_file(self.rt, self.path, "hint")? else {
+            return Ok(None);
+        };
+        let Ok(found) = file.metadata() else {
+            return Err(HintError::Damaged);
+        };
+        let bytes = first_bytes(self.rt, file, MOST_HEAD as u64)?;
+        let head = head_in(self.rt.alloc(), &self.name, &bytes)?;
+        if found.len() != head.file_len() {
+            return Err(HintError::Damaged);
+        }
+        Ok(Some(head))
+    }
+
+    /// The hint of this head, of which the parts of a span are read; its other words are zeros.
+    ///
+    /// # Errors
+    ///
+    /// `Damaged` where the file has other bytes than the head says or can't be read, `Memory` where memory was refused.
+    pub fn hint_parts(&self, head: &KeptHead, span: PartSpan) -> Result<Hint, HintError> {
+        let alloc = self.rt.alloc();
+        let Some((start, len)) = place_of(head, span) else {
+            return Err(HintError::Damaged);
+        };
+        let Some(file) = open_file(self.rt, self.path, "hint")? else {
+            return Err(HintError::Damaged);
+        };
+        let mut bytes = vec![in alloc; 0u8; len]?;
+        if file.read_exact_at(&mut bytes, start).is_err() {
+            return Err(HintError::Damaged);
+        }
+        parts_in(alloc, head, span, &bytes)
     }
 
     /// Keeps a hint in place of the one before, with what the server has reported.
@@ -162,8 +213,8 @@ impl<'a> Folder<'a> {
     ///
     /// `State` where its file can't be written: the one before it is left, or the new one. `Memory` where memory was refused.
     pub fn keep_hint(&self, known: &ServerInfo, hint: &Hint) -> Result<(), FolderFault> {
-        let bytes = hint_bytes(self.rt.alloc(), &self.name, known, hint)?;
-        write_file(self.rt, self.path, "hint", &bytes)
+        let file = hint_file(self.rt.alloc(), &self.name, known, hint)?;
+        write_file(self.rt, self.path, "hint", &file)
     }
 
     /// Drops the hint. The counter is left alone.
@@ -178,7 +229,7 @@ impl<'a> Folder<'a> {
     // Writes the counter's file anew.
     fn write_counter(&self, number: u64) -> Result<(), FolderFault> {
         let bytes = counter_bytes(self.rt.alloc(), &self.name, number)?;
-        write_file(self.rt, self.path, "counter", &bytes)
+        write_file(self.rt, self.path, "counter", &Bytes(&bytes))
     }
 }
 
@@ -262,29 +313,47 @@ fn random_seed(rt: &HostRuntime) -> Result<[u8; 32], FolderFault> {
     }
 }
 
-// The bytes of a file, where there is one.
-fn read_file(rt: &HostRuntime, path: &str, file: &str) -> Result<Option<Vec<u8>>, FolderFault> {
+// A file, open to be read, where there is one.
+fn open_file(rt: &HostRuntime, path: &str, file: &str) -> Result<Option<File>, FolderFault> {
     let name = format!(in rt.alloc(); "{path}/{file}")?;
     match fs::symlink_metadata(rt, name.as_str()) {
         Ok(found) if found.is_file() => {}
         Err(fault) if fault.kind() == ErrorKind::NotFound => return Ok(None),
         _ => return Err(FolderFault::State),
     }
-    let Ok(file) = File::open(rt, name.as_str()) else {
-        return Err(FolderFault::State);
-    };
+    match File::open(rt, name.as_str()) {
+        Ok(opened) => Ok(Some(opened)),
+        Err(_) => Err(FolderFault::State),
+    }
+}
+
+// The first bytes of an open file, at most so many.
+fn first_bytes(rt: &HostRuntime, file: File, most: u64) -> Result<Vec<u8>, FolderFault> {
     let mut bytes = Vec::new(rt.alloc());
-    match file.take(MOST_BYTES).read_to_end(&mut bytes) {
-        Ok(_) => Ok(Some(bytes)),
+    match file.take(most).read_to_end(&mut bytes) {
+        Ok(_) => Ok(bytes),
         Err(fault) if fault.kind() == ErrorKind::OutOfMemory => Err(FolderFault::Memory),
         Err(_) => Err(FolderFault::State),
     }
 }
 
+// The bytes of a file, where there is one.
+fn read_file(rt: &HostRuntime, path: &str, file: &str) -> Result<Option<Vec<u8>>, FolderFault> {
+    match open_file(rt, path, file)? {
+        Some(opened) => Ok(Some(first_bytes(rt, opened, MOST_BYTES)?)),
+        None => Ok(None),
+    }
+}
+
 // Replaces a file whole.
-fn write_file(rt: &HostRuntime, path: &str, file: &str, bytes: &[u8]) -> Result<(), FolderFault> {
+fn write_file<C: Content>(
+    rt: &HostRuntime,
+    path: &str,
+    file: &str,
+    content: &C,
+) -> Result<(), FolderFault> {
     let name = format!(in rt.alloc(); "{path}/{file}")?;
-    match replace_file(rt, name.as_str(), &Bytes(bytes)) {
+    match replace_file(rt, name.as_str(), content) {
         Ok(()) => Ok(()),
         Err(ReplaceFault::Memory) => Err(FolderFault::Memory),
         Err(_) => Err(FolderFault::State),

@@ -1,7 +1,8 @@
 //! Words as bytes and back, the lowest byte first.
 
-ghost use Rattle.std.specs.Prelude.{◌≡◌, ◌≤◌, ◌*◌, ◌++◌, ℕ, length, IfOk, OnOk};
+ghost use Rattle.std.specs.Prelude.{◌≡◌, ◌≤◌, ◌<◌, ◌+◌, ◌*◌, ◌^◌, ◌++◌, ℕ, List, All, length, IfOk, OnOk};
 ghost use Rattle.frame_codec.specs.Numbers.{word_bytes};
+ghost use Rattle.client_state.specs.Reading.{among_zeros};
 
 use byteorder::{ByteOrder, LittleEndian};
 use std::alloc::{AllocError, Global};
@@ -41,4 +42,23 @@ pub fn words_in(alloc: Global, bytes: &[u8]) -> Result<Vec<u32>, AllocError>
     let mut words = vec![in alloc; 0u32; bytes.len() / 4]?;
     LittleEndian::read_u32_into(bytes, &mut words);
     Ok(words)
+}
+
+/// So many zeros, with the words that the bytes encode written over them from a place on.
+pub fn words_among_zeros(
+    alloc: Global,
+    total: usize,
+    start: usize,
+    bytes: &[u8],
+) -> Result<Vec<u32>, AllocError>
+    requires { (n : ℕ) × (length bytes.now ≡ 4 * n) × (start + n ≤ total) }
+    ensures words { IfOk result (λ all. (words : List ℕ) × All (λ w. w < 2 ^ 32) words
+        × (word_bytes words ≡ bytes.now) × (all.items ≡ among_zeros total start words)) }
+    ensures count { IfOk result (λ all. length all.items ≡ total) }
+{
+    let mut all = vec![in alloc; 0u32; total]?;
+    let (_, rest) = all.split_at_mut(start);
+    let (words, _) = rest.split_at_mut(bytes.len() / 4);
+    LittleEndian::read_u32_into(bytes, words);
+    Ok(all)
 }

@@ -1,15 +1,14 @@
-use Rattle.std.proofs.Common.{◌<◌, ℕ, List, slice_index, take, sym, ap, ◌∙◌, refl, arith}
+use Rattle.std.proofs.Common.{◌<◌, ℕ, slice_index, take, sym, ap, ◌∙◌, refl, arith}
 use Rattle.std.proofs.lemmas.List.{take_rest}
 use Rattle.byteorder.specs.Endian.{little_number}
 use Rattle.client_state.proofs.Fields.{fields_read, scheme_named}
 use Rattle.client_state.proofs.FieldsBack.{no_scheme}
-use Rattle.client_state.proofs.hints.fields_in.Goals as goal
+use Rattle.client_state.proofs.heads.fields_in.Goals as goal
 
 pub returns-clause-read : goal.returns-clause-read
-returns-clause-read c = λ words.
-    let fields : List ℕ = c.args.bytes.now in
+returns-clause-read c =
     let bytes : (i : ℕ) → slice_index c.args.bytes.now i < 256 = λ i. omega (arith, c.type_inv.bytes i) in
-    fields_read _ _ c.args.bytes.now bytes c.requires
+    fields_read _ c.args.bytes.now bytes c.requires
     c.read_u16.ensures
     refl
     (c.read_u16-2.ensures ∙ ap (little_number 2) (take_rest c.args.bytes.now 3))
@@ -24,4 +23,4 @@ returns-clause-read c = λ words.
     (c.read_u64-4.ensures ∙ ap (little_number 8) (take_rest c.args.bytes.now 70))
 
 pub returns-in_default-clause-none : goal.returns-in_default-clause-none
-returns-in_default-clause-none c = λ known hint len e. no_scheme known hint c.args.bytes.now len e (sym c.of_byte.ensures ∙ c.in_default.is)
+returns-in_default-clause-none c = λ f len e. no_scheme f c.args.bytes.now len e (sym c.of_byte.ensures ∙ c.in_default.is)
