@@ -4,3 +4,4 @@ pub mod Numbers
 pub mod Sendings
 pub mod Speaking
 pub mod Skipping
+pub mod Dropping

@@ -1,16 +1,16 @@
 //! The calls of a client that keeps its hint and its numbers from one run to the next.
 
-ghost use Rattle.std.specs.Prelude.{◌≡◌, List, ℕ, replicate, IfOk};
+ghost use Rattle.std.specs.Prelude.{◌≡◌, ◌⊎◌, List, ℕ, Ok, None, replicate, IfOk, IfSome};
 ghost use Rattle.std.specs.Io.KnownBytes.{Appends, Consumes};
 ghost use Rattle.client_core.specs.Calls.{Hello, Sync};
 ghost use Rattle.client_commands.specs.Transcripts.{ComesTo, IsRecordAsked};
-ghost use Rattle.client_commands.specs.Claimed.{AsksClaimed};
+ghost use Rattle.client_commands.specs.Claimed.{AsksClaimed, AsksWithRows, MakesNoSync};
 
 use crate::commands::READER;
 use crate::connection::exchange;
 use crate::fault::CommandError;
 use claim_counter::{ClaimError, Register, claim};
-use client_core::{ClientCore, Event, Scheme};
+use client_core::{ClientCore, Event, SavedClient, Scheme};
 use matrix_u32::Kernel;
 use std::alloc::Global;
 use std::io::{Read, Write};
@@ -110,5 +110,42 @@ pub fn ask_claimed<K: Kernel, G: Register, R: Read, W: Write>(
     match exchange(alloc, client, sent, reader, writer) {
         Ok(event) => Ok(event),
         Err(fault) => Err(AskError::Command(fault)),
+    }
+}
+
+/// Goes on with a hint of which only the rows of record `index` need be right, asks for the record as [`ask_claimed`] does, and drops
+/// the hint: no sync is made over it. Answers none, and asks nothing, where it is no hint that the client may go on with.
+///
+/// # Errors
+///
+/// As [`ask_claimed`], and `Command` where the client refused to take up the hint.
+pub fn ask_with_rows<K: Kernel, G: Register, R: Read, W: Write>(
+    alloc: Global,
+    client: &mut ClientCore<K>,
+    register: &mut G,
+    reader: &mut R,
+    writer: &mut W,
+    saved: SavedClient,
+    index: u32,
+) -> Result<Option<Event>, AskError>
+    ensures asked { (read : List ℕ) × (out : List ℕ)
+        × Consumes (R.remaining reader.old) (R.remaining reader.new) read
+        × Appends (W.contents writer.old) (W.contents writer.new) out
+        × AsksWithRows (G.state register.old) (G.state register.new) client.old saved index result
+        read out (R.remaining reader.new) client.new }
+    ensures record { IfOk result (λ event. IfSome event (IsRecordAsked index)) }
+    ensures dropped { (result ≡ Ok None) ⊎ MakesNoSync client.new.state }
+{
+    match client.resume(saved) {
+        Ok(true) => {}
+        Ok(false) => return Ok(None),
+        Err(fault) => return Err(AskError::Command(CommandError::Call(fault))),
+    }
+    let asked = ask_claimed(alloc, client, register, reader, writer, index);
+    // Where this is refused the client has failed, or its call is outstanding, and every sync is refused too.
+    let _ = client.drop_hint();
+    match asked {
+        Ok(event) => Ok(Some(event)),
+        Err(fault) => Err(fault),
     }
 }

@@ -9,7 +9,7 @@ mod commands;
 mod connection;
 mod fault;
 
-pub use claimed::{AskError, ask_claimed, greet, sync};
+pub use claimed::{AskError, ask_claimed, ask_with_rows, greet, sync};
 pub use commands::{Retrieved, append, get, publish, put};
 pub use connection::check_dimension;
 pub use fault::CommandError;
