@@ -12,6 +12,7 @@ mod commands;
 mod failures;
 mod folder_tasks;
 mod folders;
+mod sessions;
 mod watching;
 
 use std::process::ExitCode;
