@@ -197,7 +197,17 @@ fn read_parts<K: Kernel>(
         &mut digits,
         &mut rows,
     );
-    read_digits_of_parts(kernel, w, &rows, &hint, &s, &secrets, answer, &mut digits, out);
+    read_digits_of_parts(
+        kernel,
+        w,
+        &rows,
+        &hint,
+        &s,
+        &secrets,
+        answer,
+        &mut digits,
+        out,
+    );
     Ok(())
 }
 

@@ -189,9 +189,7 @@ impl<'a> Session<'a> {
             self.take_up_all()?;
         }
         match (self.client.known(), self.client.hint()) {
-            (Some(known), Some(hint))
-                if hint.scheme == scheme && hint.version == known.version =>
-            {
+            (Some(known), Some(hint)) if hint.scheme == scheme && hint.version == known.version => {
                 Ok(())
             }
             _ => self.move_hint(scheme),

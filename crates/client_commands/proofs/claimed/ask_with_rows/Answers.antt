@@ -18,17 +18,22 @@ returns-in-Ok-clause-dropped g c = inr (no_sync _ _ c.drop_hint.result c.drop_hi
 pub returns-in-Err-asked-clause-asked : goal.returns-in-Err-asked-clause-asked
 returns-in-Err-asked-clause-asked g c =
     let resumed : IsResumed c.args.client.now.state c.args.saved (Ok true) c.resume.new.self.state = search rules in
-    let asked = c.in-Err-asked.ensures.asked in
-    (asked.0, asked.1, asked.2, asked.3, inr (record {
-      holding = c.resume.new.self;
-      asked = c.ask_claimed-asked.new.client;
-      answer = c.drop_hint.result;
-      resumed = resumed;
-      reader = c.resume.ensures.reader;
-      asks = asked.4;
-      dropped = c.drop_hint.ensures.dropped;
-      kept = c.drop_hint.ensures.reader;
-    }))
+    let asked = c.in-Err-asked.ensures.asked in (
+      asked.0,
+      asked.1,
+      asked.2,
+      asked.3,
+      inr (record {
+        holding = c.resume.new.self;
+        asked = c.ask_claimed-asked.new.client;
+        answer = c.drop_hint.result;
+        resumed = resumed;
+        reader = c.resume.ensures.reader;
+        asks = asked.4;
+        dropped = c.drop_hint.ensures.dropped;
+        kept = c.drop_hint.ensures.reader;
+      }),
+    )
 
 pub returns-in-Err-asked-clause-dropped : goal.returns-in-Err-asked-clause-dropped
 returns-in-Err-asked-clause-dropped g c = inr (no_sync _ _ c.drop_hint.result c.drop_hint.ensures.dropped)

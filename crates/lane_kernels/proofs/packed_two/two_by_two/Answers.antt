@@ -24,23 +24,45 @@ loop-i-preserved c =
     let below : i < n = omega arith in
     record {
       px = rw (
-        c.as_chunks.ensures.front, c.as_chunks-3.ensures.front, c.as_chunks-4.ensures.front, c.as_chunks-5.ensures.front,
-        c.requires.p, c.requires.b, c.requires.c,
+        c.as_chunks.ensures.front,
+        c.as_chunks-3.ensures.front,
+        c.as_chunks-4.ensures.front,
+        c.as_chunks-5.ensures.front,
+        c.requires.p,
+        c.requires.b,
+        c.requires.c,
       )
           (shifted_more 8 i n c.loop-i.px g.p.now g.a.now g.b.now g.c.now (omega arith) below fp fa fb fc so_far.px);
       qx = rw (
-        c.as_chunks-2.ensures.front, c.as_chunks-3.ensures.front, c.as_chunks-4.ensures.front, c.as_chunks-5.ensures.front,
-        c.requires.q, c.requires.b, c.requires.c,
+        c.as_chunks-2.ensures.front,
+        c.as_chunks-3.ensures.front,
+        c.as_chunks-4.ensures.front,
+        c.as_chunks-5.ensures.front,
+        c.requires.q,
+        c.requires.b,
+        c.requires.c,
       )
           (shifted_more 8 i n c.loop-i.qx g.q.now g.a.now g.b.now g.c.now (omega arith) below fq fa fb fc so_far.qx);
       py = rw (
-        c.as_chunks.ensures.front, c.as_chunks-6.ensures.front, c.as_chunks-7.ensures.front, c.as_chunks-8.ensures.front,
-        c.requires.p, c.requires.d, c.requires.e, c.requires.f,
+        c.as_chunks.ensures.front,
+        c.as_chunks-6.ensures.front,
+        c.as_chunks-7.ensures.front,
+        c.as_chunks-8.ensures.front,
+        c.requires.p,
+        c.requires.d,
+        c.requires.e,
+        c.requires.f,
       )
           (shifted_more 8 i n c.loop-i.py g.p.now g.d.now g.e.now g.f.now (omega arith) below fp fd fe ff so_far.py);
       qy = rw (
-        c.as_chunks-2.ensures.front, c.as_chunks-6.ensures.front, c.as_chunks-7.ensures.front, c.as_chunks-8.ensures.front,
-        c.requires.q, c.requires.d, c.requires.e, c.requires.f,
+        c.as_chunks-2.ensures.front,
+        c.as_chunks-6.ensures.front,
+        c.as_chunks-7.ensures.front,
+        c.as_chunks-8.ensures.front,
+        c.requires.q,
+        c.requires.d,
+        c.requires.e,
+        c.requires.f,
       )
           (shifted_more 8 i n c.loop-i.qy g.q.now g.d.now g.e.now g.f.now (omega arith) below fq fd fe ff so_far.qy);
     }
