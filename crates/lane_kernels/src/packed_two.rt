@@ -102,8 +102,10 @@ fn two_by_two(
     requires d { length d.now ≡ length a.now }
     requires e { length e.now ≡ length a.now }
     requires f { length f.now ≡ length a.now }
-    ensures x { result.0 ≡ shifted_sum p.now a.now b.now c.now ∷ shifted_sum q.now a.now b.now c.now ∷ [] }
-    ensures y { result.1 ≡ shifted_sum p.now d.now e.now f.now ∷ shifted_sum q.now d.now e.now f.now ∷ [] }
+    ensures x { result.0 ≡ shifted_sum p.now a.now b.now c.now
+        ∷ shifted_sum q.now a.now b.now c.now ∷ [] }
+    ensures y { result.1 ≡ shifted_sum p.now d.now e.now f.now
+        ∷ shifted_sum q.now d.now e.now f.now ∷ [] }
 {
     let (ps, p_rest) = p.as_chunks::<8>();
     let (qs, q_rest) = q.as_chunks::<8>();
