@@ -1,6 +1,7 @@
 //! What is served, while its version is saved.
 
-ghost use Rattle.std.specs.Prelude.{◌≡◌, OnOk, OnErr};
+ghost use Rattle.std.specs.Prelude.{◌≡◌, ◌↔◌, IsErrOf, IsSome, OnOk, OnErr};
+ghost use Rattle.server_core.specs.Cores.{session_of};
 ghost use Rattle.service_core.specs.Runs.{DoesToCore, Opens, Closes};
 
 use crate::device::Saver;
@@ -35,6 +36,8 @@ impl<S: Saver> Kept<S> {
     /// Those of [`ServerCore::open_session`].
     pub fn open_session(&mut self, id: u64) -> Result<(), SessionError>
         ensures opened { OnOk result (DoesToCore self.old.core (Opens id) self.new.core) }
+        ensures in_use { IsErrOf result SessionError.IdInUse ↔ IsSome
+            (session_of self.old.core.sessions id) }
         ensures refused { OnErr result (self.new.core ≡ self.old.core) }
     {
         self.core.open_session(id)
