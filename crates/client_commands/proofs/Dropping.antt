@@ -1,6 +1,6 @@
 -- A client that was to drop its hint.
-use Rattle.std.proofs.Common.{◌≡◌, ap, ◌∙◌, Ok, Err, inl, inr}
-use Rattle.std.specs.Prelude.{Result, ◌⊎◌}
+use Rattle.std.proofs.Common.{ap, ◌∙◌, Ok, Err, inl, inr}
+use Rattle.std.specs.Prelude.{Result}
 use Rattle.client_core.specs.declared.state.ClientState.{ClientState}
 use Rattle.client_core.specs.declared.state.CallFault.{CallFault}
 use Rattle.client_core.specs.Calls.{change_refusal}

@@ -1,5 +1,5 @@
 -- What a client does that keeps its hint and its numbers from one run to the next.
-use Rattle.std.specs.Prelude.{◌≡◌, ◌≤◌, ◌<◌, ◌⊎◌, ℕ, List, [], true, false, Option, Some, None, Result, Ok, Err}
+use Rattle.std.specs.Prelude.{◌≡◌, ◌≤◌, ◌<◌, ◌⊎◌, ℕ, List, true, false, Option, Some, None, Result, Ok, Err}
 use Rattle.claim_counter.specs.Register.{State}
 use Rattle.claim_counter.specs.Claims.{Moves, Claimed, Refused}
 use Rattle.client_core.specs.declared.state.ClientState.{ClientState}

@@ -1,4 +1,4 @@
-use Rattle.std.proofs.Common.{◌≡◌, refl, true, Ok, inl, inr, [], rules}
+use Rattle.std.proofs.Common.{refl, true, Ok, inl, inr, [], rules}
 use Rattle.std.specs.Io.KnownBytes.{Appends, Consumes}
 use Rattle.client_core.specs.Resuming.{IsResumed}
 use Rattle.client_commands.specs.Transcripts.{IsStill}
