@@ -1,4 +1,4 @@
-// The work of crates/kernel_bench in C, on the same words: gcc -O3 -march=native, by scripts/bench.
+// The work of crates/kernel_bench in C, on the same words: gcc -O3 -march=native, by scripts/bench, time_open and time_get.
 //
 // The packed product has the loop structure of the published implementation of SimplePIR: three digits of
 // ten bits in a word, eight rows at once, each digit masked out. That of one row at once stands beside it.
@@ -6,7 +6,9 @@
 // rows of the right matrix at once for 128 of them at a time, is much quicker, and is the one to compare with.
 //
 // A line has the name of the work, the time of its quickest turn, the bytes read and the products added in
-// a second, and a sum of the words that were made, parted by tabs.
+// a second, and a sum of the words that were made, parted by tabs. With the argument `plain` the plain triple loop is
+// timed, too. With `rate` each packed product alone is made 200 times one after another, as a server makes them for queries
+// in one stream, and its line has the mean.
 
 #include <stdint.h>
 #include <stdio.h>
@@ -16,7 +18,7 @@
 
 typedef uint32_t word;
 
-enum { TURNS = 9, DIGIT = 1023, BLOCK = 128 };
+enum { TURNS = 9, IN_A_ROW = 200, DIGIT = 1023, BLOCK = 128 };
 
 // Nothing is compiled for these very sizes: no function is inlined, nor copied for arguments that are known.
 #define KERNEL __attribute__((noipa)) static
@@ -214,6 +216,29 @@ static void vectors(const word *digits, sizes n)
     free(x), free(padded), free(out), free(sum), free(packed), free(y), free(padded_y), free(both);
 }
 
+// The mean time of a packed product among many.
+static void rate(const word *digits, sizes n)
+{
+    size_t count = n.rows * n.cols, packed_count = n.rows * n.width;
+    word *x = filled(n.cols, 3, ~0u), *padded = zeros(3 * n.width), *out = zeros(n.rows), *packed = packed_of(digits, n);
+    memcpy(padded, x, sizeof(word) * n.cols);
+    double took = LEAST(1, for (int i = 0; i < IN_A_ROW; i++) packed_eight(packed, n.rows, n.width, padded, out));
+    say("packed matrix by vector, in a row", packed_count, count, took / IN_A_ROW, out, n.rows);
+    took = LEAST(1, for (int i = 0; i < IN_A_ROW; i++) packed_one(packed, n.rows, n.width, padded, out));
+    say("packed matrix by vector, one row at once, in a row", packed_count, count, took / IN_A_ROW, out, n.rows);
+    free(x), free(padded), free(out), free(packed);
+}
+
+// The words of a hint, read once.
+static void hint_read(sizes n)
+{
+    size_t count = n.rows * n.secret;
+    word *hint = filled(count, 9, ~0u), all;
+    double took = LEAST(TURNS, all = read_all(hint, count));
+    say("a hint of 16 MiB read", count, 0, took, &all, 1);
+    free(hint);
+}
+
 // The words of a frame of 16 MiB, after its header and nine other bytes, copied as bytes and back.
 static void frame(sizes n)
 {
@@ -235,7 +260,12 @@ int main(int argc, char **argv)
     size_t count = n.rows * n.cols, made = n.rows * n.secret;
     double products = (double)count * n.secret;
     word *digits = filled(count, 1, DIGIT), *public = filled(n.cols * n.secret, 2, ~0u);
+    if (argc > 1 && !strcmp(argv[1], "rate")) {
+        rate(digits, n);
+        return 0;
+    }
     vectors(digits, n);
+    hint_read(n);
     frame(n);
 
     word *out = zeros(made);

@@ -1,21 +1,19 @@
-"""The store of the largest size, its server, and what speaks with it: what scripts/time_open and scripts/time_get have in
-common. It has 262,144 records of 80 bytes in digits of 10 bits, 64 to a column: 4096 x 4096 digits, secrets of 1024
-words, and hints of 16 MiB in 64 parts."""
+"""The store of the largest size, its server, and what speaks with it: what scripts/time_open, scripts/time_get and scripts/load
+have in common. It has 262,144 records of 80 bytes in digits of 10 bits, 64 to a column: 4096 x 4096 digits, secrets of 1024
+words, and hints of 16 MiB in 64 parts. scripts/side_by_side.py has the programs."""
 
 import os
 import socket
 import struct
 import subprocess
-import sys
 import threading
 import time
 
-ROOT = os.path.dirname(os.path.dirname(os.path.abspath(__file__)))
-SERVER = os.path.join(ROOT, "crates", "pir_server", "out", "pir_server")
-CLIENT = os.path.join(ROOT, "crates", "pir_client", "out", "pir_client")
-KERNELS = os.path.join(ROOT, "crates", "kernel_bench")
+from side_by_side import stop
+
 SIDE = 4096
 RECORD = 80
+WIDTH = 10
 GROUPS = 64
 RECORDS = GROUPS * SIDE
 DIGITS = RECORD * 8 // 10
@@ -28,33 +26,8 @@ READER, PUBLISHER = bytes(32), bytes([1] * 32)
 BYE = struct.pack("<IB", 0, 0x08)
 
 
-def stop(message):
-    sys.exit(f"{os.path.basename(sys.argv[0])}: {message}")
-
-
 def hello(key):
     return struct.pack("<IBH32s", 34, 0x02, 1, key)
-
-
-def build():
-    print("building both programs and kernel_bench", flush=True)
-    if subprocess.run([os.path.join(ROOT, "scripts", "build"), "--default"]).returncode != 0:
-        stop("scripts/build failed")
-    done = subprocess.run(["rt", "run"], cwd=KERNELS, capture_output=True, text=True)
-    if done.returncode != 0:
-        stop(f"kernel_bench failed:\n{done.stdout}{done.stderr}")
-
-
-def kernel_millis(*wanted, task="full"):
-    """The milliseconds of some work of the kernels alone, in one run of a task of kernel_bench."""
-    program = os.path.join(KERNELS, "out", "kernel_bench")
-    done = subprocess.run([program, task], capture_output=True, text=True)
-    lines = (line.split("\t")[:2] for line in done.stdout.splitlines())
-    found = {name: float(millis.split()[0]) for name, millis in lines}
-    for name in wanted:
-        if name not in found:
-            stop(f"kernel_bench gives no time of {name}")
-    return [found[name] for name in wanted]
 
 
 def connected(port):
@@ -89,27 +62,29 @@ def exchange(connection, sent, count):
 
 def spent_millis(pid):
     """The time that a process spent so far."""
-    with open(f"/proc/{pid}/stat") as stat:
-        fields = stat.read().rsplit(")", 1)[1].split()
-    return (int(fields[11]) + int(fields[12])) * 1000 / os.sysconf("SC_CLK_TCK")
+    # The number that Linux gives to the clock of a process's time, as clock_getcpuclockid answers it: /proc counts in steps of 10 ms.
+    return time.clock_gettime_ns((~pid << 3) | 2) / 1e6
 
 
-def made(folder, record=RECORD, groups=GROUPS, columns=SIDE):
+def made(program, folder, record=RECORD, groups=GROUPS, columns=SIDE, width=WIDTH):
     """The store's file, and its records; they may be shorter, with more groups, so that the digits are as many, and there may be fewer columns."""
     count = groups * columns * record
     records = b"".join(struct.pack("<Q", i * 0x9E3779B97F4A7C15 % 2**64) for i in range(count // 8))
     name = os.path.join(folder, "store.pir")
-    words = ["make", "--out", name, "--width", "10", "--record", str(record), "--groups", str(groups)]
+    words = ["make", "--out", name, "--width", str(width), "--record", str(record), "--groups", str(groups)]
     keys = ["--seed", "00" * 32, "--key", PUBLISHER.hex()]
-    if subprocess.run([SERVER, *words, *keys], input=records).returncode != 0:
+    if subprocess.run([program, *words, *keys], input=records).returncode != 0:
         stop("make failed")
     return name, records
 
 
-def serving(name, connections):
+def serving(program, name, connections):
     """A server of the file that listens, its port, and the milliseconds until it did."""
     words = ["serve", "--file", name, "--port", "0", "--connections", str(connections)]
     begun = time.perf_counter()
-    server = subprocess.Popen([SERVER, *words], stdout=subprocess.PIPE, text=True)
-    port = int(server.stdout.readline().split()[1])
-    return server, port, (time.perf_counter() - begun) * 1000
+    server = subprocess.Popen([program, *words], stdout=subprocess.PIPE, text=True)
+    line = server.stdout.readline()
+    millis = (time.perf_counter() - begun) * 1000
+    if len(line.split()) < 2:
+        stop("the server didn't listen")
+    return server, int(line.split()[1]), millis
