@@ -1,4 +1,5 @@
 pub mod Follows
 pub mod Columns
-pub mod Runs
+pub mod Listed
+pub mod Blocks
 pub mod Logs

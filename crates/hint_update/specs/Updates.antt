@@ -1,6 +1,7 @@
 -- What hints that are changed in place are afterwards. The first public matrix may have more rows than the digits
 -- have columns: a product takes no more of them.
-use Rattle.std.specs.Prelude.{◌≡◌, ℕ, ◌+◌, ◌-◌, ◌*◌, ◌/◌, ◌%◌, ◌^◌, ◌<◌, ◌≤◌, ◌==◌, if◌then◌else◌, List, length, slice_index, Bool, nat_le, nat_lt, ◌&&◌}
+use Rattle.std.specs.Prelude.{◌≡◌, ◌≢◌, ◌⊎◌, ℕ, ◌+◌, ◌-◌, ◌*◌, ◌/◌, ◌%◌, ◌^◌, ◌<◌, ◌≤◌, ◌==◌, if◌then◌else◌, List, length, slice_index}
+use Rattle.std.specs.List.Sorted.{IsStrictlyIncreasing}
 use Rattle.matrix_u32.specs.Sum.{sum_below, list_of}
 use Rattle.matrix_u32.specs.Matrix.{WordMatrix, IsWhole, entry, row, matrix_of, product, with_entry, with_row}
 use Rattle.lane_kernels.specs.Digit.{digit, split_count}
@@ -44,46 +45,70 @@ FollowsRow w server_before server_after client_before client_after a2 i words =
     words ≡ row (product (with_row d i digits) a1) i →
     AreHintsOf w d a1 a2 server_before client_before → AreHintsOf w (with_row d i digits) a1 a2 server_after client_after
 
--- ---- DoublePIR, for a run of rows of digits: n of them, from `start` on
--- whether row i of digits is in the run
-abbrev pub is_in_run : ℕ → ℕ → ℕ → Bool
-is_in_run start n i = nat_le start i && nat_lt i (start + n)
+-- ---- DoublePIR, for several rows of digits, which a list names
+-- rows below row n, ascending, each once
+pub record AreRowsBelow (n : ℕ) (listed : List ℕ) : Type 0 where
+  pub ascending : IsStrictlyIncreasing listed
+  pub below : (k : ℕ) → k < length listed → slice_index listed k < n
 
--- the matrix with, in each column j of the run, the digits of row j of a hint
-abbrev pub with_run : ℕ → WordMatrix → WordMatrix → ℕ → ℕ → WordMatrix
-with_run w a hint start n =
-    matrix_of a.rows a.cols (λ r j. if is_in_run start n j then word_digit_at w (row hint j) r else entry a r j)
+-- whether row i is not listed
+abbrev pub IsUnlisted : List ℕ → ℕ → Type 0
+IsUnlisted listed i = (k : ℕ) → k < length listed → slice_index listed k ≢ i
 
--- the client's hint, each of its rows changed by the changes of the server's digits in this row and the columns of the run, each times that row of a2
-abbrev pub moved_by_run : WordMatrix → WordMatrix → WordMatrix → WordMatrix → ℕ → ℕ → WordMatrix
-moved_by_run hint old new a2 start n =
-    matrix_of hint.rows hint.cols (λ r k.
-    (entry hint r k + sum_below n (λ i. (entry new r (start + i) + (2 ^ 32 - entry old r (start + i))) * entry a2 (start + i) k)) % 2 ^ 32)
-
--- two matrices of digits that differ in rows of the run alone, and a hint that has the rows of the run of the new one's hint
-pub record IsRunChange (hint a1 old new : WordMatrix) (start n : ℕ) : Type 0 where
-  pub rows : old.rows ≡ new.rows
-  pub cols : old.cols ≡ new.cols
-  pub inner : new.cols ≤ a1.rows
-  pub before : (i : ℕ) → i < start → i < new.rows → row new i ≡ row old i
-  pub run : (i : ℕ) → start ≤ i → i < start + n → row hint i ≡ row (product new a1) i
-  pub after : (i : ℕ) → start + n ≤ i → i < new.rows → row new i ≡ row old i
-
--- of every two such matrices: where both hints were made from the old one, they are now made from the new one
-abbrev pub FollowsRun : ℕ → WordMatrix → WordMatrix → WordMatrix → WordMatrix → WordMatrix → WordMatrix → ℕ → ℕ → Type 0
-FollowsRun w hint a2 server_before server_after client_before client_after start n =
-    (old new a1 : WordMatrix) → IsRunChange hint a1 old new start n →
-    AreHintsOf w old a1 a2 server_before client_before → AreHintsOf w new a1 a2 server_after client_after
-
--- a matrix before and after the digits of n rows of a hint are written into its row r, from column `start` on
-pub record WritesRun (w : ℕ) (hint old new : WordMatrix) (start n r : ℕ) : Type 0 where
+-- the server's hint before and after the listed rows of a hint come into it: the digits of each stand in the column of its number
+pub record TakesRows (w : ℕ) (hint old new : WordMatrix) (listed : List ℕ) : Type 0 where
   pub rows : new.rows ≡ old.rows
   pub cols : new.cols ≡ old.cols
   pub whole : IsWhole new
-  pub written : (k : ℕ) → k < n → entry new r (start + k) ≡ word_digit_at w (row hint (start + k)) r
-  pub elsewhere : (i j : ℕ) → j < old.cols → ¬ ((i ≡ r) × (start ≤ j) × (j < start + n)) → entry new i j ≡ entry old i j
+  pub taken : (r k : ℕ) → r < old.rows → k < length listed →
+      entry new r (slice_index listed k) ≡ word_digit_at w (row hint (slice_index listed k)) r
+  pub kept : (r j : ℕ) → r < old.rows → j < old.cols → IsUnlisted listed j → entry new r j ≡ entry old r j
 
--- the changes of n digits of row r, from column `start` on, to those of the rows of a hint, modulo 2 ^ 32
-abbrev pub run_changes : ℕ → WordMatrix → WordMatrix → ℕ → ℕ → ℕ → List ℕ
-run_changes w hint old start n r =
-    list_of n (λ k. (word_digit_at w (row hint (start + k)) r + (2 ^ 32 - entry old r (start + k))) % 2 ^ 32)
+-- the change of the digit in row r of the server's hint and the column of the k-th listed row, times that row's word of a2 in column q
+abbrev pub change_times : WordMatrix → WordMatrix → WordMatrix → List ℕ → ℕ → ℕ → ℕ → ℕ
+change_times old new a2 listed r q k =
+    (entry new r (slice_index listed k) + (2 ^ 32 - entry old r (slice_index listed k))) * entry a2 (slice_index listed k) q
+
+-- the client's hint, each of its rows changed by the changes of the server's digits in this row and the listed columns, each times that row of a2
+abbrev pub moved_by_rows : WordMatrix → WordMatrix → WordMatrix → WordMatrix → List ℕ → WordMatrix
+moved_by_rows hint old new a2 listed =
+    matrix_of hint.rows hint.cols (λ r q. (entry hint r q + sum_below (length listed) (change_times old new a2 listed r q)) % 2 ^ 32)
+
+-- two matrices of digits that differ in listed rows alone, and a hint that has these rows of the new one's hint
+pub record IsListedChange (hint a1 old new : WordMatrix) (listed : List ℕ) : Type 0 where
+  pub rows : old.rows ≡ new.rows
+  pub cols : old.cols ≡ new.cols
+  pub inner : new.cols ≤ a1.rows
+  pub changed : (k : ℕ) → k < length listed → row hint (slice_index listed k) ≡ row (product new a1) (slice_index listed k)
+  pub others : (i : ℕ) → i < new.rows → IsUnlisted listed i → row new i ≡ row old i
+
+-- of every two such matrices: where both hints were made from the old one, they are now made from the new one
+abbrev pub FollowsListed : ℕ → WordMatrix → WordMatrix → WordMatrix → WordMatrix → WordMatrix → WordMatrix → List ℕ → Type 0
+FollowsListed w hint a2 server_before server_after client_before client_after listed =
+    (old new a1 : WordMatrix) → IsListedChange hint a1 old new listed →
+    AreHintsOf w old a1 a2 server_before client_before → AreHintsOf w new a1 a2 server_after client_after
+
+-- ---- in blocks
+-- rows of the server's hint, `count` of them from row `first` on, before and after the digits of listed rows come into them
+pub record TakesBlock (w : ℕ) (hint old new : WordMatrix) (listed : List ℕ) (first count : ℕ) : Type 0 where
+  pub rows : new.rows ≡ old.rows
+  pub cols : new.cols ≡ old.cols
+  pub whole : IsWhole new
+  pub taken : (r k : ℕ) → first ≤ r → r < first + count → k < length listed →
+      entry new r (slice_index listed k) ≡ word_digit_at w (row hint (slice_index listed k)) r
+  pub unlisted : (r j : ℕ) → r < old.rows → j < old.cols → IsUnlisted listed j → entry new r j ≡ entry old r j
+  pub elsewhere : (r j : ℕ) → r < old.rows → j < old.cols → (r < first) ⊎ (first + count ≤ r) → entry new r j ≡ entry old r j
+
+-- the change of the digit in row r and the column of the k-th listed row to that of this row of a hint, modulo 2 ^ 32
+abbrev pub digit_change : ℕ → WordMatrix → WordMatrix → List ℕ → ℕ → ℕ → ℕ
+digit_change w hint old listed r k =
+    (word_digit_at w (row hint (slice_index listed k)) r + (2 ^ 32 - entry old r (slice_index listed k))) % 2 ^ 32
+
+-- a matrix before and after, to `count` of its rows from row `first` on, n rows of another from row t on are added, each times its factor
+pub record AddsRows (old new : WordMatrix) (first count : ℕ) (factors b : WordMatrix) (t n : ℕ) : Type 0 where
+  pub rows : new.rows ≡ old.rows
+  pub cols : new.cols ≡ old.cols
+  pub whole : IsWhole new
+  pub added : (i q : ℕ) → i < count → q < old.cols →
+      entry new (first + i) q ≡ (entry old (first + i) q + sum_below n (λ k. entry factors i (t + k) * entry b (t + k) q)) % 2 ^ 32
+  pub elsewhere : (r q : ℕ) → r < old.rows → q < old.cols → (r < first) ⊎ (first + count ≤ r) → entry new r q ≡ entry old r q

@@ -3,24 +3,24 @@
 //! A hint is the product of a digit matrix and a public matrix. Where one digit changes, one row of the
 //! hint changes, by the difference of the digits times a row of the public matrix: that is all that is
 //! multiplied, and the hint is then, word for word, the one made from scratch. The hints of DoublePIR follow
-//! a changed row of that hint, or a run of them, in the same way. The public matrix of the digits may have
+//! a changed row of that hint, or several of them, in the same way. The public matrix of the digits may have
 //! more rows than these have columns: a product takes no more of them.
 //!
 //! Its tests are in `scheme_tests::updates` and `scheme_tests::logs`.
 #![tactic(auto)]
 
-ghost use Rattle.std.specs.Prelude.{◌≡◌, ◌↔◌, ℕ, ◌+◌, ◌-◌, ◌*◌, ◌%◌, ◌^◌, ◌<◌, ◌≤◌, length, slice_index, EachIndex, IsTrue};
+ghost use Rattle.std.specs.Prelude.{◌≡◌, ℕ, ◌+◌, ◌-◌, ◌*◌, ◌%◌, ◌^◌, ◌<◌, ◌≤◌, length};
 ghost use Rattle.matrix_u32.specs.Matrix.{entry, plus_scaled, with_row, row as row_of};
-ghost use Rattle.matrix_u32.specs.Blocks.{plus_rows};
 ghost use Rattle.lane_kernels.specs.Digit.{split_count};
 ghost use Rattle.hint_update.specs.Updates.{FollowsDigit, FollowsRow, with_column, digits_of_words, moved_hint};
-ghost use Rattle.hint_update.specs.Updates.{FollowsRun, WritesRun, with_run, moved_by_run, run_changes};
 
 mod log;
+mod rows;
 
 use digit_pack::{DigitStore, split_count, word_digit};
 pub use log::DeltaLog;
 use matrix_u32::{Kernel, Matrix};
+pub use rows::{RowsRoom, update_double_rows};
 
 /// Changes the hint of a digit matrix as the digit in row `row`, column `col` changes from `old` to `new`.
 /// Where they are equal nothing is multiplied.
@@ -100,97 +100,4 @@ pub fn update_double<K: Kernel, S: DigitStore>(
         update_simple(kernel, client_hint, a2, r, row, old, digit);
         server_hint.set(r, row, digit);
     }
-}
-
-/// Changes both hints of DoublePIR as a run of rows of the digit matrix D changes: rows `start`, `start` + 1,
-/// .. of `hint` are the new rows of D A1, as many as `factors` has words. What [`update_double`] does for each
-/// of them is done here in one pass over the hints, so that each row of the client's hint is read and written
-/// while it is near the processor. A row in which no digit changes is not multiplied.
-///
-/// Of every D and A1 from which both hints were made before, they are now made from D with its new rows.
-/// Whatever they were made from, all other columns of the server's hint stay. `factors` is where the changes
-/// of a row's digits are kept, whatever it held. It takes no memory.
-pub fn update_double_rows<K: Kernel, S: DigitStore>(
-    kernel: K,
-    server_hint: &mut S,
-    client_hint: &mut Matrix,
-    a2: &Matrix,
-    w: u32,
-    start: usize,
-    hint: &Matrix,
-    factors: &mut [u32],
-)
-    requires width { (6 ≤ w) × (w ≤ 10) }
-    requires run { start + length factors.old ≤ hint.now.rows }
-    requires server_rows { (S.digits server_hint.old).rows ≡ hint.now.cols * split_count w }
-    requires server_cols { (S.digits server_hint.old).cols ≡ hint.now.rows }
-    requires client_rows { client_hint.old.rows ≡ (S.digits server_hint.old).rows }
-    requires client_cols { client_hint.old.cols ≡ a2.now.cols }
-    requires rows { a2.now.rows ≡ (S.digits server_hint.old).cols }
-    ensures follows { FollowsRun w hint.now a2.now (S.digits server_hint.old)
-        (S.digits server_hint.new) client_hint.old client_hint.new start (length factors.old) }
-    ensures server { S.digits server_hint.new
-        ≡ with_run w (S.digits server_hint.old) hint.now start (length factors.old) }
-    ensures client { client_hint.new
-        ≡ moved_by_run client_hint.old (S.digits server_hint.old)
-        (S.digits server_hint.new) a2.now start (length factors.old) }
-{
-    let _rows = client_hint.rows();
-    for r in 0..server_hint.rows() {
-        replace_column(server_hint, hint, w, r, start, factors);
-        add_changes(kernel, client_hint.row_mut(r), factors, a2, start);
-    }
-}
-
-// Writes into row r of the server's hint the digits of the hint's rows from `start` on, one row for each
-// factor, and makes each factor the change of its digit.
-fn replace_column<S: DigitStore>(
-    server_hint: &mut S,
-    hint: &Matrix,
-    w: u32,
-    r: usize,
-    start: usize,
-    factors: &mut [u32],
-)
-    requires width { (6 ≤ w) × (w ≤ 10) }
-    requires row { r < (S.digits server_hint.old).rows }
-    requires run { start + length factors.old ≤ hint.now.rows }
-    requires server_rows { (S.digits server_hint.old).rows ≡ hint.now.cols * split_count w }
-    requires server_cols { (S.digits server_hint.old).cols ≡ hint.now.rows }
-    ensures server { WritesRun w hint.now (S.digits server_hint.old) (S.digits server_hint.new)
-        start (length factors.old) r }
-    ensures factors { factors.new
-        ≡ run_changes w hint.now (S.digits server_hint.old) start (length factors.old) r }
-{
-    let _rows = hint.rows();
-    let _digit_rows = server_hint.rows();
-    let count = split_count(w);
-    let word = r / count;
-    let place = r % count;
-    for k in 0..factors.len() {
-        let old = server_hint.get(r, start + k);
-        let new = word_digit(hint.get(start + k, word), w, place);
-        factors[k] = new.wrapping_sub(old);
-        server_hint.set(r, start + k, new);
-    }
-}
-
-// Adds to `out` the rows of a matrix from `start` on, each times its factor; where all of them are 0 nothing
-// is multiplied.
-fn add_changes<K: Kernel>(kernel: K, out: &mut [u32], factors: &[u32], a2: &Matrix, start: usize)
-    requires width { length out.old ≡ a2.now.cols }
-    requires inside { start + length factors.now ≤ a2.now.rows }
-    ensures { out.new
-        ≡ plus_rows out.old (length factors.now) (λ k. slice_index factors.now k) a2.now start }
-{
-    if !are_zero(factors) {
-        kernel.add_rows(out, factors, a2, start);
-    }
-}
-
-// Whether all factors are 0.
-fn are_zero(factors: &[u32]) -> bool
-    ensures { IsTrue result ↔ EachIndex factors.now (λ k. slice_index factors.now k ≡ 0) }
-{
-    factors.iter().all(|factor| *factor == 0)
 }

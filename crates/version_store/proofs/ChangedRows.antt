@@ -1,9 +1,9 @@
 -- The rows that changed, as they are marked.
-use Rattle.std.proofs.Common.{◌≡◌, ℕ, ◌+◌, ◌*◌, ◌/◌, ◌%◌, ◌<◌, ◌≤◌, zero, suc, arith, ap, ◌∙◌, sym, refl, inl, inr, List, [], ◌∷◌, ◌++◌, length, filter, Bool, true, false, not, cond, get_or-set_other, append-nil}
+use Rattle.std.proofs.Common.{◌≡◌, ℕ, ◌+◌, ◌*◌, ◌/◌, ◌%◌, ◌<◌, ◌≤◌, zero, suc, arith, ap, ◌∙◌, sym, refl, inl, inr, List, [], ◌∷◌, ◌++◌, length, filter, Bool, true, false, not, cond, get_or-set_other}
 use Rattle.std.proofs.lemmas.Bool.{cases_eq, cases_lt}
 use Rattle.std.proofs.lemmas.List.{length-set, length-replicate, get_or-replicate, get_or_past, get_or-map, map-set}
 use Rattle.std.proofs.lemmas.List.FromFn.{get_or-range_with_len, length-range_with_len}
-use Rattle.std.proofs.lemmas.List.Elements.{All-filter, All-from_get_or, filter-append}
+use Rattle.std.proofs.lemmas.List.Elements.{All-filter, All-from_get_or}
 use Rattle.std.specs.Prelude.{slice_index, slice_index_or, slice_set, nat_eq, All, replicate}
 use Rattle.std.specs.List.{range_with_len}
 use Rattle.std.specs.Cmp.Lexicographic.{pointwise, bytes_decides}
@@ -117,27 +117,9 @@ unmarked n r = elim (cases_lt r n) [
   | inr g ↦ get_or_past (replicate n false) r false (omega (arith, g, length-replicate n false))
 ]
 
-range_more : (a n : ℕ) → range_with_len a (n + 1) ≡ range_with_len a n ++ (a + n) ∷ []
+pub range_more : (a n : ℕ) → range_with_len a (n + 1) ≡ range_with_len a n ++ (a + n) ∷ []
 range_more a zero = let here : a ≡ a + 0 = omega arith in ap (λ (x : ℕ). x ∷ []) here
 range_more a (suc n) =
     let more : suc n + 1 ≡ suc (n + 1) = omega arith in
     let place : a + 1 + n ≡ a + suc n = omega arith in
     ap (range_with_len a) more ∙ ap (λ (xs : List ℕ). a ∷ xs) (range_more (a + 1) n ∙ ap (λ (x : ℕ). range_with_len (a + 1) n ++ x ∷ []) place)
-
--- one mark more
-pub marked_more : (marks : List Bool) (r : ℕ) → is_marked marks r ≡ true →
-    filter (is_marked marks) (range_with_len 0 (r + 1)) ≡ filter (is_marked marks) (range_with_len 0 r) ++ r ∷ []
-marked_more marks r e =
-    let place : 0 + r ≡ r = omega arith in
-    ap (filter (is_marked marks)) (range_more 0 r ∙ ap (λ (x : ℕ). range_with_len 0 r ++ x ∷ []) place)
-    ∙ filter-append (is_marked marks) (range_with_len 0 r) (r ∷ [])
-    ∙ ap (λ b. filter (is_marked marks) (range_with_len 0 r) ++ cond b (r ∷ []) []) e
-
-pub marked_kept : (marks : List Bool) (r : ℕ) → is_marked marks r ≡ false →
-    filter (is_marked marks) (range_with_len 0 (r + 1)) ≡ filter (is_marked marks) (range_with_len 0 r)
-marked_kept marks r e =
-    let place : 0 + r ≡ r = omega arith in
-    ap (filter (is_marked marks)) (range_more 0 r ∙ ap (λ (x : ℕ). range_with_len 0 r ++ x ∷ []) place)
-    ∙ filter-append (is_marked marks) (range_with_len 0 r) (r ∷ [])
-    ∙ ap (λ b. filter (is_marked marks) (range_with_len 0 r) ++ cond b (r ∷ []) []) e
-    ∙ append-nil (filter (is_marked marks) (range_with_len 0 r))

@@ -8,11 +8,11 @@ pub mod Widened
 pub mod ChangedRows
 pub mod RowUnions
 pub mod Publications
+pub mod ListedRows
 pub mod RowLemmas
 pub mod DoubleLemmas
 pub mod BroughtForward
 pub mod NamedRows
-pub mod OneRow
 pub mod Slotted
 pub mod Migrated
 pub mod Grown

@@ -1,16 +1,17 @@
 -- Hints of DoublePIR that follow rows of digits, one after the other.
-use Rattle.std.proofs.Common.{◌≡◌, ℕ, ◌+◌, ◌*◌, ◌<◌, ◌≤◌, if◌then◌else◌, arith, ap, ◌∙◌, sym, refl, subst, List, length, Bool, false, inl, inr}
+use Rattle.std.proofs.Common.{◌≡◌, ℕ, ◌*◌, ◌<◌, ◌≤◌, if◌then◌else◌, arith, ap, ◌∙◌, sym, refl, subst, List, length, Bool, inl, inr}
 use Rattle.std.specs.Prelude.{slice_index, nat_lt}
-use Rattle.std.proofs.lemmas.Bool.{cases_eq, cases_lt}
+use Rattle.std.proofs.lemmas.Bool.{cases_lt}
 use Rattle.std.proofs.lemmas.Bool.Decides.{nat_tests}
 use Rattle.matrix_u32.specs.Sum.{list_of}
 use Rattle.matrix_u32.specs.Matrix.{WordMatrix, IsWhole, entry, matrix_of, row, product, vector_times}
-use Rattle.matrix_u32.proofs.Changes.{same-matrix_of, matrix_by_entries}
+use Rattle.matrix_u32.proofs.Changes.{matrix_by_entries}
 use Rattle.matrix_u32.proofs.Products.{entry-matrix_of, same-list_of, row-product}
 use Rattle.matrix_u32.proofs.Rows.{row_index}
 use Rattle.lane_kernels.specs.Digit.{split_count}
-use Rattle.hint_update.specs.Updates.{AreHintsOf, IsRunChange, FollowsRun}
-use Rattle.version_store.specs.Editions.{IsRowChange, is_marked}
+use Rattle.hint_update.specs.Updates.{AreHintsOf, FollowsListed, IsListedChange, TakesRows, moved_by_rows}
+use Rattle.version_store.specs.Editions.{IsRowChange}
+use Rattle.version_store.proofs.ListedRows.{ListsMarked}
 
 -- the new matrix in the rows before row r, the old one in the others
 unfoldable pub mixed : ℕ → WordMatrix → WordMatrix → WordMatrix
@@ -37,23 +38,6 @@ unfolding mixed
 mixed_end r old new whole rows cols all =
     sym (matrix_by_entries new old.rows old.cols (λ i j. if nat_lt i r then entry new i j else entry old i j) (sym rows) (sym cols) whole
     (λ i j p q. sym (before i r (entry new i j) (entry old i j) (omega (arith, rows)))))
-
--- a row that is the same in both
-pub mixed_kept : (r : ℕ) (old new : WordMatrix) → old.cols ≡ new.cols → row new r ≡ row old r → mixed r old new ≡ mixed (r + 1) old new
-unfolding mixed
-mixed_kept r old new cols same =
-    same-matrix_of old.rows old.cols (λ i j. if nat_lt i r then entry new i j else entry old i j) (λ i j. if nat_lt i (r + 1) then entry new i j
-    else entry old i j) (λ i j p q.
-    elim (cases_lt i r) [
-      | inl l ↦ before i r (entry new i j) (entry old i j) l ∙ sym (before i (r + 1) (entry new i j) (entry old i j) (omega arith))
-      | inr g ↦ past i r (entry new i j) (entry old i j) g ∙ elim (cases_eq i r) [
-        | inl e ↦
-            let word : entry old r j ≡ entry new r j =
-            sym (row_index old r j q) ∙ ap (λ (x : List ℕ). slice_index x j) (sym same) ∙ row_index new r j (omega (arith, cols)) in
-            ap (λ i. entry old i j) e ∙ word ∙ ap (λ i. entry new i j) (sym e) ∙ sym (before i (r + 1) (entry new i j) (entry old i j) (omega arith))
-        | inr apart ↦ sym (past i (r + 1) (entry new i j) (entry old i j) (omega arith))
-      ]
-    ])
 
 -- its words
 mixed_before : (r i j : ℕ) (old new : WordMatrix) → i < r → i < old.rows → j < old.cols → entry (mixed r old new) i j ≡ entry new i j
@@ -85,18 +69,32 @@ mixed_row r i old new a rows cols l p =
     ∙ ap (λ n. list_of n (λ j. entry new i j)) cols in
     row-product m a i (omega (arith, rows)) ∙ ap (λ x. vector_times x a) same ∙ sym (row-product new a i p)
 
--- n rows that are replaced by the new ones
-mixed_run : (r n : ℕ) (hint a1 old new : WordMatrix) (marks : List Bool) → IsRowChange hint a1 old new marks → r + n ≤ new.rows →
-    IsRunChange hint a1 (mixed r old new) (mixed (r + n) old new) r n
+-- the marked rows of a part that are replaced by the new ones
+mixed_listed : (r r' : ℕ) (hint a1 old new : WordMatrix) (marks : List Bool) (listed : List ℕ) → IsRowChange hint a1 old new marks → r' ≤ new.rows →
+    ListsMarked marks r r' listed → IsListedChange hint a1 (mixed r old new) (mixed r' old new) listed
 unfolding mixed
-mixed_run r n hint a1 old new marks h fits = record {
+mixed_listed r r' hint a1 old new marks listed h fits l = record {
   rows = refl;
   cols = refl;
   inner = omega (arith, h.cols, h.inner);
-  before = λ i l p. mixed_same (r + n) r i old new (λ j q. mixed_before (r + n) i j old new (omega arith) p q ∙ sym (mixed_before r i j old new l p q));
-  run = λ i low high.
-      ap (λ m. row m i) h.hint_is ∙ sym (mixed_row (r + n) i old new a1 h.rows h.cols high (omega (arith, high, fits)));
-  after = λ i l p. mixed_same (r + n) r i old new (λ j q. mixed_past (r + n) i j old new l p q ∙ sym (mixed_past r i j old new (omega arith) p q));
+  changed = λ k p.
+      let i : ℕ = slice_index listed k in
+      let part : (r ≤ i) × (i < r') = l.inside k p in
+      ap (λ m. row m i) h.hint_is ∙ sym (mixed_row r' i old new a1 h.rows h.cols part.1 (omega (arith, part.1, fits)));
+  others = λ i p out. mixed_same r' r i old new (λ j q.
+      elim (cases_lt i r) [
+        | inl low ↦
+            let before : i < r' = omega (arith, low, l.ordered) in
+            mixed_before r' i j old new before p q ∙ sym (mixed_before r i j old new low p q)
+        | inr at ↦ elim (cases_lt i r') [
+          | inl high ↦
+              let same : row new i ≡ row old i = h.kept i (omega (arith, p, h.rows)) (l.unmarked i at high out) in
+              let word : entry new i j ≡ entry old i j =
+              sym (row_index new i j (omega (arith, q, h.cols))) ∙ ap (λ (x : List ℕ). slice_index x j) same ∙ row_index old i j q in
+              mixed_before r' i j old new high p q ∙ word ∙ sym (mixed_past r i j old new at p q)
+          | inr later ↦ mixed_past r' i j old new later p q ∙ sym (mixed_past r i j old new at p q)
+        ]
+      ]);
 }
 
 -- both hints follow the rows before row r, and keep their sizes
@@ -117,29 +115,18 @@ none_followed w hint a2 s c marks sr sc cr cc = record {
   follows = λ old new a1 h made. subst (λ m. AreHintsOf w m a1 a2 s c) (sym (mixed_begin old new h.old_whole)) made;
 }
 
--- a row that is not marked
-pub row_kept : (r w : ℕ) (hint a2 s0 s c0 c : WordMatrix) (marks : List Bool) → r < length marks → is_marked marks r ≡ false →
-    FollowsTo r w hint a2 s0 s c0 c marks → FollowsTo (r + 1) w hint a2 s0 s c0 c marks
-row_kept r w hint a2 s0 s c0 c marks l unmarked f = record {
-  server_rows = f.server_rows;
-  server_cols = f.server_cols;
-  client_rows = f.client_rows;
-  client_cols = f.client_cols;
+-- the marked rows of a part
+pub part_followed : (r r' w : ℕ) (hint a2 s0 s s' c0 c c' : WordMatrix) (marks : List Bool) (listed : List ℕ) → r' ≤ length marks →
+    ListsMarked marks r r' listed → TakesRows w hint s s' listed → c' ≡ moved_by_rows c s s' a2 listed → FollowsListed w hint a2 s s' c c' listed →
+    FollowsTo r w hint a2 s0 s c0 c marks → FollowsTo r' w hint a2 s0 s' c0 c' marks
+part_followed r r' w hint a2 s0 s s' c0 c c' marks listed l lists takes moved follows f = record {
+  server_rows = takes.rows ∙ f.server_rows;
+  server_cols = takes.cols ∙ f.server_cols;
+  client_rows = ap (λ (m : WordMatrix). m.rows) moved ∙ f.client_rows;
+  client_cols = ap (λ (m : WordMatrix). m.cols) moved ∙ f.client_cols;
   follows = λ old new a1 h made.
-      subst (λ m. AreHintsOf w m a1 a2 s c) (mixed_kept r old new h.cols (h.kept r (omega (arith, l, h.count)) unmarked)) (f.follows old new a1 h made);
-}
-
--- a run of rows
-pub run_followed : (r n w : ℕ) (hint a2 s0 s s' c0 c c' : WordMatrix) (marks : List Bool) → r + n ≤ length marks →
-    s'.rows ≡ s.rows → s'.cols ≡ s.cols → c'.rows ≡ c.rows → c'.cols ≡ c.cols → FollowsRun w hint a2 s s' c c' r n →
-    FollowsTo r w hint a2 s0 s c0 c marks → FollowsTo (r + n) w hint a2 s0 s' c0 c' marks
-run_followed r n w hint a2 s0 s s' c0 c c' marks l sr sc cr cc follows f = record {
-  server_rows = sr ∙ f.server_rows;
-  server_cols = sc ∙ f.server_cols;
-  client_rows = cr ∙ f.client_rows;
-  client_cols = cc ∙ f.client_cols;
-  follows = λ old new a1 h made.
-      follows (mixed r old new) (mixed (r + n) old new) a1 (mixed_run r n hint a1 old new marks h (omega (arith, l, h.count))) (f.follows old new a1 h made);
+      follows (mixed r old new) (mixed r' old new) a1 (mixed_listed r r' hint a1 old new marks listed h (omega (arith, l, h.count)) lists)
+      (f.follows old new a1 h made);
 }
 
 -- all rows

@@ -80,7 +80,7 @@ in_range a (suc n) r low high = elim (cases_eq r a) [
       ∙ in_range (a + 1) n r (omega (arith, apart)) (omega arith)
 ]
 
-range_rises : (a n : ℕ) → IsStrictlyIncreasing (range_with_len a n)
+pub range_rises : (a n : ℕ) → IsStrictlyIncreasing (range_with_len a n)
 range_rises a n k h =
     let long : length (range_with_len a n) ≡ n = length-range_with_len a n in
     let here : slice_index (range_with_len a n) k ≡ a + k = get_or-range_with_len a n k 0 (omega (arith, long)) in

@@ -10,12 +10,12 @@ ghost use Rattle.pir_schemes.specs.Retrievals.{hint_matrix, server_hint, query_c
 ghost use Rattle.version_store.specs.Drafts.{draft_of, grown_to, FitRecords};
 ghost use Rattle.version_store.specs.Editions.{Records, version_shape, MarksChanges};
 ghost use Rattle.version_store.specs.Openings.{bytes_of_records};
-ghost use Rattle.version_store.specs.Rooms.{scheme_answered, IsAnswerRoom};
+ghost use Rattle.version_store.specs.Rooms.{scheme_answered, IsAnswerRoom, IsRoomForRows};
 
 use crate::answer_room::AnswerRoom;
 use crate::drafts::{Changes, apply_changes};
 use crate::first_layer::{Digits, FirstLayer};
-use crate::rows::follow_rows;
+use crate::rows::{FollowRoom, follow_rows};
 use digit_pack::Layout;
 use matrix_u32::{Kernel, Matrix};
 use pir_schemes::{Plan, Scheme};
@@ -193,22 +193,22 @@ impl<K: Kernel> Edition<K> {
     }
 
     /// Puts each change into the records, marks the rows whose digits change, and leaves no change. `scratch`
-    /// has room for a record's digits, `marks` a mark and `factors` a word for each row of digits; what `scratch`
-    /// and `factors` held is lost.
+    /// has room for a record's digits, `marks` a mark for each row of digits, and `rows` is what rows that change together
+    /// want; what `scratch` and `rows` held is lost.
     ///
     /// The hint of SimplePIR follows each digit that changes; those of DoublePIR follow each row that has
-    /// one, once, rows that stand one after another together. It takes no memory.
+    /// one, once, many rows together. It takes no memory.
     pub fn apply(
         &mut self,
         changes: &mut Changes,
         scratch: &mut [u32],
         marks: &mut [bool],
-        factors: &mut [u32],
+        rows: &mut FollowRoom,
     )
         requires fit { FitRecords self.old changes.old.entries }
         requires room { length scratch.old ≡ digits_per_record (version_shape self.old) }
         requires marks { length marks.old ≡ digit_rows (version_shape self.old) }
-        requires factors { length factors.old ≡ digit_rows (version_shape self.old) }
+        requires rows { IsRoomForRows self.old.plan.dimension rows.old }
         ensures records { self.new ≡
             record self.old { records = draft_of self.old.records changes.old.entries } }
         ensures none { changes.new.entries ≡ [] }
@@ -225,7 +225,7 @@ impl<K: Kernel> Edition<K> {
             &mut self.server,
             &mut self.client,
             marks,
-            factors,
+            rows,
         );
     }
 }

@@ -22,6 +22,7 @@ use crate::drafts::Changes;
 use crate::edition::Edition;
 use crate::opening::{OpenError, plan_in, sizes_of};
 use crate::row_marks::{marks_for, push_marked};
+use crate::rows::FollowRoom;
 use digit_pack::Layout;
 use hint_update::DeltaLog;
 use matrix_u32::Kernel;
@@ -539,10 +540,10 @@ impl<K: Kernel> Store<K> {
         let mut scratch = scratch_for(self.alloc, layout)?;
         let mut marks = marks_for(self.alloc, layout)?;
         let mut rows = Vec::with_capacity(self.alloc, layout.rows())?;
-        let mut factors = factors_for(self.alloc, layout)?;
+        let mut room = FollowRoom::new(self.alloc, layout.rows(), self.dimension())?;
         self.edition.grow(self.alloc, self.count)?;
         self.edition
-            .apply(&mut self.changes, &mut scratch, &mut marks, &mut factors);
+            .apply(&mut self.changes, &mut scratch, &mut marks, &mut room);
         push_marked(&marks, &mut rows);
         self.log.add(rows);
         Ok(self.version())
@@ -572,13 +573,6 @@ fn scratch_for(alloc: Global, layout: &Layout) -> Result<Vec<u32>, AllocError>
     ensures { IfOk result (λ v. length v.items ≡ digits_per_record layout.now) }
 {
     vec![in alloc; 0; layout.digits_per_record()]
-}
-
-// Room for the change of a digit in each row of digits.
-fn factors_for(alloc: Global, layout: &Layout) -> Result<Vec<u32>, AllocError>
-    ensures { IfOk result (λ v. length v.items ≡ digit_rows layout.now) }
-{
-    vec![in alloc; 0; layout.rows()]
 }
 
 fn copy_of(alloc: Global, bytes: &[u8]) -> Result<Vec<u8>, AllocError>

@@ -71,8 +71,8 @@ fn one_edit_multiplies_five_words(rt: HostRuntime) -> Result<(), Fail> {
     Ok(())
 }
 
-// Two digits of neighbouring rows: each of their four digits is taken for both rows at once. The record between that is
-// edited to the byte it has belongs to no run.
+// Three digits of as many rows: each of their four digits is taken for all rows at once. The record between that is
+// edited to the byte it has is not taken.
 #[test]
 fn rows_that_stay_are_not_multiplied(rt: HostRuntime) -> Result<(), Fail> {
     let products = Cell::new(0);
@@ -86,7 +86,7 @@ fn rows_that_stay_are_not_multiplied(rt: HostRuntime) -> Result<(), Fail> {
     assert_eq!(rt; super::edit(&mut store, 18, &[7]), Ok(()));
     assert_eq!(rt; super::edit(&mut store, 19, &[200]), Ok(()));
     assert_eq!(rt; super::publish(&mut store), Ok(2));
-    assert_eq!(rt; products.get(), 3 + 2 * 4 + 4);
+    assert_eq!(rt; products.get(), 3 + 3 * 4);
     Ok(())
 }
 

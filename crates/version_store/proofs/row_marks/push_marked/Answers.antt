@@ -1,7 +1,7 @@
 use Rattle.std.proofs.Common.{◌++◌, ◌∷◌, [], ℕ, List, arith, ap, sym, ◌∙◌, append_assoc, filter, Bool}
 use Rattle.std.specs.List.{range_with_len}
 use Rattle.version_store.specs.Editions.{is_marked}
-use Rattle.version_store.proofs.ChangedRows.{marked_more, marked_kept}
+use Rattle.version_store.proofs.ListedRows.{marked_more, marked_kept}
 use Rattle.version_store.proofs.row_marks.push_marked.Goals as goal
 use Rattle.version_store.proofs.row_marks.push_marked.Goals.{then-marks-r, else-marks-r}
 

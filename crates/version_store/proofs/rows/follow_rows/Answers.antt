@@ -1,49 +1,63 @@
-use Rattle.std.proofs.Common.{◌≡◌, ◌+◌, ◌≤◌, arith, subst, false, ℕ, length, take}
-use Rattle.std.proofs.lemmas.List.{length-take-le}
+use Rattle.std.proofs.Common.{◌≡◌, ◌∙◌, arith, sym, subst, ℕ, List}
 use Rattle.matrix_u32.specs.Matrix.{WordMatrix}
-use Rattle.hint_update.specs.Updates.{FollowsRun}
-use Rattle.version_store.specs.Editions.{is_marked}
-use Rattle.version_store.proofs.RowLemmas.{none_followed, row_kept, run_followed, all_followed}
+use Rattle.hint_update.specs.Updates.{AreRowsBelow, FollowsListed, TakesRows, moved_by_rows}
+use Rattle.version_store.proofs.ListedRows.{marked_listed, listed_below}
+use Rattle.version_store.proofs.RowLemmas.{none_followed, part_followed, all_followed}
 use Rattle.version_store.proofs.rows.follow_rows.Goals as goal
 
 pub loop-r-init : goal.loop-r-init
 loop-r-init g c = record {
   within = omega arith;
+  room = record {
+    some = c.requires.room.some;
+    cols = c.requires.room.cols;
+    blocks = c.requires.room.blocks;
+    changes = c.requires.room.changes;
+    listed = c.requires.room.listed;
+  };
+  most = c.rows-most.ensures.value;
   follows = none_followed c.args.w c.args.hint.now c.args.a2.now (g.S.DigitStore.digits c.args.server.now) c.args.client.now c.args.marks.now
       c.requires.server_rows c.requires.server_cols c.requires.client_rows c.requires.client_cols;
 }
 
-pub loop-r-preserved-then-count-eq0 : goal.loop-r-preserved-then-count-eq0
-loop-r-preserved-then-count-eq0 g c =
-    let here : c.loop-r.r + c.marked_run-count.result ≡ c.loop-r.r = omega (arith, c.if-count-eq0.true) in
-    let unmarked : is_marked c.args.marks.now c.loop-r.r ≡ false =
-    subst (λ i. is_marked c.args.marks.now i ≡ false) here
-    (c.marked_run-count.ensures.all (omega (arith, c.if-count-eq0.true)) (omega (arith, c.if-count-eq0.true, c.loop-r-test.true))) in
-    record {
-      within = omega (arith, c.loop-r-test.true);
-      follows = row_kept c.loop-r.r c.args.w c.args.hint.now c.args.a2.now (g.S.DigitStore.digits c.args.server.now) (g.S.DigitStore.digits c.loop-r.server)
-          c.args.client.now c.loop-r.client c.args.marks.now c.loop-r-test.true unmarked c.loop-r.invariant.follows;
-    }
+pub update_double_rows-requires-clause-listed : goal.update_double_rows-requires-clause-listed
+update_double_rows-requires-clause-listed g c =
+    let listed : List ℕ = c.list_marked-r.new.listed.items in
+    let end : ℕ = c.list_marked-r.result in
+    let rows : AreRowsBelow c.args.hint.now.rows listed =
+    listed_below c.args.marks.now c.loop-r.r end c.args.hint.now.rows listed (omega (arith, c.list_marked-r.ensures.inside, c.requires.marks))
+    (marked_listed c.args.marks.now c.loop-r.r end listed (omega (arith, c.list_marked-r.ensures.further)) c.list_marked-r.ensures.listed) in
+    subst (AreRowsBelow c.args.hint.now.rows) (sym c.deref.ensures.value) rows
 
 pub loop-r-preserved : goal.loop-r-preserved
 loop-r-preserved g c =
+    let marks : _ = c.args.marks.now in
     let r : ℕ = c.loop-r.r in
-    let n : ℕ = c.marked_run-count.result in
+    let end : ℕ = c.list_marked-r.result in
+    let w : ℕ = c.args.w in
+    let hint : WordMatrix = c.args.hint.now in
     let a2 : WordMatrix = c.args.a2.now in
     let s : WordMatrix = g.S.DigitStore.digits c.loop-r.server in
-    let s' : WordMatrix = g.S.DigitStore.digits c.follow_run.new.server in
-    let c' : WordMatrix = c.follow_run.new.client in
-    let room : n ≤ length c.loop-r.factors =
-    omega (arith, c.marked_run-count.ensures.inside, c.requires.marks, c.requires.room, c.loop-r.auto.factors) in
-    let long : length (take n c.loop-r.factors) ≡ n = length-take-le n c.loop-r.factors room in
-    let follows : ℕ → Type 0 = λ n. FollowsRun c.args.w c.args.hint.now a2 s s' c.loop-r.client c' r n in
+    let s' : WordMatrix = g.S.DigitStore.digits c.update_double_rows.new.server_hint in
+    let c' : WordMatrix = c.update_double_rows.new.client_hint in
+    let listed : List ℕ = c.list_marked-r.new.listed.items in
+    let same : c.deref.result.now ≡ listed = c.deref.ensures.value in
+    let e : _ = c.update_double_rows.ensures in
     record {
-      within = c.marked_run-count.ensures.inside;
-      follows = run_followed r n c.args.w c.args.hint.now a2 (g.S.DigitStore.digits c.args.server.now) s s' c.args.client.now c.loop-r.client c'
-          c.args.marks.now c.marked_run-count.ensures.inside
-          c.follow_run.ensures.server_rows c.follow_run.ensures.server_cols
-          c.follow_run.ensures.client_rows c.follow_run.ensures.client_cols
-          (subst follows long c.follow_run.ensures.follows) c.loop-r.invariant.follows;
+      within = c.list_marked-r.ensures.inside;
+      room = record {
+        some = omega (arith, e.public_rows, c.loop-r.invariant.room.some);
+        cols = e.public_cols ∙ c.loop-r.invariant.room.cols;
+        blocks = omega (arith, e.changes_rows, c.loop-r.invariant.room.blocks);
+        changes = e.changes_cols ∙ c.loop-r.invariant.room.changes ∙ sym e.public_rows;
+        listed = omega (arith, e.public_rows, c.loop-r.invariant.room.listed, c.list_marked-r.ensures.room);
+      };
+      most = c.loop-r.invariant.most ∙ sym e.public_rows;
+      follows = part_followed r end w hint a2 (g.S.DigitStore.digits c.args.server.now) s s' c.args.client.now c.loop-r.client c' marks listed
+          c.list_marked-r.ensures.inside
+          (marked_listed marks r end listed (omega (arith, c.list_marked-r.ensures.further)) c.list_marked-r.ensures.listed)
+          (subst (TakesRows w hint s s') same e.server) (subst (λ xs. c' ≡ moved_by_rows c.loop-r.client s s' a2 xs) same e.client)
+          (subst (FollowsListed w hint a2 s s' c.loop-r.client c') same e.follows) c.loop-r.invariant.follows;
     }
 
 pub returns : goal.returns

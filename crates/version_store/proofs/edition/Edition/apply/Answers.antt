@@ -6,6 +6,7 @@ use Rattle.lane_kernels.specs.Digit.{split_count}
 use Rattle.digit_pack.specs.Layout.{digit_rows, record_at}
 use Rattle.version_store.specs.Drafts.{draft_of, bytes_or, change_at}
 use Rattle.version_store.specs.Editions.{Records, version_shape, MarksChanges}
+use Rattle.version_store.specs.Rooms.{IsRoomForRows}
 use Rattle.version_store.proofs.DoubleLemmas.{server_rows, server_cols, client_rows, client_cols, version_followed}
 use Rattle.version_store.proofs.edition.Edition.apply.Goals as goal
 
@@ -39,8 +40,9 @@ follow_rows-requires-clause-client_cols g c =
 
 pub follow_rows-requires-clause-room : goal.follow_rows-requires-clause-room
 follow_rows-requires-clause-room g c =
-    c.requires.factors ∙ sym (ap (λ e. digit_rows (version_shape e)) c.self.view_is)
-    ∙ sym (c.hint.ensures.rows ∙ ap (λ e. digit_rows (version_shape e)) c.apply_changes.ensures.records)
+    let cols : c.hint.result.now.cols ≡ c.self.inside.layer.plan.dimension =
+    c.hint.ensures.cols ∙ ap (λ e. e.plan.dimension) c.apply_changes.ensures.records in
+    subst (λ n. IsRoomForRows n c.args.rows.now) (sym (ap (λ e. e.plan.dimension) c.self.view_is) ∙ sym cols) c.requires.rows
 
 pub invariant_of-self : goal.invariant_of-self
 invariant_of-self g c =

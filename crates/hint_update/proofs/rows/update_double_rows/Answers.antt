@@ -1,0 +1,54 @@
+use Rattle.std.proofs.Common.{◌≡◌, ℕ, ◌+◌, ◌≤◌, arith, ◌∙◌, sym, subst, List}
+use Rattle.matrix_u32.specs.Matrix.{WordMatrix}
+use Rattle.digit_pack.proofs.DigitSums.{split_some}
+use Rattle.hint_update.specs.Updates.{AreRowsBelow, TakesBlock}
+use Rattle.hint_update.proofs.Blocks.{more_taken, all_taken, block_moved, all_moved}
+use Rattle.hint_update.proofs.Listed.{listed_follows}
+use Rattle.hint_update.proofs.rows.update_double_rows.Goals as goal
+
+pub loop-first-preserved : goal.loop-first-preserved
+loop-first-preserved g c =
+    let w : ℕ = c.args.w in
+    let hint : WordMatrix = c.args.hint.now in
+    let listed : List ℕ = c.args.listed.now in
+    let first : ℕ = c.loop-first.first in
+    let count : ℕ = c.min-count.result in
+    let s0 : WordMatrix = g.S.DigitStore.digits c.args.server_hint.now in
+    let s : WordMatrix = g.S.DigitStore.digits c.loop-first.server_hint in
+    let s' : WordMatrix = g.S.DigitStore.digits c.take_block.new.server_hint in
+    let rows : AreRowsBelow s0.cols listed = subst (λ n. AreRowsBelow n listed) (sym c.requires.server_cols) c.requires.listed in
+    let zero : 0 + first ≡ first = omega arith in
+    let fits : first + count ≤ s0.rows = omega (arith, c.loop-first-test.true, c.min-count.ensures, c.rows-rows.ensures.value) in
+    record {
+      within = omega (arith, fits, c.rows-rows.ensures.value);
+      server = more_taken w hint s0 s s' listed 0 first count rows (omega (arith, fits)) c.loop-first.invariant.server
+          (subst (λ x. TakesBlock w hint s s' listed x count) (sym zero) c.take_block.ensures.server);
+      client = block_moved w hint s0 s c.args.client_hint.now c.loop-first.client_hint c.add_block.new.client_hint c.args.a2.now c.loop-first.room.public
+          c.take_block.new.changes listed first count rows fits c.requires.client_rows c.requires.client_cols c.loop-first.invariant.server
+          c.take_block.ensures.changes c.loop-first.invariant.copied c.add_block.ensures c.loop-first.invariant.client;
+      copied = c.loop-first.invariant.copied;
+      public_rows = c.loop-first.invariant.public_rows;
+      public_cols = c.loop-first.invariant.public_cols;
+      changes_rows = c.take_block.ensures.rows ∙ c.loop-first.invariant.changes_rows;
+      changes_cols = c.take_block.ensures.cols ∙ c.loop-first.invariant.changes_cols;
+    }
+
+pub returns-clause-server : goal.returns-clause-server
+returns-clause-server g c =
+    all_taken c.args.w c.args.hint.now (g.S.DigitStore.digits c.args.server_hint.now) (g.S.DigitStore.digits c.loop-first.server_hint) c.args.listed.now
+    c.loop-first.first (omega (arith, c.loop-first-test.false, c.rows-rows.ensures.value)) c.loop-first.invariant.server
+
+pub returns-clause-client : goal.returns-clause-client
+returns-clause-client g c =
+    all_moved c.loop-first.first c.args.w c.args.hint.now (g.S.DigitStore.digits c.args.server_hint.now) (g.S.DigitStore.digits c.loop-first.server_hint)
+    c.args.client_hint.now c.loop-first.client_hint c.args.a2.now c.args.listed.now
+    (omega (arith, c.loop-first-test.false, c.rows-rows.ensures.value, c.requires.client_rows)) c.requires.client_rows (returns-clause-server g c)
+    c.loop-first.invariant.client
+
+pub returns-clause-follows : goal.returns-clause-follows
+returns-clause-follows g c = λ old new a1 change made.
+    listed_follows c.args.w (g.S.DigitStore.digits c.args.server_hint.now) (g.S.DigitStore.digits c.loop-first.server_hint) c.args.client_hint.now
+    c.loop-first.client_hint a1 c.args.a2.now old new c.args.hint.now c.args.listed.now
+    (split_some c.args.w (omega (arith, c.requires.width.0))) (c.requires.width.1) c.requires.rows
+    (subst (λ n. AreRowsBelow n c.args.listed.now) (sym c.requires.server_cols) c.requires.listed)
+    (returns-clause-server g c) (returns-clause-client g c) change made

@@ -1,0 +1,276 @@
+//! Hints of DoublePIR that follow several rows at once.
+
+ghost use Rattle.std.specs.Prelude.{◌≡◌, ◌≢◌, ◌↔◌, ℕ, ◌+◌, ◌*◌, ◌<◌, ◌≤◌, length, slice_index, EachIndex, IfOk, IsTrue};
+ghost use Rattle.matrix_u32.specs.Matrix.{entry};
+ghost use Rattle.matrix_u32.specs.Blocks.{plus_rows};
+ghost use Rattle.lane_kernels.specs.Digit.{split_count};
+ghost use Rattle.hint_update.specs.Updates.{AreRowsBelow, FollowsListed, TakesRows, moved_by_rows};
+ghost use Rattle.hint_update.specs.Updates.{AddsRows, TakesBlock, digit_change};
+
+use digit_pack::{DigitStore, split_count, word_digit};
+use matrix_u32::{Kernel, Matrix};
+use std::alloc::{AllocError, Global};
+
+// How many rows of the client's hint are changed together: as many as stay near the processor while the rows of the public
+// matrix pass.
+const BLOCK_ROWS: usize = 64;
+
+// How many rows of the public matrix pass at a time.
+const PASSING_ROWS: usize = 4;
+
+/// Memory for rows that [`update_double_rows`] takes together: copies of their rows of the second public matrix, one beside the
+/// other, and for some rows of the client's hint the changes of their digits. What they hold between calls has no meaning.
+#[derive(Drop)]
+pub struct RowsRoom {
+    pub public: Matrix,
+    pub changes: Matrix,
+}
+
+impl RowsRoom {
+    /// Memory for `most` rows, over a public matrix with so many columns. Only refused memory gives an `Err`.
+    pub fn new(alloc: Global, most: usize, cols: usize) -> Result<RowsRoom, AllocError>
+        requires most { most ≤ 4096 }
+        requires cols { cols ≤ 1024 }
+        ensures { IfOk result (λ room. (room.public.rows ≡ most) × (room.public.cols ≡ cols)
+            × (0 < room.changes.rows) × (room.changes.cols ≡ most)) }
+    {
+        let Ok(public) = Matrix::zeros(alloc, most, cols) else {
+            return Err(AllocError);
+        };
+        let Ok(changes) = Matrix::zeros(alloc, BLOCK_ROWS, most) else {
+            return Err(AllocError);
+        };
+        Ok(RowsRoom { public, changes })
+    }
+}
+
+/// Changes both hints of DoublePIR as several rows of the digit matrix D change: those of `listed`, which ascend. These rows
+/// of `hint` are the new rows of D A1. What [`update_double`](crate::update_double) does for each of them is done here in one
+/// pass over the hints, so that each row of the client's hint is read and written while it is near the processor.
+///
+/// Of every D and A1 from which both hints were made before, they are now made from D with its new rows.
+/// Whatever they were made from, all other columns of the server's hint stay. It takes no memory: `room` has some for as many
+/// rows as are listed, at least.
+pub fn update_double_rows<K: Kernel, S: DigitStore>(
+    kernel: K,
+    server_hint: &mut S,
+    client_hint: &mut Matrix,
+    a2: &Matrix,
+    w: u32,
+    hint: &Matrix,
+    listed: &[usize],
+    room: &mut RowsRoom,
+)
+    requires width { (6 ≤ w) × (w ≤ 10) }
+    requires listed { AreRowsBelow hint.now.rows listed.now }
+    requires server_rows { (S.digits server_hint.old).rows ≡ hint.now.cols * split_count w }
+    requires server_cols { (S.digits server_hint.old).cols ≡ hint.now.rows }
+    requires client_rows { client_hint.old.rows ≡ (S.digits server_hint.old).rows }
+    requires client_cols { client_hint.old.cols ≡ a2.now.cols }
+    requires rows { a2.now.rows ≡ (S.digits server_hint.old).cols }
+    requires public_rows { length listed.now ≤ room.old.public.rows }
+    requires public_cols { room.old.public.cols ≡ a2.now.cols }
+    requires changes_rows { 0 < room.old.changes.rows }
+    requires changes_cols { length listed.now ≤ room.old.changes.cols }
+    ensures follows { FollowsListed w hint.now a2.now (S.digits server_hint.old)
+        (S.digits server_hint.new) client_hint.old client_hint.new listed.now }
+    ensures server { TakesRows w hint.now (S.digits server_hint.old) (S.digits server_hint.new)
+        listed.now }
+    ensures client { client_hint.new ≡ moved_by_rows client_hint.old (S.digits server_hint.old)
+        (S.digits server_hint.new) a2.now listed.now }
+    ensures public_rows { room.new.public.rows ≡ room.old.public.rows }
+    ensures public_cols { room.new.public.cols ≡ room.old.public.cols }
+    ensures changes_rows { room.new.changes.rows ≡ room.old.changes.rows }
+    ensures changes_cols { room.new.changes.cols ≡ room.old.changes.cols }
+{
+    copy_rows(a2, listed, &mut room.public);
+    let rows = server_hint.rows();
+    client_hint.rows();
+    let mut first = 0;
+    while first < rows {
+        let count = room.changes.rows().min(rows - first);
+        take_block(
+            server_hint,
+            hint,
+            w,
+            listed,
+            first,
+            count,
+            &mut room.changes,
+        );
+        add_block(
+            kernel,
+            client_hint,
+            first,
+            count,
+            listed.len(),
+            &room.changes,
+            &room.public,
+        );
+        first += count;
+    }
+}
+
+// Copies the listed rows of a matrix into the first rows of another.
+fn copy_rows(from: &Matrix, listed: &[usize], to: &mut Matrix)
+    requires listed { (k : ℕ) → k < length listed.now → slice_index listed.now k < from.now.rows }
+    requires room { length listed.now ≤ to.old.rows }
+    requires cols { to.old.cols ≡ from.now.cols }
+    ensures rows { to.new.rows ≡ to.old.rows }
+    ensures cols { to.new.cols ≡ to.old.cols }
+    ensures copied { (k q : ℕ) → k < length listed.now → q < from.now.cols →
+        entry to.new k q ≡ entry from.now (slice_index listed.now k) q }
+{
+    to.rows();
+    for k in 0..listed.len() {
+        to.row_mut(k).copy_from_slice(from.row(listed[k]));
+    }
+}
+
+// Writes into `count` rows of the server's hint, from row `first` on, the digits of the listed rows of the hint, and puts the
+// change of each into `changes`.
+fn take_block<S: DigitStore>(
+    server_hint: &mut S,
+    hint: &Matrix,
+    w: u32,
+    listed: &[usize],
+    first: usize,
+    count: usize,
+    changes: &mut Matrix,
+)
+    requires width { (6 ≤ w) × (w ≤ 10) }
+    requires listed { AreRowsBelow hint.now.rows listed.now }
+    requires block { first + count ≤ (S.digits server_hint.old).rows }
+    requires server_rows { (S.digits server_hint.old).rows ≡ hint.now.cols * split_count w }
+    requires server_cols { (S.digits server_hint.old).cols ≡ hint.now.rows }
+    requires changes_rows { count ≤ changes.old.rows }
+    requires changes_cols { length listed.now ≤ changes.old.cols }
+    ensures server { TakesBlock w hint.now (S.digits server_hint.old) (S.digits server_hint.new)
+        listed.now first count }
+    ensures changes { (b k : ℕ) → b < count → k < length listed.now → entry changes.new b k
+        ≡ digit_change w hint.now (S.digits server_hint.old) listed.now (first + b) k }
+    ensures rows { changes.new.rows ≡ changes.old.rows }
+    ensures cols { changes.new.cols ≡ changes.old.cols }
+{
+    server_hint.rows();
+    changes.rows();
+    for b in 0..count {
+        take_row(server_hint, hint, w, listed, first + b, b, changes);
+    }
+}
+
+// Writes into row r of the server's hint the digits of the listed rows of the hint, and puts the change of each into row b of
+// `changes`.
+fn take_row<S: DigitStore>(
+    server_hint: &mut S,
+    hint: &Matrix,
+    w: u32,
+    listed: &[usize],
+    r: usize,
+    b: usize,
+    changes: &mut Matrix,
+)
+    requires width { (6 ≤ w) × (w ≤ 10) }
+    requires listed { AreRowsBelow hint.now.rows listed.now }
+    requires row { r < (S.digits server_hint.old).rows }
+    requires server_rows { (S.digits server_hint.old).rows ≡ hint.now.cols * split_count w }
+    requires server_cols { (S.digits server_hint.old).cols ≡ hint.now.rows }
+    requires changes_row { b < changes.old.rows }
+    requires changes_cols { length listed.now ≤ changes.old.cols }
+    ensures server { TakesBlock w hint.now (S.digits server_hint.old) (S.digits server_hint.new)
+        listed.now r 1 }
+    ensures changes { (k : ℕ) → k < length listed.now → entry changes.new b k
+        ≡ digit_change w hint.now (S.digits server_hint.old) listed.now r k }
+    ensures others { (i k : ℕ) → i ≢ b → k < changes.old.cols →
+        entry changes.new i k ≡ entry changes.old i k }
+    ensures rows { changes.new.rows ≡ changes.old.rows }
+    ensures cols { changes.new.cols ≡ changes.old.cols }
+{
+    server_hint.rows();
+    hint.rows();
+    changes.rows();
+    let count = split_count(w);
+    let word = r / count;
+    let place = r % count;
+    for k in 0..listed.len() {
+        let col = listed[k];
+        let old = server_hint.get(r, col);
+        let new = word_digit(hint.get(col, word), w, place);
+        changes.set(b, k, new.wrapping_sub(old));
+        server_hint.set(r, col, new);
+    }
+}
+
+// Adds to `count` rows of the client's hint, from row `first` on, the first n rows of the public matrix, each times its factor.
+fn add_block<K: Kernel>(
+    kernel: K,
+    client_hint: &mut Matrix,
+    first: usize,
+    count: usize,
+    n: usize,
+    factors: &Matrix,
+    public: &Matrix,
+)
+    requires block { first + count ≤ client_hint.old.rows }
+    requires factors_rows { count ≤ factors.now.rows }
+    requires factors_cols { n ≤ factors.now.cols }
+    requires rows { n ≤ public.now.rows }
+    requires cols { client_hint.old.cols ≡ public.now.cols }
+    ensures { AddsRows client_hint.old client_hint.new first count factors.now public.now 0 n }
+{
+    // The first time also where there are none: then no word changes.
+    let mut t = PASSING_ROWS.min(n);
+    add_passing(kernel, client_hint, first, count, 0, t, factors, public);
+    while t < n {
+        let some = PASSING_ROWS.min(n - t);
+        add_passing(kernel, client_hint, first, count, t, some, factors, public);
+        t += some;
+    }
+}
+
+// Adds to the same rows n rows of the public matrix from row t on.
+fn add_passing<K: Kernel>(
+    kernel: K,
+    client_hint: &mut Matrix,
+    first: usize,
+    count: usize,
+    t: usize,
+    n: usize,
+    factors: &Matrix,
+    public: &Matrix,
+)
+    requires block { first + count ≤ client_hint.old.rows }
+    requires factors_rows { count ≤ factors.now.rows }
+    requires factors_cols { t + n ≤ factors.now.cols }
+    requires rows { t + n ≤ public.now.rows }
+    requires cols { client_hint.old.cols ≡ public.now.cols }
+    ensures { AddsRows client_hint.old client_hint.new first count factors.now public.now t n }
+{
+    client_hint.rows();
+    factors.rows();
+    public.rows();
+    for b in 0..count {
+        let changes = &factors.row(b)[t..t + n];
+        add_changes(kernel, client_hint.row_mut(first + b), changes, public, t);
+    }
+}
+
+// Adds to `out` the rows of a matrix from `start` on, each times its factor; where all of them are 0 nothing
+// is multiplied.
+fn add_changes<K: Kernel>(kernel: K, out: &mut [u32], factors: &[u32], rows: &Matrix, start: usize)
+    requires width { length out.old ≡ rows.now.cols }
+    requires inside { start + length factors.now ≤ rows.now.rows }
+    ensures { out.new
+        ≡ plus_rows out.old (length factors.now) (λ k. slice_index factors.now k) rows.now start }
+{
+    if !are_zero(factors) {
+        kernel.add_rows(out, factors, rows, start);
+    }
+}
+
+// Whether all factors are 0.
+fn are_zero(factors: &[u32]) -> bool
+    ensures { IsTrue result ↔ EachIndex factors.now (λ k. slice_index factors.now k ≡ 0) }
+{
+    factors.iter().all(|factor| *factor == 0)
+}
