@@ -3,5 +3,6 @@ pub mod Fields
 pub mod FieldsBack
 pub mod PartDigests
 pub mod HeadBytes
+pub mod WordParts
 pub mod WordsRead
 pub mod PartsRead

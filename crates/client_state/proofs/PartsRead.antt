@@ -6,14 +6,14 @@ use Rattle.std.proofs.Math.Nat.{mod-lt}
 use Rattle.std.proofs.lemmas.Bool.{cases_lt}
 use Rattle.std.proofs.lemmas.Grind.{elements}
 use Rattle.std.proofs.lemmas.Nat.{mul-le, row_fits}
-use Rattle.std.proofs.lemmas.List.{length-take, length-take-le, length-drop, length-replicate, take-take, drop-take, drop-drop, drop_at, take_all, nil_from_length, get_or-take, get_or-drop, get_or_append_left, get_or-append_right}
+use Rattle.std.proofs.lemmas.List.{length-take, length-take-le, length-drop, length-replicate, take-take, drop-take, drop-drop, drop_at, take_all, get_or-take, get_or-drop, get_or_append_left, get_or-append_right}
 use Rattle.sha2.specs.Sha256.{sha256}
 use Rattle.matrix_u32.specs.Sum.{list_of}
 use Rattle.matrix_u32.specs.Matrix.{row}
 use Rattle.matrix_u32.proofs.Products.{same-list_of}
 use Rattle.digit_pack.specs.Layout.{Shape, IsLayout, digit_rows, digits_per_record, first_row}
 use Rattle.frame_codec.specs.Numbers.{number_bytes, number_in, word_bytes}
-use Rattle.frame_codec.proofs.NumberBytes.{number_back, length-number, length-words, drop_number, word_bytes-cons}
+use Rattle.frame_codec.proofs.NumberBytes.{number_back, length-words, drop_number, word_bytes-cons}
 use Rattle.client_core.specs.declared.state.Hint.{Hint}
 use Rattle.client_core.specs.States.{shape_known}
 use Rattle.client_core.specs.Resuming.{HasRowsOf}
@@ -24,6 +24,7 @@ use Rattle.client_state.specs.Reading.{words_of, span_len, bytes_at, HasParts, A
 use Rattle.client_state.specs.Laws.{RecordRowsAreRead}
 use Rattle.client_state.proofs.Bytes.{length-sha256}
 use Rattle.client_state.proofs.PartDigests.{length-part_digests}
+use Rattle.client_state.proofs.WordParts.{take_words, drop_words}
 
 -- ---- digests of some parts
 
@@ -104,35 +105,6 @@ digests_at bytes s order inside =
     whole (inr more) = cut_digests (s.end - s.first) (span_len (length bytes) s) (drop (262144 * s.first) bytes) (omega (arith, more, order))
 
 -- ---- words of some parts
-
-none_past : (n : ℕ) → drop n (word_bytes []) ≡ word_bytes []
-unfolding word_bytes
-none_past n = nil_from_length (drop n (word_bytes [])) (omega (arith, length-drop n (word_bytes []), length-words []))
-
-no_words : [] ≡ word_bytes []
-unfolding word_bytes
-no_words = refl
-
-drop_words : (k : ℕ) (ws : List ℕ) → drop (4 * k) (word_bytes ws) ≡ word_bytes (drop k ws)
-drop_words zero ws = refl
-drop_words (suc k) [] = none_past (4 * suc k)
-drop_words (suc k) (w ∷ ws) =
-    let place : 4 * suc k ≡ 4 + 4 * k = omega arith in
-    ap (λ (n : ℕ). drop n (word_bytes (w ∷ ws))) place
-    ∙ sym (drop-drop (4 * k) 4 (word_bytes (w ∷ ws)))
-    ∙ ap (drop (4 * k)) (ap (drop 4) (word_bytes-cons w ws) ∙ drop_number 4 w (word_bytes ws))
-    ∙ drop_words k ws
-
-take_words : (k : ℕ) (ws : List ℕ) → take (4 * k) (word_bytes ws) ≡ word_bytes (take k ws)
-take_words zero ws = no_words
-take_words (suc k) [] = take_all (4 * suc k) (word_bytes []) (omega (arith, length-words []))
-take_words (suc k) (w ∷ ws) =
-    let place : 4 * suc k ≡ length (number_bytes 4 w) + 4 * k = omega (arith, length-number 4 w) in
-    ap (λ (x : List ℕ). take (4 * suc k) x) (word_bytes-cons w ws)
-    ∙ ap (λ (n : ℕ). take n (number_bytes 4 w ++ word_bytes ws)) place
-    ∙ take-append-add (number_bytes 4 w) (word_bytes ws) (4 * k)
-    ∙ ap (λ (x : List ℕ). number_bytes 4 w ++ x) (take_words k ws)
-    ∙ sym (word_bytes-cons w (take k ws))
 
 -- words of 32 bits are known from their bytes
 one_word : (x y : ℕ) (a b : List ℕ) → x < 2 ^ 32 → y < 2 ^ 32 → number_bytes 4 x ++ a ≡ number_bytes 4 y ++ b → x ≡ y

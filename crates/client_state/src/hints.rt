@@ -1,6 +1,7 @@
 //! The file of a hint.
 
-ghost use Rattle.std.specs.Prelude.{◌≡◌, ◌≢◌, ◌≤◌, ◌*◌, ◌++◌, ℕ, List, length, IfOk, IsErrOf};
+ghost use Rattle.std.specs.Prelude.{◌≡◌, ◌≢◌, ◌≤◌, ◌*◌, ◌++◌, ℕ, List, length, IfOk, OnOk, IsErrOf};
+ghost use Rattle.std.specs.Io.KnownBytes.{Appends};
 ghost use Rattle.frame_codec.specs.Numbers.{word_bytes};
 ghost use Rattle.matrix_u32.specs.Matrix.{most_words};
 ghost use Rattle.client_core.specs.declared.state.ServerInfo.{ServerInfo};
@@ -8,12 +9,13 @@ ghost use Rattle.client_core.specs.declared.state.Hint.{Hint};
 ghost use Rattle.client_state.specs.Files.{fields_of, hint_bytes, IsKeepable};
 ghost use Rattle.client_state.specs.Reading.{with_words};
 
-use crate::digests::digests_of;
+use crate::digests::{digests_of, digests_of_words};
 use crate::heads::{HintError, HintFields, head_bytes, head_in};
 use crate::numbers::{add_words, words_in};
 use crate::sealing::DIGEST_LEN;
 use client_core::{Hint, ServerInfo};
 use matrix_u32::Matrix;
+use pir_schemes::PART_WORDS;
 use safe_files::{Content, ContentFault};
 use std::alloc::{AllocError, Global};
 use std::io::Write;
@@ -25,27 +27,44 @@ pub struct KeptHint {
     pub hint: Hint,
 }
 
-/// The file of a hint: its head, and the bytes of its words.
+/// The file of a hint: its head, and the hint's words, whose bytes are made part by part where they are written.
 #[derive(Drop)]
-pub struct HintFile {
+pub struct HintFile<'a> {
     pub head: Vec<u8>,
-    pub words: Vec<u8>,
+    pub words: &'a [u32],
 }
 
-impl Content for HintFile {
+impl Content for HintFile<'_> {
     ghost use Rattle.std.specs.Prelude.{◌++◌};
+    ghost use Rattle.frame_codec.specs.Numbers.{word_bytes};
 
-    ghost bytes = { λ file. file.head.items ++ file.words.items };
+    ghost bytes = { λ file. file.head.items ++ word_bytes file.words.now };
 
-    fn write_to<W: Write>(&self, _alloc: Global, writer: &mut W) -> Result<(), ContentFault> {
+    fn write_to<W: Write>(&self, alloc: Global, writer: &mut W) -> Result<(), ContentFault> {
         if writer.write_all(&self.head).is_err() {
             return Err(ContentFault::Write);
         }
-        match writer.write_all(&self.words) {
-            Ok(()) => Ok(()),
-            Err(_) => Err(ContentFault::Write),
-        }
+        write_words(alloc, self.words, writer)
     }
+}
+
+// Writes four bytes for each word. No more than the bytes of one part stand in memory.
+fn write_words<W: Write>(alloc: Global, words: &[u32], writer: &mut W) -> Result<(), ContentFault>
+    ensures { OnOk result
+        (Appends (W.contents writer.old) (W.contents writer.new) (word_bytes words.now)) }
+{
+    let mut bytes = Vec::with_capacity(alloc, 4 * words.len().min(PART_WORDS))?;
+    let mut rest = words;
+    while !rest.is_empty() {
+        let (part, beyond) = rest.split_at(rest.len().min(PART_WORDS));
+        bytes.clear();
+        add_words(&mut bytes, part)?;
+        if writer.write_all(&bytes).is_err() {
+            return Err(ContentFault::Write);
+        }
+        rest = beyond;
+    }
+    Ok(())
 }
 
 // Which hint this is, and what the server had reported last.
@@ -61,23 +80,22 @@ fn fields_of(known: &ServerInfo, hint: &Hint) -> HintFields
     }
 }
 
-/// The file of a hint: the name of the seed beside it, what the server had reported last, and the hint.
+/// The file of a hint: the name of the seed beside it, what the server had reported last, and the hint, whose words are borrowed.
 ///
 /// # Errors
 ///
 /// `AllocError` where memory was refused.
-pub fn hint_file(
+pub fn hint_file<'a>(
     alloc: Global,
     name: &[u8; DIGEST_LEN],
     known: &ServerInfo,
-    hint: &Hint,
-) -> Result<HintFile, AllocError>
+    hint: &'a Hint,
+) -> Result<HintFile<'a>, AllocError>
     ensures { IfOk result (λ file.
-        file.head.items ++ file.words.items ≡ hint_bytes name.now known.now hint.now) }
+        file.head.items ++ word_bytes file.words.now ≡ hint_bytes name.now known.now hint.now) }
 {
-    let mut words = Vec::with_capacity(alloc, 4 * hint.matrix.words().len())?;
-    add_words(&mut words, hint.matrix.words())?;
-    let digests = digests_of(alloc, &words)?;
+    let words = hint.matrix.words();
+    let digests = digests_of_words(alloc, words)?;
     let head = head_bytes(alloc, name, &fields_of(known, hint), &digests)?;
     Ok(HintFile { head, words })
 }
