@@ -1,7 +1,7 @@
 -- What stands in the head of a hint's file.
 use Rattle.std.proofs.Common.{◌≡◌, ℕ, ◌+◌, ◌*◌, ◌^◌, ◌<◌, ◌≤◌, List, ◌++◌, length, take, drop, Err, refl, sym, ap, ◌∙◌, append_assoc, arith}
 use Rattle.std.specs.Prelude.{IsErrOf}
-use Rattle.std.proofs.lemmas.List.{length-append, take_at, drop_at, take-append-le, take-append-drop}
+use Rattle.std.proofs.lemmas.List.{length-append, take_at, take-append-le, take-append-drop}
 use Rattle.sha2.specs.Sha256.{sha256}
 use Rattle.frame_codec.specs.Numbers.{word_bytes}
 use Rattle.frame_codec.proofs.NumberBytes.{length-words}
@@ -56,6 +56,10 @@ pub length-head : (name digests : List ℕ) (f : HintFields) → length name ≡
 length-head name digests f named seed =
     omega (arith, length-append (inside name f digests) (sha256 (inside name f digests)), length-front name digests f named seed, length-sha256 (inside name f digests))
 
+pub length-begin : (name : List ℕ) (f : HintFields) → length name ≡ 32 → length f.known.plan.seed ≡ 32 → length (hint_magic ++ (name ++ field_bytes f)) ≡ 118
+length-begin name f named seed =
+    omega (arith, length-append hint_magic (name ++ field_bytes f), length-append name (field_bytes f), length-magic, length-fields f seed, named)
+
 -- one beginning has one encoding of fields
 pub same_fields : (name r s : List ℕ) (f g : HintFields) → length f.known.plan.seed ≡ 32 → length g.known.plan.seed ≡ 32 →
     hint_magic ++ (name ++ (field_bytes f ++ r)) ≡ hint_magic ++ (name ++ (field_bytes g ++ s)) → (field_bytes f ≡ field_bytes g) × (r ≡ s)
@@ -105,9 +109,7 @@ pub head_read : (name bytes front back body digests r : List ℕ) (f : HintField
     front ≡ sealed body → 118 ≤ length body → bytes ≡ hint_magic ++ (name ++ (field_bytes f ++ r)) → digests ≡ drop 118 body →
     bytes ≡ head_bytes name f digests ++ back
 head_read name bytes front back body digests r f named seed whole is le b d =
-    let begin : List ℕ = hint_magic ++ (name ++ field_bytes f) in
-    let long : length (hint_magic ++ (name ++ field_bytes f)) ≡ 118 =
-    omega (arith, length-append hint_magic (name ++ field_bytes f), length-append name (field_bytes f), length-magic, length-fields f seed, named) in
+    let long : length (hint_magic ++ (name ++ field_bytes f)) ≡ 118 = length-begin name f named seed in
     let pieces : body ++ (sha256 body ++ back) ≡ (hint_magic ++ (name ++ field_bytes f)) ++ r =
     sym (append_assoc body (sha256 body) back) ∙ ap (λ (x : List ℕ). x ++ back) (sym is) ∙ whole ∙ b ∙ simp append_assoc refl in
     let all : body ≡ inside name f digests =
@@ -133,12 +135,6 @@ same_file name bytes d rest f known hint k hd kept read e =
 pub words_wanted : (f : HintFields) (known : ServerInfo) (hint : Hint) → AreKeepable f → IsKeepable known hint → field_bytes f ≡ field_bytes (fields_of known hint) →
     length hint.matrix.words ≡ f.rows * f.cols
 words_wanted f known hint k kept e = kept.whole ∙ sym (as_many f (fields_of known hint) k.rows k.cols kept.fields e)
-
--- what follows the head is what stands after it
-pub words_after : (name bytes d rest : List ℕ) (f : HintFields) (n : ℕ) → length name ≡ 32 → AreKeepable f → n ≡ 150 + length d → bytes ≡ head_bytes name f d ++ rest →
-    drop n bytes ≡ rest
-words_after name bytes d rest f n named k len e =
-    ap (drop n) e ∙ drop_at (head_bytes name f d) rest n (length-head name d f named k.seed ∙ sym len)
 
 -- a head with the digests of these words, and then the words, is the file of their hint
 pub file_read : (name bytes d rest words : List ℕ) (f : HintFields) (hint : Hint) → bytes ≡ head_bytes name f d ++ rest → d ≡ part_digests rest →

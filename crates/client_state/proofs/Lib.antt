@@ -6,3 +6,4 @@ pub mod HeadBytes
 pub mod WordParts
 pub mod WordsRead
 pub mod PartsRead
+pub mod WholeRead

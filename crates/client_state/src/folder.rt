@@ -4,8 +4,9 @@ ghost use Rattle.std.specs.Prelude.{◌≡◌, ◌≤◌};
 
 use crate::counters::{counter_bytes, counter_in};
 use crate::heads::{HintError, KeptHead, MOST_HEAD, head_in};
-use crate::hints::{KeptHint, hint_file, hint_in};
+use crate::hints::{KeptHint, hint_file};
 use crate::parts::{PartSpan, parts_in, place_of};
+use crate::reading::read_hint;
 use crate::seeds::{seed_bytes, seed_in, seed_name};
 use claim_counter::{DeviceError, Register};
 use client_core::{Hint, ServerInfo};
@@ -55,7 +56,7 @@ impl From<FolderFault> for HintError {
     fn from(fault: FolderFault) -> Self {
         match fault {
             FolderFault::Memory => HintError::Memory,
-            FolderFault::Locked | FolderFault::State => HintError::Damaged,
+            FolderFault::Locked | FolderFault::State => HintError::Read,
         }
     }
 }
@@ -153,14 +154,14 @@ impl<'a> Folder<'a> {
         self.written
     }
 
-    /// The hint that was kept, where there is one.
+    /// The hint that was kept, where there is one. No more than the bytes of one of its parts stand in memory beside its words.
     ///
     /// # Errors
     ///
-    /// `Damaged` where its file is no hint's of this seed or can't be read, `Memory` where memory was refused.
+    /// `Damaged` where its file is no hint's of this seed, `Read` where it can't be read, `Memory` where memory was refused.
     pub fn hint(&self) -> Result<Option<KeptHint>, HintError> {
-        match read_file(self.rt, self.path, "hint")? {
-            Some(bytes) => Ok(Some(hint_in(self.rt.alloc(), &self.name, &bytes)?)),
+        match open_file(self.rt, self.path, "hint")? {
+            Some(mut file) => Ok(Some(read_hint(self.rt.alloc(), &self.name, &mut file)?)),
             None => Ok(None),
         }
     }
@@ -170,14 +171,14 @@ impl<'a> Folder<'a> {
     ///
     /// # Errors
     ///
-    /// `Damaged` where its file begins with no head of a hint of this seed, is longer or shorter than that head says, or can't be read;
-    /// `Memory` where memory was refused.
+    /// `Damaged` where its file begins with no head of a hint of this seed, or is longer or shorter than that head says; `Read` where it
+    /// can't be read; `Memory` where memory was refused.
     pub fn hint_head(&self) -> Result<Option<KeptHead>, HintError> {
         let Some(file) = open_file(self.rt, self.path, "hint")? else {
             return Ok(None);
         };
         let Ok(found) = file.metadata() else {
-            return Err(HintError::Damaged);
+            return Err(HintError::Read);
         };
         let bytes = first_bytes(self.rt, file, MOST_HEAD as u64)?;
         let head = head_in(self.rt.alloc(), &self.name, &bytes)?;
@@ -191,7 +192,7 @@ impl<'a> Folder<'a> {
     ///
     /// # Errors
     ///
-    /// `Damaged` where the file has other bytes than the head says or can't be read, `Memory` where memory was refused.
+    /// `Damaged` where the file has other bytes than the head says, `Read` where it can't be read, `Memory` where memory was refused.
     pub fn hint_parts(&self, head: &KeptHead, span: PartSpan) -> Result<Hint, HintError> {
         let alloc = self.rt.alloc();
         let Some((start, len)) = place_of(head, span) else {
@@ -202,7 +203,7 @@ impl<'a> Folder<'a> {
         };
         let mut bytes = vec![in alloc; 0u8; len]?;
         if file.read_exact_at(&mut bytes, start).is_err() {
-            return Err(HintError::Damaged);
+            return Err(HintError::Read);
         }
         parts_in(alloc, head, span, &bytes)
     }

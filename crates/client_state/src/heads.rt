@@ -67,6 +67,9 @@ pub enum HintError {
     /// The bytes are no file of a hint that belongs to the seed.
     #[error("the hint's file is damaged, or belongs to another seed")]
     Damaged,
+    /// The file can't be read.
+    #[error("the hint's file can't be read")]
+    Read,
     /// Memory was refused.
     #[error("out of memory")]
     Memory,
@@ -165,8 +168,8 @@ fn fields_in(bytes: &[u8]) -> Option<HintFields>
     })
 }
 
-// The fields of the file that these bytes begin; none where they begin no file of a hint of the seed of this name.
-fn fields_at(name: &[u8; DIGEST_LEN], bytes: &[u8]) -> Option<HintFields>
+/// The fields of the file that these bytes begin; none where they begin no file of a hint of the seed of this name.
+pub fn fields_at(name: &[u8; DIGEST_LEN], bytes: &[u8]) -> Option<HintFields>
     ensures read { IfSome result (λ f. (rest : List ℕ) ×
         (bytes.now ≡ hint_magic ++ (name.now ++ (field_bytes f ++ rest)))) }
     ensures none { IfNone result ((f : HintFields) (rest : List ℕ) →

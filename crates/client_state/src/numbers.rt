@@ -34,14 +34,29 @@ pub fn add_words(out: &mut Vec<u8>, words: &[u32]) -> Result<(), AllocError>
     Ok(())
 }
 
-/// The words that the bytes encode.
-pub fn words_in(alloc: Global, bytes: &[u8]) -> Result<Vec<u32>, AllocError>
-    requires { (n : ℕ) × (length bytes.now ≡ 4 * n) }
-    ensures { IfOk result (λ words. word_bytes words.items ≡ bytes.now) }
+// Adds the words that the bytes of a block encode.
+fn add_read_block(out: &mut Vec<u32>, bytes: &[u8]) -> Result<(), AllocError>
+    requires { (n : ℕ) × (length bytes.now ≡ 4 * n) × (n ≤ 256) }
+    ensures { OnOk result (word_bytes out.new.items ≡ word_bytes out.old.items ++ bytes.now) }
 {
-    let mut words = vec![in alloc; 0u32; bytes.len() / 4]?;
-    LittleEndian::read_u32_into(bytes, &mut words);
-    Ok(words)
+    let mut block = [0u32; BLOCK_WORDS];
+    let (words, _) = block.split_at_mut(bytes.len() / 4);
+    LittleEndian::read_u32_into(bytes, words);
+    out.extend_from_slice(words)
+}
+
+/// Adds the words that the bytes encode, block by block.
+pub fn add_read(out: &mut Vec<u32>, bytes: &[u8]) -> Result<(), AllocError>
+    requires { (n : ℕ) × (length bytes.now ≡ 4 * n) }
+    ensures { OnOk result (word_bytes out.new.items ≡ word_bytes out.old.items ++ bytes.now) }
+{
+    let mut rest = bytes;
+    while !rest.is_empty() {
+        let (block, beyond) = rest.split_at(rest.len().min(4 * BLOCK_WORDS));
+        add_read_block(out, block)?;
+        rest = beyond;
+    }
+    Ok(())
 }
 
 /// So many zeros, with the words that the bytes encode written over them from a place on.

@@ -17,14 +17,14 @@ const STALE_ANSWERS: u32 = 3;
 /// The numbers of retrievals are below this one.
 const NUMBERS: u64 = 1 << 62;
 
-/// What was read of the hint kept. A damaged one is warned of, and is none.
+/// What was read of the hint kept. One that is damaged, or can't be read, is warned of, and is none.
 pub fn sound<T>(
     rt: &HostRuntime,
     read: Result<Option<T>, HintError>,
 ) -> Result<Option<T>, AllocError> {
     match read {
         Ok(kept) => Ok(kept),
-        Err(HintError::Damaged) => {
+        Err(HintError::Damaged | HintError::Read) => {
             let _ = eprintln!(rt; "warning: the hint kept is damaged");
             Ok(None)
         }
@@ -138,7 +138,7 @@ impl<'a> Session<'a> {
         match self.folder.hint_parts(head, span) {
             Ok(hint) => Ok(Some(saved(&self.client, known, hint))),
             Err(HintError::Memory) => Err(CommandError::Call(CallFault::Memory)),
-            Err(HintError::Damaged) => {
+            Err(HintError::Damaged | HintError::Read) => {
                 let _ = eprintln!(self.rt; "warning: the hint kept is damaged");
                 self.read = HintRead::All;
                 Ok(None)
