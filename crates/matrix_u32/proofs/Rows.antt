@@ -1,19 +1,19 @@
 -- Rows that are written in place, and multiples of rows that are added to a row.
-use Rattle.std.proofs.Common.{take, drop, ◌-◌, ◌≤◌, ◌≡◌, ◌≢◌, ℕ, ◌+◌, ◌*◌, ◌%◌, ◌^◌, ◌<◌, ◌==◌, if◌then◌else◌, ◌++◌, inl, inr, arith, ap, ◌∙◌, sym, refl, List, length, slice_index, replicate}
+use Rattle.std.proofs.Common.{take, drop, ◌-◌, ◌≤◌, ◌≡◌, ◌≢◌, ℕ, ◌+◌, ◌*◌, ◌%◌, ◌^◌, ◌<◌, ◌==◌, if◌then◌else◌, ◌++◌, ◌∷◌, [], zero, suc, inl, inr, arith, ap, ◌∙◌, sym, refl, List, length, slice_index, replicate}
 use Rattle.std.proofs.lemmas.Nat.{row_fits}
 use Rattle.std.proofs.lemmas.Bool.{cases_eq, cases_lt}
 use Rattle.std.proofs.lemmas.Bool.Decides.{nat_tests}
-use Rattle.std.proofs.lemmas.List.{length-take-le, take-append-le, length-append, length-drop}
+use Rattle.std.proofs.lemmas.List.{length-take-le, take-append-le, length-append, length-drop, drop-drop}
 use Rattle.std.proofs.lemmas.Simd.{put_chunk_is, length-put_chunk, get_or-put_chunk_below, get_or-put_chunk_at, get_or-put_chunk_above, get_or-replicate, splat_is_map}
 use Rattle.std.proofs.lemmas.List.FromFn.{length-range_with_len}
-use Rattle.std.proofs.Math.Seq.{take-length}
+use Rattle.std.proofs.Math.Seq.{take-length, take-add}
 use Rattle.std.specs.Simd.Lanes.{put_chunk}
 use Rattle.std.specs.List.{range_with_len}
 use Rattle.matrix_u32.specs.Sum.{sum_below}
 use Rattle.matrix_u32.specs.Matrix.{WordMatrix, IsWhole, entry, matrix_of, row, plus_scaled, zero_matrix, with_row, overwritten, written_row}
 use Rattle.matrix_u32.specs.Blocks.{plus_rows}
 use Rattle.matrix_u32.proofs.Sums.{sum_below_more, sum_below_none}
-use Rattle.matrix_u32.proofs.Products.{at-list_of, length-list_of, entry-matrix_of, words_are}
+use Rattle.matrix_u32.proofs.Products.{at-list_of, length-list_of, entry-matrix_of, piece-list_of, same-list_of, words_are}
 use Rattle.matrix_u32.proofs.Changes.{matrix_by_entries}
 
 -- what a loan of part of a list leaves, where the list keeps its length
@@ -28,6 +28,22 @@ overwritten_cut n place new old long le =
 pub overwritten_is : (place : ℕ) (new old : List ℕ) → place + length new ≤ length old → overwritten place new old ≡ put_chunk place old new
 overwritten_is place new old fits =
     rw (← (put_chunk_is place old new fits), ← (length-put_chunk place old new)) (take-length (put_chunk place old new))
+
+-- the words of a row, as a part of all words
+row_piece : (m : WordMatrix) (i : ℕ) → i * m.cols + m.cols ≤ length m.words → take m.cols (drop (i * m.cols) m.words) ≡ row m i
+row_piece m i room =
+    let cut : i * m.cols + m.cols - i * m.cols ≡ m.cols = omega arith in
+    rw cut at (piece-list_of m.words (i * m.cols) m.cols room)
+
+-- those of two rows, one behind the other
+pub two_rows : (m : WordMatrix) (i : ℕ) → IsWhole m → i + 1 < m.rows
+    → take (m.cols + m.cols) (drop (i * m.cols) m.words) ≡ row m i ++ row m (i + 1)
+two_rows m i whole inside =
+    let next : (i + 1) * m.cols ≡ i * m.cols + m.cols = omega arith in
+    let fits : (i + 1) * m.cols + m.cols ≤ m.rows * m.cols = row_fits (i + 1) m.cols m.rows m.cols inside (omega arith) in
+    let first = row_piece m i (omega (arith, whole, fits, next)) in
+    let second = row_piece m (i + 1) (omega (arith, whole, fits)) in
+    rw (take-add, first, drop-drop) (ap (λ p. row m i ++ take m.cols (drop p m.words)) (sym next) ∙ ap (λ ws. row m i ++ ws) second)
 
 -- row i of a whole matrix, as it is written over with as many words as there are columns
 module _ (m : WordMatrix) (i : ℕ) (words : List ℕ) (whole : IsWhole m) (inside : i < m.rows) (wide : length words ≡ m.cols) where
@@ -124,3 +140,35 @@ pub entry-zero_matrix : (rows cols p q : ℕ) → p < rows → q < cols → entr
 entry-zero_matrix rows cols p q hp hq =
     let fits : p * cols + cols ≤ rows * cols = row_fits p cols rows cols hp (omega arith) in
     get_or-replicate (rows * cols) (p * cols + q) 0 0 (omega (arith, fits))
+
+-- two lists written over a list one behind the other, at once or each by itself
+put_two : (i j : ℕ) (old xs ys : List ℕ) → i + length xs ≡ j → put_chunk i old (xs ++ ys) ≡ put_chunk j (put_chunk i old xs) ys
+put_two i j [] xs ys e = refl
+put_two zero zero (w ∷ old) [] ys e = refl
+put_two zero (suc j) (w ∷ old) [] ys e = absurd (omega arith)
+put_two zero zero (w ∷ old) (x ∷ xs) ys e = absurd (omega arith)
+put_two zero (suc j) (w ∷ old) (x ∷ xs) ys e = ap (λ ws. x ∷ ws) (put_two zero j old xs ys (omega arith))
+put_two (suc i) zero (w ∷ old) xs ys e = absurd (omega arith)
+put_two (suc i) (suc j) (w ∷ old) xs ys e = ap (λ ws. w ∷ ws) (put_two i j old xs ys (omega arith))
+
+-- two rows that are written over at once
+module _ (m : WordMatrix) (i : ℕ) (xs ys : List ℕ) (whole : IsWhole m) (inside : i + 1 < m.rows) (x_wide : length xs ≡ m.cols) (y_wide : length ys ≡ m.cols) where
+  pub written_row-two : written_row m i (xs ++ ys) ≡ written_row (written_row m i xs) (i + 1) ys
+  written_row-two =
+      let at = i * m.cols in
+      let next : (i + 1) * m.cols ≡ at + m.cols = omega arith in
+      let fits : (i + 1) * m.cols + m.cols ≤ m.rows * m.cols = row_fits (i + 1) m.cols m.rows m.cols inside (omega arith) in
+      let mid = put_chunk at m.words xs in
+      let long : length mid ≡ length m.words = length-put_chunk at m.words xs in
+      let once = overwritten_is at (xs ++ ys) m.words (simp length-append (omega (arith, whole, fits, next))) in
+      let first = overwritten_is at xs m.words (omega (arith, whole, fits, next)) in
+      let second = overwritten_is ((i + 1) * m.cols) ys mid (omega (arith, whole, fits, long)) in
+      let both = put_two at ((i + 1) * m.cols) m.words xs ys (omega (arith, next)) in
+      let words : (written_row m i (xs ++ ys)).words ≡ (written_row (written_row m i xs) (i + 1) ys).words =
+      once ∙ both ∙ sym second ∙ ap (overwritten ((i + 1) * m.cols) ys) (sym first) in
+      λ t. record m { words = words t }
+
+  pub row-after_written : row (written_row m i xs) (i + 1) ≡ row m (i + 1)
+  row-after_written =
+      same-list_of m.cols (λ j. entry (written_row m i xs) (i + 1) j) (λ j. entry m (i + 1) j)
+      (λ j h. written_row-other m i xs whole (omega arith) x_wide (i + 1) j (omega arith) h)

@@ -217,6 +217,19 @@ impl Matrix {
         let end = at + self.cols;
         self.words.slice_mut(at..end)
     }
+
+    /// Rows i and i + 1, one behind the other, to be written in place at once: once the borrow is over, the matrix
+    /// has the words that they were left with, and keeps all others.
+    pub fn two_rows_mut(&mut self, i: usize) -> &mut [u32]
+        requires { i + 1 < self.old.rows }
+        ensures* writes_back { sem 𝓛 (LendsRow self.entry i result) }
+        ensures value { result.now ≡ row self.old i ++ row self.old (i + 1) }
+        ensures count { length result.now ≡ self.old.cols + self.old.cols }
+    {
+        let start = i * self.cols;
+        let end = start + self.cols + self.cols;
+        self.words.slice_mut(start..end)
+    }
 }
 
 // How many words a matrix of that size has, where it may have so many.

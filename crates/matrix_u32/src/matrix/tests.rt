@@ -37,6 +37,8 @@ fn holds_its_words_row_by_row(rt: HostRuntime) -> Result<(), Fail> {
     assert_eq!(rt; m.row(0), [1, 2, 30].as_slice());
     m.row_mut(1)[1] = 50;
     assert_eq!(rt; m.words(), [1, 2, 30, 4, 50, 6].as_slice());
+    m.two_rows_mut(0)[3] = 40;
+    assert_eq!(rt; m.words(), [1, 2, 30, 40, 50, 6].as_slice());
     Ok(())
 }
 
