@@ -1,24 +1,16 @@
 -- Products that are summed by blocks of inner places.
-use Rattle.std.proofs.Common.{◌≤◌, ◌≡◌, ℕ, ◌+◌, ◌*◌, ◌%◌, ◌^◌, ◌<◌, inl, inr, arith, ap, ◌∙◌, sym, refl, subst, List, length, slice_index}
+use Rattle.std.proofs.Common.{◌≤◌, ◌≡◌, ℕ, ◌+◌, ◌*◌, ◌%◌, ◌^◌, ◌<◌, ◌++◌, take, drop, inl, inr, arith, ap, ◌∙◌, sym, refl, subst, List, length, slice_index}
 use Rattle.std.proofs.lemmas.Bool.{cases_lt}
 use Rattle.std.proofs.lemmas.Simd.{length-replicate}
+use Rattle.std.proofs.Math.Seq.{take-append_seam, drop-append_seam}
 use Rattle.matrix_u32.specs.Sum.{sum_below, dot}
 use Rattle.matrix_u32.specs.Matrix.{WordMatrix, IsWhole, entry, row, column, product, zero_matrix, written_row}
 use Rattle.matrix_u32.specs.Blocks.{plus_rows}
 use Rattle.matrix_u32.proofs.Sums.{sum_below_none, sum_below-add, sum_same}
 use Rattle.matrix_u32.proofs.Products.{length-list_of, entry-matrix_of, entry-product_sum}
 use Rattle.matrix_u32.proofs.Changes.{matrix_by_entries}
-use Rattle.matrix_u32.proofs.Rows.{row_index, length-row, plus_rows-index, plus_rows-length, length-written_row, written_row-same, written_row-other, entry-zero_matrix}
-use Rattle.lane_kernels.specs.Rows.{plus_products}
-
--- a matrix whose rows below i have the products of a block added, and whose other rows are as they were
-pub record AddedBelow (old a b : WordMatrix) (start count i : ℕ) (m : WordMatrix) : Type 0 where
-  pub rows : m.rows ≡ old.rows
-  pub cols : m.cols ≡ old.cols
-  pub whole : IsWhole m
-  pub done : (p q : ℕ) → p < i → q < old.cols → entry m p q
-      ≡ (entry old p q + sum_below count (λ k. entry a p (start + k) * entry b (start + k) q)) % 2 ^ 32
-  pub rest : (p q : ℕ) → i ≤ p → p < old.rows → q < old.cols → entry m p q ≡ entry old p q
+use Rattle.matrix_u32.proofs.Rows.{row_index, length-row, plus_rows-index, plus_rows-length, length-written_row, written_row-same, written_row-other, written_row-two, row-after_written, entry-zero_matrix}
+use Rattle.lane_kernels.specs.Rows.{AddedBelow, plus_products}
 
 pub added_none : (old a b : WordMatrix) (start count : ℕ) → IsWhole old → AddedBelow old a b start count 0 old
 added_none old a b start count whole = record {
@@ -58,6 +50,36 @@ added_row old a b m start count i f words below factors is so_far =
       ];
       rest = λ p q le hp hq. written_row-other m i words so_far.whole inside long p q (omega arith) (omega arith) ∙ so_far.rest p q (omega arith) hp hq;
     }
+
+-- two more rows of a block, at once
+pub added_pair : (old a b m : WordMatrix) (start count i : ℕ) (f g : ℕ → ℕ) (words : List ℕ) → i + 1 < old.rows
+    → ((k : ℕ) → k < count → f k ≡ entry a i (start + k)) → ((k : ℕ) → k < count → g k ≡ entry a (i + 1) (start + k))
+    → words ≡ plus_rows (row m i) count f b start ++ plus_rows (row m (i + 1)) count g b start
+    → AddedBelow old a b start count i m → AddedBelow old a b start count (i + 1 + 1) (written_row m i words)
+added_pair old a b m start count i f g words below first second is so_far =
+    let xs = plus_rows (row m i) count f b start in
+    let ys = plus_rows (row m (i + 1)) count g b start in
+    let mid = written_row m i xs in
+    let inside : i + 1 < m.rows = omega (arith, so_far.rows) in
+    let x_wide : length xs ≡ m.cols = plus_rows-length (row m i) count f b start ∙ length-row m i in
+    let y_wide : length ys ≡ m.cols = plus_rows-length (row m (i + 1)) count g b start ∙ length-row m (i + 1) in
+    let after : row mid (i + 1) ≡ row m (i + 1) = row-after_written m i xs ys so_far.whole inside x_wide y_wide in
+    let one = added_row old a b m start count i f xs (omega arith) first refl so_far in
+    let two = added_row old a b mid start count (i + 1) g ys below second (ap (λ r. plus_rows r count g b start) (sym after)) one in
+    let same : written_row mid (i + 1) ys ≡ written_row m i words =
+    sym (ap (written_row m i) is ∙ written_row-two m i xs ys so_far.whole inside x_wide y_wide) in
+    subst (AddedBelow old a b start count (i + 1 + 1)) same two
+
+-- the two rows that are lent at once, parted again
+pub first_of_pair : (m : WordMatrix) (i cols : ℕ) → cols ≡ m.cols → take cols (row m i ++ row m (i + 1)) ≡ row m i
+first_of_pair m i cols e =
+    let long : cols ≡ length (row m i) = e ∙ sym (length-row m i) in
+    rw long (take-append_seam (row m i) (row m (i + 1)))
+
+pub second_of_pair : (m : WordMatrix) (i cols : ℕ) → cols ≡ m.cols → drop cols (row m i ++ row m (i + 1)) ≡ row m (i + 1)
+second_of_pair m i cols e =
+    let long : cols ≡ length (row m i) = e ∙ sym (length-row m i) in
+    rw long (drop-append_seam (row m i) (row m (i + 1)))
 
 -- all rows of a block
 pub added_all : (old a b m : WordMatrix) (start count i : ℕ) → old.rows ≤ i → AddedBelow old a b start count i m → m ≡ plus_products old a b start count

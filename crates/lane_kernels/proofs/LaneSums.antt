@@ -3,13 +3,15 @@ use Rattle.std.proofs.Common.{◌≡◌, ℕ, zero, suc, ◌+◌, ◌-◌, ◌*�
 use Rattle.std.specs.Simd.Lanes.{zip2, sum_l, fold_l, products, chunk, put_chunk}
 use Rattle.std.specs.Simd.{first_chunks}
 use Rattle.std.proofs.lemmas.List.{get_or-drop}
-use Rattle.std.proofs.lemmas.List.FromFn.{fill_by_all, length-range_with_len}
+use Rattle.std.proofs.lemmas.List.FromFn.{fill_by_all, length-range_with_len, length-map-range_with_len, get_or-map-range_with_len}
 use Rattle.std.specs.List.{range_with_len}
 use Rattle.std.proofs.lemmas.Nat.{row_fits}
-use Rattle.std.proofs.lemmas.Simd.{get_or-chunk, length-chunk, get_or-put_chunk_below, get_or-put_chunk_at, length-zip2, get_or-zip2, get_or-replicate, length-replicate, zip2_of_maps, splat_is_map}
+use Rattle.std.proofs.lemmas.Simd.{get_or-chunk, length-chunk, length-put_chunk, get_or-put_chunk_below, get_or-put_chunk_at, get_or-put_chunk_above, length-zip2, get_or-zip2, get_or-replicate, length-replicate, zip2_of_maps, splat_is_map}
 use Rattle.std.proofs.lemmas.Bool.{cases_lt}
 use Rattle.std.proofs.Math.Seq.{drop-drop}
 use Rattle.matrix_u32.specs.Sum.{sum_below, dot}
+use Rattle.matrix_u32.proofs.Products.{words_are}
+use Rattle.lane_kernels.specs.Rows.{plus_four}
 use Rattle.matrix_u32.proofs.Sums.{sum_below_none, sum_below-prefix, sum_same, sum_below-add}
 
 -- chunk i of the chunks of a list
@@ -170,3 +172,50 @@ four_lanes n at f g h e out p q r s lo lp lq lr ls =
     let times = λ (k : ℕ) (xs : List ℕ) (fits : at + n ≤ length xs). zip2_of_maps mul _ _ vs (splat_is_map vs n k lv) (chunk_is_map at n xs fits) in
     zip2_of_maps add _ _ vs (zip2_of_maps add _ _ vs (zip2_of_maps add _ _ vs (zip2_of_maps add _ _ vs
     (chunk_is_map at n out lo) (times f p lp)) (times g q lq)) (times h r lr)) (times e s ls)
+
+-- the word that four rows, each times its factor, make of one of a list
+abbrev pub four_word : List ℕ → List ℕ → List ℕ → List ℕ → List ℕ → List ℕ → ℕ → ℕ
+four_word out p q r s f j =
+    (slice_index out j + slice_index f 0 * slice_index p j + slice_index f 1 * slice_index q j + slice_index f 2 * slice_index r j + slice_index f 3 * slice_index
+    s j) % 2 ^ 32
+
+-- a list to which four rows were added below a place
+pub record FourSoFar (old p q r s f : List ℕ) (at : ℕ) (out : List ℕ) : Type 0 where
+  pub count : length out ≡ length old
+  pub done : (j : ℕ) → j < at → slice_index out j ≡ four_word old p q r s f j
+  pub rest : (j : ℕ) → at ≤ j → slice_index out j ≡ slice_index old j
+
+pub four_more : (n at : ℕ) (old out p q r s f : List ℕ)
+    → at + n ≤ length out → at + n ≤ length p → at + n ≤ length q → at + n ≤ length r → at + n ≤ length s
+    → FourSoFar old p q r s f at out
+    → let add : List ℕ → List ℕ → List ℕ = zip2 (λ x y. (x + y) % 2 ^ 32) in
+    let mul : ℕ → List ℕ → List ℕ = λ k xs. zip2 (λ x y. (x * y) % 2 ^ 32) (replicate n k) (chunk at n xs) in
+    FourSoFar old p q r s f (at + n) (put_chunk at out
+    (add (add (add (add (chunk at n out) (mul (slice_index f 0) p)) (mul (slice_index f 1) q)) (mul (slice_index f 2) r)) (mul (slice_index f 3) s)))
+four_more n at old out p q r s f lo lp lq lr ls was =
+    let f0 = slice_index f 0 in
+    let f1 = slice_index f 1 in
+    let f2 = slice_index f 2 in
+    let f3 = slice_index f 3 in
+    let lane : ℕ → ℕ = λ k. ((((slice_index out (at + k) + f0 * slice_index p (at + k) % 2 ^ 32) % 2 ^ 32 + f1 * slice_index q (at + k) % 2 ^ 32) % 2 ^ 32
+    + f2 * slice_index r (at + k) % 2 ^ 32) % 2 ^ 32 + f3 * slice_index s (at + k) % 2 ^ 32) % 2 ^ 32 in
+    let long : length (map lane (range_with_len 0 n)) ≡ n = length-map-range_with_len lane 0 n in
+    rw (four_lanes n at f0 f1 f2 f3 out p q r s lo lp lq lr ls)
+    (record {
+      count = length-put_chunk at out _ ∙ was.count;
+      done = put_done (four_word old p q r s f) at n out _ long lo was.done
+          (λ j h. let e = was.rest (at + j) (omega arith) in get_or-map-range_with_len lane 0 n j j 0 h (omega arith) ∙ omega (arith, e));
+      rest = λ j h. get_or-put_chunk_above at out _ j 0 (omega (arith, long)) ∙ was.rest j (omega arith);
+    })
+
+-- with what is added after the last whole vector
+pub four_end : (old p q r s f : List ℕ) (out : List ℕ) (new : List ℕ) (at : ℕ) → length new ≡ length old
+    → FourSoFar old p q r s f at out
+    → ((j : ℕ) → j < at → slice_index new j ≡ slice_index out j)
+    → ((j : ℕ) → at ≤ j → j < length out → slice_index new j ≡ four_word out p q r s f j)
+    → new ≡ plus_four old p q r s (slice_index f 0) (slice_index f 1) (slice_index f 2) (slice_index f 3)
+four_end old p q r s f out new at long so_far kept done =
+    words_are new (length old) (four_word old p q r s f) long (λ j h. elim (cases_lt j at) [
+      | inl lt ↦ kept j lt ∙ so_far.done j lt
+      | inr le ↦ done j le (omega (arith, so_far.count)) ∙ rw (so_far.rest j le) refl
+    ])

@@ -1,5 +1,6 @@
--- Four rows that are added at once.
-use Rattle.std.proofs.Common.{◌≡◌, ℕ, ◌+◌, ◌*◌, ◌%◌, ◌^◌, ◌<◌, List, length, slice_index, refl, ◌∙◌, arith}
+-- Rows that are added four at once, and those that are left.
+use Rattle.std.proofs.Common.{◌≡◌, ℕ, ◌+◌, ◌-◌, ◌*◌, ◌%◌, ◌^◌, ◌<◌, ◌≤◌, List, length, take, drop, length-drop, slice_index, refl, ap, ◌∙◌, arith}
+use Rattle.std.proofs.lemmas.List.{get_or-drop, get_or-take, length-take}
 use Rattle.std.proofs.lemmas.List.FromFn.{length-map-range_with_len, get_or-map-range_with_len}
 use Rattle.matrix_u32.specs.Sum.{sum_below}
 use Rattle.matrix_u32.specs.Matrix.{WordMatrix, entry, row}
@@ -56,3 +57,18 @@ plus_rows-add out n m f g b start same =
     let each : sum_below m (λ k. g k * entry b (start + n + k) q) ≡ sum_below m (λ k. f (n + k) * entry b (start + (n + k)) q) =
     sum_same m _ _ (λ k p. let e : start + n + k ≡ start + (n + k) = omega arith in rw (same k p, e) refl) in
     now ∙ omega (arith, was, more, each))
+
+-- the rows whose factors stand past the first n
+pub plus_rows-rest : (old out factors : List ℕ) (n : ℕ) (b : WordMatrix) (start : ℕ) → n ≤ length factors
+    → out ≡ plus_rows old n (λ k. slice_index factors k) b start
+    → let tail = take (length factors - n) (drop n factors) in
+    plus_rows out (length tail) (λ k. slice_index tail k) b (start + n) ≡ plus_rows old (length factors) (λ k. slice_index factors k) b start
+plus_rows-rest old out factors n b start le before =
+    let tail = take (length factors - n) (drop n factors) in
+    let f : ℕ → ℕ = λ k. slice_index factors k in
+    let long : length tail ≡ length factors - n = length-take (length factors - n) (drop n factors) ∙ omega (arith, length-drop n factors) in
+    let size : n + length tail ≡ length factors = omega (arith, long) in
+    ap (λ out. plus_rows out (length tail) (λ k. slice_index tail k) b (start + n)) before
+    ∙ plus_rows-add old n (length tail) f (λ k. slice_index tail k) b start
+    (λ k h. get_or-take (length factors - n) (drop n factors) k 0 (omega (arith, long)) ∙ get_or-drop n factors k 0)
+    ∙ ap (λ k. plus_rows old k f b start) size

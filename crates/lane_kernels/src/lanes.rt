@@ -6,6 +6,7 @@ ghost use Rattle.matrix_u32.specs.Matrix.{IsWhole, row, product, times_vector, p
 ghost use Rattle.matrix_u32.specs.Blocks.{plus_rows};
 ghost use Rattle.lane_kernels.specs.Rows.{plus_four, plus_products};
 
+use crate::two_rows::add_pairs;
 use matrix_u32::{Kernel, Matrix, Plain};
 use std::simd::prelude::*;
 
@@ -176,7 +177,7 @@ fn add_four(
 }
 
 // The words from one on, one by one.
-fn add_four_rest(
+pub(crate) fn add_four_rest(
     out: &mut [u32],
     p: &[u32],
     q: &[u32],
@@ -240,7 +241,7 @@ fn add_rows(out: &mut [u32], factors: &[u32], b: &Matrix, start: usize)
 }
 
 // The same, one row after the other.
-fn add_rows_singly(out: &mut [u32], factors: &[u32], b: &Matrix, start: usize)
+pub(crate) fn add_rows_singly(out: &mut [u32], factors: &[u32], b: &Matrix, start: usize)
     requires width { length out.old ≡ b.now.cols }
     requires inside { start + length factors.now ≤ b.now.rows }
     requires room { b.now.rows < 2 ^ 64 }
@@ -300,7 +301,9 @@ fn add_block(a: &Matrix, b: &Matrix, start: usize, count: usize, out: &mut Matri
     requires whole { IsWhole out.old }
     ensures { out.new ≡ plus_products out.old a.now b.now start count }
 {
-    for i in 0..a.rows() {
+    add_pairs(a, b, start, count, out);
+    // The last row, where it has no other beside it.
+    for i in a.rows() / 2 * 2..a.rows() {
         let factors = &a.row(i)[start..start + count];
         add_rows(out.row_mut(i), factors, b, start);
     }

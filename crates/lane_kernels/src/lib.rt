@@ -12,6 +12,7 @@ mod lanes;
 mod packed;
 mod packed_two;
 mod split;
+mod two_rows;
 
 pub use lanes::Lanes;
 pub use packed::packed_mul_vec;

@@ -3,11 +3,11 @@ use Rattle.std.proofs.lemmas.List.{get_or-take, get_or-drop}
 use Rattle.std.proofs.lemmas.Simd.{length-chunk}
 use Rattle.matrix_u32.specs.Matrix.{entry, row}
 use Rattle.matrix_u32.proofs.Rows.{row_index, length-row}
-use Rattle.lane_kernels.proofs.BlockSums.{added_none, added_row, added_all}
+use Rattle.lane_kernels.proofs.BlockSums.{added_row, added_all}
 use Rattle.lane_kernels.proofs.lanes.add_block.Goals as goal
 
 pub loop-i-init : goal.loop-i-init
-loop-i-init c = added_none _ _ _ _ _ c.requires.whole
+loop-i-init c = rw c.rows.ensures.value c.add_pairs.ensures
 
 pub loop-i-preserved : goal.loop-i-preserved
 loop-i-preserved c =

@@ -1,4 +1,4 @@
-use Rattle.lane_kernels.proofs.BlockSums.{AddedBelow}
+use Rattle.lane_kernels.specs.Rows.{AddedBelow}
 use Rattle.lane_kernels.proofs.lanes.add_block.Given as goal
 
 abbrev pub invariant-loop-i : goal.invariant-loop-i

@@ -1,8 +1,6 @@
-use Rattle.std.proofs.lemmas.List.{get_or-drop, get_or-take, length-take}
-use Rattle.std.proofs.Common.{length, take, drop, length-drop, ap, ◌/◌, ◌-◌, ◌≡◌, ◌*◌, ◌+◌, ◌∙◌, ℕ, arith, slice_index}
-use Rattle.matrix_u32.specs.Blocks.{plus_rows}
+use Rattle.std.proofs.Common.{length, ◌/◌, ◌≡◌, ◌*◌, ◌+◌, ◌∙◌, ℕ, arith, slice_index}
 use Rattle.matrix_u32.proofs.Rows.{plus_rows-none}
-use Rattle.lane_kernels.proofs.RowSums.{plus_rows-four, plus_rows-add}
+use Rattle.lane_kernels.proofs.RowSums.{plus_rows-four, plus_rows-rest}
 use Rattle.lane_kernels.proofs.lanes.add_rows.Goals as goal
 
 pub loop-t-init : goal.loop-t-init
@@ -23,16 +21,7 @@ loop-t-preserved c =
 
 pub returns : goal.returns
 returns c =
-    let factors = c.args.factors.now in
-    let n = length factors / 4 * 4 in
-    let tail = take (length factors - n) (drop n factors) in
-    let f : ℕ → ℕ = λ k. slice_index factors k in
-    let all : c.loop-t.t ≡ length factors / 4 = omega arith in
-    let before = rw all at c.loop-t.invariant in
-    let long : length tail ≡ length factors - n = length-take (length factors - n) (drop n factors) ∙ omega (arith, length-drop n factors) in
-    let size : n + length tail ≡ length factors = omega (arith, long) in
+    let n = length c.args.factors.now / 4 in
+    let all : c.loop-t.t ≡ n = omega arith in
     c.add_rows_singly.ensures
-    ∙ ap (λ out. plus_rows out (length tail) (λ k. slice_index tail k) c.args.b.now (c.args.start + n)) before
-    ∙ plus_rows-add c.args.out.now n (length tail) f (λ k. slice_index tail k) c.args.b.now c.args.start
-    (λ k h. get_or-take (length factors - n) (drop n factors) k 0 (omega (arith, long)) ∙ get_or-drop n factors k 0)
-    ∙ ap (λ k. plus_rows c.args.out.now k f c.args.b.now c.args.start) size
+    ∙ plus_rows-rest c.args.out.now c.loop-t.out c.args.factors.now (n * 4) c.args.b.now c.args.start (omega arith) (rw all at c.loop-t.invariant)
