@@ -6,7 +6,7 @@
 //! a changed row of that hint, or several of them, in the same way. The public matrix of the digits may have
 //! more rows than these have columns: a product takes no more of them.
 //!
-//! Its tests are in `scheme_tests::updates` and `scheme_tests::logs`.
+//! Its tests are in `scheme_tests::updates` and `scheme_tests::logs`; that of several rows at once is in `tests/long/scheme_tests`.
 #![tactic(auto)]
 
 ghost use Rattle.std.specs.Prelude.{◌≡◌, ℕ, ◌+◌, ◌-◌, ◌*◌, ◌%◌, ◌^◌, ◌<◌, ◌≤◌, length};
