@@ -156,14 +156,16 @@ no_row_added c factors b first t n whole = record {
   elsewhere = λ r q l p out. refl;
 }
 
--- to one row more
-pub one_added : (c0 c factors b : WordMatrix) (first count t n : ℕ) (f : ℕ → ℕ) (words : List ℕ) → AddsRows c0 c first count factors b t n → first + count < c0.rows →
-    ((k : ℕ) → k < n → f k ≡ entry factors count (t + k)) → words ≡ plus_rows (row c (first + count)) n f b t →
+-- to one row more, which is written with the right words
+pub row_added : (c0 c factors b : WordMatrix) (first count t n : ℕ) (words : List ℕ) → AddsRows c0 c first count factors b t n → first + count < c0.rows →
+    length words ≡ c.cols →
+    ((q : ℕ) → q < c.cols →
+    slice_index words q ≡ (entry c (first + count) q + sum_below n (λ k. entry factors count (t + k) * entry b (t + k) q)) % 2 ^ 32) →
     AddsRows c0 (written_row c (first + count) words) first (count + 1) factors b t n
-one_added c0 c factors b first count t n f words h fits are is =
+row_added c0 c factors b first count t n words h fits long is =
     let r : ℕ = first + count in
     let inside : r < c.rows = omega (arith, fits, h.rows) in
-    let long : length words ≡ c.cols = ap length is ∙ plus_rows-length (row c r) n f b t ∙ length-row c r in
+    let sum : ℕ → ℕ → ℕ = λ i q. sum_below n (λ k. entry factors i (t + k) * entry b (t + k) q) in
     record {
       rows = h.rows;
       cols = h.cols;
@@ -172,15 +174,9 @@ one_added c0 c factors b first count t n f words h fits are is =
           let across : q < c.cols = omega (arith, p, h.cols) in
           elim (cases_eq i count) [
             | inl e ↦
-                let sum : sum_below n (λ k. f k * entry b (t + k) q) ≡ sum_below n (λ k. entry factors i (t + k) * entry b (t + k) q) =
-                sum_same n (λ k. f k * entry b (t + k) q) (λ k. entry factors i (t + k) * entry b (t + k) q)
-                (λ k l. ap (λ y. y * entry b (t + k) q) (are k l ∙ ap (λ i. entry factors i (t + k)) (sym e))) in
-                ap (λ i. entry (written_row c r words) (first + i) q) e ∙ written_row-same c r words h.whole inside long q across
-                ∙ ap (λ (xs : List ℕ). slice_index xs q) is
-                ∙ plus_rows-index (row c r) n f b t q (omega (arith, across, length-row c r))
-                ∙ ap (λ y. (y + sum_below n (λ k. f k * entry b (t + k) q)) % 2 ^ 32)
-                (row_index c r q across ∙ h.elsewhere r q fits p (inr (omega arith)) ∙ ap (λ i. entry c0 (first + i) q) (sym e))
-                ∙ ap (λ y. (entry c0 (first + i) q + y) % 2 ^ 32) sum
+                ap (λ i. entry (written_row c r words) (first + i) q) e ∙ written_row-same c r words h.whole inside long q across ∙ is q across
+                ∙ ap (λ y. (y + sum count q) % 2 ^ 32) (h.elsewhere r q fits p (inr (omega arith)) ∙ ap (λ i. entry c0 (first + i) q) (sym e))
+                ∙ ap (λ x. (entry c0 (first + i) q + sum x q) % 2 ^ 32) (sym e)
             | inr apart ↦
                 written_row-other c r words h.whole inside long (first + i) q (λ x. apart (omega (arith, x))) across ∙ h.added i q (omega (arith, l, apart)) p
           ];
@@ -195,6 +191,18 @@ one_added c0 c factors b first count t n f words h fits are is =
             | inr past ↦ inr (omega (arith, past))
           ]);
     }
+
+-- the same of a row to which others are added
+pub one_added : (c0 c factors b : WordMatrix) (first count t n : ℕ) (f : ℕ → ℕ) (words : List ℕ) → AddsRows c0 c first count factors b t n → first + count < c0.rows →
+    ((k : ℕ) → k < n → f k ≡ entry factors count (t + k)) → words ≡ plus_rows (row c (first + count)) n f b t →
+    AddsRows c0 (written_row c (first + count) words) first (count + 1) factors b t n
+one_added c0 c factors b first count t n f words h fits are is =
+    let r : ℕ = first + count in
+    row_added c0 c factors b first count t n words h fits (ap length is ∙ plus_rows-length (row c r) n f b t ∙ length-row c r) (λ q across.
+    ap (λ (xs : List ℕ). slice_index xs q) is ∙ plus_rows-index (row c r) n f b t q (omega (arith, across, length-row c r))
+    ∙ ap (λ y. (y + sum_below n (λ k. f k * entry b (t + k) q)) % 2 ^ 32) (row_index c r q across)
+    ∙ ap (λ y. (entry c r q + y) % 2 ^ 32)
+    (sum_same n (λ k. f k * entry b (t + k) q) (λ k. entry factors count (t + k) * entry b (t + k) q) (λ k l. ap (λ y. y * entry b (t + k) q) (are k l))))
 
 -- no rows of the other matrix
 pub nothing_added : (c factors b : WordMatrix) (first count : ℕ) → IsWhole c → ((i q : ℕ) → entry c i q < 2 ^ 32) → AddsRows c c first count factors b 0 0

@@ -3,3 +3,4 @@ pub mod Columns
 pub mod Listed
 pub mod Blocks
 pub mod Logs
+pub mod Lowest

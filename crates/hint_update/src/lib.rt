@@ -16,11 +16,13 @@ ghost use Rattle.hint_update.specs.Updates.{FollowsDigit, FollowsRow, with_colum
 
 mod log;
 mod rows;
+mod words;
 
 use digit_pack::{DigitStore, split_count, word_digit};
 pub use log::DeltaLog;
 use matrix_u32::{Kernel, Matrix};
 pub use rows::{RowsRoom, update_double_rows};
+pub use words::WordsRoom;
 
 /// Changes the hint of a digit matrix as the digit in row `row`, column `col` changes from `old` to `new`.
 /// Where they are equal nothing is multiplied.

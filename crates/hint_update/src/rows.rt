@@ -6,41 +6,56 @@ ghost use Rattle.matrix_u32.specs.Blocks.{plus_rows};
 ghost use Rattle.lane_kernels.specs.Digit.{split_count};
 ghost use Rattle.hint_update.specs.Updates.{AreRowsBelow, FollowsListed, TakesRows, moved_by_rows};
 ghost use Rattle.hint_update.specs.Updates.{AddsRows, TakesBlock, digit_change};
+ghost use Rattle.hint_update.specs.Words.{IsRowsRoom};
 
+use crate::words::{WordsRoom, add_changed};
 use digit_pack::{DigitStore, split_count, word_digit};
 use matrix_u32::{Kernel, Matrix};
 use std::alloc::{AllocError, Global};
 
-// How many rows of the client's hint are changed together: as many as stay near the processor while the rows of the public
-// matrix pass.
-const BLOCK_ROWS: usize = 64;
+// How many rows of the client's hint are changed together, at most: as many as stay near the processor while the rows of
+// the public matrix pass.
+const BLOCK_ROWS: usize = 32;
 
 // How many rows of the public matrix pass at a time.
 const PASSING_ROWS: usize = 4;
 
-/// Memory for rows that [`update_double_rows`] takes together: copies of their rows of the second public matrix, one beside the
-/// other, and for some rows of the client's hint the changes of their digits. What they hold between calls has no meaning.
+/// Memory for rows that [`update_double_rows`] takes together, made for digits of w bits: copies of their rows of the second
+/// public matrix, one beside the other, for some rows of the client's hint the changes of their digits, and what products of whole
+/// words want. What they hold between calls has no meaning.
 #[derive(Drop)]
 pub struct RowsRoom {
     pub public: Matrix,
     pub changes: Matrix,
+    pub sums: Vec<u32>,
+    pub words: WordsRoom,
 }
 
 impl RowsRoom {
     /// Memory for `most` rows, over a public matrix with so many columns. Only refused memory gives an `Err`.
-    pub fn new(alloc: Global, most: usize, cols: usize) -> Result<RowsRoom, AllocError>
+    pub fn new(alloc: Global, most: usize, cols: usize, w: u32) -> Result<RowsRoom, AllocError>
         requires most { most ≤ 4096 }
         requires cols { cols ≤ 1024 }
-        ensures { IfOk result (λ room. (room.public.rows ≡ most) × (room.public.cols ≡ cols)
-            × (0 < room.changes.rows) × (room.changes.cols ≡ most)) }
+        requires width { (6 ≤ w) × (w ≤ 10) }
+        ensures { IfOk result (IsRowsRoom most cols) }
     {
+        let count = BLOCK_ROWS / split_count(w);
+        // Before the public rows: what glibc's heap gives out next stands past it. Where products stood some bytes past the public
+        // rows, modulo 4096, loads of these would wait for stores of those, which only seem to be of their bytes.
+        let words = WordsRoom::new(alloc, count, most, cols, w)?;
         let Ok(public) = Matrix::zeros(alloc, most, cols) else {
             return Err(AllocError);
         };
-        let Ok(changes) = Matrix::zeros(alloc, BLOCK_ROWS, most) else {
+        let Ok(changes) = Matrix::zeros(alloc, count * split_count(w), most) else {
             return Err(AllocError);
         };
-        Ok(RowsRoom { public, changes })
+        let sums = vec![in alloc; 0; most]?;
+        Ok(RowsRoom {
+            public,
+            changes,
+            sums,
+            words,
+        })
     }
 }
 
@@ -68,22 +83,20 @@ pub fn update_double_rows<K: Kernel, S: DigitStore>(
     requires client_rows { client_hint.old.rows ≡ (S.digits server_hint.old).rows }
     requires client_cols { client_hint.old.cols ≡ a2.now.cols }
     requires rows { a2.now.rows ≡ (S.digits server_hint.old).cols }
-    requires public_rows { length listed.now ≤ room.old.public.rows }
-    requires public_cols { room.old.public.cols ≡ a2.now.cols }
-    requires changes_rows { 0 < room.old.changes.rows }
-    requires changes_cols { length listed.now ≤ room.old.changes.cols }
+    requires few { length listed.now ≤ room.old.public.rows }
+    requires room { IsRowsRoom room.old.public.rows a2.now.cols room.old }
     ensures follows { FollowsListed w hint.now a2.now (S.digits server_hint.old)
         (S.digits server_hint.new) client_hint.old client_hint.new listed.now }
     ensures server { TakesRows w hint.now (S.digits server_hint.old) (S.digits server_hint.new)
         listed.now }
     ensures client { client_hint.new ≡ moved_by_rows client_hint.old (S.digits server_hint.old)
         (S.digits server_hint.new) a2.now listed.now }
-    ensures public_rows { room.new.public.rows ≡ room.old.public.rows }
-    ensures public_cols { room.new.public.cols ≡ room.old.public.cols }
-    ensures changes_rows { room.new.changes.rows ≡ room.old.changes.rows }
-    ensures changes_cols { room.new.changes.cols ≡ room.old.changes.cols }
+    ensures room { IsRowsRoom room.old.public.rows a2.now.cols room.new }
 {
     copy_rows(a2, listed, &mut room.public);
+    clear_rows(&mut room.public, listed.len());
+    room.words
+        .guess(kernel, server_hint, hint, w, listed, &room.public);
     let rows = server_hint.rows();
     client_hint.rows();
     let mut first = 0;
@@ -98,15 +111,7 @@ pub fn update_double_rows<K: Kernel, S: DigitStore>(
             count,
             &mut room.changes,
         );
-        add_block(
-            kernel,
-            client_hint,
-            first,
-            count,
-            listed.len(),
-            &room.changes,
-            &room.public,
-        );
+        add_changed(kernel, client_hint, first, count, listed.len(), room);
         first += count;
     }
 }
@@ -124,6 +129,18 @@ fn copy_rows(from: &Matrix, listed: &[usize], to: &mut Matrix)
     to.rows();
     for k in 0..listed.len() {
         to.row_mut(k).copy_from_slice(from.row(listed[k]));
+    }
+}
+
+// Makes all words 0 from row `from` on.
+fn clear_rows(m: &mut Matrix, from: usize)
+    ensures rows { m.new.rows ≡ m.old.rows }
+    ensures cols { m.new.cols ≡ m.old.cols }
+    ensures kept { (k q : ℕ) → k < from → q < m.old.cols → entry m.new k q ≡ entry m.old k q }
+    ensures cleared { (k q : ℕ) → from ≤ k → k < m.old.rows → q < m.old.cols → entry m.new k q ≡ 0 }
+{
+    for k in from..m.rows() {
+        m.row_mut(k).fill(0);
     }
 }
 
@@ -202,7 +219,7 @@ fn take_row<S: DigitStore>(
 }
 
 // Adds to `count` rows of the client's hint, from row `first` on, the first n rows of the public matrix, each times its factor.
-fn add_block<K: Kernel>(
+pub(crate) fn add_block<K: Kernel>(
     kernel: K,
     client_hint: &mut Matrix,
     first: usize,
@@ -257,7 +274,13 @@ fn add_passing<K: Kernel>(
 
 // Adds to `out` the rows of a matrix from `start` on, each times its factor; where all of them are 0 nothing
 // is multiplied.
-fn add_changes<K: Kernel>(kernel: K, out: &mut [u32], factors: &[u32], rows: &Matrix, start: usize)
+pub(crate) fn add_changes<K: Kernel>(
+    kernel: K,
+    out: &mut [u32],
+    factors: &[u32],
+    rows: &Matrix,
+    start: usize,
+)
     requires width { length out.old ≡ rows.now.cols }
     requires inside { start + length factors.now ≤ rows.now.rows }
     ensures { out.new
@@ -269,7 +292,7 @@ fn add_changes<K: Kernel>(kernel: K, out: &mut [u32], factors: &[u32], rows: &Ma
 }
 
 // Whether all factors are 0.
-fn are_zero(factors: &[u32]) -> bool
+pub(crate) fn are_zero(factors: &[u32]) -> bool
     ensures { IsTrue result ↔ EachIndex factors.now (λ k. slice_index factors.now k ≡ 0) }
 {
     factors.iter().all(|factor| *factor == 0)

@@ -3,6 +3,7 @@ use Rattle.std.specs.Prelude.{◌≡◌, ◌<◌, ◌≤◌, ℕ, length, vec_ca
 use Rattle.digit_pack.specs.Layout.{Shape, digit_rows}
 use Rattle.pir_schemes.specs.declared.scheme.Scheme.{Scheme}
 use Rattle.pir_schemes.specs.declared.scheme.Scheme.TheVariants as scheme
+use Rattle.hint_update.specs.Words.{IsRowsRoom}
 use Rattle.version_store.specs.declared.answer_room.AnswerRoom.{AnswerRoom}
 use Rattle.version_store.specs.declared.answer_room.AnswerRoom.TheVariants.{Simple, Double}
 use Rattle.version_store.specs.declared.rows.FollowRoom.{FollowRoom}
@@ -20,7 +21,5 @@ IsAnswerRoom l dimension (Double room) = room ≡ record { layout = l; dimension
 -- memory for at least one changed row, over public matrices of so many columns
 pub record IsRoomForRows (dimension : ℕ) (room : FollowRoom) : Type 0 where
   pub some : 0 < room.rows.public.rows
-  pub cols : room.rows.public.cols ≡ dimension
-  pub blocks : 0 < room.rows.changes.rows
-  pub changes : room.rows.changes.cols ≡ room.rows.public.rows
+  pub rows : IsRowsRoom room.rows.public.rows dimension room.rows
   pub listed : room.rows.public.rows ≤ vec_capacity room.listed

@@ -23,15 +23,16 @@ pub struct FollowRoom {
 }
 
 impl FollowRoom {
-    /// Memory for changes in a hint with so many rows and columns. Only refused memory gives an `Err`.
-    pub fn new(alloc: Global, rows: usize, cols: usize) -> Result<FollowRoom, AllocError>
-        requires rows { 0 < rows }
+    /// Memory for changes of at most so many rows, in a hint with so many columns, of digits of w bits. Only refused memory
+    /// gives an `Err`.
+    pub fn new(alloc: Global, rows: usize, cols: usize, w: u32) -> Result<FollowRoom, AllocError>
         requires cols { cols ≤ 1024 }
+        requires width { (6 ≤ w) × (w ≤ 10) }
         ensures { IfOk result (IsRoomForRows cols) }
     {
-        let most = NEAR_ROWS.min(rows);
+        let most = NEAR_ROWS.min(rows).max(1);
         let listed = Vec::with_capacity(alloc, most)?;
-        let rows = RowsRoom::new(alloc, most, cols)?;
+        let rows = RowsRoom::new(alloc, most, cols, w)?;
         Ok(FollowRoom { listed, rows })
     }
 }

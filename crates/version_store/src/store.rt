@@ -536,11 +536,14 @@ impl<K: Kernel> Store<K> {
         if self.version() == u64::MAX {
             return Err(PublishError::VersionsUsedUp);
         }
+        let changes = self.changes.len();
         let layout = self.edition.layout();
         let mut scratch = scratch_for(self.alloc, layout)?;
         let mut marks = marks_for(self.alloc, layout)?;
         let mut rows = Vec::with_capacity(self.alloc, layout.rows())?;
-        let mut room = FollowRoom::new(self.alloc, layout.rows(), self.dimension())?;
+        let most = layout.digits_per_record().saturating_mul(changes);
+        let changed = layout.rows().min(most);
+        let mut room = FollowRoom::new(self.alloc, changed, self.dimension(), layout.width())?;
         self.edition.grow(self.alloc, self.count)?;
         self.edition
             .apply(&mut self.changes, &mut scratch, &mut marks, &mut room);

@@ -1,9 +1,11 @@
-use Rattle.std.proofs.Common.{◌≡◌, ℕ, ◌+◌, ◌≤◌, arith, ◌∙◌, sym, subst, List}
-use Rattle.matrix_u32.specs.Matrix.{WordMatrix}
+use Rattle.std.proofs.Common.{◌≡◌, ℕ, ◌+◌, ◌≤◌, arith, ap, ◌∙◌, sym, subst, List}
+use Rattle.matrix_u32.specs.Matrix.{WordMatrix, entry}
 use Rattle.digit_pack.proofs.DigitSums.{split_some}
 use Rattle.hint_update.specs.Updates.{AreRowsBelow, TakesBlock}
 use Rattle.hint_update.proofs.Blocks.{more_taken, all_taken, block_moved, all_moved}
 use Rattle.hint_update.proofs.Listed.{listed_follows}
+use Rattle.hint_update.proofs.Lowest.{room_with_changes}
+use Rattle.hint_update.specs.Words.{IsRowsRoom}
 use Rattle.hint_update.proofs.rows.update_double_rows.Goals as goal
 
 pub loop-first-preserved : goal.loop-first-preserved
@@ -23,15 +25,30 @@ loop-first-preserved g c =
       within = omega (arith, fits, c.rows-rows.ensures.value);
       server = more_taken w hint s0 s s' listed 0 first count rows (omega (arith, fits)) c.loop-first.invariant.server
           (subst (λ x. TakesBlock w hint s s' listed x count) (sym zero) c.take_block.ensures.server);
-      client = block_moved w hint s0 s c.args.client_hint.now c.loop-first.client_hint c.add_block.new.client_hint c.args.a2.now c.loop-first.room.public
+      client = block_moved w hint s0 s c.args.client_hint.now c.loop-first.client_hint c.add_changed.new.client_hint c.args.a2.now c.loop-first.room.public
           c.take_block.new.changes listed first count rows fits c.requires.client_rows c.requires.client_cols c.loop-first.invariant.server
-          c.take_block.ensures.changes c.loop-first.invariant.copied c.add_block.ensures c.loop-first.invariant.client;
-      copied = c.loop-first.invariant.copied;
-      public_rows = c.loop-first.invariant.public_rows;
-      public_cols = c.loop-first.invariant.public_cols;
-      changes_rows = c.take_block.ensures.rows ∙ c.loop-first.invariant.changes_rows;
-      changes_cols = c.take_block.ensures.cols ∙ c.loop-first.invariant.changes_cols;
+          c.take_block.ensures.changes c.loop-first.invariant.copied c.add_changed.ensures.added c.loop-first.invariant.client;
+      copied = λ k q l p. ap (λ m. entry m k q) c.add_changed.ensures.public ∙ c.loop-first.invariant.copied k q l p;
+      cleared = λ k q l p b. ap (λ m. entry m k q) c.add_changed.ensures.public ∙ c.loop-first.invariant.cleared k q l p b;
+      combined = c.add_changed.ensures.combined;
+      room = subst (λ n. IsRowsRoom n c.args.a2.now.cols c.add_changed.new.room) c.loop-first.invariant.room.public_rows
+          (subst (λ n. IsRowsRoom c.loop-first.room.public.rows n c.add_changed.new.room) c.loop-first.invariant.room.public_cols c.add_changed.ensures.room);
     }
+
+pub add_changed-requires-clause-room : goal.add_changed-requires-clause-room
+add_changed-requires-clause-room g c =
+    room_with_changes c.args.room.now.public.rows c.args.a2.now.cols c.loop-first.room c.take_block.new.changes c.loop-first.invariant.room
+    c.take_block.ensures.rows c.take_block.ensures.cols
+
+pub add_changed-requires-clause-cleared : goal.add_changed-requires-clause-cleared
+add_changed-requires-clause-cleared g c = λ k q l p b.
+    c.loop-first.invariant.cleared k q l (omega (arith, p, c.loop-first.invariant.room.public_rows)) (omega (arith, b, c.loop-first.invariant.room.public_cols))
+
+pub add_changed-requires-clause-combined : goal.add_changed-requires-clause-combined
+add_changed-requires-clause-combined g c = c.loop-first.invariant.combined
+
+pub returns-clause-room : goal.returns-clause-room
+returns-clause-room g c = c.loop-first.invariant.room
 
 pub returns-clause-server : goal.returns-clause-server
 returns-clause-server g c =

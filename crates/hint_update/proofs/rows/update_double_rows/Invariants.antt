@@ -2,6 +2,7 @@ use Rattle.std.proofs.Common.{◌≡◌, ℕ, ◌<◌, ◌≤◌, ◌-◌, lengt
 use Rattle.std.specs.Prelude.{slice_index}
 use Rattle.matrix_u32.specs.Matrix.{entry}
 use Rattle.hint_update.specs.Updates.{TakesBlock}
+use Rattle.hint_update.specs.Words.{HasCombined, IsRowsRoom}
 use Rattle.hint_update.proofs.Blocks.{IsMovedTo}
 use Rattle.hint_update.proofs.rows.update_double_rows.Given as goal
 
@@ -11,10 +12,9 @@ invariant-loop-first g l = record {
   server : TakesBlock l.w l.hint (g.S.DigitStore.digits l.fn.server_hint) (g.S.DigitStore.digits l.server_hint) l.listed 0 l.first;
   client : IsMovedTo l.first l.w l.hint (g.S.DigitStore.digits l.fn.server_hint) l.fn.client_hint l.client_hint l.a2 l.listed;
   copied : (k q : ℕ) → k < length l.listed → q < l.a2.cols → entry l.room.public k q ≡ entry l.a2 (slice_index l.listed k) q;
-  public_rows : l.room.public.rows ≡ l.fn.room.public.rows;
-  public_cols : l.room.public.cols ≡ l.fn.room.public.cols;
-  changes_rows : l.room.changes.rows ≡ l.fn.room.changes.rows;
-  changes_cols : l.room.changes.cols ≡ l.fn.room.changes.cols;
+  cleared : (k q : ℕ) → length l.listed ≤ k → k < l.fn.room.public.rows → q < l.a2.cols → entry l.room.public k q ≡ 0;
+  combined : HasCombined l.room.public l.room.words;
+  room : IsRowsRoom l.fn.room.public.rows l.a2.cols l.room;
 }
 
 abbrev pub decreases-loop-first : goal.decreases-loop-first

@@ -1,6 +1,8 @@
 use Rattle.std.proofs.Common.{◌≡◌, ◌∙◌, arith, sym, subst, ℕ, List}
 use Rattle.matrix_u32.specs.Matrix.{WordMatrix}
 use Rattle.hint_update.specs.Updates.{AreRowsBelow, FollowsListed, TakesRows, moved_by_rows}
+use Rattle.hint_update.specs.Words.{IsRowsRoom}
+use Rattle.hint_update.specs.declared.rows.RowsRoom.{RowsRoom}
 use Rattle.version_store.proofs.ListedRows.{marked_listed, listed_below}
 use Rattle.version_store.proofs.RowLemmas.{none_followed, part_followed, all_followed}
 use Rattle.version_store.proofs.rows.follow_rows.Goals as goal
@@ -10,9 +12,7 @@ loop-r-init g c = record {
   within = omega arith;
   room = record {
     some = c.requires.room.some;
-    cols = c.requires.room.cols;
-    blocks = c.requires.room.blocks;
-    changes = c.requires.room.changes;
+    rows = c.requires.room.rows;
     listed = c.requires.room.listed;
   };
   most = c.rows-most.ensures.value;
@@ -29,6 +29,10 @@ update_double_rows-requires-clause-listed g c =
     (marked_listed c.args.marks.now c.loop-r.r end listed (omega (arith, c.list_marked-r.ensures.further)) c.list_marked-r.ensures.listed) in
     subst (AreRowsBelow c.args.hint.now.rows) (sym c.deref.ensures.value) rows
 
+pub update_double_rows-requires-clause-room : goal.update_double_rows-requires-clause-room
+update_double_rows-requires-clause-room g c =
+    subst (λ n. IsRowsRoom c.loop-r.room.rows.public.rows n c.loop-r.room.rows) (sym c.requires.second_cols) c.loop-r.invariant.room.rows
+
 pub loop-r-preserved : goal.loop-r-preserved
 loop-r-preserved g c =
     let marks : _ = c.args.marks.now in
@@ -43,16 +47,17 @@ loop-r-preserved g c =
     let listed : List ℕ = c.list_marked-r.new.listed.items in
     let same : c.deref.result.now ≡ listed = c.deref.ensures.value in
     let e : _ = c.update_double_rows.ensures in
+    let rows : RowsRoom = c.update_double_rows.new.room in
+    let same_rows : rows.public.rows ≡ c.loop-r.room.rows.public.rows = e.room.public_rows in
     record {
       within = c.list_marked-r.ensures.inside;
       room = record {
-        some = omega (arith, e.public_rows, c.loop-r.invariant.room.some);
-        cols = e.public_cols ∙ c.loop-r.invariant.room.cols;
-        blocks = omega (arith, e.changes_rows, c.loop-r.invariant.room.blocks);
-        changes = e.changes_cols ∙ c.loop-r.invariant.room.changes ∙ sym e.public_rows;
-        listed = omega (arith, e.public_rows, c.loop-r.invariant.room.listed, c.list_marked-r.ensures.room);
+        some = omega (arith, same_rows, c.loop-r.invariant.room.some);
+        rows = subst (λ n. IsRowsRoom n hint.cols rows) (sym same_rows)
+            (subst (λ n. IsRowsRoom c.loop-r.room.rows.public.rows n rows) c.requires.second_cols e.room);
+        listed = omega (arith, same_rows, c.loop-r.invariant.room.listed, c.list_marked-r.ensures.room);
       };
-      most = c.loop-r.invariant.most ∙ sym e.public_rows;
+      most = c.loop-r.invariant.most ∙ sym same_rows;
       follows = part_followed r end w hint a2 (g.S.DigitStore.digits c.args.server.now) s s' c.args.client.now c.loop-r.client c' marks listed
           c.list_marked-r.ensures.inside
           (marked_listed marks r end listed (omega (arith, c.list_marked-r.ensures.further)) c.list_marked-r.ensures.listed)

@@ -1,0 +1,500 @@
+//! Rows of the client's hint that change by the digits of whole words.
+//!
+//! The digits of a word, each times its weight 2^(w t), add up to the word. Where one column of D changes, row i of D A1
+//! changes by a multiple of one row of A1, and so each word of the changed rows by a multiple of one list, which has a
+//! number for each changed row. The product of this list with the second public matrix is made once. Of a word's digits only the
+//! higher ones are then multiplied, and what the lowest one adds to the client's hint follows from their products and from that one.
+//! Nothing is taken for granted: the list is a guess, and each word is tested before it is used.
+
+ghost use Rattle.std.specs.Prelude.{◌≡◌, ℕ, ◌+◌, ◌-◌, ◌*◌, ◌%◌, ◌^◌, ◌<◌, ◌≤◌, length, slice_index};
+ghost use Rattle.std.specs.Prelude.{IfOk, IfSome, IsTrue};
+ghost use Rattle.matrix_u32.specs.Matrix.{entry};
+ghost use Rattle.lane_kernels.specs.Digit.{split_count};
+ghost use Rattle.hint_update.specs.Updates.{AddsRows, AreRowsBelow};
+ghost use Rattle.hint_update.specs.Words.{IsRowsRoom, IsWordsRoom, HasCombined, IsMultiple};
+ghost use Rattle.hint_update.specs.Words.{AreWholeWords, HasHigherRows, HasHigherProducts, IsRowAdded};
+
+use crate::rows::{RowsRoom, add_block, add_changes, are_zero};
+use digit_pack::{DigitStore, split_count};
+use matrix_u32::{Kernel, Matrix};
+use std::alloc::{AllocError, Global};
+
+// The fewest rows of which whole words are multiplied together. With fewer, what the lowest digits follow from costs more than
+// their products.
+const FEWEST_ROWS: usize = 16;
+
+// How many words are looked at for the changes that the list is made of. Where the first public matrix has an even word, its changes
+// no longer tell odd numbers from even ones, so one word is not enough.
+const TRIED_WORDS: usize = 16;
+
+/// Memory for products of whole words: `weights` has the negative weight of each digit of a word, the lowest first; `common` the
+/// list of which words may change by multiples, a number for each listed row, with 1 in place `pivot`; `combined` its product with the public
+/// rows. `higher` and `products` have a row for each digit of some words but the lowest ones.
+#[derive(Drop)]
+pub struct WordsRoom {
+    pub weights: Vec<u32>,
+    pub common: Vec<u32>,
+    pub pivot: usize,
+    pub combined: Vec<u32>,
+    pub higher: Matrix,
+    pub products: Matrix,
+}
+
+impl WordsRoom {
+    /// Memory for so many words, over `most` rows of a public matrix with so many columns. Only refused memory gives an `Err`.
+    pub fn new(
+        alloc: Global,
+        words: usize,
+        most: usize,
+        cols: usize,
+        w: u32,
+    ) -> Result<WordsRoom, AllocError>
+        requires words { words ≤ 64 }
+        requires most { most ≤ 4096 }
+        requires cols { cols ≤ 1024 }
+        requires width { (6 ≤ w) × (w ≤ 10) }
+        ensures { IfOk result (IsWordsRoom most cols) }
+    {
+        let step = split_count(w);
+        let mut weights = vec![in alloc; 0; step]?;
+        put_weights(&mut weights, w);
+        let common = vec![in alloc; 0; most]?;
+        let combined = vec![in alloc; 0; cols]?;
+        let Ok(higher) = Matrix::zeros(alloc, words * (step - 1), most) else {
+            return Err(AllocError);
+        };
+        let Ok(products) = Matrix::zeros(alloc, words * (step - 1), cols) else {
+            return Err(AllocError);
+        };
+        Ok(WordsRoom {
+            weights,
+            common,
+            pivot: 0,
+            combined,
+            higher,
+            products,
+        })
+    }
+
+    /// Looks for a list of which the words of the listed rows change by multiples, and makes its product with the public
+    /// rows, those of the listed rows first. The digits of the server's hint are those before the change.
+    pub(crate) fn guess<K: Kernel, S: DigitStore>(
+        &mut self,
+        kernel: K,
+        server_hint: &S,
+        hint: &Matrix,
+        w: u32,
+        listed: &[usize],
+        public: &Matrix,
+    )
+        requires width { (6 ≤ w) × (w ≤ 10) }
+        requires listed { AreRowsBelow hint.now.rows listed.now }
+        requires few { length listed.now ≤ public.now.rows }
+        requires server_rows { (S.digits server_hint.now).rows ≡ hint.now.cols * split_count w }
+        requires server_cols { (S.digits server_hint.now).cols ≡ hint.now.rows }
+        requires room { IsWordsRoom public.now.rows public.now.cols self.old }
+        ensures room { IsWordsRoom public.now.rows public.now.cols self.new }
+        ensures combined { HasCombined public.now self.new }
+    {
+        self.pivot = put_common(server_hint, hint, w, listed, &mut self.common);
+        self.combined.fill(0);
+        add_changes(kernel, &mut self.combined, &self.common, public, 0);
+    }
+}
+
+// Writes the negative weights of digits of w bits, the lowest first.
+fn put_weights(weights: &mut [u32], w: u32)
+    requires some { 0 < length weights.old }
+    requires width { w ≤ 10 }
+    ensures first { slice_index weights.new 0 ≡ 2 ^ 32 - 1 }
+    ensures length { length weights.new ≡ length weights.old }
+{
+    weights[0] = u32::MAX;
+    for t in 1..weights.len() {
+        weights[t] = weights[t - 1].wrapping_mul(1 << w);
+    }
+}
+
+// Writes a number for each listed row, so that words change by multiples of them, where there are such numbers, and answers the
+// place of one that is 1; where nothing changes, or too few rows do, all are 0. They are the changes of one of the first words, divided
+// modulo 2^32 by the one that is divisible by the lowest power of two. What the division by that power leaves open no multiple shows, as
+// each change is divisible by it.
+fn put_common<S: DigitStore>(
+    server_hint: &S,
+    hint: &Matrix,
+    w: u32,
+    listed: &[usize],
+    common: &mut [u32],
+) -> usize
+    requires width { (6 ≤ w) × (w ≤ 10) }
+    requires listed { AreRowsBelow hint.now.rows listed.now }
+    requires few { length listed.now ≤ length common.old }
+    requires server_rows { (S.digits server_hint.now).rows ≡ hint.now.cols * split_count w }
+    requires server_cols { (S.digits server_hint.now).cols ≡ hint.now.rows }
+    ensures { length common.new ≡ length common.old }
+{
+    if listed.len() < FEWEST_ROWS {
+        common.fill(0);
+        return 0;
+    }
+    let least = least_power(server_hint, hint, w, listed, common);
+    for word in 0..hint.cols().min(TRIED_WORDS) {
+        put_word_changes(server_hint, hint, w, listed, word, common);
+        if let Some(pivot) = common.iter().position(|x| x.trailing_zeros() == least) {
+            let odd = common[pivot].checked_shr(least).unwrap_or(0);
+            divide(common, least, inverse_of_odd(odd));
+            return pivot;
+        }
+    }
+    common.fill(0);
+    0
+}
+
+// The lowest of the powers of two that divide the changes of the first words, as its number of bits: 32 where nothing changes. What
+// `changes` holds afterwards has no meaning.
+fn least_power<S: DigitStore>(
+    server_hint: &S,
+    hint: &Matrix,
+    w: u32,
+    listed: &[usize],
+    changes: &mut [u32],
+) -> u32
+    requires width { (6 ≤ w) × (w ≤ 10) }
+    requires listed { AreRowsBelow hint.now.rows listed.now }
+    requires few { length listed.now ≤ length changes.old }
+    requires server_rows { (S.digits server_hint.now).rows ≡ hint.now.cols * split_count w }
+    requires server_cols { (S.digits server_hint.now).cols ≡ hint.now.rows }
+    ensures { length changes.new ≡ length changes.old }
+{
+    let mut least = u32::BITS;
+    for word in 0..hint.cols().min(TRIED_WORDS) {
+        put_word_changes(server_hint, hint, w, listed, word, changes);
+        least = least.min(zero_bits(changes));
+    }
+    least
+}
+
+// The fewest zero bits at the end of a number.
+fn zero_bits(numbers: &[u32]) -> u32 {
+    let mut least = u32::BITS;
+    for number in numbers {
+        least = least.min(number.trailing_zeros());
+    }
+    least
+}
+
+// Writes the changes of one word of the listed rows, and zeros after them.
+fn put_word_changes<S: DigitStore>(
+    server_hint: &S,
+    hint: &Matrix,
+    w: u32,
+    listed: &[usize],
+    word: usize,
+    changes: &mut [u32],
+)
+    requires width { (6 ≤ w) × (w ≤ 10) }
+    requires listed { AreRowsBelow hint.now.rows listed.now }
+    requires few { length listed.now ≤ length changes.old }
+    requires word { word < hint.now.cols }
+    requires server_rows { (S.digits server_hint.now).rows ≡ hint.now.cols * split_count w }
+    requires server_cols { (S.digits server_hint.now).cols ≡ hint.now.rows }
+    ensures { length changes.new ≡ length changes.old }
+{
+    let _rows = server_hint.rows();
+    let first = word * split_count(w);
+    changes.fill(0);
+    for k in 0..listed.len() {
+        let old = word_in(server_hint, w, first, listed[k]);
+        changes[k] = hint.get(listed[k], word).wrapping_sub(old);
+    }
+}
+
+// The word whose digits stand in a column, from row `first` down.
+fn word_in<S: DigitStore>(server_hint: &S, w: u32, first: usize, col: usize) -> u32
+    requires width { (6 ≤ w) × (w ≤ 10) }
+    requires rows { first + split_count w ≤ (S.digits server_hint.now).rows }
+    requires col { col < (S.digits server_hint.now).cols }
+{
+    let _rows = server_hint.rows();
+    let step = split_count(w);
+    let mut value: u32 = 0;
+    for t in 0..step {
+        let digit = server_hint.get(first + (step - 1 - t), col);
+        value = value.wrapping_mul(1 << w).wrapping_add(digit);
+    }
+    value
+}
+
+// The number that gives 1 with an odd one, modulo 2^32, by Newton's steps: each doubles the bits that are right, three at first.
+fn inverse_of_odd(x: u32) -> u32 {
+    let mut inverse = x;
+    for _ in 0..4 {
+        let error = 2u32.wrapping_sub(x.wrapping_mul(inverse));
+        inverse = inverse.wrapping_mul(error);
+    }
+    inverse
+}
+
+// Divides each number by a power of two and an odd number, whose inverse modulo 2^32 is given.
+fn divide(numbers: &mut [u32], bits: u32, inverse: u32)
+    ensures { length numbers.new ≡ length numbers.old }
+{
+    for k in 0..numbers.len() {
+        numbers[k] = numbers[k]
+            .checked_shr(bits)
+            .unwrap_or(0)
+            .wrapping_mul(inverse);
+    }
+}
+
+/// Adds to `count` rows of the client's hint, from row `first` on, the public rows, each times the change of its digit. Where the
+/// changes are those of whole words that follow the guessed list, only those of their higher digits are multiplied.
+pub(crate) fn add_changed<K: Kernel>(
+    kernel: K,
+    client_hint: &mut Matrix,
+    first: usize,
+    count: usize,
+    n: usize,
+    room: &mut RowsRoom,
+)
+    requires block { first + count ≤ client_hint.old.rows }
+    requires rows { count ≤ room.old.changes.rows }
+    requires few { n ≤ room.old.public.rows }
+    requires cols { client_hint.old.cols ≡ room.old.public.cols }
+    requires room { IsRowsRoom room.old.public.rows room.old.public.cols room.old }
+    requires cleared { (k q : ℕ) → n ≤ k → k < room.old.public.rows → q < room.old.public.cols →
+        entry room.old.public k q ≡ 0 }
+    requires combined { HasCombined room.old.public room.old.words }
+    ensures added { AddsRows client_hint.old client_hint.new first count
+        room.old.changes room.old.public 0 n }
+    ensures public { room.new.public ≡ room.old.public }
+    ensures changes { room.new.changes ≡ room.old.changes }
+    ensures combined { HasCombined room.new.public room.new.words }
+    ensures room { IsRowsRoom room.old.public.rows room.old.public.cols room.new }
+{
+    if takes_words(kernel, count, n, room) {
+        multiply_higher(kernel, &room.changes, &room.public, &mut room.words);
+        add_words(
+            kernel,
+            client_hint,
+            first,
+            count,
+            n,
+            &room.changes,
+            &room.public,
+            &room.words,
+            &mut room.sums,
+        );
+    } else {
+        add_block(
+            kernel,
+            client_hint,
+            first,
+            count,
+            n,
+            &room.changes,
+            &room.public,
+        );
+    }
+}
+
+// Whether so many rows of changes are those of whole words for which there is room, the listed rows are many enough, and
+// the first word follows the guessed list.
+fn takes_words<K: Kernel>(kernel: K, count: usize, n: usize, room: &mut RowsRoom) -> bool
+    requires rows { count ≤ room.old.changes.rows }
+    requires few { n ≤ room.old.public.rows }
+    requires room { IsRowsRoom room.old.public.rows room.old.public.cols room.old }
+    ensures words { IsTrue result → AreWholeWords count room.old.words }
+    ensures kept { room.new ≡ record room.old { sums = room.new.sums } }
+    ensures sums { length room.new.sums.items ≡ length room.old.sums.items }
+{
+    let step = room.words.weights.len();
+    if n < FEWEST_ROWS || n < room.public.rows() / 2 || count < step || count % step != 0 {
+        return false;
+    }
+    if room.words.higher.rows() < count / step * (step - 1) {
+        return false;
+    }
+    factor_of_word(kernel, 0, n, &room.changes, &room.words, &mut room.sums).is_some()
+}
+
+// The factor by which the word changes whose digits' changes stand from row i on, times the guessed list; `None` where it does not
+// follow that list.
+fn factor_of_word<K: Kernel>(
+    kernel: K,
+    i: usize,
+    n: usize,
+    changes: &Matrix,
+    words: &WordsRoom,
+    sums: &mut [u32],
+) -> Option<u32>
+    requires rows { i + length words.now.weights.items ≤ changes.now.rows }
+    requires few { n ≤ changes.now.cols }
+    requires common { length words.now.common.items ≡ changes.now.cols }
+    requires sums { length sums.old ≡ changes.now.cols }
+    ensures follows { IfSome result (IsMultiple words.now.weights.items changes.now i n
+        words.now.common.items) }
+    ensures sums { length sums.new ≡ length sums.old }
+{
+    sums.fill(0);
+    kernel.add_rows(sums, &words.weights, changes, i);
+    let factor = match sums.get(words.pivot) {
+        Some(sum) => sum.wrapping_neg(),
+        None => 0,
+    };
+    kernel.add_scaled(sums, &words.common, factor);
+    if are_zero(&sums[..n]) {
+        Some(factor)
+    } else {
+        None
+    }
+}
+
+// Makes the products of the changes of higher digits with the public rows.
+fn multiply_higher<K: Kernel>(kernel: K, changes: &Matrix, public: &Matrix, words: &mut WordsRoom)
+    requires cols { changes.now.cols ≡ public.now.rows }
+    requires room { IsWordsRoom public.now.rows public.now.cols words.old }
+    ensures products { HasHigherProducts (length words.old.weights.items) changes.now public.now
+        words.new.products }
+    ensures higher_rows { words.new.higher.rows ≡ words.old.higher.rows }
+    ensures kept { words.new ≡ record words.old {
+      higher = words.new.higher;
+      products = words.new.products;
+    } }
+    ensures room { IsWordsRoom public.now.rows public.now.cols words.new }
+{
+    let weights: &[u32] = &words.weights;
+    let step = weights.len();
+    put_higher(changes, step, &mut words.higher);
+    kernel.mul_into(&words.higher, public, &mut words.products);
+}
+
+// Copies the rows of higher digits beside one another.
+fn put_higher(changes: &Matrix, step: usize, higher: &mut Matrix)
+    requires some { 1 < step }
+    requires few { higher.old.rows ≤ 4096 }
+    requires cols { higher.old.cols ≡ changes.now.cols }
+    ensures rows { higher.new.rows ≡ higher.old.rows }
+    ensures cols { higher.new.cols ≡ higher.old.cols }
+    ensures copied { HasHigherRows step changes.now higher.new }
+{
+    for h in 0..higher.rows() {
+        let source = h + h / (step - 1) + 1;
+        if source < changes.rows() {
+            higher.row_mut(h).copy_from_slice(changes.row(source));
+        }
+    }
+}
+
+// Adds to `count` rows of the client's hint what the changes of whole words add.
+fn add_words<K: Kernel>(
+    kernel: K,
+    client_hint: &mut Matrix,
+    first: usize,
+    count: usize,
+    n: usize,
+    changes: &Matrix,
+    public: &Matrix,
+    words: &WordsRoom,
+    sums: &mut [u32],
+)
+    requires block { first + count ≤ client_hint.old.rows }
+    requires rows { count ≤ changes.now.rows }
+    requires few { n ≤ public.now.rows }
+    requires client_cols { client_hint.old.cols ≡ public.now.cols }
+    requires changes_cols { changes.now.cols ≡ public.now.rows }
+    requires cleared { (k q : ℕ) → n ≤ k → k < public.now.rows → q < public.now.cols →
+        entry public.now k q ≡ 0 }
+    requires room { IsWordsRoom public.now.rows public.now.cols words.now }
+    requires combined { HasCombined public.now words.now }
+    requires products { HasHigherProducts (length words.now.weights.items) changes.now public.now
+        words.now.products }
+    requires words { AreWholeWords count words.now }
+    requires sums { length sums.old ≡ changes.now.cols }
+    ensures added { AddsRows client_hint.old client_hint.new first count
+        changes.now public.now 0 n }
+    ensures sums { length sums.new ≡ length sums.old }
+{
+    client_hint.rows();
+    for i in 0..count {
+        let out = client_hint.row_mut(first + i);
+        add_row(kernel, out, i, count, n, changes, public, words, sums);
+    }
+}
+
+// Adds to one row what the changes in row i add.
+fn add_row<K: Kernel>(
+    kernel: K,
+    out: &mut [u32],
+    i: usize,
+    count: usize,
+    n: usize,
+    changes: &Matrix,
+    public: &Matrix,
+    words: &WordsRoom,
+    sums: &mut [u32],
+)
+    requires row { i < count }
+    requires rows { count ≤ changes.now.rows }
+    requires few { n ≤ public.now.rows }
+    requires out { length out.old ≡ public.now.cols }
+    requires changes_cols { changes.now.cols ≡ public.now.rows }
+    requires cleared { (k q : ℕ) → n ≤ k → k < public.now.rows → q < public.now.cols →
+        entry public.now k q ≡ 0 }
+    requires room { IsWordsRoom public.now.rows public.now.cols words.now }
+    requires combined { HasCombined public.now words.now }
+    requires products { HasHigherProducts (length words.now.weights.items) changes.now public.now
+        words.now.products }
+    requires words { AreWholeWords count words.now }
+    requires sums { length sums.old ≡ changes.now.cols }
+    ensures added { IsRowAdded out.old out.new changes.now public.now i }
+    ensures sums { length sums.new ≡ length sums.old }
+{
+    let weights: &[u32] = &words.weights;
+    let step = weights.len();
+    if i % step == 0 {
+        add_lowest(kernel, out, i, count, n, changes, public, words, sums);
+    } else {
+        kernel.add_scaled(out, words.products.row(i - i / step - 1), 1);
+    }
+}
+
+// The same for the changes of a lowest digit: where the word follows the guessed list, by the products of its higher digits.
+fn add_lowest<K: Kernel>(
+    kernel: K,
+    out: &mut [u32],
+    i: usize,
+    count: usize,
+    n: usize,
+    changes: &Matrix,
+    public: &Matrix,
+    words: &WordsRoom,
+    sums: &mut [u32],
+)
+    requires row { i < count }
+    requires lowest { i % length words.now.weights.items ≡ 0 }
+    requires rows { count ≤ changes.now.rows }
+    requires few { n ≤ public.now.rows }
+    requires out { length out.old ≡ public.now.cols }
+    requires changes_cols { changes.now.cols ≡ public.now.rows }
+    requires cleared { (k q : ℕ) → n ≤ k → k < public.now.rows → q < public.now.cols →
+        entry public.now k q ≡ 0 }
+    requires room { IsWordsRoom public.now.rows public.now.cols words.now }
+    requires combined { HasCombined public.now words.now }
+    requires products { HasHigherProducts (length words.now.weights.items) changes.now public.now
+        words.now.products }
+    requires words { AreWholeWords count words.now }
+    requires sums { length sums.old ≡ changes.now.cols }
+    ensures added { IsRowAdded out.old out.new changes.now public.now i }
+    ensures sums { length sums.new ≡ length sums.old }
+{
+    changes.rows();
+    if let Some(factor) = factor_of_word(kernel, i, n, changes, words, sums) {
+        let weights: &[u32] = &words.weights;
+        let higher = i - i / weights.len();
+        kernel.add_rows(out, &weights[1..], &words.products, higher);
+        kernel.add_scaled(out, &words.combined, factor);
+    } else {
+        kernel.add_rows(out, changes.row(i), public, 0);
+    }
+}
