@@ -1,8 +1,10 @@
 //! A store with three digits in a word.
 
-ghost use Rattle.std.specs.Prelude.{◌≡◌, ◌+◌, ◌*◌, ◌/◌, ◌^◌, ◌<◌};
-ghost use Rattle.lane_kernels.specs.Packed.{packed_cols};
-ghost use Rattle.digit_pack.specs.Packed.{packed, IsReplaced};
+ghost use Rattle.std.specs.Prelude.{◌≡◌, ◌+◌, ◌*◌, ◌/◌, ◌^◌, ◌<◌, ◌≤◌, ℕ, length, slice_index};
+ghost use Rattle.matrix_u32.specs.Matrix.{entry};
+ghost use Rattle.lane_kernels.specs.Packed.{packed_cols, unpacked};
+ghost use Rattle.digit_pack.specs.Columns.{WritesColumn};
+ghost use Rattle.digit_pack.specs.Packed.{packed, IsPacked, IsReplaced};
 
 use crate::store::{DigitStore, judge_size};
 use crate::widening::widened_words;
@@ -67,6 +69,36 @@ fn replaced(word: u32, t: usize, digit: u32) -> u32
     }
 }
 
+// Swaps digits of column j, from row `first` on, with others. The sizes are parameters and no fields of a store, so that the processor reads
+// them once, and not again after each word that is written.
+fn swap_packed(
+    words: &mut [u32],
+    rows: usize,
+    cols: usize,
+    first: usize,
+    j: usize,
+    others: &mut [u32],
+)
+    requires packed { IsPacked rows cols words.old }
+    requires inside { first + length others.old ≤ rows }
+    requires col { j < cols }
+    requires small { (b : ℕ) → b < length others.old → slice_index others.old b < 1024 }
+    ensures packed { IsPacked rows cols words.new }
+    ensures words { length words.new ≡ length words.old }
+    ensures written { WritesColumn (unpacked rows cols words.old) (unpacked rows cols words.new)
+        first j others.old }
+    ensures count { length others.new ≡ length others.old }
+    ensures read { (b : ℕ) → b < length others.old →
+        slice_index others.new b ≡ entry (unpacked rows cols words.old) (first + b) j }
+{
+    for b in 0..others.len() {
+        let at = word_place(rows, cols, words.len(), first + b, j);
+        let word = words[at];
+        words[at] = replaced(word, j % 3, others[b]);
+        others[b] = (word >> (10 * (j % 3))) % 1024;
+    }
+}
+
 impl Packed3 {
     /// The words, row by row, lent as they are kept.
     pub fn words(&self) -> &[u32]
@@ -108,6 +140,10 @@ impl DigitStore for Packed3 {
     fn set(&mut self, i: usize, j: usize, digit: u32) {
         let at = word_place(self.rows, self.cols, self.words.len(), i, j);
         self.words[at] = replaced(self.words[at], j % 3, digit);
+    }
+
+    fn swap_digits(&mut self, first: usize, j: usize, others: &mut [u32]) {
+        swap_packed(&mut self.words, self.rows, self.cols, first, j, others);
     }
 
     /// It takes memory only where a row becomes more words.

@@ -1,7 +1,8 @@
 //! Stores of digits.
 
-ghost use Rattle.std.specs.Prelude.{◌≡◌, ◌<◌, ◌≤◌, ◌*◌, ◌⊎◌, ◌↔◌, IfOk, IfErr, IsErrOf, IsOk, OnOk, OnErr, length};
+ghost use Rattle.std.specs.Prelude.{◌≡◌, ◌<◌, ◌≤◌, ◌+◌, ◌*◌, ◌⊎◌, ◌↔◌, ℕ, IfOk, IfErr, IsErrOf, IsOk, OnOk, OnErr, length, slice_index};
 ghost use Rattle.matrix_u32.specs.Matrix.{WordMatrix, IsWhole, entry, times_vector, widened, with_entry, zero_matrix};
+ghost use Rattle.digit_pack.specs.Columns.{WritesColumn};
 
 use crate::widening::widened_words;
 use matrix_u32::{Kernel, MAX_WORDS, Matrix, MatrixError};
@@ -44,6 +45,25 @@ pub trait DigitStore: Sized + Drop {
         requires col { j < (digits self.old).cols }
         requires small { digit < 1024 }
         ensures { digits self.new ≡ with_entry (digits self.old) i j digit };
+
+    /// Swaps digits of column j with others: `others` has one for each row from `first` on, and afterwards those that stood
+    /// there, in the same order.
+    fn swap_digits(&mut self, first: usize, j: usize, others: &mut [u32])
+        requires rows { first + length others.old ≤ (digits self.old).rows }
+        requires col { j < (digits self.old).cols }
+        requires small { (b : ℕ) → b < length others.old → slice_index others.old b < 1024 }
+        ensures written { WritesColumn (digits self.old) (digits self.new) first j others.old }
+        ensures count { length others.new ≡ length others.old }
+        ensures read { (b : ℕ) → b < length others.old →
+            slice_index others.new b ≡ entry (digits self.old) (first + b) j }
+    {
+        self.rows();
+        for b in 0..others.len() {
+            let digit = self.get(first + b, j);
+            self.set(first + b, j, others[b]);
+            others[b] = digit;
+        }
+    }
 
     /// Adds columns of zeros after the last one, up to `cols` columns; all digits that there were stay.
     ///

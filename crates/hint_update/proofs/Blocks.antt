@@ -1,92 +1,110 @@
 -- Hints of which the digits of listed rows change, in blocks of rows.
-use Rattle.std.proofs.Common.{◌≡◌, ◌≢◌, ℕ, ◌+◌, ◌-◌, ◌*◌, ◌%◌, ◌^◌, ◌<◌, ◌≤◌, ◌⊎◌, arith, ap, ◌∙◌, sym, refl, inl, inr, List, length}
+use Rattle.std.proofs.Common.{◌≡◌, ◌≢◌, ℕ, ◌+◌, ◌-◌, ◌*◌, ◌%◌, ◌^◌, ◌<◌, ◌≤◌, ◌⊎◌, arith, ap, ◌∙◌, sym, refl, inl, inr, lit<, List, ◌∷◌, [], length}
 use Rattle.std.proofs.lemmas.Bool.{cases_eq, cases_lt}
-use Rattle.std.proofs.lemmas.List.{length-set}
 use Rattle.std.proofs.lemmas.Nat.{mul-mod_first}
 use Rattle.std.specs.Prelude.{slice_index}
 use Rattle.matrix_u32.specs.Sum.{sum_below}
-use Rattle.matrix_u32.specs.Matrix.{WordMatrix, IsWhole, entry, row, with_entry, written_row}
+use Rattle.matrix_u32.specs.Matrix.{WordMatrix, IsWhole, entry, row, written_row}
 use Rattle.matrix_u32.specs.Blocks.{plus_rows}
 use Rattle.matrix_u32.proofs.Sums.{sum_below-add, sum_below_none, sum_same, sum_zero, sum_congruent}
-use Rattle.matrix_u32.proofs.Changes.{entry_kept, entry_set, matrix_by_entries}
+use Rattle.matrix_u32.proofs.Changes.{matrix_by_entries}
 use Rattle.matrix_u32.proofs.Products.{words_are}
 use Rattle.matrix_u32.proofs.Rows.{row_index, length-row, plus_rows-index, plus_rows-length, length-written_row, written_row-same, written_row-other}
+use Rattle.digit_pack.specs.Columns.{WritesColumn}
 use Rattle.hint_update.specs.Updates.{AreRowsBelow, TakesRows, TakesBlock, AddsRows, change_times, digit_change, moved_by_rows, word_digit_at}
 use Rattle.hint_update.proofs.Listed.{listed_apart}
 
--- ---- one row of the server's hint
--- a matrix before and after the digits of the first n listed rows of a hint come into its row r
-pub record TakesFirst (w : ℕ) (hint old new : WordMatrix) (listed : List ℕ) (n r : ℕ) : Type 0 where
+-- ---- columns of the server's hint
+-- the digits of row `col` of a hint in the column of its number, from row `first` on
+pub column_taken : (w : ℕ) (hint s0 s : WordMatrix) (col first : ℕ) (words : List ℕ) → WritesColumn s0 s first col words →
+    ((b : ℕ) → b < length words → slice_index words b ≡ word_digit_at w (row hint col) (first + b)) → TakesBlock w hint s0 s (col ∷ []) first (length words)
+column_taken w hint s0 s col first words h are = record {
+  rows = h.rows;
+  cols = h.cols;
+  whole = h.whole;
+  taken = λ r k low high l.
+      let few : k < 1 = l in
+      let e : k ≡ 0 = omega (arith, few) in
+      let b : ℕ = r - first in
+      let at : first + b ≡ r = omega (arith, low) in
+      let inside : b < length words = omega (arith, low, high) in
+      ap (λ k. entry s r (slice_index (col ∷ []) k)) e ∙ ap (λ r. entry s r col) (sym at) ∙ h.here b inside ∙ are b inside
+      ∙ ap (word_digit_at w (row hint col)) at ∙ ap (λ k. word_digit_at w (row hint (slice_index (col ∷ []) k)) r) (sym e);
+  unlisted = λ r j p q out. h.elsewhere r j p q (λ x. out 0 (lit< tt) (sym x.0));
+  elsewhere = λ r j p q out. h.elsewhere r j p q (λ x. elim out [
+    | inl l ↦ absurd (omega (arith, l, x.1))
+    | inr g ↦ absurd (omega (arith, g, x.2))
+  ]);
+}
+
+-- a matrix before and after the digits of the first n listed rows of a hint come into `count` rows of their columns, from row `first` on
+pub record TakesColumns (w : ℕ) (hint old new : WordMatrix) (listed : List ℕ) (n first count : ℕ) : Type 0 where
   pub few : n ≤ length listed
   pub rows : new.rows ≡ old.rows
   pub cols : new.cols ≡ old.cols
   pub whole : IsWhole new
-  pub taken : (k : ℕ) → k < n → entry new r (slice_index listed k) ≡ word_digit_at w (row hint (slice_index listed k)) r
-  pub kept : (i j : ℕ) → j < old.cols → (i ≢ r) ⊎ ((k : ℕ) → k < n → slice_index listed k ≢ j) → entry new i j ≡ entry old i j
+  pub taken : (r k : ℕ) → first ≤ r → r < first + count → k < n →
+      entry new r (slice_index listed k) ≡ word_digit_at w (row hint (slice_index listed k)) r
+  pub kept : (r j : ℕ) → r < old.rows → j < old.cols → ((k : ℕ) → k < n → slice_index listed k ≢ j) ⊎ ((r < first) ⊎ (first + count ≤ r)) →
+      entry new r j ≡ entry old r j
 
-pub none_taken : (w : ℕ) (hint s : WordMatrix) (listed : List ℕ) (r : ℕ) → IsWhole s → TakesFirst w hint s s listed 0 r
-none_taken w hint s listed r whole = record {
+pub no_columns_taken : (w : ℕ) (hint s : WordMatrix) (listed : List ℕ) (first count : ℕ) → IsWhole s → TakesColumns w hint s s listed 0 first count
+no_columns_taken w hint s listed first count whole = record {
   few = omega arith;
   rows = refl;
   cols = refl;
   whole = whole;
-  taken = λ k l. absurd (omega arith);
-  kept = λ i j q out. refl;
+  taken = λ r k low high l. absurd (omega (arith, l));
+  kept = λ r j p q out. refl;
 }
 
--- one digit more
-pub one_taken : (w : ℕ) (hint s0 s : WordMatrix) (listed : List ℕ) (n r v : ℕ) → AreRowsBelow s0.cols listed → n < length listed → r < s0.rows →
-    TakesFirst w hint s0 s listed n r → v ≡ word_digit_at w (row hint (slice_index listed n)) r →
-    TakesFirst w hint s0 (with_entry s r (slice_index listed n) v) listed (n + 1) r
-one_taken w hint s0 s listed n r v rows l p h is =
+-- a place of a list of one has its only number
+only_one : (col k j : ℕ) → k < length (col ∷ []) → slice_index (col ∷ []) k ≡ j → col ≡ j
+only_one col k j l is =
+    let few : k < 1 = l in
+    let e : 0 ≡ k = omega (arith, few) in
+    ap (slice_index (col ∷ [])) e ∙ is
+
+-- one column more
+pub more_columns_taken : (w : ℕ) (hint s0 s s' : WordMatrix) (listed : List ℕ) (n first count : ℕ) → AreRowsBelow s0.cols listed → n < length listed →
+    first + count ≤ s0.rows → TakesColumns w hint s0 s listed n first count → TakesBlock w hint s s' (slice_index listed n ∷ []) first count →
+    TakesColumns w hint s0 s' listed (n + 1) first count
+more_columns_taken w hint s0 s s' listed n first count rows l fits h g =
     let col : ℕ = slice_index listed n in
-    let inside : col < s0.cols = rows.below n l in
-    let here : r < s.rows = omega (arith, p, h.rows) in
-    let across : col < s.cols = omega (arith, inside, h.cols) in
     record {
       few = omega (arith, l);
-      rows = h.rows;
-      cols = h.cols;
-      whole = length-set _ _ _ ∙ h.whole;
-      taken = λ k q. elim (cases_eq k n) [
+      rows = g.rows ∙ h.rows;
+      cols = g.cols ∙ h.cols;
+      whole = g.whole;
+      taken = λ r k low high q. elim (cases_eq k n) [
         | inl e ↦
-            ap (λ k. entry (with_entry s r col v) r (slice_index listed k)) e ∙ entry_set s r col v h.whole here across ∙ is
+            ap (λ k. entry s' r (slice_index listed k)) e ∙ g.taken r 0 low high (lit< tt)
             ∙ ap (λ k. word_digit_at w (row hint (slice_index listed k)) r) (sym e)
         | inr apart ↦
-            let before : slice_index listed k < s0.cols = rows.below k (omega (arith, q, l)) in
-            entry_kept s r col v r (slice_index listed k) across (omega (arith, before, h.cols))
-            (λ x. listed_apart listed rows.ascending k n (omega (arith, q, apart)) l x.1)
-            ∙ h.taken k (omega (arith, q, apart))
+            let before : k < n = omega (arith, q, apart) in
+            let inside : slice_index listed k < s0.cols = rows.below k (omega (arith, before, l)) in
+            g.unlisted r (slice_index listed k) (omega (arith, high, fits, h.rows)) (omega (arith, inside, h.cols))
+            (λ i b is. listed_apart listed rows.ascending k n before l (sym (only_one col i (slice_index listed k) b is)))
+            ∙ h.taken r k low high before
       ];
-      kept = λ i j q out.
-          entry_kept s r col v i j across (omega (arith, q, h.cols)) (λ x. elim out [
-            | inl other ↦ other x.0
-            | inr none ↦ none n (omega arith) (sym x.1)
-          ])
-          ∙ h.kept i j q (elim out [
-            | inl other ↦ inl other
-            | inr none ↦ inr (λ k b. none k (omega (arith, b)))
-          ]);
+      kept = λ r j p q out. elim out [
+        | inl none ↦
+            g.unlisted r j (omega (arith, p, h.rows)) (omega (arith, q, h.cols)) (λ i b is. none n (omega arith) (only_one col i j b is))
+            ∙ h.kept r j p q (inl (λ k b. none k (omega (arith, b))))
+        | inr away ↦ g.elsewhere r j (omega (arith, p, h.rows)) (omega (arith, q, h.cols)) away ∙ h.kept r j p q (inr away)
+      ];
     }
 
--- all digits of the row
-pub row_taken : (w : ℕ) (hint s0 s : WordMatrix) (listed : List ℕ) (n r : ℕ) → length listed ≤ n → TakesFirst w hint s0 s listed n r →
-    TakesBlock w hint s0 s listed r 1
-row_taken w hint s0 s listed n r all h = record {
+-- all of them
+pub all_columns_taken : (w : ℕ) (hint s0 s : WordMatrix) (listed : List ℕ) (n first count : ℕ) → length listed ≤ n →
+    TakesColumns w hint s0 s listed n first count → TakesBlock w hint s0 s listed first count
+all_columns_taken w hint s0 s listed n first count all h = record {
   rows = h.rows;
   cols = h.cols;
   whole = h.whole;
-  taken = λ i k low high l.
-      let e : i ≡ r = omega (arith, low, high) in
-      ap (λ i. entry s i (slice_index listed k)) e ∙ h.taken k (omega (arith, l, all)) ∙ ap (λ i. word_digit_at w (row hint (slice_index listed k)) i) (sym e);
-  unlisted = λ i j p q out. elim (cases_eq i r) [
-    | inl e ↦ h.kept i j q (inr (λ k b. out k (omega (arith, b, h.few))))
-    | inr other ↦ h.kept i j q (inl other)
-  ];
-  elsewhere = λ i j p q out. h.kept i j q (inl (λ e. elim out [
-    | inl l ↦ absurd (omega (arith, l, e))
-    | inr g ↦ absurd (omega (arith, g, e))
-  ]));
+  taken = λ r k low high l. h.taken r k low high (omega (arith, l, all));
+  unlisted = λ r j p q out. h.kept r j p q (inl (λ k b. out k (omega (arith, b, h.few))));
+  elsewhere = λ r j p q out. h.kept r j p q (inr out);
 }
 
 -- ---- rows of the server's hint

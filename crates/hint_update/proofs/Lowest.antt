@@ -1,5 +1,5 @@
 -- What the changes of a word's lowest digit add, from those of its other digits.
-use Rattle.std.proofs.Common.{◌≡◌, ℕ, ◌+◌, ◌-◌, ◌*◌, ◌/◌, ◌%◌, ◌^◌, ◌<◌, ◌≤◌, ◌⊎◌, arith, ap, ◌∙◌, sym, subst, refl, inl, inr, List, length}
+use Rattle.std.proofs.Common.{◌≡◌, ℕ, ◌+◌, ◌-◌, ◌*◌, ◌/◌, ◌%◌, ◌^◌, ◌<◌, ◌≤◌, ◌⊎◌, arith, ap, ◌∙◌, sym, inl, inr, List, length}
 use Rattle.std.proofs.lemmas.Bool.{cases_lt}
 use Rattle.std.proofs.lemmas.Nat.{mul-mod_first, mul-mod_second, mul-add-lt, div-mul-add, div-add-mod', div_below, le-div, mod_below}
 use Rattle.std.specs.Prelude.{slice_index}
@@ -10,10 +10,9 @@ use Rattle.matrix_u32.specs.Blocks.{plus_rows}
 use Rattle.matrix_u32.proofs.Products.{at-list_of, length-list_of}
 use Rattle.matrix_u32.proofs.Rows.{row_index, length-row, plus_rows-index, plus_rows-length}
 use Rattle.lane_kernels.specs.Digit.{split_count}
-use Rattle.hint_update.specs.declared.rows.RowsRoom.{RowsRoom}
 use Rattle.hint_update.specs.Updates.{AddsRows}
 use Rattle.hint_update.proofs.Blocks.{row_added}
-use Rattle.hint_update.specs.Words.{IsMultiple, IsRowAdded, IsRowsRoom, IsWordsRoom, higher_row}
+use Rattle.hint_update.specs.Words.{IsMultiple, IsRowAdded, higher_row}
 
 -- the sum of the products of one row of e with a list
 abbrev pub total : ℕ → (ℕ → ℕ → ℕ) → (ℕ → ℕ) → ℕ → ℕ
@@ -281,17 +280,4 @@ zeros_left_out c0 c factors b first count n wide few cleared h = record {
       ap (λ x. entry factors i (0 + k) * x) zero ∙ nothing in
       h.added i q l p ∙ ap (λ x. (entry c0 (first + i) q + x) % 2 ^ 32) (sum_prefix n b.rows f few none);
   elsewhere = h.elsewhere;
-}
-
--- ---- memory
--- other changes of the same size in it
-pub room_with_changes : (most cols : ℕ) (room : RowsRoom) (changes : WordMatrix) → IsRowsRoom most cols room → changes.rows ≡ room.changes.rows →
-    changes.cols ≡ room.changes.cols → IsRowsRoom room.public.rows room.public.cols (record room { changes = changes })
-room_with_changes most cols room changes h rows wide = record {
-  public_rows = refl;
-  public_cols = refl;
-  blocks = omega (arith, h.blocks, rows);
-  changes = wide ∙ h.changes ∙ sym h.public_rows;
-  sums = h.sums ∙ sym h.public_rows;
-  words = subst (λ n. IsWordsRoom n room.public.cols room.words) (sym h.public_rows) (subst (λ n. IsWordsRoom most n room.words) (sym h.public_cols) h.words);
 }

@@ -22,6 +22,8 @@ pub record IsRowsRoom (most cols : ℕ) (room : RowsRoom) : Type 0 where
   pub public_cols : room.public.cols ≡ cols
   pub blocks : 0 < room.changes.rows
   pub changes : room.changes.cols ≡ most
+  pub new_digits : length room.new_digits.items ≡ room.changes.rows
+  pub old_digits : length room.old_digits.items ≡ room.changes.rows
   pub sums : length room.sums.items ≡ most
   pub words : IsWordsRoom most cols room.words
 

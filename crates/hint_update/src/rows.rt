@@ -1,11 +1,11 @@
 //! Hints of DoublePIR that follow several rows at once.
 
-ghost use Rattle.std.specs.Prelude.{◌≡◌, ◌≢◌, ◌↔◌, ℕ, ◌+◌, ◌*◌, ◌<◌, ◌≤◌, length, slice_index, EachIndex, IfOk, IsTrue};
-ghost use Rattle.matrix_u32.specs.Matrix.{entry};
+ghost use Rattle.std.specs.Prelude.{◌≡◌, ◌≢◌, ◌↔◌, ℕ, ◌+◌, ◌-◌, ◌*◌, ◌%◌, ◌^◌, ◌<◌, ◌≤◌, ◌∷◌, [], length, slice_index, EachIndex, IfOk, IsTrue};
+ghost use Rattle.matrix_u32.specs.Matrix.{entry, row};
 ghost use Rattle.matrix_u32.specs.Blocks.{plus_rows};
 ghost use Rattle.lane_kernels.specs.Digit.{split_count};
 ghost use Rattle.hint_update.specs.Updates.{AreRowsBelow, FollowsListed, TakesRows, moved_by_rows};
-ghost use Rattle.hint_update.specs.Updates.{AddsRows, TakesBlock, digit_change};
+ghost use Rattle.hint_update.specs.Updates.{AddsRows, TakesBlock, digit_change, word_digit_at};
 ghost use Rattle.hint_update.specs.Words.{IsRowsRoom};
 
 use crate::words::{WordsRoom, add_changed};
@@ -21,12 +21,14 @@ const BLOCK_ROWS: usize = 32;
 const PASSING_ROWS: usize = 4;
 
 /// Memory for rows that [`update_double_rows`] takes together, made for digits of w bits: copies of their rows of the second
-/// public matrix, one beside the other, for some rows of the client's hint the changes of their digits, and what products of whole
-/// words want. What they hold between calls has no meaning.
+/// public matrix, one beside the other, for some rows of the client's hint the changes of their digits, those of one column as they
+/// come and as they were, and what products of whole words want. What they hold between calls has no meaning.
 #[derive(Drop)]
 pub struct RowsRoom {
     pub public: Matrix,
     pub changes: Matrix,
+    pub new_digits: Vec<u32>,
+    pub old_digits: Vec<u32>,
     pub sums: Vec<u32>,
     pub words: WordsRoom,
 }
@@ -39,20 +41,26 @@ impl RowsRoom {
         requires width { (6 ≤ w) × (w ≤ 10) }
         ensures { IfOk result (IsRowsRoom most cols) }
     {
-        let count = BLOCK_ROWS / split_count(w);
+        let step = split_count(w);
+        let count = BLOCK_ROWS / step;
+        let block = count * step;
         // Before the public rows: what glibc's heap gives out next stands past it. Where products stood some bytes past the public
         // rows, modulo 4096, loads of these would wait for stores of those, which only seem to be of their bytes.
         let words = WordsRoom::new(alloc, count, most, cols, w)?;
         let Ok(public) = Matrix::zeros(alloc, most, cols) else {
             return Err(AllocError);
         };
-        let Ok(changes) = Matrix::zeros(alloc, count * split_count(w), most) else {
+        let Ok(changes) = Matrix::zeros(alloc, block, most) else {
             return Err(AllocError);
         };
+        let new_digits = vec![in alloc; 0; block]?;
+        let old_digits = vec![in alloc; 0; block]?;
         let sums = vec![in alloc; 0; most]?;
         Ok(RowsRoom {
             public,
             changes,
+            new_digits,
+            old_digits,
             sums,
             words,
         })
@@ -109,6 +117,8 @@ pub fn update_double_rows<K: Kernel, S: DigitStore>(
             listed,
             first,
             count,
+            &mut room.new_digits,
+            &mut room.old_digits,
             &mut room.changes,
         );
         add_changed(kernel, client_hint, first, count, listed.len(), room);
@@ -145,7 +155,7 @@ fn clear_rows(m: &mut Matrix, from: usize)
 }
 
 // Writes into `count` rows of the server's hint, from row `first` on, the digits of the listed rows of the hint, and puts the
-// change of each into `changes`.
+// change of each into `changes`. The other two have room for a column of digits each.
 fn take_block<S: DigitStore>(
     server_hint: &mut S,
     hint: &Matrix,
@@ -153,6 +163,8 @@ fn take_block<S: DigitStore>(
     listed: &[usize],
     first: usize,
     count: usize,
+    new_digits: &mut [u32],
+    old_digits: &mut [u32],
     changes: &mut Matrix,
 )
     requires width { (6 ≤ w) × (w ≤ 10) }
@@ -160,6 +172,8 @@ fn take_block<S: DigitStore>(
     requires block { first + count ≤ (S.digits server_hint.old).rows }
     requires server_rows { (S.digits server_hint.old).rows ≡ hint.now.cols * split_count w }
     requires server_cols { (S.digits server_hint.old).cols ≡ hint.now.rows }
+    requires new_room { count ≤ length new_digits.old }
+    requires old_room { count ≤ length old_digits.old }
     requires changes_rows { count ≤ changes.old.rows }
     requires changes_cols { length listed.now ≤ changes.old.cols }
     ensures server { TakesBlock w hint.now (S.digits server_hint.old) (S.digits server_hint.new)
@@ -168,53 +182,101 @@ fn take_block<S: DigitStore>(
         ≡ digit_change w hint.now (S.digits server_hint.old) listed.now (first + b) k }
     ensures rows { changes.new.rows ≡ changes.old.rows }
     ensures cols { changes.new.cols ≡ changes.old.cols }
+    ensures new_count { length new_digits.new ≡ length new_digits.old }
+    ensures old_count { length old_digits.new ≡ length old_digits.old }
 {
     server_hint.rows();
     changes.rows();
-    for b in 0..count {
-        take_row(server_hint, hint, w, listed, first + b, b, changes);
+    let new = &mut new_digits[..count];
+    let old = &mut old_digits[..count];
+    for k in 0..listed.len() {
+        take_column(server_hint, hint, w, listed[k], first, new, old);
+        put_differences(new, old, k, changes);
     }
 }
 
-// Writes into row r of the server's hint the digits of the listed rows of the hint, and puts the change of each into row b of
-// `changes`.
-fn take_row<S: DigitStore>(
+// Writes the digits of one row of the hint into the column of its number, from row `first` on: as many as there is room for, which
+// are then the new ones, and beside them those that stood there.
+fn take_column<S: DigitStore>(
     server_hint: &mut S,
     hint: &Matrix,
     w: u32,
-    listed: &[usize],
-    r: usize,
-    b: usize,
-    changes: &mut Matrix,
+    col: usize,
+    first: usize,
+    new_digits: &mut [u32],
+    old_digits: &mut [u32],
 )
     requires width { (6 ≤ w) × (w ≤ 10) }
-    requires listed { AreRowsBelow hint.now.rows listed.now }
-    requires row { r < (S.digits server_hint.old).rows }
+    requires col { col < hint.now.rows }
+    requires block { first + length new_digits.old ≤ (S.digits server_hint.old).rows }
     requires server_rows { (S.digits server_hint.old).rows ≡ hint.now.cols * split_count w }
     requires server_cols { (S.digits server_hint.old).cols ≡ hint.now.rows }
-    requires changes_row { b < changes.old.rows }
-    requires changes_cols { length listed.now ≤ changes.old.cols }
+    requires same { length old_digits.old ≡ length new_digits.old }
     ensures server { TakesBlock w hint.now (S.digits server_hint.old) (S.digits server_hint.new)
-        listed.now r 1 }
-    ensures changes { (k : ℕ) → k < length listed.now → entry changes.new b k
-        ≡ digit_change w hint.now (S.digits server_hint.old) listed.now r k }
-    ensures others { (i k : ℕ) → i ≢ b → k < changes.old.cols →
-        entry changes.new i k ≡ entry changes.old i k }
+        (col ∷ []) first (length new_digits.old) }
+    ensures new_digits { (b : ℕ) → b < length new_digits.old → slice_index new_digits.new b
+        ≡ word_digit_at w (row hint.now col) (first + b) }
+    ensures old_digits { (b : ℕ) → b < length new_digits.old → slice_index old_digits.new b
+        ≡ entry (S.digits server_hint.old) (first + b) col }
+    ensures new_count { length new_digits.new ≡ length new_digits.old }
+    ensures old_count { length old_digits.new ≡ length old_digits.old }
+{
+    server_hint.rows();
+    put_digits(hint, w, col, first, new_digits);
+    old_digits.copy_from_slice(new_digits);
+    server_hint.swap_digits(first, col, old_digits);
+}
+
+// Writes digits of the words of one row, from digit `first` on.
+fn put_digits(hint: &Matrix, w: u32, i: usize, first: usize, digits: &mut [u32])
+    requires width { (6 ≤ w) × (w ≤ 10) }
+    requires row { i < hint.now.rows }
+    requires inside { first + length digits.old ≤ hint.now.cols * split_count w }
+    requires room { hint.now.cols * split_count w < 2 ^ 64 }
+    ensures digits { (b : ℕ) → b < length digits.old → slice_index digits.new b
+        ≡ word_digit_at w (row hint.now i) (first + b) }
+    ensures small { (b : ℕ) → b < length digits.old → slice_index digits.new b < 1024 }
+    ensures count { length digits.new ≡ length digits.old }
+{
+    let words = hint.row(i);
+    let step = split_count(w);
+    let mut word = first / step;
+    let mut place = first % step;
+    for b in 0..digits.len() {
+        digits[b] = word_digit(words[word], w, place);
+        (word, place) = next_place(word, place, step);
+    }
+}
+
+// Puts the differences of two lists into column k.
+fn put_differences(new: &[u32], old: &[u32], k: usize, changes: &mut Matrix)
+    requires same { length old.now ≡ length new.now }
+    requires room { length new.now ≤ changes.old.rows }
+    requires place { k < changes.old.cols }
+    ensures differences { (b : ℕ) → b < length new.now → entry changes.new b k
+        ≡ (slice_index new.now b + (2 ^ 32 - slice_index old.now b)) % 2 ^ 32 }
+    ensures others { (b q : ℕ) → q ≢ k → q < changes.old.cols →
+        entry changes.new b q ≡ entry changes.old b q }
     ensures rows { changes.new.rows ≡ changes.old.rows }
     ensures cols { changes.new.cols ≡ changes.old.cols }
 {
-    server_hint.rows();
-    hint.rows();
     changes.rows();
-    let count = split_count(w);
-    let word = r / count;
-    let place = r % count;
-    for k in 0..listed.len() {
-        let col = listed[k];
-        let old = server_hint.get(r, col);
-        let new = word_digit(hint.get(col, word), w, place);
-        changes.set(b, k, new.wrapping_sub(old));
-        server_hint.set(r, col, new);
+    for b in 0..new.len() {
+        changes.set(b, k, new[b].wrapping_sub(old[b]));
+    }
+}
+
+// The word and the place in it of the digit after one: with so many digits to a word.
+fn next_place(word: usize, place: usize, step: usize) -> (usize, usize)
+    requires place { place < step }
+    requires room { word + 1 < 2 ^ 64 }
+    ensures inside { result.1 < step }
+    ensures next { result.0 * step + result.1 ≡ word * step + place + 1 }
+{
+    if place + 1 < step {
+        (word, place + 1)
+    } else {
+        (word + 1, 0)
     }
 }
 

@@ -174,6 +174,32 @@ fn keeps_digits<S: DigitStore, K: Kernel>(
     Ok(())
 }
 
+// Digits of a column come back as others take their places.
+fn swaps_digits<S: DigitStore>(rt: &(impl Abort + AllocGlobal)) -> Result<(), Fail> {
+    let Ok(mut store) = S::zeros(rt.alloc(), 3, 4) else {
+        return Err(Fail::from(MatrixError::Memory));
+    };
+    assert_eq!(rt; (store.rows(), store.cols()), (3, 4));
+    store.set(2, 2, 5);
+    let mut others = [7u32, 1023];
+    store.swap_digits(1, 2, &mut others);
+    assert_eq!(rt; others, [0, 5]);
+    assert_eq!(rt; (store.rows(), store.cols()), (3, 4));
+    let mut column = [9u32; 3];
+    for i in 0..3 {
+        column[i] = store.get(i, 2);
+    }
+    assert_eq!(rt; column, [0, 7, 1023]);
+    assert_eq!(rt; (store.get(1, 1), store.get(2, 3)), (0, 0));
+    Ok(())
+}
+
+#[test]
+fn flat_and_packed_swap_digits(rt: HostRuntime) -> Result<(), Fail> {
+    swaps_digits::<Flat>(&rt)?;
+    swaps_digits::<Packed3>(&rt)
+}
+
 #[test]
 fn flat_keeps_digits(rt: HostRuntime) -> Result<(), Fail> {
     keeps_digits::<Flat, Plain>(&rt, Plain)?;

@@ -1,11 +1,11 @@
-use Rattle.std.proofs.Common.{◌≡◌, ℕ, ◌+◌, ◌≤◌, arith, ap, ◌∙◌, sym, subst, List}
+use Rattle.std.proofs.Common.{◌≡◌, ℕ, ◌+◌, ◌≤◌, arith, ap, ◌∙◌, sym, refl, subst, List}
+use Rattle.std.specs.Vec.{with_items}
 use Rattle.matrix_u32.specs.Matrix.{WordMatrix, entry}
 use Rattle.digit_pack.proofs.DigitSums.{split_some}
 use Rattle.hint_update.specs.Updates.{AreRowsBelow, TakesBlock}
 use Rattle.hint_update.proofs.Blocks.{more_taken, all_taken, block_moved, all_moved}
 use Rattle.hint_update.proofs.Listed.{listed_follows}
-use Rattle.hint_update.proofs.Lowest.{room_with_changes}
-use Rattle.hint_update.specs.Words.{IsRowsRoom}
+use Rattle.hint_update.specs.Words.{IsRowsRoom, IsWordsRoom}
 use Rattle.hint_update.proofs.rows.update_double_rows.Goals as goal
 
 pub loop-first-preserved : goal.loop-first-preserved
@@ -37,8 +37,22 @@ loop-first-preserved g c =
 
 pub add_changed-requires-clause-room : goal.add_changed-requires-clause-room
 add_changed-requires-clause-room g c =
-    room_with_changes c.args.room.now.public.rows c.args.a2.now.cols c.loop-first.room c.take_block.new.changes c.loop-first.invariant.room
-    c.take_block.ensures.rows c.take_block.ensures.cols
+    let room : _ = c.loop-first.invariant.room in
+    let most : c.args.room.now.public.rows ≡ c.loop-first.room.public.rows = sym room.public_rows in
+    let cols : c.args.a2.now.cols ≡ c.loop-first.room.public.cols = sym room.public_cols in
+    record {
+      public_rows = refl;
+      public_cols = refl;
+      blocks = omega (arith, room.blocks, c.take_block.ensures.rows);
+      changes = c.take_block.ensures.cols ∙ room.changes ∙ most;
+      new_digits = sym (with_items c.loop-first.room.new_digits c.take_block.new.new_digits).ok.0 ∙ c.loop-first.room.new_digits.ok.0 ∙ room.new_digits
+          ∙ sym c.take_block.ensures.rows;
+      old_digits = sym (with_items c.loop-first.room.old_digits c.take_block.new.old_digits).ok.0 ∙ c.loop-first.room.old_digits.ok.0 ∙ room.old_digits
+          ∙ sym c.take_block.ensures.rows;
+      sums = room.sums ∙ most;
+      words = subst (λ n. IsWordsRoom n c.loop-first.room.public.cols c.loop-first.room.words) most
+          (subst (λ n. IsWordsRoom c.args.room.now.public.rows n c.loop-first.room.words) cols room.words);
+    }
 
 pub add_changed-requires-clause-cleared : goal.add_changed-requires-clause-cleared
 add_changed-requires-clause-cleared g c = λ k q l p b.

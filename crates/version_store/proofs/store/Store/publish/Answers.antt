@@ -1,11 +1,11 @@
-use Rattle.std.proofs.Common.{ap, ◌∙◌, sym, ◌≡◌, ◌+◌, ℕ, List, [], ◌∷◌, length, take, subst, false}
+use Rattle.std.proofs.Common.{ap, ◌∙◌, sym, ◌≡◌, ◌+◌, ℕ, List, [], ◌∷◌, length, take, subst, false, IfErr}
 use Rattle.pir_schemes.specs.Plans.{digits_at}
 use Rattle.hint_update.specs.Logs.{Log, with_publication}
 use Rattle.version_store.specs.Deltas.{changed_rows}
 use Rattle.version_store.specs.Drafts.{Changes, draft_of, is_some_change, grown_to, IsHeld}
 use Rattle.version_store.specs.Editions.{Records}
 use Rattle.version_store.specs.Histories.{StoreState, held_published}
-use Rattle.version_store.proofs.DraftLemmas.{draft-none}
+use Rattle.version_store.proofs.DraftLemmas.{draft-none, some_held}
 use Rattle.version_store.proofs.Grown.{length-draft, grown-same}
 use Rattle.version_store.proofs.HistoryLemmas.{publish_stands}
 use Rattle.version_store.proofs.Publications.{pushed_rows, held_after_publication}
@@ -88,3 +88,9 @@ returns-clause-done g c =
 
 pub returns-clause-history : goal.returns-clause-history
 returns-clause-history g c = publish_stands c.args.self.now _ (returns-clause-done g c)
+
+-- a change is there, since the map isn't empty
+pub returns-clause-nothing : goal.returns-clause-nothing
+returns-clause-nothing g c =
+    let marked : c.args.self.now.marked ≡ is_some_change c.self.inside.changes.entries = sym (ap (λ (s : StoreState). s.marked) c.self.view_is) in
+    (λ e. absurd (subst (λ r. IfErr r (λ _. ⊥)) e tt), λ m. absurd (some_held c.self.inside.changes c.if-is_empty.ensures.1 (sym marked ∙ m)))
