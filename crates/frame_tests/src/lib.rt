@@ -1,18 +1,11 @@
 //! Tests of frames, of connections, of snapshot files, and of one database and its queries over one stream.
 //!
-//! The gate proves a crate that has tests twice, once with them. The tests of these four crates make public calls alone, so they
-//! stand here, above them all, and are proved over what the crates promise. There is nothing else in this crate.
+//! The gate proves a crate that has tests twice, once with them. The tests of these four crates
+//! make public calls alone, so they stand here, above them all. Those in `src` are proved over what these calls promise, and then run.
+//! The others are modules in `tests/long/frame_tests`, which the gate runs alone, and which `tests/long/run --prove` proves.
 #![tactic(auto)]
 
 #[cfg(test)]
-mod connections;
-#[cfg(test)]
-mod frames;
-#[cfg(test)]
-mod once;
+mod refused_memory;
 #[cfg(test)]
 mod room;
-#[cfg(test)]
-mod slots;
-#[cfg(test)]
-mod snapshots;

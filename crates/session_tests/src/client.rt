@@ -1,4 +1,4 @@
-//! A client against replies that are made here, frame by frame. Most of them are in tests/long.
+//! A client against replies that are made here, frame by frame. All tests but those of refused memory are in tests/long.
 
 use client_core::{CallFault, ClientCore, ClientFault, Event, Fed, Scheme};
 use digit_pack::Layout;
@@ -9,9 +9,7 @@ use std::alloc::Global;
 use std::process::Abort;
 use std::test::Fail;
 
-mod answers;
 mod refused_memory;
-mod texts;
 
 const ZEROS: [u8; 32] = [0; 32];
 

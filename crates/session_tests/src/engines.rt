@@ -1,4 +1,4 @@
-//! A session by each of both calls. Longer ones, and readers and writers that fail, are in tests/long.
+//! What the tests of both engines have in common. All but those of refused memory are in tests/long.
 
 use client_core::{CallFault, ClientCore, Event};
 use lane_kernels::Lanes;
@@ -13,7 +13,6 @@ use test_support::{RECORDS, TWO_RECORDS};
 use version_store::Store;
 
 mod refused_memory;
-mod texts;
 
 // A greeting but its key, and what it is answered but the seed of zeros.
 const GREETING: &[u8] = &[0x22, 0, 0, 0, 0x02, 2, 0];
@@ -78,48 +77,4 @@ fn converse_all<K: Kernel, R: Read, W: Write>(
 
 fn hello<K: Kernel>(client: &mut ClientCore<K>, key: [u8; 32]) -> Result<Vec<u8>, CallFault> {
     client.hello(key)
-}
-
-#[test]
-fn a_session_is_served(rt: HostRuntime) -> Result<(), Fail> {
-    a_session_is_served_on(&rt, rt.alloc(), Plain)?;
-    a_session_is_served_on(&rt, rt.alloc(), Lanes)
-}
-
-fn a_session_is_served_on<K: Kernel>(
-    rt: &impl Abort,
-    alloc: Global,
-    kernel: K,
-) -> Result<(), Fail> {
-    let said = joined(alloc, &[GREETING, &ZEROS, HINT_ASK, BYE])?;
-    let replies = joined(alloc, &[WELCOME, &ZEROS, HINT_PART])?;
-    let mut server = server(alloc, kernel)?;
-    let mut reader = said.as_slice();
-    let mut writer = Vec::new(alloc);
-    let ended = serve_all(alloc, &mut server, 0, &mut reader, &mut writer, TURNS);
-    assert_eq!(rt; ended, Ok(Ending::Closed));
-    assert_eq!(rt; writer.as_slice(), replies.as_slice());
-    Ok(())
-}
-
-#[test]
-fn a_client_is_welcomed(rt: HostRuntime) -> Result<(), Fail> {
-    a_client_is_welcomed_on(&rt, rt.alloc(), Plain)?;
-    a_client_is_welcomed_on(&rt, rt.alloc(), Lanes)
-}
-
-fn a_client_is_welcomed_on<K: Kernel>(
-    rt: &impl Abort,
-    alloc: Global,
-    kernel: K,
-) -> Result<(), Fail> {
-    let welcome = joined(alloc, &[WELCOME, &ZEROS])?;
-    let mut client = client(alloc, kernel);
-    let first = hello(&mut client, ZEROS)?;
-    let mut reader = welcome.as_slice();
-    let mut writer = Vec::new(alloc);
-    let event = converse_all(alloc, &mut client, &first, &mut reader, &mut writer, TURNS);
-    assert!(rt; matches!(event, Ok(Event::Welcomed(1))));
-    assert_eq!(rt; writer.as_slice(), first.as_slice());
-    Ok(())
 }

@@ -1,5 +1,4 @@
-//! A reader's session byte by byte, and sessions that are opened and closed. Refusals, streams cut anywhere, deltas and
-//! sessions beside one another are in tests/long. No reply is Refused 12: memory is ample in all of them.
+//! What the tests of the server have in common. All but those of refused memory are in tests/long.
 
 use lane_kernels::Lanes;
 use matrix_u32::{Kernel, Plain};
@@ -11,7 +10,6 @@ use test_support::{RECORDS, TWO_RECORDS};
 use version_store::{Header, Store};
 
 mod refused_memory;
-mod texts;
 
 // A greeting, but its key.
 const GREETING: &[u8] = &[0x22, 0, 0, 0, 0x02, 1, 0];
@@ -132,69 +130,3 @@ const RETRIEVAL: Dialogue = &[
     (&[BYE, QUERY], &[]),
     (&[GREETING, ZEROS, QUERY], &[]),
 ];
-
-#[test]
-fn a_reader_gets_the_hint_and_answers(rt: HostRuntime) -> Result<(), Fail> {
-    a_reader_gets_the_hint_and_answers_on(
-        &rt,
-        rt.alloc(),
-        &mut server(rt.alloc(), Plain, &RECORDS, 1)?,
-    )?;
-    a_reader_gets_the_hint_and_answers_on(
-        &rt,
-        rt.alloc(),
-        &mut server(rt.alloc(), Lanes, &RECORDS, 1)?,
-    )
-}
-
-fn a_reader_gets_the_hint_and_answers_on<K: Kernel>(
-    rt: &impl Abort,
-    alloc: Global,
-    server: &mut ServerCore<K>,
-) -> Result<(), Fail> {
-    for (asked, reported) in RETRIEVAL {
-        check(rt, alloc, server, 0, asked, reported)?;
-    }
-    assert_eq!(rt; has_session(server, 0), true);
-    Ok(())
-}
-
-#[test]
-fn sessions_are_opened_and_closed(rt: HostRuntime) -> Result<(), Fail> {
-    sessions_are_opened_and_closed_on(
-        &rt,
-        rt.alloc(),
-        &mut server(rt.alloc(), Plain, &RECORDS, 1)?,
-    )?;
-    sessions_are_opened_and_closed_on(
-        &rt,
-        rt.alloc(),
-        &mut server(rt.alloc(), Lanes, &RECORDS, 1)?,
-    )
-}
-
-fn sessions_are_opened_and_closed_on<K: Kernel>(
-    rt: &impl Abort,
-    alloc: Global,
-    server: &mut ServerCore<K>,
-) -> Result<(), Fail> {
-    let mut out = Vec::new(alloc);
-    assert_eq!(rt; feed(server, 9, QUERY, &mut out), Err(FeedError::NoSession));
-    assert_eq!(rt; out.is_empty(), true);
-    assert_eq!(rt; open_session(server, 3), Ok(()));
-    assert_eq!(rt; open_session(server, 3), Err(SessionError::IdInUse));
-    assert_eq!(rt; has_session(server, 3), true);
-    assert_eq!(rt; close_session(server, 3), true);
-    assert_eq!(rt; has_session(server, 3), false);
-    assert_eq!(rt; close_session(server, 3), false);
-    assert_eq!(rt; open_session(server, 3), Ok(()));
-    assert_eq!(rt; has_session(server, 0), true);
-    Ok(())
-}
-
-#[test]
-fn the_laws_can_be_called() {
-    laws::frames_decide();
-    laws::pieces_decide();
-    laws::sessions_never_meet();
-}

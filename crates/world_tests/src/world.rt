@@ -1,4 +1,4 @@
-//! A client that is let in, and worlds that are refused. Longer scripts of steps are in tests/long.
+//! What the tests of the world have in common. All but those of refused memory are in tests/long.
 
 use lane_kernels::Lanes;
 use matrix_u32::{Kernel, Plain};
@@ -10,7 +10,6 @@ use test_support::TWO_RECORDS;
 use version_store::{Header, OpenError, Snapshot};
 
 mod refused_memory;
-mod texts;
 
 /// More bytes than ever wait.
 const ALL: usize = 1_000_000;
@@ -65,46 +64,4 @@ fn count<K: Kernel>(world: &World<K>) -> usize {
 /// How many steps were made.
 fn steps<K: Kernel>(world: &World<K>) -> usize {
     world.steps().len()
-}
-
-fn is_let_in<K: Kernel>(rt: &impl Abort, world: &mut World<K>) -> Result<(), Fail> {
-    greet(world, 0)?;
-    assert_eq!(rt; count(world), 1);
-    assert_eq!(rt; steps(world), 3);
-    Ok(())
-}
-
-#[test]
-fn a_client_is_let_in(rt: HostRuntime) -> Result<(), Fail> {
-    is_let_in(&rt, &mut world(&rt, Plain, TWO_RECORDS)?)?;
-    is_let_in(&rt, &mut world(&rt, Lanes, TWO_RECORDS)?)
-}
-
-#[test]
-fn refused_worlds(rt: HostRuntime) -> Result<(), Fail> {
-    for (header, fault) in [
-        (
-            Header {
-                dimension: 1025,
-                ..TWO_RECORDS
-            },
-            OpenError::BadLayout,
-        ),
-        (
-            Header {
-                version: 0,
-                ..TWO_RECORDS
-            },
-            OpenError::BadVersion,
-        ),
-    ] {
-        let opened = World::new(
-            rt.alloc(),
-            Plain,
-            snapshot(&rt, header)?,
-            Vec::new(rt.alloc()),
-        );
-        assert!(rt; opened.err() == Some(fault));
-    }
-    Ok(())
 }

@@ -1,6 +1,6 @@
 //! Memory that is refused once: a call that reports it leaves the client as it says, and is made when it is tried again.
-//! With ample memory no call here is refused. `scripts/refuse_memory` refuses each request of these tests in turn, and
-//! they pass each time.
+//! With ample memory no call here is refused. `tests/memory` refuses each request of these tests in turn, and they pass
+//! each time.
 
 use super::*;
 use std::alloc::AllocError;
@@ -24,6 +24,16 @@ const FIFTH: [u8; 22] = [
 const SIXTH: [u8; 22] = [
     0x11, 0, 0, 0, 0x05, 0, 1, 0, 0, 0, 0, 0, 0, 0, 0xe7, 0x14, 0x7a, 0x8b, 0x1f, 0x7e, 0x11, 0x11,
 ];
+
+/// What a publisher's calls send: the byte 64 for record 1, a record that is the byte 05, and a publication.
+const EDIT: [u8; 10] = [5, 0, 0, 0, 0x06, 1, 0, 0, 0, 0x64];
+
+const APPEND: [u8; 6] = [1, 0, 0, 0, 0x09, 5];
+
+const PUBLISH: [u8; 5] = [0, 0, 0, 0, 0x07];
+
+/// The reply to each of them, of version 1.
+const DONE: [u8; 13] = [8, 0, 0, 0, 0x87, 1, 0, 0, 0, 0, 0, 0, 0];
 
 // Feeds a piece, and answers the fault.
 fn fault_of<K: Kernel>(client: &mut ClientCore<K>, piece: &[u8]) -> Option<ClientFault> {
@@ -129,5 +139,53 @@ fn a_refused_sync_drops_no_hint_on<K: Kernel>(
     kernel: K,
 ) -> Result<(), Fail> {
     keeps_its_hint(rt, &mut ready(rt, kernel)?);
+    Ok(())
+}
+
+// Makes a publisher's call, again where memory was refused, compares what it sends, and feeds the reply. Answers whether
+// that was taken: where memory was refused for it, the client has failed.
+fn publishes<K: Kernel>(
+    rt: &impl Abort,
+    client: &mut ClientCore<K>,
+    wanted: Wanted,
+    frame: &[u8],
+) -> bool {
+    let mut called = call(client, wanted);
+    if matches!(called, Err(CallFault::Memory)) {
+        called = call(client, wanted);
+    }
+    match called {
+        Ok(sent) => assert_eq!(rt; sent.as_slice(), frame),
+        Err(_) => panic!(rt; "the second call was refused"),
+    }
+    let Some(fault) = fault_of(client, &DONE) else {
+        return true;
+    };
+    assert!(rt; fault == ClientFault::Memory);
+    refuses(rt, client, wanted, CallFault::Failed);
+    false
+}
+
+#[test]
+fn a_refused_call_of_a_publisher_changes_nothing(rt: HostRuntime) -> Result<(), Fail> {
+    a_refused_call_of_a_publisher_changes_nothing_on(&rt, Plain)?;
+    a_refused_call_of_a_publisher_changes_nothing_on(&rt, Lanes)
+}
+
+fn a_refused_call_of_a_publisher_changes_nothing_on<K: Kernel>(
+    rt: &(impl Abort + AllocGlobal),
+    kernel: K,
+) -> Result<(), Fail> {
+    let mut client = ready(rt, kernel)?;
+    let calls: [(Wanted, &[u8]); 3] = [
+        (Wanted::Edit(1, 0x64), &EDIT),
+        (Wanted::Append(5), &APPEND),
+        (Wanted::Publish, &PUBLISH),
+    ];
+    for (wanted, frame) in calls {
+        if !publishes(rt, &mut client, wanted, frame) {
+            return Ok(());
+        }
+    }
     Ok(())
 }
