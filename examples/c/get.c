@@ -19,6 +19,9 @@
 /* The dimension at which a query hides its index as the schemes' authors count it. */
 enum { HIDING_DIMENSION = 1024 };
 
+/* How often a hint or an answer may be stale before the server is given up: it may publish again and again, or lie. */
+enum { STALE_ANSWERS = 3 };
+
 static void stop(const char *what, uint32_t code)
 {
     fprintf(stderr, "fault: %s %u\n", what, (unsigned)code);
@@ -94,10 +97,10 @@ static void ends_as(vul_client *client, int fd, uint32_t kind, const char *what)
     wanted("next", vul_client_next(client, NULL, 0));
 }
 
-/* Gets the hint of the current version: where the one asked for is no longer that, of the one that the server names. */
+/* Gets the hint of the current version: if the one asked for is no longer that, of the one that the server names. */
 static void sync_with(vul_client *client, int fd, uint32_t scheme)
 {
-    for (;;) {
+    for (int stale = 0; stale < STALE_ANSWERS; stale++) {
         wanted("sync", vul_client_sync(client, scheme));
         vul_event event = ended(client, fd);
         wanted("next", vul_client_next(client, NULL, 0));
@@ -106,19 +109,27 @@ static void sync_with(vul_client *client, int fd, uint32_t scheme)
         if (event.kind != VUL_STALE)
             stop("no hint", event.detail);
     }
+    stop("the hint is stale again and again", 0);
 }
 
-/* Asks for a record, and where the hint is stale syncs and asks again. */
-static void get(vul_client *client, int fd, uint32_t scheme, uint32_t index)
+/* Asks for a record, and if the hint is stale syncs and asks again. */
+static vul_event asked(vul_client *client, int fd, uint32_t scheme, uint32_t index)
 {
     wanted("ask", vul_client_ask(client, index));
     vul_event event = ended(client, fd);
-    if (event.kind == VUL_STALE) {
+    for (int stale = 0; stale < STALE_ANSWERS && event.kind == VUL_STALE; stale++) {
         wanted("next", vul_client_next(client, NULL, 0));
         sync_with(client, fd, scheme);
-        get(client, fd, scheme, index);
-        return;
+        wanted("ask", vul_client_ask(client, index));
+        event = ended(client, fd);
     }
+    return event;
+}
+
+/* Gets a record, and prints it. */
+static void get(vul_client *client, int fd, uint32_t scheme, uint32_t index)
+{
+    vul_event event = asked(client, fd, scheme, index);
     if (event.kind != VUL_RETRIEVED)
         stop("no record", event.kind);
     size_t len = (size_t)event.record_len;

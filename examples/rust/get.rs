@@ -33,6 +33,9 @@ const SYNCED: u32 = 2;
 const RETRIEVED: u32 = 3;
 const STALE: u32 = 5;
 
+/// How often a hint or an answer may be stale before the server is given up: it may publish again and again, or lie.
+const STALE_ANSWERS: usize = 3;
+
 unsafe extern "C" {
     fn vul_client_open(client: *mut Handle, seed: *const u8, first_number: u64) -> u32;
     fn vul_client_close(client: *mut Handle);
@@ -93,7 +96,7 @@ impl Client {
 
     /// Gets the hint of the current version, which may change meanwhile.
     fn sync(&mut self) -> Outcome<()> {
-        loop {
+        for _ in 0..STALE_ANSWERS {
             done("sync", unsafe { vul_client_sync(&mut self.handle, 0) })?;
             match self.ended()?.0 {
                 Event { kind: SYNCED, .. } => return Ok(()),
@@ -101,11 +104,12 @@ impl Client {
                 other => return Err(format!("no hint: {}", other.detail).into()),
             }
         }
+        Err("the hint is stale again and again".into())
     }
 
     /// A record and its version.
     fn get(&mut self, index: u32) -> Outcome<(u64, Vec<u8>)> {
-        loop {
+        for _ in 0..=STALE_ANSWERS {
             done("ask", unsafe { vul_client_ask(&mut self.handle, index) })?;
             match self.ended()? {
                 (Event { kind: RETRIEVED, version, .. }, record) => return Ok((version, record)),
@@ -113,6 +117,7 @@ impl Client {
                 (other, _) => return Err(format!("no record: {}", other.kind).into()),
             }
         }
+        Err("the answer is stale again and again".into())
     }
 
     fn next_number(&mut self) -> Outcome<u64> {

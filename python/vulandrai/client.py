@@ -88,6 +88,10 @@ class State:
         self.number = number
 
 
+# How often a hint or an answer may be stale before the server is given up: it may publish again and again, or lie.
+STALE_ANSWERS = 3
+
+
 class Client:
     """A client of one server, over a connection of its own.
 
@@ -133,13 +137,17 @@ class Client:
             raise
 
     def sync(self) -> int:
-        """Fetches the hint of the current version, and gives its number. `get` does so where it has to."""
-        while True:
+        """Fetches the hint of the current version, and gives its number. `get` does so if it has to.
+
+        A server that publishes meanwhile again and again raises `Stale`.
+        """
+        for _ in range(STALE_ANSWERS):
             self._client.call("sync", self._scheme)
             event, _ = self._ended()
             if event.kind == SYNCED:
                 self._synced = True
                 return event.version
+        raise faults.Stale(faults.Stale.__doc__)
 
     def get(self, index: int) -> bytes:
         """The bytes of a record in the current version."""
@@ -149,7 +157,7 @@ class Client:
         """A record in the current version, with its number."""
         if not self._synced:
             self.sync()
-        while True:
+        for _ in range(1 + STALE_ANSWERS):
             if self._state is not None:
                 self._state.keep(self.next_number + 1)
             self._client.call("ask", within(index, 32, faults.BadIndex))
@@ -159,6 +167,7 @@ class Client:
             if event.kind == UNREADABLE:
                 raise faults.Unreadable(faults.Unreadable.__doc__)
             self.sync()
+        raise faults.Stale(faults.Stale.__doc__)
 
     def edit(self, index: int, record: bytes) -> None:
         """Replaces a record of the server's draft; the client speaks for the publisher."""

@@ -36,6 +36,10 @@ class AlreadyWelcome(VulandraiError):
     """A greeting was accepted before."""
 
 
+class Stale(VulandraiError):
+    """The server has named a newer version again and again."""
+
+
 class BadWelcome(VulandraiError):
     """The server's greeting is none that the client accepts."""
 

@@ -1,8 +1,8 @@
 -- A client's frames have the shapes that its happenings without their indices give.
-use Rattle.std.proofs.Common.{◌≡◌, ℕ, ◌+◌, ◌*◌, ◌^◌, Bool, true, false, cond, List, [], ◌∷◌, ◌++◌, length, Option, Some, None, refl, sym, ap, ◌∙◌}
+use Rattle.std.proofs.Common.{◌≡◌, ◌≢◌, ℕ, ◌+◌, ◌*◌, ◌^◌, Bool, true, false, cond, List, [], ◌∷◌, ◌++◌, length, Option, Some, None, refl, sym, ap, ◌∙◌, inl, inr}
 use Rattle.std.specs.Prelude.{map, ◌==◌, ◌&&◌, nat_lt, not, is_some, if◌then◌else◌}
 use Rattle.std.specs.List.{AllByRecursion}
-use Rattle.std.proofs.lemmas.Bool.{lt-ltb}
+use Rattle.std.proofs.lemmas.Bool.{lt-ltb, cases_eq}
 use Rattle.std.proofs.lemmas.List.{length-append, map-append}
 use Rattle.frame_codec.specs.declared.frame.Frame.{Frame}
 use Rattle.frame_codec.specs.declared.frame.Frame.TheVariants as frame
@@ -21,7 +21,7 @@ use Rattle.client_core.specs.declared.state.Hint.{Hint}
 use Rattle.client_core.specs.declared.state.Call.{Call}
 use Rattle.client_core.specs.declared.state.Call.TheVariants as call
 use Rattle.client_core.specs.declared.state.CallFault.{CallFault}
-use Rattle.client_core.specs.declared.state.CallFault.TheVariants.{NotReady, Busy, SeedUsedUp, Failed, AlreadyWelcome}
+use Rattle.client_core.specs.declared.state.CallFault.TheVariants.{NotReady, Busy, BadIndex, SeedUsedUp, Failed, AlreadyWelcome}
 use Rattle.client_core.specs.States.{shape_known, is_idle, is_ready, known_version, known_count, scheme_held, delta_base}
 use Rattle.client_core.specs.Calls.{Want, Hello, Sync, Ask, Edit, Append, Publish, sync_begun, state_after_call, call_frame, call_words, refusal, spent}
 use Rattle.client_core.specs.Replies.{Taken, plan_given, reaction_to_reply, is_accepted_welcome, takes_welcome, is_part, more_parts, takes_asked_part, takes_part, is_answer, answered, takes_answer, is_current, with_current, reaction_to_stale, takes_stale, row_numbers, is_delta, moved, takes_delta, goes_by_parts, takes_no_delta, takes_done, takes_refused}
@@ -317,6 +317,50 @@ refused_same c (Ask i) below = rw (lt-ltb i (known_count c.known) below, idle_sa
 refused_same c (Edit i bytes) below = rw (idle_same c.call) refl
 refused_same c (Append bytes) below = rw (idle_same c.call) refl
 refused_same c Publish below = rw (idle_same c.call) refl
+
+-- ---- refusals of asks
+
+-- why a client refuses an ask: whether it has failed, is ready and idle, whether the index is below the count known, and whether a number is left
+refused_ask : (failed ready idle below left : Bool) → Option CallFault
+refused_ask failed ready idle below left =
+    if failed then Some Failed
+    else (if ready then (if idle then (if below then (if left then None else Some SeedUsedUp) else Some BadIndex) else Some Busy) else Some NotReady)
+
+-- the same of an outline
+outlined_ask : Bool → Outline → Option CallFault
+outlined_ask below x = refused_ask x.failed (ready x.known x.hint) (no_reply x.call) below (nat_lt x.number (2 ^ 62))
+
+ask_outlined : (c : ClientState) (i : ℕ) → refusal (Ask i) c ≡ outlined_ask (nat_lt i (known_count c.known)) (outline c)
+unfolding refused_ask outlined_ask
+ask_outlined c i = rw (idle_same c.call, ready_same c.known c.hint) refl
+
+-- an ask that is not refused for its index is refused as one of a record below the count
+as_below : (failed ready idle below left : Bool) → refused_ask failed ready idle below left ≢ Some BadIndex →
+    refused_ask failed ready idle below left ≡ refused_ask failed ready idle true left
+unfolding refused_ask
+as_below true r n b u h = refl
+as_below false false n b u h = refl
+as_below false true false b u h = refl
+as_below false true true true u h = refl
+as_below false true true false u h = absurd (h refl)
+
+ask_below : (c : ClientState) (i : ℕ) → refusal (Ask i) c ≢ Some BadIndex → refusal (Ask i) c ≡ outlined_ask true (outline c)
+unfolding outlined_ask
+ask_below c i h =
+    ask_outlined c i
+    ∙ as_below c.failed (ready c.known (hint_name c.hint)) (no_reply (awaited c.call)) (nat_lt i (known_count c.known)) (nat_lt c.number (2 ^ 62))
+    (λ e. h (ask_outlined c i ∙ e))
+
+-- two asks of clients that differ in indices and words alone are refused alike, where the indices are the same or neither is refused for its own
+pub same_ask : (c d : ClientState) (i j : ℕ) → outline c ≡ outline d → (j ≢ i → refusal (Ask i) c ≢ Some BadIndex) →
+    (i ≢ j → refusal (Ask j) d ≢ Some BadIndex) → refusal (Ask i) c ≡ refusal (Ask j) d
+same_ask c d i j alike first second = elim (cases_eq i j) [
+  | inl same ↦ ask_outlined c i
+      ∙ ap (λ (x : Outline). outlined_ask (nat_lt i (known_count x.known)) x) alike
+      ∙ ap (λ (n : ℕ). outlined_ask (nat_lt n (known_count d.known)) (outline d)) same
+      ∙ sym (ask_outlined d j)
+  | inr other ↦ ask_below c i (first (λ e. other (sym e))) ∙ ap (outlined_ask true) alike ∙ sym (ask_below d j (second other))
+]
 
 same_refusal : (c d : ClientState) (want other : Want) → IndexIsBelow want c → IndexIsBelow other d → outline c ≡ outline d →
     blank_call want ≡ blank_call other → refusal want c ≡ refusal other d

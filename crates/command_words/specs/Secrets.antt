@@ -1,8 +1,9 @@
 -- Secrets of a command line, which may stand in a file.
-use Rattle.std.specs.Prelude.{◌≡◌, ◌≢◌, ◌⊎◌, ◌∷◌, [], ◌++◌, ℕ, List, replicate, codes, Option, Some, None, Result, Ok}
+use Rattle.std.specs.Prelude.{◌≡◌, ◌≢◌, ◌⊎◌, ◌∷◌, [], ◌++◌, ℕ, List, length, replicate, codes, Option, Some, None, Result, Ok, Err}
+use Rattle.std.specs.Str.{IsUtf8}
 use Rattle.hex.specs.Hex.{decode_of}
 use Rattle.command_words.specs.declared.failure.Failure.{Failure}
-use Rattle.command_words.specs.declared.failure.Failure.TheVariants.{Fault, Value, Memory}
+use Rattle.command_words.specs.declared.failure.Failure.TheVariants.{Fault, Value}
 use Rattle.command_words.specs.declared.secrets.Secret.{Secret}
 use Rattle.command_words.specs.declared.secrets.Secret.TheVariants.{Bytes, File}
 use Rattle.command_words.specs.Values.{IsNoBytes32, IsNoKey}
@@ -35,25 +36,46 @@ IsWithoutEnd end text rest = (text ≡ rest ++ (end ∷ [])) ⊎ ((text ≡ rest
 abbrev pub IsLineOf : List ℕ → List ℕ → Type 0
 IsLineOf text line = (rest : List ℕ) × IsWithoutEnd 10 text rest × IsWithoutEnd 13 rest line
 
--- the bytes on the line itself are the seed
-abbrev pub GivesSeed : Secret → Result (List ℕ) Failure → Type 0
-GivesSeed (Bytes bytes) result = result ≡ Ok bytes
-GivesSeed (File name) result = Unit {0}
+-- a text that has a seed: without the end of its line it is 64 hex digits, which encode the seed
+abbrev pub IsSeedText : List ℕ → List ℕ → Type 0
+IsSeedText text seed = (line : List ℕ) × IsLineOf text line × (length line ≡ 64) × (decode_of line ≡ Ok seed)
 
--- the bytes on the line itself are the key, unless they are all 0
-abbrev pub GivesKey : Secret → Result (List ℕ) Failure → Type 0
-GivesKey (Bytes bytes) result = bytes ≢ replicate 32 0 → result ≡ Ok bytes
-GivesKey (File name) result = Unit {0}
+-- a text that has none
+abbrev pub IsNoSeedText : List ℕ → Type 0
+IsNoSeedText text = (line : List ℕ) × IsLineOf text line × IsNoBytes32 (Some line)
 
--- a file can't be read, or memory was refused
-abbrev pub IsFileFailure : Failure → Type 0
-IsFileFailure (Fault name) = name.now ≡ codes "File"
-IsFileFailure Memory = Unit {0}
-IsFileFailure _ = ⊥
+-- what comes of what a file begins with: its seed, `Value` for a text that has none, `File` for what is no text
+abbrev pub IsReadAs : List ℕ → List ℕ → Result (List ℕ) Failure → Type 0
+IsReadAs takes text (Ok seed) = IsSeedText text seed
+IsReadAs takes text (Err (Value shown)) = IsUtf8 text × IsNoSeedText text × (shown.now ≡ takes)
+IsReadAs takes text (Err (Fault name)) = (IsUtf8 text → ⊥) × (name.now ≡ codes "File")
+IsReadAs takes text (Err _) = ⊥
 
--- a file can't be read, memory was refused, or the file has no secret of the option's form
+-- what comes of a file that can't be read
+abbrev pub IsUnread : Result (List ℕ) Failure → Type 0
+IsUnread (Err (Fault name)) = name.now ≡ codes "File"
+IsUnread _ = ⊥
+
+-- the bytes on the line itself are the seed; else what comes of the file, where it is said which bytes a file begins with and which can't be read
+abbrev pub GivesSeed : (List ℕ → List ℕ → Type 0) → (List ℕ → Type 0) → List ℕ → Secret → Result (List ℕ) Failure → Type 0
+GivesSeed begins fails takes (Bytes bytes) result = result ≡ Ok bytes
+GivesSeed begins fails takes (File name) result =
+    ((text : List ℕ) × begins name.now text × IsReadAs takes text result) ⊎ (fails name.now × IsUnread result)
+
+-- what a seed is as a key: itself, and `Value` where all its bytes are 0
+abbrev pub IsKeyOf : List ℕ → Result (List ℕ) Failure → Result (List ℕ) Failure → Type 0
+IsKeyOf takes (Ok seed) (Ok key) = (key ≡ seed) × (seed ≢ replicate 32 0)
+IsKeyOf takes (Ok seed) (Err (Value shown)) = (seed ≡ replicate 32 0) × (shown.now ≡ takes)
+IsKeyOf takes (Ok seed) (Err _) = ⊥
+IsKeyOf takes (Err fault) result = result ≡ Err fault
+
+-- what comes of the same secret as a seed, as a key
+abbrev pub GivesKey : (List ℕ → List ℕ → Type 0) → (List ℕ → Type 0) → List ℕ → Secret → Result (List ℕ) Failure → Type 0
+GivesKey begins fails takes secret result =
+    (seed : Result (List ℕ) Failure) × GivesSeed begins fails takes secret seed × IsKeyOf takes seed result
+
+-- a file can't be read or is no text, or it has no secret of the option's form
 abbrev pub IsSecretFailure : List ℕ → Failure → Type 0
 IsSecretFailure takes (Value shown) = shown.now ≡ takes
 IsSecretFailure takes (Fault name) = name.now ≡ codes "File"
-IsSecretFailure takes Memory = Unit {0}
 IsSecretFailure takes _ = ⊥

@@ -1,5 +1,5 @@
 -- What a program's exit status says of a command that was not done.
-use Rattle.std.specs.Prelude.{◌≡◌, ◌⊎◌, ℕ, List, Option, Some, None}
+use Rattle.std.specs.Prelude.{◌≡◌, ◌⊎◌, ℕ, List, Option, Some, None, codes}
 use Rattle.clap.specs.declared.error.kind.ErrorKind.TheVariants.{DisplayHelp, DisplayVersion}
 use Rattle.clap.specs.declared.error.kind.ErrorKind.{ErrorKind}
 use Rattle.clap.specs.Values.{kind_of}
@@ -17,13 +17,24 @@ status_of (Fault name) = 3
 status_of (Value takes) = 2
 status_of Memory = 4
 
+-- a file can't be opened or made
+abbrev pub IsFileFault : Failure → Type 0
+IsFileFault (Fault name) = name.now ≡ codes "File"
+IsFileFault _ = ⊥
+
+-- what was to be printed or written could not be
+abbrev pub IsWriteFault : Failure → Type 0
+IsWriteFault (Fault name) = name.now ≡ codes "Write"
+IsWriteFault _ = ⊥
+
 -- the text is what was asked for, and reports no mistake
 abbrev pub AsksForHelp : ErrorKind → Type 0
 AsksForHelp kind = (kind ≡ DisplayHelp) ⊎ (kind ≡ DisplayVersion)
 
--- 0 where help was asked for, 2 for a bad command line, 4 for lack of memory
+-- 0 if help was asked for, 3 if it was and can't be printed, 2 for a bad command line, 4 if memory was refused
 abbrev pub Reports : BadLine → ℕ → Type 0
-Reports (line.Form e) status = ((status ≡ 0) × AsksForHelp (kind_of e)) ⊎ ((status ≡ 2) × (AsksForHelp (kind_of e) → ⊥))
+Reports (line.Form e) status =
+    (((status ≡ 0) ⊎ (status ≡ 3)) × AsksForHelp (kind_of e)) ⊎ ((status ≡ 2) × (AsksForHelp (kind_of e) → ⊥))
 Reports (line.Value takes) status = status ≡ 2
 Reports (line.Given takes given) status = status ≡ 2
 Reports line.Memory status = status ≡ 4

@@ -5,6 +5,7 @@ ghost use Rattle.clap.specs.Values.{kind_of};
 ghost use Rattle.clap.specs.declared.error.kind.ErrorKind.TheVariants.{OutOfMemory};
 ghost use Rattle.command_words.specs.Statuses.{Reports};
 
+use crate::failure::Failure;
 use clap::Error;
 use clap::error::ErrorKind;
 use std::alloc::{AllocError, AllocFailed};
@@ -57,15 +58,21 @@ impl<'a, T: Drop> From<AllocFailed<T>> for BadLine<'a> {
 }
 
 impl BadLine<'_> {
-    /// Prints what is to be said, and answers the exit status: 0 for help, 2 for a bad command line and 4 for
-    /// refused memory.
+    /// Prints what is to be said, and answers the exit status: 0 for help, 2 for a bad command line, 3 for help that can't be
+    /// printed and 4 for refused memory.
     pub fn report<R: Print + Eprint>(&self, rt: &R) -> u8
         ensures { Reports self.now result }
     {
         match self {
             BadLine::Form(error) => {
-                let _ = error.print(rt);
-                if error.use_stderr() { 2 } else { 0 }
+                let printed = error.print(rt);
+                if error.use_stderr() {
+                    return 2;
+                }
+                match printed {
+                    Ok(()) => 0,
+                    Err(_) => unprinted(rt),
+                }
             }
             BadLine::Value(takes) => {
                 let _ = eprintln!(rt; "error: {takes}\n\nFor more information, try '--help'.");
@@ -83,4 +90,13 @@ impl BadLine<'_> {
             }
         }
     }
+}
+
+// Says that help can't be printed, and answers the status for it.
+fn unprinted<R: Eprint>(rt: &R) -> u8
+    ensures { result ≡ 3 }
+{
+    let failure = Failure::Fault("Write");
+    let _ = eprintln!(rt; "{failure}");
+    failure.status()
 }

@@ -5,6 +5,8 @@
 
 mod arguments;
 mod bad_line;
+mod descriptors;
+mod failed;
 mod failure;
 mod options;
 mod secrets;
@@ -12,9 +14,11 @@ mod words;
 
 pub use arguments::program_words;
 pub use bad_line::BadLine;
+pub use descriptors::open_standard_descriptors;
+pub use failed::{Failed, file_failed, printed};
 pub use failure::Failure;
-pub use options::{number_at, option, text_at, word};
-pub use secrets::{Secret, key_at, seed_at};
+pub use options::{number_at, option, text_at, verbose_flag, word};
+pub use secrets::{Secret, SecretFiles, key_at, seed_at};
 pub use words::{bytes_from_hex, bytes32_from_hex, decimal, publisher_key, record_bytes};
 
 #[cfg(test)]

@@ -27,6 +27,16 @@ pub fn option<'a>(alloc: Global, name: &'a str, value: &'a str, help: &'a str) -
         .action(ArgAction::Set)
 }
 
+/// The flag `--verbose`, by which a failure says its cause.
+pub fn verbose_flag<'a>(alloc: Global) -> Arg<'a>
+    ensures takes_no_value { result.action ≡ Some ArgAction.SetTrue }
+{
+    Arg::new(alloc, "verbose")
+        .long("verbose")
+        .help("Says the cause of a fault in a second line")
+        .action(ArgAction::SetTrue)
+}
+
 /// A required word that stands by its place.
 pub fn word<'a>(alloc: Global, name: &'a str, help: &'a str) -> Arg<'a>
     ensures by_place { (result.id ≡ name.entry) × (result.long ≡ None) × (result.short ≡ None) }

@@ -1,20 +1,51 @@
 //! Secrets of a command line, which may stand in a file.
 
-ghost use Rattle.std.specs.Prelude.{◌≡◌, ◌≢◌, ◌<◌, ◌∷◌, ℕ, List, None, Some, Ok, replicate, IfOk, IfErr, MatchOption};
+ghost use Rattle.std.specs.Prelude.{◌≡◌, ◌≢◌, ◌<◌, ◌≤◌, ◌∷◌, ℕ, List, None, Some, Ok, length, take, replicate, IfOk, IfErr, IfSome, MatchOption};
+ghost use Rattle.std.specs.Io.KnownBytes.{Consumes, IsAtEnd};
 ghost use Rattle.clap.specs.Matches.{first_value, found_of};
-ghost use Rattle.command_words.specs.Secrets.{IsSecretOf, IsKey, IsNoSecret, IsNoKeySecret, IsWithoutEnd, IsLineOf, GivesSeed, GivesKey, IsSecretFailure, IsFileFailure};
+ghost use Rattle.command_words.specs.Secrets.{IsSecretOf, IsKey, IsNoSecret, IsNoKeySecret, IsWithoutEnd, IsLineOf, GivesSeed, GivesKey, IsReadAs, IsSecretFailure};
 
 use crate::bad_line::BadLine;
+use crate::failed::{Failed, file_failed};
 use crate::failure::Failure;
 use crate::options::text_at;
 use crate::words::{bytes32_from_hex, publisher_key};
 use clap::ArgMatches;
 use std::fs::File;
-use std::io;
-use std::io::{ErrorKind, Read};
+use std::io::Read;
+use std::str;
 
 /// The most bytes that are read of a secret's file: 64 digits, the end of a line, and one more.
-const MOST_SECRET: u64 = 67;
+const MOST_SECRET: usize = 67;
+
+/// Where the files of secrets stand.
+pub trait SecretFiles {
+    /// What the file of a name begins with: as many bytes as there is room for, or all of them if these are fewer.
+    ghost begins: { Self → ℕ → List ℕ → List ℕ → Type 0 };
+
+    /// The file of a name can't be read.
+    ghost fails: { Self → List ℕ → Type 0 };
+
+    /// Reads what a file begins with, as many bytes as there is room for or all of them, and answers how many these are; `None`
+    /// if it can't be read.
+    fn read_start(&self, name: &str, out: &mut [u8]) -> Option<usize>
+        ensures within { IfSome result (λ n. n ≤ length out.old) }
+        ensures start { MatchOption result (fails self.now name.now)
+            (λ n. begins self.now (length out.old) name.now (take n out.new)) };
+}
+
+impl SecretFiles for HostRuntime {
+    ghost begins = { λ _ _ _ _. Unit {0} };
+
+    ghost fails = { λ _ _. Unit {0} };
+
+    fn read_start(&self, name: &str, out: &mut [u8]) -> Option<usize> {
+        let Ok(mut file) = File::open(self, name) else {
+            return None;
+        };
+        first_bytes(&mut file, out)
+    }
+}
 
 /// A secret as a command line gives it, so that it needn't stand where other users see it. Its file is read by
 /// [`seed`](Secret::seed) or [`key`](Secret::key), once the whole line was judged: a line that is bad elsewhere opens none.
@@ -31,19 +62,20 @@ impl<'a> Secret<'a> {
     ///
     /// # Errors
     ///
-    /// `Fault` with `File` where the file can't be read or is no text; `Value`, with what the option takes, where its text
-    /// without the end of its line isn't 64 hex digits; `Memory` where memory was refused. None where the line has the bytes.
-    pub fn seed(self, rt: &HostRuntime, takes: &'static str) -> Result<[u8; 32], Failure>
-        ensures given { GivesSeed self.entry result }
+    /// `Fault` with `File` where the file can't be read, or its first 67 bytes are no text; `Value`, with what the option takes,
+    /// where its text without the end of its line isn't 64 hex digits. None where the line has the bytes.
+    pub fn seed<F: SecretFiles>(self, files: &F, takes: &'static str) -> Result<[u8; 32], Failure>
+        ensures given { GivesSeed (F.begins files.now 67) (F.fails files.now) takes.now
+            self.entry result }
         ensures refused { IfErr result (IsSecretFailure takes.now) }
     {
         match self {
             Secret::Bytes(bytes) => Ok(bytes),
             Secret::File(name) => {
-                let text = text_in(rt, name)?;
-                match bytes32_from_hex(line_of(&text)) {
-                    Some(seed) => Ok(seed),
-                    None => Err(Failure::Value(takes)),
+                let mut start = [0; MOST_SECRET];
+                match files.read_start(name, &mut start) {
+                    Some(count) => seed_in(&start[..count], takes),
+                    None => Err(Failure::Fault("File")),
                 }
             }
         }
@@ -54,16 +86,34 @@ impl<'a> Secret<'a> {
     /// # Errors
     ///
     /// As those of [`seed`](Secret::seed), and `Value` where all bytes are zero.
-    pub fn key(self, rt: &HostRuntime, takes: &'static str) -> Result<[u8; 32], Failure>
-        ensures given { GivesKey self.entry result }
+    pub fn key<F: SecretFiles>(self, files: &F, takes: &'static str) -> Result<[u8; 32], Failure>
+        ensures given { GivesKey (F.begins files.now 67) (F.fails files.now) takes.now
+            self.entry result }
         ensures not_zero { IfOk result (λ key. key ≢ replicate 32 0) }
         ensures refused { IfErr result (IsSecretFailure takes.now) }
     {
-        let key = self.seed(rt, takes)?;
+        let key = self.seed(files, takes)?;
         if key == [0; 32] {
             return Err(Failure::Value(takes));
         }
         Ok(key)
+    }
+}
+
+impl Secret<'_> {
+    /// How a command failed whose secret was not read, with the name of its file.
+    pub fn failed(&self, rt: &HostRuntime, failure: Failure) -> Failed
+        ensures { result.failure ≡ failure }
+    {
+        match self {
+            Secret::Bytes(_) => Failed::from(failure),
+            Secret::File(name) => file_failed(
+                rt,
+                name,
+                failure,
+                "no 64 hex digits, and at most the end of a line after them",
+            ),
+        }
     }
 }
 
@@ -144,16 +194,34 @@ fn without_end<'a>(text: &'a str, end: char) -> &'a str
     }
 }
 
-// The text of a file.
-fn text_in(rt: &HostRuntime, name: &str) -> Result<String, Failure>
-    ensures { IfErr result IsFileFailure }
+// The seed that a text has.
+fn seed_in(text: &[u8], takes: &'static str) -> Result<[u8; 32], Failure>
+    ensures read { IsReadAs takes.now text.now result }
+    ensures refused { IfErr result (IsSecretFailure takes.now) }
 {
-    let Ok(file) = File::open(rt, name) else {
+    let Ok(text) = str::from_utf8(text) else {
         return Err(Failure::Fault("File"));
     };
-    match io::read_to_string(rt.alloc(), file.take(MOST_SECRET)) {
-        Ok(text) => Ok(text),
-        Err(fault) if fault.kind() == ErrorKind::OutOfMemory => Err(Failure::Memory),
-        Err(_) => Err(Failure::Fault("File")),
+    match bytes32_from_hex(line_of(text)) {
+        Some(seed) => Ok(seed),
+        None => Err(Failure::Value(takes)),
     }
+}
+
+// The first bytes of a reader, as many as there is room for, or all of them.
+fn first_bytes<R: Read>(reader: &mut R, out: &mut [u8]) -> Option<usize>
+    ensures within { IfSome result (λ n. n ≤ length out.old) }
+    ensures taken { IfSome result (λ n.
+        Consumes (R.remaining reader.old) (R.remaining reader.new) (take n out.new)) }
+    ensures whole { IfSome result (λ n. n < length out.old → IsAtEnd (R.remaining reader.new)) }
+{
+    let mut at = 0;
+    while at < out.len() {
+        match reader.read(&mut out[at..]) {
+            Ok(0) => return Some(at),
+            Err(_) => return None,
+            Ok(n) => at += n,
+        }
+    }
+    Some(at)
 }

@@ -1,5 +1,6 @@
 pub mod NumberBytes
 pub mod Payloads
+pub mod PayloadLengths
 pub mod Feedings
 pub mod Prefixes
 pub mod Unique

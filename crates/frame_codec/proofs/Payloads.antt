@@ -85,7 +85,7 @@ dimension_back since now count rows small =
     ∙ sym (drop-drop 4 8 p8) ∙ ap (drop 4) (drop_number 8 now p16) ∙ drop_number 4 count p20 in
     ap (number_in 2) e ∙ number_back 2 rows.dimension (word_bytes rows.words) small
 
-length-payload : (f : Frame) → HasFields f → HasLength (kind_of f) (payload_of f)
+pub length-payload : (f : Frame) → HasFields f → HasLength (kind_of f) (payload_of f)
 length-payload (Load record_len groups width records) fits = omega (arith, payload_sized (Load record_len groups width records))
 length-payload (Hello profile key) fits = omega (arith, payload_sized (Hello profile key), fits.1)
 length-payload (HintAsk scheme version part) fits = payload_sized (HintAsk scheme version part)

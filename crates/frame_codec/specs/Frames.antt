@@ -111,6 +111,10 @@ pub record Stands (k : ℕ) (bytes : List ℕ) (f : Frame) : Type 0 where
   pub payload : payload_of f ≡ bytes
   pub fields : HasFields f
 
+-- a frame of this kind has a payload of so many bytes
+abbrev pub IsPayloadLength : ℕ → ℕ → Type 0
+IsPayloadLength k n = (f : Frame) × (kind_of f ≡ k) × HasFields f × (length (payload_of f) ≡ n)
+
 -- a frame of this kind has this payload
 abbrev pub IsPayload : ℕ → List ℕ → Type 0
 IsPayload k bytes = (f : Frame) × Stands k bytes f

@@ -6,7 +6,7 @@ use Rattle.frame_codec.specs.declared.reader.ReadFault.{ReadFault}
 use Rattle.frame_codec.specs.declared.reader.Taken.{Taken}
 use Rattle.frame_codec.specs.declared.reader.ReadFault.TheVariants.{TooLong, UnknownKind, BadPayload, Memory, Failed}
 use Rattle.frame_codec.specs.Numbers.{number_in}
-use Rattle.frame_codec.specs.Frames.{IsFrame, encoding, payload_limit}
+use Rattle.frame_codec.specs.Frames.{IsFrame, IsPayloadLength, encoding, payload_limit}
 
 -- whether a byte names a kind
 abbrev pub is_kind : ℕ → Bool
@@ -35,12 +35,18 @@ HasFault BadPayload bytes =
 HasFault Memory bytes = ⊥
 HasFault Failed bytes = ⊥
 
--- What makes a reader stop with a fault: it stands there. Where memory was refused, none stands there that the length or the kind makes.
+-- All bytes that a sound length and a known kind announce have come, and no frame of this kind has a payload so long, whatever its bytes.
+abbrev pub HasBadLength : List ℕ → Type 0
+HasBadLength bytes =
+    (5 + length_at bytes ≤ length bytes) × (length_at bytes ≤ payload_limit) × (is_kind (kind_at bytes) ≡ true)
+    × (IsPayloadLength (kind_at bytes) (length_at bytes) → ⊥)
+
+-- What makes a reader stop with a fault: it stands there. Where memory was refused, none stands there that the length and the kind make.
 abbrev pub StopsAt : ReadFault → List ℕ → Type 0
 StopsAt TooLong bytes = HasFault TooLong bytes
 StopsAt UnknownKind bytes = HasFault UnknownKind bytes
 StopsAt BadPayload bytes = HasFault BadPayload bytes
-StopsAt Memory bytes = (HasFault TooLong bytes → ⊥) × (HasFault UnknownKind bytes → ⊥)
+StopsAt Memory bytes = (HasFault TooLong bytes → ⊥) × (HasFault UnknownKind bytes → ⊥) × (HasBadLength bytes → ⊥)
 StopsAt Failed bytes = ⊥
 
 -- less than a frame, and nothing yet that could be judged

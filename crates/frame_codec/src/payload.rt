@@ -1,8 +1,8 @@
 //! The frame that a kind and a payload make: one function a kind.
 
-ghost use Rattle.std.specs.Prelude.{◌≡◌, ◌≤◌, ◌<◌, ◌+◌, ◌*◌, ◌^◌, ◌∷◌, ◌++◌, ℕ, All, length, IfOk, OnErr, IfSome, IfNone};
+ghost use Rattle.std.specs.Prelude.{◌≡◌, ◌≤◌, ◌<◌, ◌+◌, ◌*◌, ◌^◌, ◌∷◌, ◌++◌, ◌↔◌, ℕ, All, IsTrue, length, IfOk, OnErr, IfSome, IfNone};
 ghost use Rattle.frame_codec.specs.Numbers.{number_bytes, word_bytes};
-ghost use Rattle.frame_codec.specs.Frames.{IsPayload, ReadsAs};
+ghost use Rattle.frame_codec.specs.Frames.{IsPayload, IsPayloadLength, ReadsAs};
 
 use crate::frame::{Bytes, Bytes32, Frame, Rows, Words};
 use crate::numbers::{BLOCK_WORDS, push_block, u16_at, u32_at, u64_at};
@@ -259,6 +259,40 @@ fn refused_of(payload: &[u8]) -> Option<Frame>
         return None;
     }
     Some(Frame::Refused { code: payload[0] })
+}
+
+/// Whether so many bytes are some, and then whole words.
+fn is_words_len(len: usize, before: usize) -> bool
+    ensures { IsTrue result ↔ ((n : ℕ) × (len ≡ before + 4 * n)) }
+{
+    len >= before && (len - before) % 4 == 0
+}
+
+/// Whether a frame of this kind has a payload of so many bytes. Whether the words of a Delta are whole rows is
+/// said by its dimension, and not by the length.
+pub fn is_payload_len(kind: u8, len: usize) -> bool
+    ensures { IsTrue result ↔ IsPayloadLength kind len }
+{
+    match kind {
+        0x01 => len >= 5,
+        0x02 => len == 34,
+        0x03 => len == 13,
+        0x04 => len == 8,
+        0x05 => is_words_len(len, 9),
+        0x06 => len >= 4,
+        0x07 => len == 0,
+        0x08 => len == 0,
+        0x09 => true,
+        0x82 => len == 53,
+        0x83 => is_words_len(len, 13),
+        0x84 => is_words_len(len, 22),
+        0x85 => is_words_len(len, 9),
+        0x86 => len == 12,
+        0x87 => len == 8,
+        0x88 => len == 12,
+        0x8f => len == 1,
+        _ => false,
+    }
 }
 
 /// The frame of this kind with this payload, if there is one. Memory is asked for only where there is.

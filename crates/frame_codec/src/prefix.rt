@@ -1,13 +1,13 @@
 //! The frames at the beginning of bytes.
 
-ghost use Rattle.std.specs.Prelude.{◌≡◌, ◌<◌, ◌≤◌, ℕ, List, ◌++◌, IfOk, IfErr, IfSome, IfNone, length, take};
+ghost use Rattle.std.specs.Prelude.{◌≡◌, ◌<◌, ◌≤◌, ℕ, List, ◌++◌, IfOk, OnOk, IfErr, IfSome, IfNone, length, take};
 ghost use Rattle.frame_codec.specs.declared.frame.Frame.{Frame};
 ghost use Rattle.frame_codec.specs.Frames.{IsFrame, encoding};
-ghost use Rattle.frame_codec.specs.Streams.{HasFault, HasFrame, IsPartial, IsReadable, StopsAt, is_kind};
+ghost use Rattle.frame_codec.specs.Streams.{HasBadLength, HasFault, HasFrame, IsPartial, IsReadable, StopsAt, is_kind};
 
 use crate::frame::Frame;
 use crate::numbers::u32_at;
-use crate::payload::decode;
+use crate::payload::{decode, is_payload_len};
 use crate::reader::ReadFault;
 use std::alloc::Global;
 
@@ -44,13 +44,22 @@ pub fn frame_len(bytes: &[u8]) -> Result<usize, ReadFault>
     Ok(HEADER_LEN + len)
 }
 
-/// The same of bytes that stand in two places, one after the other. It is found without memory.
+/// The same of bytes that stand in two places, one after the other. Where the whole frame has come, its length is
+/// judged by its kind, too. All this takes no memory.
 pub fn split_frame_len(first: &[u8], rest: &[u8]) -> Result<usize, ReadFault>
     ensures ok { IfOk result (λ size. IsReadable (first.now ++ rest.now) size) }
+    ensures judged { OnOk result (HasBadLength (first.now ++ rest.now) → ⊥) }
     ensures err { IfErr result (λ fault. HasFault fault (first.now ++ rest.now)) }
 {
     let (header, len) = header_of(first, rest);
-    frame_len(&header[..len])
+    let size = frame_len(&header[..len])?;
+    if first.len().saturating_add(rest.len()) < size {
+        return Ok(size);
+    }
+    if !is_payload_len(header[4], size - HEADER_LEN) {
+        return Err(ReadFault::BadPayload);
+    }
+    Ok(size)
 }
 
 /// The first bytes of two slices, one after the other: as many as a header has, or all. The second number

@@ -111,8 +111,9 @@ impl Reader {
     /// A fault comes with the piece that has the byte by which it is judged. The whole frames before
     /// it are added, what had come of the bad one is given up with its room, and every later feed
     /// answers `Failed`. At `Memory` too the frames added are whole frames of the stream, in order, and no
-    /// `TooLong` or `UnknownKind` stands after them: these are judged before memory is taken. Only a payload
-    /// can't be judged, where memory to put it together is refused.
+    /// `TooLong` or `UnknownKind` stands after them, nor a whole payload of a length that no frame of its kind has:
+    /// these are judged before memory is taken. Only the rows of a Delta can't be judged, where memory to put its
+    /// payload together is refused.
     pub fn feed(&mut self, piece: &[u8], out: &mut Vec<Frame>) -> Result<(), ReadFault>
         ensures { (frames : List Frame) × (out.new.items ≡ out.old.items ++ frames) ×
             Feeds self.old piece.now result frames self.new }
@@ -243,7 +244,8 @@ fn finish<'a>(
 }
 
 /// Gives an unfinished frame what it lacks: its header and its payload. Answers the rest of the piece. The
-/// header is judged before memory is taken, so that a fault of it is never answered as `Memory`.
+/// header is judged before memory is taken, and so is the length of a payload that is whole now, so that a fault
+/// of these is never answered as `Memory`.
 fn fill<'a>(pending: &mut Vec<u8>, piece: &'a [u8]) -> Result<&'a [u8], ReadFault>
     requires { IsPartial pending.old.items }
     ensures whole { IfOk result (λ rest. pending.new.items ++ rest.now

@@ -4,3 +4,4 @@ pub mod Listed
 pub mod Blocks
 pub mod Logs
 pub mod Lowest
+pub mod Guesses

@@ -1,7 +1,9 @@
 -- Changed rows that are taken by whole words: the digits of a word stand below one another, the lowest first.
-use Rattle.std.specs.Prelude.{◌≡◌, ℕ, ◌+◌, ◌-◌, ◌*◌, ◌/◌, ◌%◌, ◌^◌, ◌<◌, ◌≤◌, List, length, slice_index}
+use Rattle.std.specs.Prelude.{◌≡◌, ◌≢◌, ◌⊎◌, ℕ, ◌+◌, ◌-◌, ◌*◌, ◌/◌, ◌%◌, ◌^◌, ◌<◌, ◌≤◌, List, length, slice_index, min, nat_lt, if◌then◌else◌}
+use Rattle.std.specs.Int.{trailing_zeros, w32}
 use Rattle.matrix_u32.specs.Sum.{sum_below}
 use Rattle.matrix_u32.specs.Matrix.{WordMatrix, entry}
+use Rattle.digit_pack.specs.Digits.{recomposed_at}
 use Rattle.hint_update.specs.declared.rows.RowsRoom.{RowsRoom}
 use Rattle.hint_update.specs.declared.words.WordsRoom.{WordsRoom}
 
@@ -65,3 +67,66 @@ pub record IsRowAdded (old new : List ℕ) (changes public : WordMatrix) (i : �
   pub count : length new ≡ length old
   pub added : (q : ℕ) → q < length old →
       slice_index new q ≡ (slice_index old q + sum_below public.rows (λ k. entry changes i k * entry public k q)) % 2 ^ 32
+
+-- ---- the list that words are guessed to follow
+-- of the k-th listed row, the change of a word: from the one whose digits the server's hint has to the one of the hint; 0 past the listed rows
+abbrev pub word_change : ℕ → WordMatrix → WordMatrix → List ℕ → ℕ → ℕ → ℕ
+word_change w server hint listed word k =
+    if nat_lt k (length listed)
+    then (entry hint (slice_index listed k) word + (2 ^ 32 - recomposed_at w server word (slice_index listed k))) % 2 ^ 32
+    else 0
+
+-- the fewest zero bits at the end of one of so many numbers: 32 of 0, and where there is no number
+pub record IsFewestZeros (count : ℕ) (number : ℕ → ℕ) (least : ℕ) : Type 0 where
+  pub each : (k : ℕ) → k < count → least ≤ trailing_zeros w32 (number k)
+  pub met : (least ≡ 32) ⊎ ((k : ℕ) × (k < count) × (trailing_zeros w32 (number k) ≡ least))
+
+-- the fewest zero bits at the end of a change of the first words, each of which has so many changes
+pub record IsLeastPower (words count : ℕ) (change : ℕ → ℕ → ℕ) (least : ℕ) : Type 0 where
+  pub each : (word k : ℕ) → word < words → k < count → least ≤ trailing_zeros w32 (change word k)
+  pub met : (least ≡ 32) ⊎ ((word : ℕ) × (k : ℕ) × (word < words) × (k < count) × (trailing_zeros w32 (change word k) ≡ least))
+
+-- no change of a word ends with exactly so many zero bits
+abbrev pub HasNone : ℕ → (ℕ → ℕ) → ℕ → Type 0
+HasNone count change least = (k : ℕ) → k < count → trailing_zeros w32 (change k) ≢ least
+
+-- the place of the first number that ends with exactly so many zero bits
+pub record IsFirstEnding (count : ℕ) (number : ℕ → ℕ) (least place : ℕ) : Type 0 where
+  pub inside : place < count
+  pub ends : trailing_zeros w32 (number place) ≡ least
+  pub before : HasNone place number least
+
+-- the first word with a change that ends with exactly so many zero bits
+pub record IsFirstWith (words count : ℕ) (change : ℕ → ℕ → ℕ) (least word : ℕ) : Type 0 where
+  pub inside : word < words
+  pub before : (j : ℕ) → j < word → HasNone count (change j) least
+
+-- the changes of that word, and the place of its first such change
+pub record AreFirstChanges (words count : ℕ) (change : ℕ → ℕ → ℕ) (least : ℕ) (changes : List ℕ) (place : ℕ) : Type 0 where
+  pub word : ℕ
+  pub first : IsFirstWith words count change least word
+  pub ending : IsFirstEnding count (change word) least place
+  pub each : (k : ℕ) → k < count → slice_index changes k ≡ change word k
+
+-- the list that is guessed, and the place of its 1: the changes of the first word that has one divisible by no higher power
+-- of two than all are, divided by that power and modulo 2 ^ 32 by what it leaves of the first such change
+pub record IsGuess (words count : ℕ) (change : ℕ → ℕ → ℕ) (common : List ℕ) (pivot : ℕ) : Type 0 where
+  pub least : ℕ
+  pub word : ℕ
+  pub inverse : ℕ
+  pub power : IsLeastPower words count change least
+  pub first : IsFirstWith words count change least word
+  pub ending : IsFirstEnding count (change word) least pivot
+  pub one : 0 < change word pivot → change word pivot / 2 ^ least * inverse % 2 ^ 32 ≡ 1
+  pub divided : (k : ℕ) → k < count → slice_index common k ≡ change word k / 2 ^ least * inverse % 2 ^ 32
+
+-- no list is guessed
+pub record IsNoGuess (common : List ℕ) (pivot : ℕ) : Type 0 where
+  pub zeros : (k : ℕ) → k < length common → slice_index common k ≡ 0
+  pub first : pivot ≡ 0
+
+-- what is guessed for listed rows: no list where they are fewer than 16, or there is no word; else a list of the first 16 words
+pub record IsGuessFor (w : ℕ) (server hint : WordMatrix) (listed common : List ℕ) (pivot : ℕ) : Type 0 where
+  pub too_few : length listed < 16 → IsNoGuess common pivot
+  pub no_words : hint.cols ≡ 0 → IsNoGuess common pivot
+  pub guess : 16 ≤ length listed → 0 < hint.cols → IsGuess (min hint.cols 16) (length common) (word_change w server hint listed) common pivot

@@ -6,13 +6,16 @@
 //! higher ones are then multiplied, and what the lowest one adds to the client's hint follows from their products and from that one.
 //! Nothing is taken for granted: the list is a guess, and each word is tested before it is used.
 
-ghost use Rattle.std.specs.Prelude.{◌≡◌, ℕ, ◌+◌, ◌-◌, ◌*◌, ◌%◌, ◌^◌, ◌<◌, ◌≤◌, length, slice_index};
-ghost use Rattle.std.specs.Prelude.{IfOk, IfSome, IsTrue};
+ghost use Rattle.std.specs.Prelude.{◌≡◌, ℕ, ◌+◌, ◌-◌, ◌*◌, ◌/◌, ◌%◌, ◌^◌, ◌<◌, ◌≤◌, length, slice_index};
+ghost use Rattle.std.specs.Prelude.{IfOk, IfSome, IsTrue, MatchOption, min};
 ghost use Rattle.matrix_u32.specs.Matrix.{entry};
 ghost use Rattle.lane_kernels.specs.Digit.{split_count};
+ghost use Rattle.digit_pack.specs.Digits.{recomposed_at};
 ghost use Rattle.hint_update.specs.Updates.{AddsRows, AreRowsBelow};
 ghost use Rattle.hint_update.specs.Words.{IsRowsRoom, IsWordsRoom, HasCombined, IsMultiple};
 ghost use Rattle.hint_update.specs.Words.{AreWholeWords, HasHigherRows, HasHigherProducts, IsRowAdded};
+ghost use Rattle.hint_update.specs.Words.{word_change, IsFewestZeros, IsLeastPower, HasNone, IsFirstEnding};
+ghost use Rattle.hint_update.specs.Words.{AreFirstChanges, IsGuessFor};
 
 use crate::rows::{RowsRoom, add_block, add_changes, are_zero};
 use digit_pack::{DigitStore, split_count};
@@ -95,6 +98,8 @@ impl WordsRoom {
         requires room { IsWordsRoom public.now.rows public.now.cols self.old }
         ensures room { IsWordsRoom public.now.rows public.now.cols self.new }
         ensures combined { HasCombined public.now self.new }
+        ensures guessed { IsGuessFor w (S.digits server_hint.now) hint.now listed.now
+            self.new.common.items self.new.pivot }
     {
         self.pivot = put_common(server_hint, hint, w, listed, &mut self.common);
         self.combined.fill(0);
@@ -131,23 +136,26 @@ fn put_common<S: DigitStore>(
     requires few { length listed.now ≤ length common.old }
     requires server_rows { (S.digits server_hint.now).rows ≡ hint.now.cols * split_count w }
     requires server_cols { (S.digits server_hint.now).cols ≡ hint.now.rows }
-    ensures { length common.new ≡ length common.old }
+    ensures length { length common.new ≡ length common.old }
+    ensures guessed { IsGuessFor w (S.digits server_hint.now) hint.now listed.now common.new
+        result }
 {
     if listed.len() < FEWEST_ROWS {
         common.fill(0);
         return 0;
     }
     let least = least_power(server_hint, hint, w, listed, common);
-    for word in 0..hint.cols().min(TRIED_WORDS) {
-        put_word_changes(server_hint, hint, w, listed, word, common);
-        if let Some(pivot) = common.iter().position(|x| x.trailing_zeros() == least) {
-            let odd = common[pivot].checked_shr(least).unwrap_or(0);
+    match put_first_changes(server_hint, hint, w, listed, least, common) {
+        Some(pivot) => {
+            let odd = shifted(common[pivot], least);
             divide(common, least, inverse_of_odd(odd));
-            return pivot;
+            pivot
+        }
+        None => {
+            common.fill(0);
+            0
         }
     }
-    common.fill(0);
-    0
 }
 
 // The lowest of the powers of two that divide the changes of the first words, as its number of bits: 32 where nothing changes. What
@@ -164,7 +172,9 @@ fn least_power<S: DigitStore>(
     requires few { length listed.now ≤ length changes.old }
     requires server_rows { (S.digits server_hint.now).rows ≡ hint.now.cols * split_count w }
     requires server_cols { (S.digits server_hint.now).cols ≡ hint.now.rows }
-    ensures { length changes.new ≡ length changes.old }
+    ensures length { length changes.new ≡ length changes.old }
+    ensures power { IsLeastPower (min hint.now.cols 16) (length changes.old)
+        (word_change w (S.digits server_hint.now) hint.now listed.now) result }
 {
     let mut least = u32::BITS;
     for word in 0..hint.cols().min(TRIED_WORDS) {
@@ -174,11 +184,56 @@ fn least_power<S: DigitStore>(
     least
 }
 
+// Writes the changes of the first of the words that has one which ends with exactly so many zero bits, and answers its place.
+fn put_first_changes<S: DigitStore>(
+    server_hint: &S,
+    hint: &Matrix,
+    w: u32,
+    listed: &[usize],
+    least: u32,
+    changes: &mut [u32],
+) -> Option<usize>
+    requires width { (6 ≤ w) × (w ≤ 10) }
+    requires listed { AreRowsBelow hint.now.rows listed.now }
+    requires few { length listed.now ≤ length changes.old }
+    requires server_rows { (S.digits server_hint.now).rows ≡ hint.now.cols * split_count w }
+    requires server_cols { (S.digits server_hint.now).cols ≡ hint.now.rows }
+    ensures length { length changes.new ≡ length changes.old }
+    ensures first { let change = word_change w (S.digits server_hint.now) hint.now listed.now in
+        MatchOption result
+        ((j : ℕ) → j < min hint.now.cols 16 → HasNone (length changes.old) (change j) least)
+        (AreFirstChanges (min hint.now.cols 16) (length changes.old) change least changes.new) }
+{
+    for word in 0..hint.cols().min(TRIED_WORDS) {
+        put_word_changes(server_hint, hint, w, listed, word, changes);
+        if let Some(place) = place_ending_with(changes, least) {
+            return Some(place);
+        }
+    }
+    None
+}
+
+// The place of the first number that ends with exactly so many zero bits.
+fn place_ending_with(numbers: &[u32], bits: u32) -> Option<usize>
+    ensures { MatchOption result
+        (HasNone (length numbers.now) (λ k. slice_index numbers.now k) bits)
+        (IsFirstEnding (length numbers.now) (λ k. slice_index numbers.now k) bits) }
+{
+    for k in 0..numbers.len() {
+        if numbers[k].trailing_zeros() == bits {
+            return Some(k);
+        }
+    }
+    None
+}
+
 // The fewest zero bits at the end of a number.
-fn zero_bits(numbers: &[u32]) -> u32 {
+fn zero_bits(numbers: &[u32]) -> u32
+    ensures { IsFewestZeros (length numbers.now) (λ k. slice_index numbers.now k) result }
+{
     let mut least = u32::BITS;
-    for number in numbers {
-        least = least.min(number.trailing_zeros());
+    for k in 0..numbers.len() {
+        least = least.min(numbers[k].trailing_zeros());
     }
     least
 }
@@ -198,53 +253,64 @@ fn put_word_changes<S: DigitStore>(
     requires word { word < hint.now.cols }
     requires server_rows { (S.digits server_hint.now).rows ≡ hint.now.cols * split_count w }
     requires server_cols { (S.digits server_hint.now).cols ≡ hint.now.rows }
-    ensures { length changes.new ≡ length changes.old }
+    ensures length { length changes.new ≡ length changes.old }
+    ensures changes { (k : ℕ) → k < length changes.old → slice_index changes.new k ≡
+        word_change w (S.digits server_hint.now) hint.now listed.now word k }
 {
-    let _rows = server_hint.rows();
-    let first = word * split_count(w);
     changes.fill(0);
     for k in 0..listed.len() {
-        let old = word_in(server_hint, w, first, listed[k]);
+        let old = word_in(server_hint, w, word, listed[k]);
         changes[k] = hint.get(listed[k], word).wrapping_sub(old);
     }
 }
 
-// The word whose digits stand in a column, from row `first` down.
-fn word_in<S: DigitStore>(server_hint: &S, w: u32, first: usize, col: usize) -> u32
+// The word whose digits stand in a column of the server's hint.
+fn word_in<S: DigitStore>(server_hint: &S, w: u32, word: usize, col: usize) -> u32
     requires width { (6 ≤ w) × (w ≤ 10) }
-    requires rows { first + split_count w ≤ (S.digits server_hint.now).rows }
+    requires rows { word * split_count w + split_count w ≤ (S.digits server_hint.now).rows }
     requires col { col < (S.digits server_hint.now).cols }
+    ensures { result ≡ recomposed_at w (S.digits server_hint.now) word col }
 {
     let _rows = server_hint.rows();
     let step = split_count(w);
+    let first = word * step;
     let mut value: u32 = 0;
     for t in 0..step {
-        let digit = server_hint.get(first + (step - 1 - t), col);
-        value = value.wrapping_mul(1 << w).wrapping_add(digit);
+        let digit = server_hint.get(first + t, col);
+        value = value.wrapping_add(digit.wrapping_mul(1 << (w * t as u32)));
     }
     value
 }
 
-// The number that gives 1 with an odd one, modulo 2^32, by Newton's steps: each doubles the bits that are right, three at first.
-fn inverse_of_odd(x: u32) -> u32 {
+// The number that gives 1 with an odd one, modulo 2^32, by Newton's steps: each doubles the bits that are right, at least two
+// at first.
+fn inverse_of_odd(x: u32) -> u32
+    ensures { x % 2 ≡ 1 → x * result % 2 ^ 32 ≡ 1 }
+{
     let mut inverse = x;
-    for _ in 0..4 {
+    for i in 0..4usize {
         let error = 2u32.wrapping_sub(x.wrapping_mul(inverse));
         inverse = inverse.wrapping_mul(error);
     }
     inverse
 }
 
-// Divides each number by a power of two and an odd number, whose inverse modulo 2^32 is given.
+// Divides each number by a power of two, rounded down, and multiplies it by `inverse`, modulo 2^32.
 fn divide(numbers: &mut [u32], bits: u32, inverse: u32)
-    ensures { length numbers.new ≡ length numbers.old }
+    ensures length { length numbers.new ≡ length numbers.old }
+    ensures divided { (k : ℕ) → k < length numbers.old → slice_index numbers.new k ≡
+        slice_index numbers.old k / 2 ^ bits * inverse % 2 ^ 32 }
 {
     for k in 0..numbers.len() {
-        numbers[k] = numbers[k]
-            .checked_shr(bits)
-            .unwrap_or(0)
-            .wrapping_mul(inverse);
+        numbers[k] = shifted(numbers[k], bits).wrapping_mul(inverse);
     }
+}
+
+// A number divided by a power of two, rounded down.
+fn shifted(x: u32, bits: u32) -> u32
+    ensures { result ≡ x / 2 ^ bits }
+{
+    if bits < u32::BITS { x >> bits } else { 0 }
 }
 
 /// Adds to `count` rows of the client's hint, from row `first` on, the public rows, each times the change of its digit. Where the

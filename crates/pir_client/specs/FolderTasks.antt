@@ -1,23 +1,30 @@
 -- What a command line asks of a client's folder.
-use Rattle.std.specs.Prelude.{◌≡◌, ℕ, List, codes, Option, Some, None}
+use Rattle.std.specs.Prelude.{◌≡◌, ◌⊎◌, ℕ, List, codes, Option, Some, None}
 use Rattle.clap.specs.declared.parser.matches.Found.{Found}
 use Rattle.clap.specs.Matches.{first_value}
-use Rattle.pir_client.specs.Tasks.{IsNumberGiven, scheme_text}
+use Rattle.pir_client.specs.Tasks.{IsNumberGiven, IsNumberIfGiven, IsHostGiven, scheme_text}
 use Rattle.pir_client.specs.declared.folder_tasks.FolderTask.{FolderTask}
 use Rattle.pir_client.specs.declared.folder_tasks.FolderTask.TheVariants.{Init, Get, State, Forget}
 
 -- a folder to be made, as the options of `init` name it
 abbrev pub ReadsInit : Found → FolderTask → Type 0
 ReadsInit found (Init state seed) = first_value found (codes "state") ≡ Some state.now
-ReadsInit found (Get state host port least scheme indices) = ⊥
+ReadsInit found (Get state server least scheme indices) = ⊥
 ReadsInit found (State state) = ⊥
 ReadsInit found (Forget state) = ⊥
+
+-- the time limit that was given, or half a minute
+abbrev pub IsWithin : Found → Option ℕ → Type 0
+IsWithin found None = ⊥
+IsWithin found (Some seconds) =
+    IsNumberIfGiven found (codes "timeout") (Some seconds) ⊎ (IsNumberIfGiven found (codes "timeout") None × (seconds ≡ 30))
 
 -- retrievals with a folder, as the options of `get` ask for them
 abbrev pub ReadsFolderGet : Found → FolderTask → Type 0
 ReadsFolderGet found (Init state seed) = ⊥
-ReadsFolderGet found (Get state host port least scheme indices) =
-    (first_value found (codes "state") ≡ Some state.now) × IsNumberGiven found (codes "port") port
+ReadsFolderGet found (Get state server least scheme indices) =
+    (first_value found (codes "state") ≡ Some state.now) × IsNumberGiven found (codes "port") server.port × IsHostGiven found server
+    × IsWithin found server.timeout
     × (first_value found (codes "scheme") ≡ Some (scheme_text scheme))
 ReadsFolderGet found (State state) = ⊥
 ReadsFolderGet found (Forget state) = ⊥
@@ -25,6 +32,6 @@ ReadsFolderGet found (Forget state) = ⊥
 -- a folder that is printed, or whose hint is dropped, as the option of `state` and `forget` names it
 abbrev pub ReadsFolder : Found → FolderTask → Type 0
 ReadsFolder found (Init state seed) = ⊥
-ReadsFolder found (Get state host port least scheme indices) = ⊥
+ReadsFolder found (Get state server least scheme indices) = ⊥
 ReadsFolder found (State state) = first_value found (codes "state") ≡ Some state.now
 ReadsFolder found (Forget state) = first_value found (codes "state") ≡ Some state.now

@@ -8,6 +8,7 @@ use Rattle.command_words.specs.Secrets.{IsSecretOf, IsKey}
 use Rattle.command_words.specs.Values.{bytes_in}
 use Rattle.pir_schemes.specs.declared.scheme.Scheme.{Scheme}
 use Rattle.pir_schemes.specs.declared.scheme.Scheme.TheVariants.{Simple, Double}
+use Rattle.pir_client.specs.declared.server.Address.{Address}
 use Rattle.pir_client.specs.declared.command_line.Task.{Task}
 use Rattle.pir_client.specs.declared.command_line.Task.TheVariants.{Get, Put, Append, Publish, Folder, Rehearse}
 
@@ -16,12 +17,17 @@ abbrev pub IsDimension : Option ℕ → Type 0
 IsDimension None = Unit {0}
 IsDimension (Some n) = (1 ≤ n) × (n ≤ 1024)
 
+-- a time limit, if there is one, is of a second to a day
+abbrev pub IsTimeout : Option ℕ → Type 0
+IsTimeout None = Unit {0}
+IsTimeout (Some seconds) = (1 ≤ seconds) × (seconds ≤ 86400)
+
 -- the number of a retrieval is one that there is, a key is a publisher's, and the bytes of a record fit a frame
 abbrev pub TaskFits : Task → Type 0
-TaskFits (Get port seed number least scheme index) = (number < 2 ^ 62) × IsDimension least
-TaskFits (Put port key index bytes) = IsKey key × (length bytes.items ≤ 65535)
-TaskFits (Append port key bytes) = IsKey key × (length bytes.items ≤ 65535)
-TaskFits (Publish port key) = IsKey key
+TaskFits (Get server seed number least scheme index) = (number < 2 ^ 62) × IsDimension least
+TaskFits (Put server key index bytes) = IsKey key × (length bytes.items ≤ 65535)
+TaskFits (Append server key bytes) = IsKey key × (length bytes.items ≤ 65535)
+TaskFits (Publish server key) = IsKey key
 TaskFits (Folder task) = Unit {0}
 TaskFits Rehearse = Unit {0}
 
@@ -33,6 +39,16 @@ IsNumberGiven found name n = MatchOption (first_value found name) ⊥ (λ text. 
 abbrev pub IsNumberIfGiven : Found → List ℕ → Option ℕ → Type 0
 IsNumberIfGiven found name n =
     MatchOption (first_value found name) (n ≡ None) (λ text. IsNumeral 10 text × (n ≡ Some (digits_value 10 text)))
+
+-- the server at the port that was given, with the time limit that was given
+abbrev pub IsServerGiven : Found → Address → Type 0
+IsServerGiven found server =
+    IsNumberGiven found (codes "port") server.port × IsNumberIfGiven found (codes "timeout") server.timeout
+
+-- the host that was given, or this machine
+abbrev pub IsHostGiven : Found → Address → Type 0
+IsHostGiven found server =
+    MatchOption (first_value found (codes "host")) (server.host.now ≡ codes "127.0.0.1") (λ text. server.host.now ≡ text)
 
 -- what was given for a name are these bytes in hex, or the dash for none
 abbrev pub AreBytesGiven : Found → List ℕ → List ℕ → Type 0
@@ -49,42 +65,42 @@ scheme_text Double = codes "double"
 
 -- a retrieval, as the options and the word of `get` ask for it
 abbrev pub ReadsGet : Found → Task → Type 0
-ReadsGet found (Get port seed number least scheme index) =
-    IsNumberGiven found (codes "port") port × IsSecretGiven found (codes "seed") seed × IsNumberGiven found (codes "number") number
+ReadsGet found (Get server seed number least scheme index) =
+    IsServerGiven found server × IsHostGiven found server × IsSecretGiven found (codes "seed") seed × IsNumberGiven found (codes "number") number
     × IsNumberIfGiven found (codes "least-dimension") least × (first_value found (codes "scheme") ≡ Some (scheme_text scheme))
     × IsNumberGiven found (codes "INDEX") index
-ReadsGet found (Put port key index bytes) = ⊥
-ReadsGet found (Append port key bytes) = ⊥
-ReadsGet found (Publish port key) = ⊥
+ReadsGet found (Put server key index bytes) = ⊥
+ReadsGet found (Append server key bytes) = ⊥
+ReadsGet found (Publish server key) = ⊥
 ReadsGet found (Folder task) = ⊥
 ReadsGet found Rehearse = ⊥
 
 -- an edit, as those of `put` do
 abbrev pub ReadsPut : Found → Task → Type 0
-ReadsPut found (Get port seed number least scheme index) = ⊥
-ReadsPut found (Put port key index bytes) =
-    IsNumberGiven found (codes "port") port × IsSecretGiven found (codes "key") key × IsNumberGiven found (codes "INDEX") index
+ReadsPut found (Get server seed number least scheme index) = ⊥
+ReadsPut found (Put server key index bytes) =
+    IsServerGiven found server × IsSecretGiven found (codes "key") key × IsNumberGiven found (codes "INDEX") index
     × AreBytesGiven found (codes "HEX") bytes.items
-ReadsPut found (Append port key bytes) = ⊥
-ReadsPut found (Publish port key) = ⊥
+ReadsPut found (Append server key bytes) = ⊥
+ReadsPut found (Publish server key) = ⊥
 ReadsPut found (Folder task) = ⊥
 ReadsPut found Rehearse = ⊥
 
 -- the addition of a record, as the options and the word of `append` ask for it
 abbrev pub ReadsAppend : Found → Task → Type 0
-ReadsAppend found (Get port seed number least scheme index) = ⊥
-ReadsAppend found (Put port key index bytes) = ⊥
-ReadsAppend found (Append port key bytes) =
-    IsNumberGiven found (codes "port") port × IsSecretGiven found (codes "key") key × AreBytesGiven found (codes "HEX") bytes.items
-ReadsAppend found (Publish port key) = ⊥
+ReadsAppend found (Get server seed number least scheme index) = ⊥
+ReadsAppend found (Put server key index bytes) = ⊥
+ReadsAppend found (Append server key bytes) =
+    IsServerGiven found server × IsSecretGiven found (codes "key") key × AreBytesGiven found (codes "HEX") bytes.items
+ReadsAppend found (Publish server key) = ⊥
 ReadsAppend found (Folder task) = ⊥
 ReadsAppend found Rehearse = ⊥
 
 -- a publication, as those of `publish` do
 abbrev pub ReadsPublish : Found → Task → Type 0
-ReadsPublish found (Get port seed number least scheme index) = ⊥
-ReadsPublish found (Put port key index bytes) = ⊥
-ReadsPublish found (Append port key bytes) = ⊥
-ReadsPublish found (Publish port key) = IsNumberGiven found (codes "port") port × IsSecretGiven found (codes "key") key
+ReadsPublish found (Get server seed number least scheme index) = ⊥
+ReadsPublish found (Put server key index bytes) = ⊥
+ReadsPublish found (Append server key bytes) = ⊥
+ReadsPublish found (Publish server key) = IsServerGiven found server × IsSecretGiven found (codes "key") key
 ReadsPublish found (Folder task) = ⊥
 ReadsPublish found Rehearse = ⊥

@@ -2,12 +2,13 @@
 
 ghost use Rattle.std.specs.Prelude.{◌≡◌, Some, IfOk, codes};
 ghost use Rattle.clap.specs.Matches.{found_of, first_value};
-ghost use Rattle.pir_client.specs.Tasks.{TaskFits, IsDimension, IsNumberIfGiven, ReadsGet, ReadsPut, ReadsAppend, ReadsPublish, scheme_text};
+ghost use Rattle.pir_client.specs.Tasks.{TaskFits, IsDimension, IsTimeout, IsNumberIfGiven, IsServerGiven, IsHostGiven, ReadsGet, ReadsPut, ReadsAppend, ReadsPublish, scheme_text};
 
 use crate::folder_tasks::{FolderTask, folder_get_task, forget_task, init_task, state_task};
+use crate::server::Address;
 use clap::{ArgMatches, Command};
 use command_words::{
-    BadLine, Secret, key_at, number_at, option, record_bytes, seed_at, text_at, word,
+    BadLine, Secret, key_at, number_at, option, record_bytes, seed_at, text_at, verbose_flag, word,
 };
 use session_core::Scheme;
 use std::alloc::{AllocError, Global};
@@ -33,6 +34,14 @@ const DIMENSIONS: u64 = 1024;
 
 const DIMENSION_TAKES: &str = "--least-dimension takes a number from 1 to 1024";
 
+/// The most seconds that a connection or a reply may be given.
+const MOST_TIMEOUT: u64 = 86_400;
+
+const TIMEOUT_TAKES: &str = "--timeout takes a number of seconds from 1 to 86400";
+
+/// The server's address if none is given.
+const THIS_MACHINE: &str = "127.0.0.1";
+
 const SCHEME_TAKES: &str = "--scheme takes simple or double";
 
 /// What an index is, as a bad one is reported.
@@ -47,7 +56,7 @@ const HEX_TAKES: &str = "HEX is at most 65535 bytes as two hex digits each, or -
 pub enum Task<'a> {
     /// One private retrieval.
     Get {
-        port: u16,
+        server: Address<'a>,
         seed: Secret<'a>,
         number: u64,
         least: Option<usize>,
@@ -56,20 +65,20 @@ pub enum Task<'a> {
     },
     /// One edit by the publisher.
     Put {
-        port: u16,
+        server: Address<'a>,
         key: Secret<'a>,
         index: u32,
         bytes: Vec<u8>,
     },
     /// One record appended by the publisher.
     Append {
-        port: u16,
+        server: Address<'a>,
         key: Secret<'a>,
         bytes: Vec<u8>,
     },
     /// A publication.
     Publish {
-        port: u16,
+        server: Address<'a>,
         key: Secret<'a>,
     },
     /// What is asked of a client's folder.
@@ -77,6 +86,23 @@ pub enum Task<'a> {
     /// A script of a world on standard input.
     Rehearse,
 }
+
+/// What a command line asks for.
+#[derive(Drop)]
+pub struct Asked<'a> {
+    /// What is to be done.
+    pub task: Task<'a>,
+    /// Whether the cause of a failure is to be said, too.
+    pub verbose: bool,
+}
+
+// An option for how long the server may take.
+fn timeout_option<'a>(alloc: Global, help: &'a str) -> clap::Arg<'a> {
+    option(alloc, "timeout", "SECONDS", help).required(false)
+}
+
+const TIMEOUT_HELP: &str =
+    "How many seconds connecting and each whole reply may take, 1 to 86400; any time if not given";
 
 // The command `get`.
 fn get_command<'a>(alloc: Global) -> Result<Command<'a>, AllocError> {
@@ -113,16 +139,18 @@ fn get_command<'a>(alloc: Global) -> Result<Command<'a>, AllocError> {
             "A folder that init has made, in place of --seed and --number: its hint is used again",
         )
         .required(false))?
-        .arg(
-            option(
-                alloc,
-                "host",
-                "ADDR",
-                "The server's address, with --state; 127.0.0.1 where none is given",
-            )
-            .required(false)
-            .requires_arg("state")?,
-        )?
+        .arg(option(
+            alloc,
+            "host",
+            "ADDR",
+            "The server's address; 127.0.0.1 if none is given",
+        )
+        .required(false))?
+        .arg(timeout_option(
+            alloc,
+            "How many seconds connecting and each whole reply may take, 1 to 86400; with --state 30 if not given, else any time",
+        ))?
+        .arg(verbose_flag(alloc))?
         .arg(option(
             alloc,
             "least-dimension",
@@ -140,7 +168,7 @@ fn get_command<'a>(alloc: Global) -> Result<Command<'a>, AllocError> {
 }
 
 const GET_EXAMPLE: &str =
-    "Prints 'retrieved INDEX VERSION HEX', HEX being the record's bytes, or - where it has none. Two retrievals with one seed and one\nnumber can tell the server what they ask, so count N up, also after a get that failed, and keep the seed to yourself.\nSecrets of fewer than 1024 words hide INDEX less: the server chooses their number. --least-dimension 1024 ends a get\nwith 'fault: BadWelcome' where they are fewer, before INDEX is asked for; without it a warning is printed, and with --state fewer than 1024 are refused.\n\nWith --state DIR the folder's seed is used, each number once, and its hint, which is fetched or moved to the server's version first.\n\nExample: pir_client get --state DIR --port 7000 --scheme simple 1\nExample: pir_client get --port 7000 --seed 1111111111111111111111111111111111111111111111111111111111111111 --number 0 --scheme simple 1";
+    "Prints 'retrieved INDEX VERSION HEX', HEX being the record's bytes, or - where it has none. Two retrievals with one seed and one\nnumber can tell the server what they ask, so count N up, also after a get that failed, and keep the seed to yourself.\nSecrets of fewer than 1024 words hide INDEX less: the server chooses their number. --least-dimension 1024 ends a get\nwith 'fault: BadWelcome' where they are fewer, before INDEX is asked for; without it a warning is printed, and with --state fewer than 1024 are refused.\n\nWith --state DIR the folder's seed is used, each number once, and its hint, which is fetched or moved to the server's version first.\n\nExample: pir_client get --state DIR --port 7000 --scheme simple 1\nExample: pir_client get --port 7000 --seed 1111111111111111111111111111111111111111111111111111111111111111 --number 0 --scheme simple 1\n\nWith --verbose a fault has a second line, 'cause: TEXT', that says what failed and where.";
 
 // The command `init`.
 fn init_command<'a>(alloc: Global) -> Result<Command<'a>, AllocError> {
@@ -149,6 +177,7 @@ fn init_command<'a>(alloc: Global) -> Result<Command<'a>, AllocError> {
             "Makes a folder with a secret seed, the number of its next retrieval, and room for a hint",
         )
         .after_help(INIT_EXAMPLE)
+        .arg(verbose_flag(alloc))?
         .arg(option(alloc, "state", "DIR", "The folder"))?
         .arg(option(
             alloc,
@@ -160,18 +189,19 @@ fn init_command<'a>(alloc: Global) -> Result<Command<'a>, AllocError> {
 }
 
 const INIT_EXAMPLE: &str =
-    "Prints 'initialized'. The folder is its owner's alone. A copy of it, or one brought back from a backup, uses numbers twice, which\nshows what was asked: make a new one instead.\n\nExample: pir_client init --state DIR";
+    "Prints 'initialized'. The folder is its owner's alone. A copy of it, or one brought back from a backup, uses numbers twice, which\nshows what was asked: make a new one instead.\n\nExample: pir_client init --state DIR\n\nWith --verbose a fault has a second line, 'cause: TEXT', that says what failed and where.";
 
 // The command `state`.
 fn state_command<'a>(alloc: Global) -> Result<Command<'a>, AllocError> {
     Command::new(alloc, "state")
         .about("Prints what a folder has, but for its seed")
         .after_help(STATE_EXAMPLE)
+        .arg(verbose_flag(alloc))?
         .arg(option(alloc, "state", "DIR", "The folder"))
 }
 
 const STATE_EXAMPLE: &str =
-    "Prints 'number N', the number of the next retrieval, and 'hint none', or 'hint SCHEME VERSION' and what the server had reported\nlast: 'version V', 'records COUNT', 'dimension N'.\n\nExample: pir_client state --state DIR";
+    "Prints 'number N', the number of the next retrieval, and 'hint none', or 'hint SCHEME VERSION' and what the server had reported\nlast: 'version V', 'records COUNT', 'dimension N'.\n\nExample: pir_client state --state DIR\n\nWith --verbose a fault has a second line, 'cause: TEXT', that says what failed and where.";
 
 // The command `forget`.
 fn forget_command<'a>(alloc: Global) -> Result<Command<'a>, AllocError> {
@@ -180,16 +210,20 @@ fn forget_command<'a>(alloc: Global) -> Result<Command<'a>, AllocError> {
             "Drops a folder's hint, so that the next retrieval fetches it anew; never its counter",
         )
         .after_help(FORGET_EXAMPLE)
+        .arg(verbose_flag(alloc))?
         .arg(option(alloc, "state", "DIR", "The folder"))
 }
 
-const FORGET_EXAMPLE: &str = "Prints 'forgotten'.\n\nExample: pir_client forget --state DIR";
+const FORGET_EXAMPLE: &str =
+    "Prints 'forgotten'.\n\nExample: pir_client forget --state DIR\n\nWith --verbose a fault has a second line, 'cause: TEXT', that says what failed and where.";
 
 // The command `put`.
 fn put_command<'a>(alloc: Global) -> Result<Command<'a>, AllocError> {
     Command::new(alloc, "put")
         .about("Replaces a record in the publisher's draft, which no reader sees before publish")
         .after_help(PUT_EXAMPLE)
+        .arg(verbose_flag(alloc))?
+        .arg(timeout_option(alloc, TIMEOUT_HELP))?
         .arg(option(alloc, "port", "P", "The server's port on 127.0.0.1"))?
         .arg(option(
             alloc,
@@ -206,13 +240,15 @@ fn put_command<'a>(alloc: Global) -> Result<Command<'a>, AllocError> {
 }
 
 const PUT_EXAMPLE: &str =
-    "Prints 'done VERSION', VERSION being the current one.\n\nExample: pir_client put --port 7000 --key 0101010101010101010101010101010101010101010101010101010101010101 1 64";
+    "Prints 'done VERSION', VERSION being the current one.\n\nExample: pir_client put --port 7000 --key 0101010101010101010101010101010101010101010101010101010101010101 1 64\n\nWith --verbose a fault has a second line, 'cause: TEXT', that says what failed and where.";
 
 // The command `append`.
 fn append_command<'a>(alloc: Global) -> Result<Command<'a>, AllocError> {
     Command::new(alloc, "append")
         .about("Appends a record to the publisher's draft, which no reader sees before publish")
         .after_help(APPEND_EXAMPLE)
+        .arg(verbose_flag(alloc))?
+        .arg(timeout_option(alloc, TIMEOUT_HELP))?
         .arg(option(alloc, "port", "P", "The server's port on 127.0.0.1"))?
         .arg(option(
             alloc,
@@ -228,13 +264,15 @@ fn append_command<'a>(alloc: Global) -> Result<Command<'a>, AllocError> {
 }
 
 const APPEND_EXAMPLE: &str =
-    "Prints 'done VERSION', VERSION being the current one.\n\nExample: pir_client append --port 7000 --key 0101010101010101010101010101010101010101010101010101010101010101 05";
+    "Prints 'done VERSION', VERSION being the current one.\n\nExample: pir_client append --port 7000 --key 0101010101010101010101010101010101010101010101010101010101010101 05\n\nWith --verbose a fault has a second line, 'cause: TEXT', that says what failed and where.";
 
 // The command `publish`.
 fn publish_command<'a>(alloc: Global) -> Result<Command<'a>, AllocError> {
     Command::new(alloc, "publish")
         .about("Makes the publisher's draft the next version")
         .after_help(PUBLISH_EXAMPLE)
+        .arg(verbose_flag(alloc))?
+        .arg(timeout_option(alloc, TIMEOUT_HELP))?
         .arg(option(alloc, "port", "P", "The server's port on 127.0.0.1"))?
         .arg(option(
             alloc,
@@ -245,7 +283,7 @@ fn publish_command<'a>(alloc: Global) -> Result<Command<'a>, AllocError> {
 }
 
 const PUBLISH_EXAMPLE: &str =
-    "Prints 'published VERSION', VERSION being the new one.\n\nExample: pir_client publish --port 7000 --key 0101010101010101010101010101010101010101010101010101010101010101";
+    "Prints 'published VERSION', VERSION being the new one.\n\nExample: pir_client publish --port 7000 --key 0101010101010101010101010101010101010101010101010101010101010101\n\nWith --verbose a fault has a second line, 'cause: TEXT', that says what failed and where.";
 
 // The command `rehearse`.
 fn rehearse_command<'a>(alloc: Global) -> Command<'a> {
@@ -279,14 +317,14 @@ fn whole_command<'a>(alloc: Global) -> Result<Command<'a>, AllocError> {
 const VERSION: &str = "0.1.0";
 
 const EXIT_STATUSES: &str =
-    "A value @FILE of --seed or --key is read from that file; one on the command line itself stands in the list of\nprocesses, for other users of this machine to see.\n\nExit status: 0 done, 1 refused by the server (or stale, or unreadable), 2 a bad command line, 3 a fault,\n4 out of memory. Whatever the status, a number that was given to get is never to be used again with its seed.\n\nThe server's refusals are one line on standard error, 'refused CODE':\n  1 BadFrame   2 NotWelcome   3 BadProfile   4 BadKey   5 NotPublisher   6 BadIndex   7 BadLength\n  8 NothingToPublish   9 VersionsUsedUp   10 BadPart   11 BadQueryLength   12 Memory   13 BadScheme\n  14 Full\n\nA fault is one line on standard error, 'fault: NAME':\n  File           the file of a seed or key can't be read\n  State          the folder can't be used: no seed with its counter, or others may use it\n  Locked         another process uses the folder\n  Connect        the server's port can't be connected to\n  Read, Write    reading or writing failed\n  Ended          the server closed the connection\n  BadWelcome     the server's greeting is none that this client accepts\n  BadReply       a reply that doesn't fit what was asked\n  Failed         a reply came with more after it, and then a call was made\n  BadIndex       there is no such record\n  SeedUsedUp     the folder's seed has no number left\n  TurnsUsedUp    more reads than a call has\n  Memory         memory was refused (status 4)";
+    "A value @FILE of --seed or --key is read from that file; one on the command line itself stands in the list of\nprocesses, for other users of this machine to see.\n\nExit status: 0 done, 1 refused by the server (or stale, or unreadable), 2 a bad command line, 3 a fault,\n4 out of memory. Whatever the status, a number that was given to get is never to be used again with its seed.\n\nThe server's refusals are one line on standard error, 'refused CODE':\n  1 BadFrame   2 NotWelcome   3 BadProfile   4 BadKey   5 NotPublisher   6 BadIndex   7 BadLength\n  8 NothingToPublish   9 VersionsUsedUp   10 BadPart   11 BadQueryLength   12 Memory   13 BadScheme\n  14 Full\n\nA fault is one line on standard error, 'fault: NAME':\n  File           the file of a seed or key can't be read\n  State          the folder can't be used: no seed with its counter, or others may use it\n  Locked         another process uses the folder\n  Connect        the server's port can't be connected to\n  Timeout        connecting or a whole reply took longer than --timeout allows\n  Read, Write    reading or writing failed\n  Ended          the server closed the connection\n  BadWelcome     the server's greeting is none that this client accepts\n  BadReply       a reply that doesn't fit what was asked\n  Failed         a reply came with more after it, and then a call was made\n  BadIndex       there is no such record\n  SeedUsedUp     the folder's seed has no number left\n  TurnsUsedUp    more reads than a call has\n  Memory         memory was refused (status 4)\n\nWith --verbose a second line 'cause: TEXT' says what failed and where.";
 
 // What the words of `get` ask for.
 fn get_task<'a>(found: &ArgMatches<'a>) -> Result<Task<'a>, BadLine<'a>>
     ensures fits { IfOk result TaskFits }
     ensures read { IfOk result (ReadsGet (found_of found.now)) }
 {
-    let port = number_at(found, "port", u64::from(u16::MAX), PORT_TAKES)? as u16;
+    let server = server_at(found)?;
     let seed = seed_at(found, "seed", SEED_TAKES)?;
     let number = number_at(found, "number", NUMBERS - 1, NUMBER_TAKES)?;
     let scheme = scheme_given(found)?;
@@ -296,7 +334,7 @@ fn get_task<'a>(found: &ArgMatches<'a>) -> Result<Task<'a>, BadLine<'a>>
         return Err(BadLine::Value(ONE_INDEX));
     }
     Ok(Task::Get {
-        port,
+        server,
         seed,
         number,
         least,
@@ -340,17 +378,54 @@ pub fn least_dimension<'a>(found: &ArgMatches<'a>) -> Result<Option<usize>, BadL
     }
 }
 
+/// How many seconds the server may take, if a number is given.
+pub fn timeout_given<'a>(found: &ArgMatches<'a>) -> Result<Option<u64>, BadLine<'a>>
+    ensures fits { IfOk result IsTimeout }
+    ensures read { IfOk result (IsNumberIfGiven (found_of found.now) (codes "timeout")) }
+{
+    let Some(text) = found.get_str("timeout") else {
+        return Ok(None);
+    };
+    match number_at(found, "timeout", MOST_TIMEOUT, TIMEOUT_TAKES)? {
+        0 => Err(BadLine::Given(TIMEOUT_TAKES, text)),
+        seconds => Ok(Some(seconds)),
+    }
+}
+
+/// The server that is named by its host, if one is given, and its port.
+pub fn server_at<'a>(found: &ArgMatches<'a>) -> Result<Address<'a>, BadLine<'a>>
+    ensures host { IfOk result (IsHostGiven (found_of found.now)) }
+    ensures given { IfOk result (IsServerGiven (found_of found.now)) }
+{
+    let host = found.get_str("host").unwrap_or(THIS_MACHINE);
+    let server = this_machine_at(found)?;
+    Ok(Address { host, ..server })
+}
+
+// The server at a port of this machine.
+fn this_machine_at<'a>(found: &ArgMatches<'a>) -> Result<Address<'a>, BadLine<'a>>
+    ensures { IfOk result (IsServerGiven (found_of found.now)) }
+{
+    let port = number_at(found, "port", u64::from(u16::MAX), PORT_TAKES)? as u16;
+    let timeout = timeout_given(found)?;
+    Ok(Address {
+        host: THIS_MACHINE,
+        port,
+        timeout,
+    })
+}
+
 // What the words of `put` ask for.
 fn put_task<'a>(alloc: Global, found: &ArgMatches<'a>) -> Result<Task<'a>, BadLine<'a>>
     ensures fits { IfOk result TaskFits }
     ensures read { IfOk result (ReadsPut (found_of found.now)) }
 {
-    let port = number_at(found, "port", u64::from(u16::MAX), PORT_TAKES)? as u16;
+    let server = this_machine_at(found)?;
     let key = key_at(found, "key", KEY_TAKES)?;
     let index = number_at(found, "INDEX", u64::from(u32::MAX), INDEX_TAKES)? as u32;
     match record_bytes(alloc, text_at(found, "HEX", HEX_TAKES)?)? {
         Some(bytes) => Ok(Task::Put {
-            port,
+            server,
             key,
             index,
             bytes,
@@ -364,10 +439,10 @@ fn append_task<'a>(alloc: Global, found: &ArgMatches<'a>) -> Result<Task<'a>, Ba
     ensures fits { IfOk result TaskFits }
     ensures read { IfOk result (ReadsAppend (found_of found.now)) }
 {
-    let port = number_at(found, "port", u64::from(u16::MAX), PORT_TAKES)? as u16;
+    let server = this_machine_at(found)?;
     let key = key_at(found, "key", KEY_TAKES)?;
     match record_bytes(alloc, text_at(found, "HEX", HEX_TAKES)?)? {
-        Some(bytes) => Ok(Task::Append { port, key, bytes }),
+        Some(bytes) => Ok(Task::Append { server, key, bytes }),
         None => Err(BadLine::Value(HEX_TAKES)),
     }
 }
@@ -377,39 +452,57 @@ fn publish_task<'a>(found: &ArgMatches<'a>) -> Result<Task<'a>, BadLine<'a>>
     ensures fits { IfOk result TaskFits }
     ensures read { IfOk result (ReadsPublish (found_of found.now)) }
 {
-    let port = number_at(found, "port", u64::from(u16::MAX), PORT_TAKES)? as u16;
+    let server = this_machine_at(found)?;
     let key = key_at(found, "key", KEY_TAKES)?;
-    Ok(Task::Publish { port, key })
+    Ok(Task::Publish { server, key })
 }
 
 /// What the program's words ask for, its name first.
-pub fn task_of<'a>(alloc: Global, words: &'a [String]) -> Result<Task<'a>, BadLine<'a>>
-    ensures { IfOk result TaskFits }
+pub fn task_of<'a>(alloc: Global, words: &'a [String]) -> Result<Asked<'a>, BadLine<'a>>
+    ensures { IfOk result (λ asked. TaskFits asked.task) }
 {
     let matches = whole_command(alloc)?.try_get_matches_from(words)?;
     if let Some(found) = matches.subcommand_matches("get") {
-        if found.contains_id("state") {
-            return Ok(Task::Folder(folder_get_task(alloc, found)?));
-        }
-        return get_task(found);
+        return asked_for(found, get_or_folder_task(alloc, found)?);
     }
     if let Some(found) = matches.subcommand_matches("init") {
-        return Ok(Task::Folder(init_task(found)?));
+        return asked_for(found, Task::Folder(init_task(found)?));
     }
     if let Some(found) = matches.subcommand_matches("state") {
-        return Ok(Task::Folder(state_task(found)?));
+        return asked_for(found, Task::Folder(state_task(found)?));
     }
     if let Some(found) = matches.subcommand_matches("forget") {
-        return Ok(Task::Folder(forget_task(found)?));
+        return asked_for(found, Task::Folder(forget_task(found)?));
     }
     if let Some(found) = matches.subcommand_matches("put") {
-        return put_task(alloc, found);
+        return asked_for(found, put_task(alloc, found)?);
     }
     if let Some(found) = matches.subcommand_matches("append") {
-        return append_task(alloc, found);
+        return asked_for(found, append_task(alloc, found)?);
     }
     match matches.subcommand_matches("publish") {
-        Some(found) => publish_task(found),
-        None => Ok(Task::Rehearse),
+        Some(found) => asked_for(found, publish_task(found)?),
+        None => Ok(Asked {
+            task: Task::Rehearse,
+            verbose: false,
+        }),
     }
+}
+
+// What the words of `get` ask for, with a folder or without.
+fn get_or_folder_task<'a>(alloc: Global, found: &ArgMatches<'a>) -> Result<Task<'a>, BadLine<'a>>
+    ensures { IfOk result TaskFits }
+{
+    if found.contains_id("state") {
+        return Ok(Task::Folder(folder_get_task(alloc, found)?));
+    }
+    get_task(found)
+}
+
+// A task, with what the command says of its failure.
+fn asked_for<'a>(found: &ArgMatches<'a>, task: Task<'a>) -> Result<Asked<'a>, BadLine<'a>>
+    ensures { IfOk result (λ asked. asked.task ≡ task.entry) }
+{
+    let verbose = found.get_flag("verbose");
+    Ok(Asked { task, verbose })
 }

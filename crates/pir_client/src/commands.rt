@@ -6,64 +6,64 @@ ghost use Rattle.pir_client.specs.Tasks.{TaskFits, IsDimension};
 use crate::command_line::{KEY_TAKES, SEED_TAKES, Task, task_of};
 use crate::failures::failure_of;
 use crate::folders::done_in_folder;
+use crate::server::{Address, Server};
 use client_commands::{append, get, publish, put};
-use command_words::{Failure, program_words};
+use command_words::{Failed, Failure, Secret, open_standard_descriptors, printed, program_words};
 use rehearsal::{RehearseFault, rehearse, shown_bytes};
 use session_core::{ClientCore, Lanes, Scheme};
 use std::io;
-use std::net::{Ipv4Addr, TcpStream};
 
 /// The program: reads its command line, does what it asks for, and answers the exit status.
 pub fn run(rt: &HostRuntime) -> u8 {
+    if let Err(failure) = open_standard_descriptors() {
+        return Failed::from(failure).report(rt, false);
+    }
     let words = match program_words(rt) {
         Ok(words) => words,
         Err(status) => return status,
     };
-    let task = match task_of(rt.alloc(), &words) {
-        Ok(task) => task,
+    let asked = match task_of(rt.alloc(), &words) {
+        Ok(asked) => asked,
         Err(bad) => return bad.report(rt),
     };
-    match done(rt, task) {
+    match done(rt, asked.task) {
         Ok(status) => status,
-        Err(failure) => {
-            let _ = eprintln!(rt; "{failure}");
-            failure.status()
-        }
+        Err(failed) => failed.report(rt, asked.verbose),
     }
 }
 
 // Does what was asked for, prints what came of it, and answers the exit status.
-fn done(rt: &HostRuntime, task: Task<'_>) -> Result<u8, Failure>
+fn done(rt: &HostRuntime, task: Task<'_>) -> Result<u8, Failed>
     requires { TaskFits task }
 {
     match task {
         Task::Get {
-            port,
+            server,
             seed,
             number,
             least,
             scheme,
             index,
         } => {
-            let seed = seed.seed(rt, SEED_TAKES)?;
-            get_record(rt, port, seed, number, least, scheme, index)?
+            let seed = seed_of(rt, seed)?;
+            get_record(rt, &server, seed, number, least, scheme, index)?
         }
         Task::Put {
-            port,
+            server,
             key,
             index,
             bytes,
         } => {
-            let key = key.key(rt, KEY_TAKES)?;
-            put_record(rt, port, key, index, &bytes)?
+            let key = key_of(rt, key)?;
+            put_record(rt, &server, key, index, &bytes)?
         }
-        Task::Append { port, key, bytes } => {
-            let key = key.key(rt, KEY_TAKES)?;
-            append_record(rt, port, key, &bytes)?
+        Task::Append { server, key, bytes } => {
+            let key = key_of(rt, key)?;
+            append_record(rt, &server, key, &bytes)?
         }
-        Task::Publish { port, key } => {
-            let key = key.key(rt, KEY_TAKES)?;
-            publish_draft(rt, port, key)?
+        Task::Publish { server, key } => {
+            let key = key_of(rt, key)?;
+            publish_draft(rt, &server, key)?
         }
         Task::Folder(task) => done_in_folder(rt, task)?,
         Task::Rehearse => return rehearsed(rt),
@@ -71,44 +71,28 @@ fn done(rt: &HostRuntime, task: Task<'_>) -> Result<u8, Failure>
     Ok(0)
 }
 
+/// The seed that a command line gives, or its file.
+///
+/// # Errors
+///
+/// Those of [`Secret::seed`], with the file in the cause.
+pub fn seed_of(rt: &HostRuntime, seed: Secret<'_>) -> Result<[u8; 32], Failed> {
+    seed.seed(rt, SEED_TAKES)
+        .map_err(|failure| seed.failed(rt, failure))
+}
+
+// The key that a command line gives, or its file.
+fn key_of(rt: &HostRuntime, key: Secret<'_>) -> Result<[u8; 32], Failed> {
+    key.key(rt, KEY_TAKES)
+        .map_err(|failure| key.failed(rt, failure))
+}
+
 // Plays the script on standard input.
-fn rehearsed(rt: &HostRuntime) -> Result<u8, Failure> {
+fn rehearsed(rt: &HostRuntime) -> Result<u8, Failed> {
     match rehearse(rt.alloc(), &mut rt.reader(), &mut io::writer(rt)) {
         Ok(status) => Ok(status),
-        Err(RehearseFault::Read) => Err(Failure::Fault("Read")),
-        Err(RehearseFault::Write) => Err(Failure::Fault("Write")),
-    }
-}
-
-// The connection to the server at a port of this machine.
-fn connect(rt: &HostRuntime, port: u16) -> Result<TcpStream, Failure> {
-    match TcpStream::connect(rt, (Ipv4Addr::LOCALHOST, port)) {
-        Ok(stream) => Ok(stream),
-        Err(_) => Err(Failure::Fault("Connect")),
-    }
-}
-
-/// The connection to the server at a port of a host.
-///
-/// # Errors
-///
-/// `Fault` with `Connect` where there is none.
-pub fn connect_to(rt: &HostRuntime, host: &str, port: u16) -> Result<TcpStream, Failure> {
-    match TcpStream::connect(rt, (host, port)) {
-        Ok(stream) => Ok(stream),
-        Err(_) => Err(Failure::Fault("Connect")),
-    }
-}
-
-/// What printing a line came to.
-///
-/// # Errors
-///
-/// `Fault` with `Write` where it failed.
-pub fn printed(said: io::Result<()>) -> Result<(), Failure> {
-    match said {
-        Ok(()) => Ok(()),
-        Err(_) => Err(Failure::Fault("Write")),
+        Err(RehearseFault::Read) => Err(Failed::from(Failure::Fault("Read"))),
+        Err(RehearseFault::Write) => Err(Failed::from(Failure::Fault("Write"))),
     }
 }
 
@@ -130,32 +114,32 @@ fn warn_of_short_secrets(rt: &HostRuntime, client: &ClientCore<Lanes>) {
 // Retrieves a record, and prints it.
 fn get_record(
     rt: &HostRuntime,
-    port: u16,
+    address: &Address<'_>,
     seed: [u8; 32],
     number: u64,
     least: Option<usize>,
     scheme: Scheme,
     index: u32,
-) -> Result<(), Failure>
+) -> Result<(), Failed>
     requires number { number < 2 ^ 62 }
     requires dimension { IsDimension least }
 {
-    let stream = connect(rt, port)?;
+    let server = Server::connect(rt, address)?;
     let mut client = ClientCore::new(rt.alloc(), Lanes, seed, number);
     let got = get(
         rt.alloc(),
         &mut client,
-        &mut &stream,
-        &mut &stream,
+        &mut &server,
+        &mut &server,
         least.unwrap_or(1),
         scheme,
         index,
     )
-    .map_err(failure_of)?;
+    .map_err(|fault| server.failed(address, failure_of(fault)))?;
     let record = shown_bytes(rt.alloc(), got.bytes.as_slice())?;
     let index = got.index;
     let version = got.version;
-    printed(println!(rt; "retrieved {index} {version} {record}"))?;
+    printed(rt, println!(rt; "retrieved {index} {version} {record}"))?;
     // A command that fails says so alone, so the warning stands only beside a record.
     if least.is_none() {
         warn_of_short_secrets(rt, &client);
@@ -166,54 +150,59 @@ fn get_record(
 // Replaces a record of the draft, and prints the current version.
 fn put_record(
     rt: &HostRuntime,
-    port: u16,
+    address: &Address<'_>,
     key: [u8; 32],
     index: u32,
     bytes: &[u8],
-) -> Result<(), Failure>
+) -> Result<(), Failed>
     requires { length bytes.now ≤ 65535 }
 {
-    let stream = connect(rt, port)?;
+    let server = Server::connect(rt, address)?;
     let mut client = publisher(rt);
     let version = put(
         rt.alloc(),
         &mut client,
-        &mut &stream,
-        &mut &stream,
+        &mut &server,
+        &mut &server,
         key,
         index,
         bytes,
     )
-    .map_err(failure_of)?;
-    printed(println!(rt; "done {version}"))
+    .map_err(|fault| server.failed(address, failure_of(fault)))?;
+    printed(rt, println!(rt; "done {version}"))
 }
 
 // Appends a record to the draft, and prints the current version.
-fn append_record(rt: &HostRuntime, port: u16, key: [u8; 32], bytes: &[u8]) -> Result<(), Failure>
+fn append_record(
+    rt: &HostRuntime,
+    address: &Address<'_>,
+    key: [u8; 32],
+    bytes: &[u8],
+) -> Result<(), Failed>
     requires { length bytes.now ≤ 65535 }
 {
-    let stream = connect(rt, port)?;
+    let server = Server::connect(rt, address)?;
     let mut client = publisher(rt);
     let version = append(
         rt.alloc(),
         &mut client,
-        &mut &stream,
-        &mut &stream,
+        &mut &server,
+        &mut &server,
         key,
         bytes,
     )
-    .map_err(failure_of)?;
-    printed(println!(rt; "done {version}"))
+    .map_err(|fault| server.failed(address, failure_of(fault)))?;
+    printed(rt, println!(rt; "done {version}"))
 }
 
 // Publishes the draft, and prints the new version.
-fn publish_draft(rt: &HostRuntime, port: u16, key: [u8; 32]) -> Result<(), Failure> {
-    let stream = connect(rt, port)?;
+fn publish_draft(rt: &HostRuntime, address: &Address<'_>, key: [u8; 32]) -> Result<(), Failed> {
+    let server = Server::connect(rt, address)?;
     let mut client = publisher(rt);
-    let version = publish(rt.alloc(), &mut client, &mut &stream, &mut &stream, key).map_err(
-        failure_of,
+    let version = publish(rt.alloc(), &mut client, &mut &server, &mut &server, key).map_err(
+        |fault| server.failed(address, failure_of(fault)),
     )?;
-    printed(println!(rt; "published {version}"))
+    printed(rt, println!(rt; "published {version}"))
 }
 
 // A client that asks for no record, so that any seed serves.

@@ -1,17 +1,19 @@
 //! What a command line asks of a client's folder.
 
-ghost use Rattle.std.specs.Prelude.{IfOk};
+ghost use Rattle.std.specs.Prelude.{◌≡◌, Some, IfOk};
+ghost use Rattle.std.specs.Option.{unwrap_or};
 ghost use Rattle.clap.specs.Matches.{found_of};
 ghost use Rattle.pir_client.specs.FolderTasks.{ReadsInit, ReadsFolderGet, ReadsFolder};
 
-use crate::command_line::{INDEX_TAKES, PORT_TAKES, SEED_TAKES, least_dimension, scheme_given};
+use crate::command_line::{INDEX_TAKES, SEED_TAKES, least_dimension, scheme_given, server_at};
+use crate::server::Address;
 use clap::ArgMatches;
-use command_words::{BadLine, Secret, decimal, number_at, seed_at, text_at};
+use command_words::{BadLine, Secret, decimal, seed_at, text_at};
 use session_core::Scheme;
 use std::alloc::Global;
 
-/// The server's address where none is given.
-const THIS_MACHINE: &str = "127.0.0.1";
+/// How many seconds a server may take if no number is given.
+const TIMEOUT: u64 = 30;
 
 /// The least number of words that a secret has where none is given: the publication's.
 const WHOLE_SECRET: usize = 1024;
@@ -29,8 +31,7 @@ pub enum FolderTask<'a> {
     /// Private retrievals with its seed, its numbers and its hint.
     Get {
         state: &'a str,
-        host: &'a str,
-        port: u16,
+        server: Address<'a>,
         least: usize,
         scheme: Scheme,
         indices: Vec<u32>,
@@ -71,19 +72,28 @@ pub fn folder_get_task<'a>(
     ensures { IfOk result (ReadsFolderGet (found_of found.now)) }
 {
     let state = text_at(found, "state", STATE_TAKES)?;
-    let host = found.get_str("host").unwrap_or(THIS_MACHINE);
-    let port = number_at(found, "port", u64::from(u16::MAX), PORT_TAKES)? as u16;
+    let server = patient(server_at(found)?);
     let scheme = scheme_given(found)?;
     let least = least_dimension(found)?.unwrap_or(WHOLE_SECRET);
     let indices = indices_given(alloc, found)?;
     Ok(FolderTask::Get {
         state,
-        host,
-        port,
+        server,
         least,
         scheme,
         indices,
     })
+}
+
+// A server that may take half a minute if no number of seconds is given.
+fn patient<'a>(server: Address<'a>) -> Address<'a>
+    ensures address { (result.host ≡ server.entry.host) × (result.port ≡ server.entry.port) }
+    ensures timeout { result.timeout ≡ Some (unwrap_or server.entry.timeout 30) }
+{
+    Address {
+        timeout: Some(server.timeout.unwrap_or(TIMEOUT)),
+        ..server
+    }
 }
 
 // The records asked for, in their order.

@@ -7,11 +7,13 @@
 //! Its tests are in `tests/command_line`, `tests/loopback` and `tests/rehearse`.
 #![tactic(auto)]
 
+mod causes;
 mod command_line;
 mod commands;
 mod failures;
 mod folder_tasks;
 mod folders;
+mod server;
 mod sessions;
 mod watching;
 

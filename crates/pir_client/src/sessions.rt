@@ -1,15 +1,15 @@
 //! A client with a folder, over one connection.
 
 use crate::failures::failure_of;
+use crate::server::{Address, Server};
 use crate::watching::Watched;
 use client_commands::{
     AskError, CommandError, Retrieved, ask_claimed, ask_with_rows, check_dimension, greet, sync,
 };
 use client_state::{Folder, HintError, KeptHead, parts_for};
-use command_words::Failure;
+use command_words::{Failed, Failure};
 use session_core::{CallFault, ClientCore, Event, Hint, Lanes, SavedClient, Scheme, ServerInfo};
 use std::alloc::AllocError;
-use std::net::TcpStream;
 
 /// How often an answer may be stale before a retrieval is given up.
 const STALE_ANSWERS: u32 = 3;
@@ -47,7 +47,7 @@ pub struct Session<'a> {
     rt: &'a HostRuntime,
     folder: Folder<'a>,
     client: ClientCore<Lanes>,
-    stream: TcpStream,
+    server: Server,
     read: HintRead,
 }
 
@@ -56,13 +56,17 @@ impl<'a> Session<'a> {
     pub fn begin(
         rt: &'a HostRuntime,
         folder: Folder<'a>,
-        stream: TcpStream,
+        server: Server,
+        address: &Address<'_>,
         least: usize,
-    ) -> Result<Session<'a>, Failure> {
+    ) -> Result<Session<'a>, Failed> {
         let first = folder.next().min(NUMBERS);
         let mut client = ClientCore::new(rt.alloc(), Lanes, folder.seed(), first);
-        greet(rt.alloc(), &mut client, &mut &stream, &mut &stream).map_err(failure_of)?;
-        check_dimension(&client, least).map_err(failure_of)?;
+        greet(rt.alloc(), &mut client, &mut &server, &mut &server).map_err(|fault| server.failed(
+            address,
+            failure_of(fault),
+        ))?;
+        check_dimension(&client, least).map_err(|fault| server.failed(address, failure_of(fault)))?;
         let read = match sound(rt, folder.hint_head())? {
             Some(head) => HintRead::Head(head),
             None => HintRead::All,
@@ -71,9 +75,14 @@ impl<'a> Session<'a> {
             rt,
             folder,
             client,
-            stream,
+            server,
             read,
         })
+    }
+
+    /// How a command of this session failed.
+    pub fn failed(&self, address: &Address<'_>, failure: Failure) -> Failed {
+        self.server.failed(address, failure)
     }
 
     /// Retrieves a record: again under a new number, with the hint of the next version, where the answer is stale.
@@ -99,8 +108,8 @@ impl<'a> Session<'a> {
             self.rt.alloc(),
             &mut self.client,
             &mut self.folder,
-            &mut &self.stream,
-            &mut &self.stream,
+            &mut &self.server,
+            &mut &self.server,
             index,
         ) {
             Ok(
@@ -153,8 +162,8 @@ impl<'a> Session<'a> {
             self.rt.alloc(),
             &mut self.client,
             &mut self.folder,
-            &mut &self.stream,
-            &mut &self.stream,
+            &mut &self.server,
+            &mut &self.server,
             saved,
             index,
         ) {
@@ -214,12 +223,12 @@ impl<'a> Session<'a> {
     // Moves the hint to the version known, and keeps it.
     fn move_hint(&mut self, scheme: Scheme) -> Result<(), CommandError> {
         let alloc = self.rt.alloc();
-        let mut watched = Watched::new(self.rt, &self.stream);
+        let mut watched = Watched::new(self.rt, &self.server);
         let synced = sync(
             alloc,
             &mut self.client,
             &mut watched,
-            &mut &self.stream,
+            &mut &self.server,
             scheme,
         );
         watched.end();

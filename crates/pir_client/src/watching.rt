@@ -1,9 +1,9 @@
 //! A connection that says how much of a hint has come.
 
+use crate::server::Server;
 use pir_schemes::PART_WORDS;
 use std::io;
 use std::io::{IsTerminal, Read};
-use std::net::TcpStream;
 use std::time::Instant;
 
 /// How many bytes a part of a hint has, with what stands before its words.
@@ -17,7 +17,7 @@ const QUIET_SECONDS: u64 = 1;
 #[derive(Drop)]
 pub struct Watched<'a> {
     rt: &'a HostRuntime,
-    stream: &'a TcpStream,
+    server: &'a Server,
     // When the reading began, where a terminal can be told.
     began: Option<Instant>,
     bytes: u64,
@@ -26,7 +26,7 @@ pub struct Watched<'a> {
 
 impl<'a> Watched<'a> {
     /// The end of this connection, of which nothing was read.
-    pub fn new(rt: &'a HostRuntime, stream: &'a TcpStream) -> Watched<'a> {
+    pub fn new(rt: &'a HostRuntime, server: &'a Server) -> Watched<'a> {
         let began = if rt.stderr().is_terminal() {
             Instant::now(rt).ok()
         } else {
@@ -34,7 +34,7 @@ impl<'a> Watched<'a> {
         };
         Watched {
             rt,
-            stream,
+            server,
             began,
             bytes: 0,
             shown: 0,
@@ -68,7 +68,7 @@ impl<'a> Watched<'a> {
 
 impl Read for Watched<'_> {
     fn read(&mut self, buf: &mut [u8]) -> io::Result<usize> {
-        let n = (&mut &*self.stream).read(buf)?;
+        let n = (&mut &*self.server).read(buf)?;
         self.bytes = self.bytes.saturating_add(n as u64);
         self.say();
         Ok(n)

@@ -1,8 +1,8 @@
 //! The command line.
 
 use crate::run_line::{Running, run_command, running_of};
-use clap::{ArgMatches, Command};
-use command_words::{BadLine, Secret, key_at, number_at, option, seed_at, text_at};
+use clap::{Arg, ArgAction, ArgMatches, Command};
+use command_words::{BadLine, Secret, key_at, number_at, option, seed_at, text_at, verbose_flag};
 use std::alloc::{AllocError, Global};
 
 const OUT_TAKES: &str = "--out takes a file's name";
@@ -11,7 +11,7 @@ const FILE_TAKES: &str = "--file takes a file's name";
 
 const FORM_TAKES: &str = "--form takes 1 or 2";
 
-const WIDTH_TAKES: &str = "--width takes a number from 0 to 255";
+const WIDTH_TAKES: &str = "--width takes a number from 6 to 10";
 
 const RECORD_TAKES: &str = "--record takes a number from 0 to 65535";
 
@@ -34,6 +34,8 @@ const CONNECTIONS_TAKES: &str = "--connections takes a number from 0 to 42949672
 pub struct Making<'a> {
     /// The file that is written.
     pub out: &'a str,
+    /// Whether it must be new.
+    pub new: bool,
     /// 1 for records of one length, 2 for records of their own lengths in slots.
     pub form: u8,
     /// How many bits a digit has.
@@ -96,12 +98,28 @@ pub enum Task<'a> {
     Once,
 }
 
+/// What a command line asks for.
+#[derive(Clone, Copy)]
+pub struct Asked<'a> {
+    /// What is to be done.
+    pub task: Task<'a>,
+    /// Whether the cause of a failure is to be said, too.
+    pub verbose: bool,
+}
+
 // The command `make`.
 fn make_command<'a>(alloc: Global) -> Result<Command<'a>, AllocError> {
     Command::new(alloc, "make")
         .about("Makes a snapshot file, at version 1, of the records on standard input")
         .after_help(MAKE_EXAMPLE)
+        .arg(verbose_flag(alloc))?
         .arg(option(alloc, "out", "FILE", "The snapshot file to write"))?
+        .arg(
+            Arg::new(alloc, "new")
+                .long("new")
+                .help("Makes no file where something stands at its name")
+                .action(ArgAction::SetTrue),
+        )?
         .arg(option(
             alloc,
             "form",
@@ -142,7 +160,7 @@ fn make_command<'a>(alloc: Global) -> Result<Command<'a>, AllocError> {
 }
 
 const MAKE_EXAMPLE: &str =
-    "Prints 'made COUNT 1', COUNT being how many records there are. Secrets will have 1024 words.\n\nExample, two records of one byte:\n  printf '\\012\\310' | pir_server make --out two.pir --width 8 --record 1 --groups 1 \\\n    --seed 0000000000000000000000000000000000000000000000000000000000000000 \\\n    --key 0101010101010101010101010101010101010101010101010101010101010101\n\nExample, one record of one byte and one of none:\n  printf '0a\\n-\\n' | pir_server make --out slots.pir --form 2 --width 8 --record 3 --groups 1 \\\n    --seed 0000000000000000000000000000000000000000000000000000000000000000 \\\n    --key 0101010101010101010101010101010101010101010101010101010101010101";
+    "Prints 'made COUNT 1', COUNT being how many records there are. Secrets will have 1024 words.\n\nA seed is for one store alone: whoever keeps a hint of another store with this seed and these sizes would read wrong records.\n\nExample, two records of one byte:\n  printf '\\012\\310' | pir_server make --new --out two.pir --width 8 --record 1 --groups 1 \\\n    --seed $(openssl rand -hex 32) \\\n    --key 0101010101010101010101010101010101010101010101010101010101010101\n\nExample, one record of one byte and one of none:\n  printf '0a\\n-\\n' | pir_server make --new --out slots.pir --form 2 --width 8 --record 3 --groups 1 \\\n    --seed $(openssl rand -hex 32) \\\n    --key 0101010101010101010101010101010101010101010101010101010101010101\n\nWith --verbose a fault has a second line, 'cause: TEXT', that says what failed and where.";
 
 // The command `migrate`.
 fn migrate_command<'a>(alloc: Global) -> Result<Command<'a>, AllocError> {
@@ -151,6 +169,7 @@ fn migrate_command<'a>(alloc: Global) -> Result<Command<'a>, AllocError> {
             "Makes a snapshot file of the same records in slots, so that each may have a length of its own",
         )
         .after_help(MIGRATE_EXAMPLE)
+        .arg(verbose_flag(alloc))?
         .arg(option(
             alloc,
             "file",
@@ -161,13 +180,14 @@ fn migrate_command<'a>(alloc: Global) -> Result<Command<'a>, AllocError> {
 }
 
 const MIGRATE_EXAMPLE: &str =
-    "Prints 'migrated COUNT VERSION'. A slot has two bytes more than the record had: its length. Version, seed and the\npublisher's key stay; hints of the old file are of no use with the new one.\n\nExample: pir_server migrate --file two.pir --out slots.pir";
+    "Prints 'migrated COUNT VERSION'. A slot has two bytes more than the record had: its length. Version, seed and the\npublisher's key stay; hints of the old file are of no use with the new one.\n\nExample: pir_server migrate --file two.pir --out slots.pir\n\nWith --verbose a fault has a second line, 'cause: TEXT', that says what failed and where.";
 
 // The command `rekey`.
 fn rekey_command<'a>(alloc: Global) -> Result<Command<'a>, AllocError> {
     Command::new(alloc, "rekey")
         .about("Gives a snapshot file another publisher's key, while no server serves it")
         .after_help(REKEY_EXAMPLE)
+        .arg(verbose_flag(alloc))?
         .arg(option(
             alloc,
             "file",
@@ -183,13 +203,14 @@ fn rekey_command<'a>(alloc: Global) -> Result<Command<'a>, AllocError> {
 }
 
 const REKEY_EXAMPLE: &str =
-    "Prints 'rekeyed COUNT VERSION'. Records, version and seed stay, so all hints stay good. The old key is of no use from\nthen on.\n\nExample: pir_server rekey --file two.pir --key @key.txt";
+    "Prints 'rekeyed COUNT VERSION'. Records, version and seed stay, so all hints stay good. The old key is of no use from\nthen on.\n\nExample: pir_server rekey --file two.pir --key @key.txt\n\nWith --verbose a fault has a second line, 'cause: TEXT', that says what failed and where.";
 
 // The command `show`.
 fn show_command<'a>(alloc: Global) -> Result<Command<'a>, AllocError> {
     Command::new(alloc, "show")
         .about("Shows what a snapshot file holds and how many bytes its retrievals take")
         .after_help(SHOW_EXAMPLE)
+        .arg(verbose_flag(alloc))?
         .arg(option(
             alloc,
             "file",
@@ -199,13 +220,14 @@ fn show_command<'a>(alloc: Global) -> Result<Command<'a>, AllocError> {
 }
 
 const SHOW_EXAMPLE: &str =
-    "Prints a line each: the version; the form; how many records there are and their length, in form 2 the most that one may\nhave and the longest that one has; the bits of a digit; the records in a\ncolumn; the rows and columns of digits; the words of a secret; for each scheme the bytes of the words of a hint, a query\nand an answer; and for each scheme whether every retrieval is certain to give its record, or depends on the noise drawn.\n\nExample: pir_server show --file two.pir";
+    "Prints a line each: the version; the form; how many records there are and their length, in form 2 the most that one may\nhave and the longest that one has; the bits of a digit; the records in a\ncolumn; the rows and columns of digits; the words of a secret; for each scheme the bytes of the words of a hint, a query\nand an answer; and for each scheme whether every retrieval is certain to give its record, or depends on the noise drawn.\n\nExample: pir_server show --file two.pir\n\nWith --verbose a fault has a second line, 'cause: TEXT', that says what failed and where.";
 
 // The command `serve`.
 fn serve_command<'a>(alloc: Global) -> Result<Command<'a>, AllocError> {
     Command::new(alloc, "serve")
         .about("Serves a snapshot file on 127.0.0.1, one connection after the other")
         .after_help(SERVE_EXAMPLE)
+        .arg(verbose_flag(alloc))?
         .arg(option(
             alloc,
             "file",
@@ -227,7 +249,7 @@ fn serve_command<'a>(alloc: Global) -> Result<Command<'a>, AllocError> {
 }
 
 const SERVE_EXAMPLE: &str =
-    "Prints 'listening PORT' once it listens. A connection that ends with a fault is reported on standard error,\nas 'connection: NAME', and the next one is served. Edits that were not published are lost at the end.\n\nExample: pir_server serve --file two.pir --port 7000 --connections 3";
+    "Prints 'listening PORT' once it listens. A connection that ends with a fault is reported on standard error,\nas 'connection: NAME', and the next one is served. Edits that were not published are lost at the end.\n\nExample: pir_server serve --file two.pir --port 7000 --connections 3\n\nWith --verbose a fault has a second line, 'cause: TEXT', that says what failed and where.";
 
 // The command `once`.
 fn once_command<'a>(alloc: Global) -> Command<'a> {
@@ -259,12 +281,13 @@ fn whole_command<'a>(alloc: Global) -> Result<Command<'a>, AllocError> {
 const VERSION: &str = "0.1.0";
 
 const EXIT_STATUSES: &str =
-    "Without a command: once.\n\nA value @FILE of --seed or --key is read from that file; one on the command line itself stands in the list of\nprocesses, for other users of this machine to see.\n\nExit status: 0 done, 2 a bad command line, 3 a fault, 4 out of memory.\n\nA fault is one line on standard error, 'fault: NAME':\n  File           a file can't be opened or made\n  Read, Write    reading or writing failed\n  BadRecords     the input of make is not whole records, or lines that are none, or too many bytes\n  BadLayout      no store has these sizes\n  NotSnapshot, Short, BadDigest, TrailingBytes, BadSlot   a file that is no whole snapshot\n  NotFormOne     the records that migrate is to move stand in slots already\n  TooWide        no store has records of two bytes more\n  Locked         another process serves or replaces the file\n  Connect        the port can't be listened on\n  BadInput       the input of once can't be served; its last reply is Refused 1\n  TurnsUsedUp    more reads than a session has\n  Memory         memory was refused (status 4)";
+    "Without a command: once.\n\nA value @FILE of --seed or --key is read from that file; one on the command line itself stands in the list of\nprocesses, for other users of this machine to see.\n\nExit status: 0 done, 2 a bad command line, 3 a fault, 4 out of memory.\n\nA fault is one line on standard error, 'fault: NAME':\n  File           a file can't be opened or made, or is none, as a folder or a pipe\n  Read, Write    reading or writing failed\n  BadRecords     the input of make is not whole records, or lines that are none, or too many bytes\n  BadLayout      no store has these sizes\n  NotSnapshot, Short, BadDigest, TrailingBytes, BadSlot   a file that is no whole snapshot\n  NotFormOne     the records that migrate is to move stand in slots already\n  TooWide        no store has records of two bytes more\n  Locked         another process serves or replaces the file\n  Exists         something stands where make --new is to make a file\n  Connect        the port can't be listened on\n  BadInput       the input of once can't be served; its last reply is Refused 1\n  TurnsUsedUp    more reads than a session has\n  Memory         memory was refused (status 4)\n\nWith --verbose a second line 'cause: TEXT' says what failed and where.";
 
 // What the words of `make` ask for.
 fn making_of<'a>(found: &ArgMatches<'a>) -> Result<Making<'a>, BadLine<'a>> {
     Ok(Making {
         out: text_at(found, "out", OUT_TAKES)?,
+        new: found.get_flag("new"),
         form: form_of(found)?,
         width: number_at(found, "width", u64::from(u8::MAX), WIDTH_TAKES)? as u8,
         record_len: number_at(found, "record", u64::from(u16::MAX), RECORD_TAKES)? as u16,
@@ -316,25 +339,34 @@ fn serving_of<'a>(found: &ArgMatches<'a>) -> Result<Serving<'a>, BadLine<'a>> {
 }
 
 /// What the program's words ask for, its name first. Without others it is `once`.
-pub fn task_of<'a>(alloc: Global, words: &'a [String]) -> Result<Task<'a>, BadLine<'a>> {
+pub fn task_of<'a>(alloc: Global, words: &'a [String]) -> Result<Asked<'a>, BadLine<'a>> {
     let matches = whole_command(alloc)?.try_get_matches_from(words)?;
     if let Some(found) = matches.subcommand_matches("make") {
-        return Ok(Task::Make(making_of(found)?));
+        return Ok(asked_for(found, Task::Make(making_of(found)?)));
     }
     if let Some(found) = matches.subcommand_matches("migrate") {
-        return Ok(Task::Migrate(migrating_of(found)?));
+        return Ok(asked_for(found, Task::Migrate(migrating_of(found)?)));
     }
     if let Some(found) = matches.subcommand_matches("rekey") {
-        return Ok(Task::Rekey(rekeying_of(found)?));
+        return Ok(asked_for(found, Task::Rekey(rekeying_of(found)?)));
     }
     if let Some(found) = matches.subcommand_matches("show") {
-        return Ok(Task::Show(text_at(found, "file", FILE_TAKES)?));
+        return Ok(asked_for(found, Task::Show(text_at(found, "file", FILE_TAKES)?)));
     }
     if let Some(found) = matches.subcommand_matches("serve") {
-        return Ok(Task::Serve(serving_of(found)?));
+        return Ok(asked_for(found, Task::Serve(serving_of(found)?)));
     }
     if let Some(found) = matches.subcommand_matches("run") {
-        return Ok(Task::Run(running_of(found)?));
+        return Ok(asked_for(found, Task::Run(running_of(found)?)));
     }
-    Ok(Task::Once)
+    Ok(Asked {
+        task: Task::Once,
+        verbose: false,
+    })
+}
+
+// A task, and whether the cause of its failure is to be said.
+fn asked_for<'a>(found: &ArgMatches<'a>, task: Task<'a>) -> Asked<'a> {
+    let verbose = found.get_flag("verbose");
+    Asked { task, verbose }
 }

@@ -1,14 +1,16 @@
 //! The version of the snapshot that a file has.
 //!
-//! A [`FileVersion`] is made here alone: where a snapshot was read to its end, where a file was replaced by one, and where one
-//! was written to what is no file. So who has one did that, and a version can't be counted as saved without it.
+//! A [`FileVersion`] is made here alone: where a snapshot was read to its end and its file was sent to the device, where a file was
+//! replaced by one, and where one was written to what is no file. So who has one did that, and a version can't be counted as saved
+//! without it.
 
-ghost use Rattle.std.specs.Prelude.{◌≡◌, ℕ, IfOk, OnOk};
+ghost use Rattle.std.specs.Prelude.{◌≡◌, ℕ, [], ◌∷◌, IfOk, OnOk};
+ghost use Rattle.std.specs.List.{FoldsTo};
 ghost use Rattle.std.specs.Io.KnownBytes.{Appends, Consumes, IsAtEnd};
-ghost use Rattle.safe_files.specs.Steps.{Replaces};
+ghost use Rattle.safe_files.specs.Steps.{Replaces, Syncs, SyncsFolder};
 ghost use Rattle.snapshot_file.specs.Snapshots.{IsSnapshot, header_of, snapshot_bytes};
 
-use safe_files::{Content, ContentFault, Disk, ReplaceFault, replace};
+use safe_files::{Content, ContentFault, Disk, ReplaceFault, SettleFault, replace, settle};
 use session_core::{Snapshot, SnapshotFault, read_snapshot};
 use std::alloc::Global;
 use std::io::{Read, Write};
@@ -38,22 +40,42 @@ impl FileVersion {
     }
 }
 
-/// Reads a snapshot, which must be the whole input, and answers its version beside it.
+/// Why a snapshot that a file has was not taken.
+#[derive(Clone, Copy, Debug)]
+pub enum VersionFault {
+    /// It was not read.
+    Snapshot(SnapshotFault),
+    /// The file or its name could not be sent to the device.
+    Settle(SettleFault),
+}
+
+/// Reads a snapshot, which must be the whole file, sends the file and its name to the device, since whoever wrote it may have been
+/// killed before, and answers its version beside it.
 ///
 /// # Errors
 ///
-/// Those of [`read_snapshot`].
-pub fn read_version<R: Read>(
+/// In this order: those of [`read_snapshot`], those of [`settle`].
+pub fn read_version<F: Read + Write + Drop, D: Disk<File = F>>(
     alloc: Global,
-    reader: &mut R,
-) -> Result<(Snapshot, FileVersion), SnapshotFault>
+    disk: &mut D,
+    file: &mut F,
+) -> Result<(Snapshot, FileVersion), VersionFault>
     ensures version { IfOk result (λ it. it.1.version ≡ it.0.version) }
     ensures sound { IfOk result (λ it. IsSnapshot (header_of it.0) it.0.records.items) }
-    ensures taken { IfOk result (λ it. Consumes (R.remaining reader.old) (R.remaining reader.new)
+    ensures taken { IfOk result (λ it. Consumes (F.remaining file.old) (F.remaining file.new)
         (snapshot_bytes (header_of it.0) it.0.records.items)
-        × IsAtEnd (R.remaining reader.new)) }
+        × IsAtEnd (F.remaining file.new)) }
+    ensures settled { OnOk result (FoldsTo D.does disk.old
+        (Syncs (F.contents file.new) ∷ SyncsFolder ∷ []) disk.new) }
 {
-    let snapshot = read_snapshot(alloc, reader)?;
+    let snapshot = match read_snapshot(alloc, file) {
+        Ok(snapshot) => snapshot,
+        Err(fault) => return Err(VersionFault::Snapshot(fault)),
+    };
+    match settle(disk, file) {
+        Ok(()) => {}
+        Err(fault) => return Err(VersionFault::Settle(fault)),
+    }
     let version = FileVersion {
         version: snapshot.version,
     };

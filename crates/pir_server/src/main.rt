@@ -5,14 +5,17 @@
 //! Exit statuses: 0 done, 2 a bad command line, 3 a fault, 4 out of memory. What was done is printed on
 //! standard output; a failure is one line on standard error.
 //!
-//! Its tests are in `tests/command_line`, `tests/loopback`, `tests/service` and `tests/once`.
+//! Its tests are in `tests/command_line`, `tests/causes`, `tests/streams`, `tests/order`, `tests/loopback`, `tests/service` and
+//! `tests/once`.
 #![tactic(auto)]
 
+mod causes;
 mod command_line;
 mod commands;
 mod file_version;
 mod files;
 mod making;
+mod moving;
 mod rekeying;
 mod run_line;
 mod running;

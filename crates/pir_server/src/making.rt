@@ -2,12 +2,15 @@
 
 ghost use Rattle.std.specs.Prelude.{◌≡◌, ◌≤◌, ◌+◌, ◌*◌, length, IfOk};
 ghost use Rattle.std.specs.Io.KnownBytes.{Consumes, IsAtEnd};
+ghost use Rattle.pir_server.specs.Makings.{header_made};
 
+use crate::causes::failed_at;
 use crate::command_line::{KEY_TAKES, Making, SEED_TAKES};
-use crate::files::{RecordsOf, lock_of, write_file};
-use command_words::{Failure, bytes_from_hex};
+use crate::files::{OwnFile, RecordsOf, write_file};
+use command_words::{Failed, Failure, bytes_from_hex};
 use connection_io::{piece_buffer, read_piece};
 use digit_pack::write_slot;
+use safe_files::Place;
 use session_core::{Header, Layout};
 use sha2::{Digest, Sha256};
 use std::alloc::Global;
@@ -22,6 +25,9 @@ const MAX_LINE_BYTES: usize = 2 * MAX_RECORD_BYTES;
 
 /// How many words a secret of a new store has.
 const DIMENSION: u16 = 1024;
+
+/// The failure of a file that is to be new, where something stands at its name.
+const EXISTS: Failure = Failure::Fault("Exists");
 
 /// The failure of record bytes that no store takes.
 const BAD_RECORDS: Failure = Failure::Fault("BadRecords");
@@ -43,15 +49,25 @@ struct Keys {
 ///
 /// # Errors
 ///
-/// In this order: those of the files of the seed and of the key (`File`, `Value`), those of the input (`Read`,
+/// In this order: those of the files of the seed and of the key (`File`, `Value`), `Exists` where the file is to be new and something
+/// stands at its name, those of the input (`Read`,
 /// `BadRecords` where there are more bytes than the largest store has), `BadLayout` where no store has this layout,
 /// `BadRecords` where these are not whole records or a line is none that fits, those of the file (`Locked` where another
-/// process has the file that is to be replaced, `File`, `Write`). `Memory` where there was none.
-pub fn make(rt: &HostRuntime, making: &Making<'_>) -> Result<u32, Failure> {
+/// process has it, `Exists` once more, `File`, `Write`). `Memory` where there was none.
+pub fn make(rt: &HostRuntime, making: &Making<'_>) -> Result<u32, Failed> {
     let keys = Keys {
-        seed: making.seed.seed(rt, SEED_TAKES)?,
-        publisher: making.key.key(rt, KEY_TAKES)?,
+        seed: making
+            .seed
+            .seed(rt, SEED_TAKES)
+            .map_err(|failure| making.seed.failed(rt, failure))?,
+        publisher: making
+            .key
+            .key(rt, KEY_TAKES)
+            .map_err(|failure| making.key.failed(rt, failure))?,
     };
+    if making.new && Place::of(rt, making.out)?.is_taken() {
+        return Err(failed_at(rt, making.out, EXISTS));
+    }
     if making.form == 2 {
         make_of_lines(rt, making, &keys)
     } else {
@@ -60,24 +76,24 @@ pub fn make(rt: &HostRuntime, making: &Making<'_>) -> Result<u32, Failure> {
 }
 
 // Makes a store of form 1. The input is the bytes of its records.
-fn make_of_bytes(rt: &HostRuntime, making: &Making<'_>, keys: &Keys) -> Result<u32, Failure> {
+fn make_of_bytes(rt: &HostRuntime, making: &Making<'_>, keys: &Keys) -> Result<u32, Failed> {
     let records = read_input(rt.alloc(), &mut rt.reader(), MAX_RECORD_BYTES)?;
     let header = header_of(making, keys, whole_records(making, records.len()));
     if !header.is_accepted() {
-        return Err(BAD_LAYOUT);
+        return Err(bad_layout(rt.alloc(), &header));
     }
     if records.len() != header.records_len() {
-        return Err(BAD_RECORDS);
+        return Err(no_whole_records(rt.alloc(), &header, records.len()));
     }
     write_made(rt, making, &header, &records)
 }
 
 // Makes a store of form 2. The input has a line for each record.
-fn make_of_lines(rt: &HostRuntime, making: &Making<'_>, keys: &Keys) -> Result<u32, Failure> {
+fn make_of_lines(rt: &HostRuntime, making: &Making<'_>, keys: &Keys) -> Result<u32, Failed> {
     let input = read_input(rt.alloc(), &mut rt.reader(), MAX_LINE_BYTES)?;
     let header = header_of(making, keys, lines_in(&input));
     if !header.is_accepted() {
-        return Err(BAD_LAYOUT);
+        return Err(bad_layout(rt.alloc(), &header));
     }
     let records = slots_of(rt.alloc(), &header, &input)?;
     write_made(rt, making, &header, &records)
@@ -89,19 +105,36 @@ fn write_made(
     making: &Making<'_>,
     header: &Header,
     bytes: &[u8],
-) -> Result<u32, Failure> {
-    let _lock = lock_of(rt, making.out)?;
-    write_file(rt, making.out, &RecordsOf { header, bytes })?;
-    Ok(header.count)
+) -> Result<u32, Failed> {
+    match write_out_file(rt, making, header, bytes) {
+        Ok(()) => Ok(header.count),
+        Err(failure) => Err(failed_at(rt, making.out, failure)),
+    }
+}
+
+// Writes the file, unless it is to be new and is not.
+fn write_out_file(
+    rt: &HostRuntime,
+    making: &Making<'_>,
+    header: &Header,
+    bytes: &[u8],
+) -> Result<(), Failure> {
+    let mut file = OwnFile::to_write(rt, making.out)?;
+    if making.new && file.is_taken() {
+        return Err(EXISTS);
+    }
+    write_file(rt, &mut file, &RecordsOf { header, bytes })?;
+    Ok(())
 }
 
 // The slots of the records in some lines, of which there is one for each record.
-fn slots_of(alloc: Global, header: &Header, lines: &[u8]) -> Result<Vec<u8>, Failure> {
+fn slots_of(alloc: Global, header: &Header, lines: &[u8]) -> Result<Vec<u8>, Failed> {
     let Ok(layout) = header.layout() else {
-        return Err(BAD_LAYOUT);
+        return Err(bad_layout(alloc, header));
     };
     let Ok(text) = str::from_utf8(lines) else {
-        return Err(BAD_RECORDS);
+        let cause = format!(in alloc; "standard input: a byte that is no character of a line");
+        return Err(Failed::by(BAD_RECORDS, cause));
     };
     let mut slots = vec![in alloc; 0; header.records_len()]?;
     fill_slots(alloc, &layout, &mut slots, text)?;
@@ -109,22 +142,52 @@ fn slots_of(alloc: Global, header: &Header, lines: &[u8]) -> Result<Vec<u8>, Fai
 }
 
 // Fills a slot for each record, from its line.
-fn fill_slots(alloc: Global, layout: &Layout, slots: &mut [u8], text: &str) -> Result<(), Failure>
+fn fill_slots(alloc: Global, layout: &Layout, slots: &mut [u8], text: &str) -> Result<(), Failed>
     requires { length slots.old ≡ layout.now.count * layout.now.record_len }
 {
     let mut lines = text.split('\n');
     for i in 0..layout.count() {
         let Some(line) = lines.next() else {
-            return Err(BAD_RECORDS);
+            return Err(bad_line(alloc, i, "there is none"));
         };
         match bytes_from_hex(alloc, line)? {
             Some(bytes) if bytes.len() + 2 <= layout.record_len() => {
                 write_slot(layout, slots, i, &bytes);
             }
-            _ => return Err(BAD_RECORDS),
+            Some(_) => return Err(bad_line(
+                alloc,
+                i,
+                "the record has more bytes than --record less 2",
+            )),
+            None => return Err(bad_line(alloc, i, "no pairs of hex digits, and not -")),
         }
     }
     Ok(())
+}
+
+// How a line that is no record of its store fails; the first line has the number 1.
+fn bad_line(alloc: Global, line: usize, why: &str) -> Failed {
+    let number = line as u128 + 1;
+    let cause = format!(in alloc; "standard input, line {number}: {why}");
+    Failed::by(BAD_RECORDS, cause)
+}
+
+// How bytes that are no whole number of records fail.
+fn no_whole_records(alloc: Global, header: &Header, bytes: usize) -> Failed {
+    let record_len = header.record_len;
+    let cause = format!(in alloc;
+        "standard input: {bytes} bytes are no whole number of records of {record_len} bytes"
+    );
+    Failed::by(BAD_RECORDS, cause)
+}
+
+// How sizes that no store has fail: the limit that they break.
+fn bad_layout(alloc: Global, header: &Header) -> Failed {
+    let cause = match header.layout() {
+        Err(limit) => format!(in alloc; "{limit}"),
+        Ok(_) => format!(in alloc; "a slot has 2 to 256 bytes"),
+    };
+    Failed::by(BAD_LAYOUT, cause)
 }
 
 // How many lines there are. The last one may lack its line feed.
@@ -150,7 +213,7 @@ fn whole_records(making: &Making<'_>, bytes: usize) -> usize
 }
 
 // All bytes of a reader, where they are at most so many.
-fn read_input<R: Read>(alloc: Global, reader: &mut R, most: usize) -> Result<Vec<u8>, Failure>
+fn read_input<R: Read>(alloc: Global, reader: &mut R, most: usize) -> Result<Vec<u8>, Failed>
     requires { most ≤ 67108864 }
     ensures all { IfOk result (λ bytes. Consumes (R.remaining reader.old)
         (R.remaining reader.new) bytes.items × IsAtEnd (R.remaining reader.new)) }
@@ -161,23 +224,29 @@ fn read_input<R: Read>(alloc: Global, reader: &mut R, most: usize) -> Result<Vec
     // Each read but the last gives a byte at least.
     'pieces: for _ in 0..=most {
         let Ok(n) = read_piece(reader, &mut buffer) else {
-            return Err(Failure::Fault("Read"));
+            return Err(Failed::from(Failure::Fault("Read")));
         };
         if n == 0 {
             return Ok(bytes);
         }
         if n > most - bytes.len() {
-            return Err(BAD_RECORDS);
+            return Err(too_much(alloc, most));
         }
         bytes.extend_from_slice(&buffer[..n])?;
     }
-    Err(BAD_RECORDS)
+    Err(too_much(alloc, most))
+}
+
+// How an input of more bytes than the largest store has fails.
+fn too_much(alloc: Global, most: usize) -> Failed {
+    let cause = format!(in alloc; "standard input: more than {most} bytes");
+    Failed::by(BAD_RECORDS, cause)
 }
 
 // The header of version 1 of so many records.
 fn header_of(making: &Making<'_>, keys: &Keys, count: usize) -> Header
     requires { count ≤ 67108865 }
-    ensures { result.count ≡ count }
+    ensures { result ≡ header_made making.now keys.now count }
 {
     Header {
         form: making.form,

@@ -3,9 +3,10 @@
 ghost use Rattle.std.specs.Prelude.{◌≡◌};
 ghost use Rattle.sha2.specs.Sha256.{sha256};
 
+use crate::causes::failed_at;
 use crate::command_line::{KEY_TAKES, Rekeying};
-use crate::files::{RecordsOf, lock_of, snapshot_of, write_file};
-use command_words::Failure;
+use crate::files::{OwnFile, RecordsOf, snapshot_of, write_file};
+use command_words::{Failed, Failure, printed};
 use session_core::Header;
 use sha2::{Digest, Sha256};
 
@@ -14,24 +15,33 @@ use sha2::{Digest, Sha256};
 ///
 /// # Errors
 ///
-/// In this order: those of the key's file (`File`, `Value`), `Locked` where another process has the file, those of the
-/// file and its snapshot, and those of the new file (`File`, `Write`). `Memory` where there was none.
-pub fn rekey(rt: &HostRuntime, rekeying: &Rekeying<'_>) -> Result<(), Failure> {
-    let key = rekeying.key.key(rt, KEY_TAKES)?;
-    let _lock = lock_of(rt, rekeying.file)?;
-    let snapshot = snapshot_of(rt, rekeying.file)?;
-    let header = rekeyed(snapshot.header(), &key);
+/// In this order: those of the key's file (`File`, `Value`), `File` where there is no file, `Locked` where another process has
+/// it, those of its snapshot, and those of the new file (`File`, `Write`). `Memory` where there was none.
+pub fn rekey(rt: &HostRuntime, rekeying: &Rekeying<'_>) -> Result<(), Failed> {
+    let key = match rekeying.key.key(rt, KEY_TAKES) {
+        Ok(key) => key,
+        Err(failure) => return Err(rekeying.key.failed(rt, failure)),
+    };
+    let header = match rekey_file(rt, rekeying.file, &key) {
+        Ok(header) => header,
+        Err(failure) => return Err(failed_at(rt, rekeying.file, failure)),
+    };
+    let count = header.count;
+    let version = header.version;
+    printed(rt, println!(rt; "rekeyed {count} {version}"))
+}
+
+// Replaces a snapshot file by the same with another publisher's key, and answers its header.
+fn rekey_file(rt: &HostRuntime, name: &str, key: &[u8; 32]) -> Result<Header, Failure> {
+    let mut file = OwnFile::to_read(rt, name)?;
+    let snapshot = snapshot_of(rt, file.name())?;
+    let header = rekeyed(snapshot.header(), key);
     let content = RecordsOf {
         header: &header,
         bytes: &snapshot.records,
     };
-    write_file(rt, rekeying.file, &content)?;
-    let count = header.count;
-    let version = header.version;
-    match println!(rt; "rekeyed {count} {version}") {
-        Ok(()) => Ok(()),
-        Err(_) => Err(Failure::Fault("Write")),
-    }
+    write_file(rt, &mut file, &content)?;
+    Ok(header)
 }
 
 // The header with another publisher's key.

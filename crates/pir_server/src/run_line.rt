@@ -3,7 +3,7 @@
 ghost use Rattle.std.specs.Prelude.{◌≤◌, IfOk};
 
 use clap::{Arg, ArgAction, ArgMatches, Command};
-use command_words::{BadLine, number_at, option, text_at};
+use command_words::{BadLine, number_at, option, text_at, verbose_flag};
 use std::alloc::{AllocError, Global};
 use std::net::SocketAddr;
 
@@ -23,7 +23,8 @@ const MOST: u64 = 256;
 /// After how many seconds without progress a connection is closed where `--idle` is not given.
 const IDLE: u64 = 60;
 
-/// How many MiB the unfinished frames of all connections may have together where `--memory` is not given.
+/// How many MiB the unfinished frames of all connections, and the replies owed to them, may have together where `--memory` is not
+/// given.
 const MEMORY: u64 = 256;
 
 /// What `run` is to serve.
@@ -37,7 +38,7 @@ pub struct Running<'a> {
     pub most: usize,
     /// After how many seconds without progress a connection is closed: 1 to 86400.
     pub idle: u64,
-    /// How many MiB the unfinished frames of all connections may have together: 1 to 1048576.
+    /// How many MiB the unfinished frames of all connections, and the replies owed to them, may have together: 1 to 1048576.
     pub memory: u64,
     /// Whether the faults of connections are left out on standard error.
     pub quiet: bool,
@@ -48,6 +49,7 @@ pub fn run_command<'a>(alloc: Global) -> Result<Command<'a>, AllocError> {
     Command::new(alloc, "run")
         .about("Serves a snapshot file, many connections side by side, until it is killed")
         .after_help(RUN_EXAMPLE)
+        .arg(verbose_flag(alloc))?
         .arg(option(
             alloc,
             "file",
@@ -64,19 +66,19 @@ pub fn run_command<'a>(alloc: Global) -> Result<Command<'a>, AllocError> {
             alloc,
             "most",
             "N",
-            "How many connections there may be at once, 1 to 65535; others wait until one ends (256 if not given)",
+            "How many connections there may be at once, 1 to 65535, and 16 fewer than the process may have descriptors; others wait until one ends (256 if not given)",
         ))?
         .arg(optional(
             alloc,
             "idle",
             "SECONDS",
-            "After how many seconds without progress a connection is closed, 1 to 86400 (60 if not given)",
+            "After how many seconds without progress a connection is closed, 1 to 86400 (60 if not given): of a whole frame that came, or of all that was owed to it taken",
         ))?
         .arg(optional(
             alloc,
             "memory",
             "MIB",
-            "How many MiB the unfinished frames of all connections may have together; past that the connection with the largest is closed (256 if not given)",
+            "How many MiB the unfinished frames of all connections, and the replies that they have not taken, may have together; past that the connection with the most is closed (256 if not given)",
         ))?
         .arg(
             Arg::new(alloc, "quiet")
@@ -87,7 +89,7 @@ pub fn run_command<'a>(alloc: Global) -> Result<Command<'a>, AllocError> {
 }
 
 const RUN_EXAMPLE: &str =
-    "Prints 'listening ADDR:PORT' once it listens. A connection that ends with a fault is reported on standard error,\nas 'connection: NAME', and the others go on. A publication is acknowledged only once the file has it on the disk; where\nit can't be saved the server ends. What is sent is not encrypted: listen on 127.0.0.1 or [::1] unless a tunnel or a proxy\nstands before the port.\n\nExample: pir_server run --file two.pir --listen 127.0.0.1:7000";
+    "Prints 'listening ADDR:PORT' once it listens. A connection that ends with a fault is reported on standard error,\nas 'connection: NAME', and the others go on. A publication is acknowledged only once the file has it on the disk; where\nit can't be saved the server ends. What is sent is not encrypted: listen on 127.0.0.1 or [::1] unless a tunnel or a proxy\nstands before the port.\n\nExample: pir_server run --file two.pir --listen 127.0.0.1:7000\n\nWith --verbose a fault has a second line, 'cause: TEXT', that says what failed and where.";
 
 // An option that may be left out.
 fn optional<'a>(alloc: Global, name: &'a str, value: &'a str, help: &'a str) -> Arg<'a> {

@@ -2,14 +2,15 @@
 
 ghost use Rattle.std.specs.Prelude.{◌≡◌, IfOk};
 
+use crate::causes::{failed_at, not_listening};
 use crate::command_line::Serving;
 use crate::file_version::FileVersion;
-use crate::files::{VersionOf, lock_of, store_of, write_file};
-use command_words::Failure;
+use crate::files::{OwnFile, VersionOf, store_of, write_file};
+use command_words::{Failed, Failure, printed};
 use connection_io::{piece_buffer, read_piece};
 use session_core::{Lanes, ServeFault, ServerCore, Store, serve};
 use std::io;
-use std::net::{Ipv4Addr, Shutdown, TcpListener, TcpStream};
+use std::net::{Ipv4Addr, Shutdown, SocketAddr, TcpListener, TcpStream};
 use std::time::Duration;
 
 /// The most reads that one connection's session makes.
@@ -21,21 +22,24 @@ const DRAIN_READS: u32 = 257;
 /// How many milliseconds one of these reads waits at most.
 const DRAIN_WAIT: u64 = 100;
 
-/// The failure of a port or a connection that can't be opened.
-const NO_CONNECTION: Failure = Failure::Fault("Connect");
-
 /// Serves a snapshot file over connections, one after the other. After each in which a version was published the file is
 /// replaced. No other process serves or replaces it meanwhile.
 ///
 /// # Errors
 ///
-/// In this order: `Locked` where another process has the file, those of the file, the snapshot and the store, `Connect`
-/// where the port can't be listened on, and after a connection that published `File` where the file can't be made anew
-/// and `Write` where it can't be written. `Memory` where there was none. A connection that ends with a fault is reported
-/// on standard error, and ends nothing else.
-pub fn serve_file(rt: &HostRuntime, serving: &Serving<'_>) -> Result<(), Failure> {
-    let _lock = lock_of(rt, serving.file)?;
-    let (store, mut saved) = store_of(rt, serving.file)?;
+/// In this order: `File` where there is no file, `Locked` where another process has it, those of the snapshot, `Write` where the
+/// file can't be sent to the device, those of the store, `Connect` where the port can't be listened on, and after a connection
+/// that published `File` where the file can't be made anew and `Write` where it can't be written. `Memory` where there was none. A
+/// connection that ends with a fault is reported on standard error, and ends nothing else.
+pub fn serve_file(rt: &HostRuntime, serving: &Serving<'_>) -> Result<(), Failed> {
+    let mut file = match OwnFile::to_read(rt, serving.file) {
+        Ok(file) => file,
+        Err(failure) => return Err(failed_at(rt, serving.file, failure)),
+    };
+    let (store, mut saved) = match store_of(rt, &mut file) {
+        Ok(both) => both,
+        Err(failure) => return Err(failed_at(rt, serving.file, failure)),
+    };
     let mut core = ServerCore::new(rt.alloc(), store);
     let listener = listen(rt, serving.port)?;
     for id in 0..serving.connections {
@@ -43,7 +47,10 @@ pub fn serve_file(rt: &HostRuntime, serving: &Serving<'_>) -> Result<(), Failure
             let name = fault_name(fault);
             let _ = eprintln!(rt; "connection: {name}");
         }
-        saved = save_published(rt, serving.file, core.store(), saved)?;
+        saved = match save_published(rt, &mut file, core.store(), saved) {
+            Ok(saved) => saved,
+            Err(failure) => return Err(failed_at(rt, serving.file, failure)),
+        };
     }
     Ok(())
 }
@@ -51,7 +58,7 @@ pub fn serve_file(rt: &HostRuntime, serving: &Serving<'_>) -> Result<(), Failure
 // Saves the current version, unless the file has it, and answers what it has then.
 fn save_published(
     rt: &HostRuntime,
-    file: &str,
+    file: &mut OwnFile<'_>,
     store: &Store<Lanes>,
     saved: FileVersion,
 ) -> Result<FileVersion, Failure>
@@ -64,18 +71,17 @@ fn save_published(
 }
 
 // Listens on a port of 127.0.0.1, and tells which one it is.
-fn listen(rt: &HostRuntime, port: u16) -> Result<TcpListener, Failure> {
-    let Ok(listener) = TcpListener::bind(rt, (Ipv4Addr::LOCALHOST, port)) else {
-        return Err(NO_CONNECTION);
+fn listen(rt: &HostRuntime, port: u16) -> Result<TcpListener, Failed> {
+    let wanted = SocketAddr::from((Ipv4Addr::LOCALHOST, port));
+    let Ok(listener) = TcpListener::bind(rt, wanted) else {
+        return Err(not_listening(rt, wanted));
     };
     let Ok(address) = listener.local_addr() else {
-        return Err(NO_CONNECTION);
+        return Err(not_listening(rt, wanted));
     };
     let port = address.port();
-    match println!(rt; "listening {port}") {
-        Ok(()) => Ok(listener),
-        Err(_) => Err(Failure::Fault("Write")),
-    }
+    printed(rt, println!(rt; "listening {port}"))?;
+    Ok(listener)
 }
 
 // Why a connection did not come to a good end; None where it was not accepted.

@@ -2,8 +2,9 @@
 
 ghost use Rattle.std.specs.Prelude.{◌≤◌};
 
+use crate::causes::failed_at;
 use crate::files::snapshot_of;
-use command_words::Failure;
+use command_words::{Failed, Failure, printed};
 use digit_pack::read_slot;
 use session_core::{Layout, Scheme, Snapshot, answer_count, hint_len, is_certain, query_count};
 use std::alloc::{AllocError, Global};
@@ -16,13 +17,13 @@ const WORD_BYTES: u128 = 4;
 /// # Errors
 ///
 /// In this order: those of the file and the snapshot, `Write`. `Memory` where there was none.
-pub fn show(rt: &HostRuntime, name: &str) -> Result<(), Failure> {
-    let snapshot = snapshot_of(rt, name)?;
+pub fn show(rt: &HostRuntime, name: &str) -> Result<(), Failed> {
+    let snapshot = match snapshot_of(rt, name) {
+        Ok(snapshot) => snapshot,
+        Err(failure) => return Err(failed_at(rt, name, failure)),
+    };
     let text = description_of(rt.alloc(), &snapshot)?;
-    match print!(rt; "{text}") {
-        Ok(()) => Ok(()),
-        Err(_) => Err(Failure::Fault("Write")),
-    }
+    printed(rt, print!(rt; "{text}"))
 }
 
 // The lines of a snapshot.

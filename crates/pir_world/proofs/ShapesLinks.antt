@@ -15,8 +15,7 @@ use Rattle.client_core.specs.declared.state.Reaction.TheVariants.{Asks, Reports,
 use Rattle.client_core.specs.Calls.{Want, refusal}
 use Rattle.client_core.specs.Replies.{reaction_to_reply}
 use Rattle.client_core.specs.Feeding.{sends_of, takes_all, fault_of}
-use Rattle.client_core.specs.Shapes.{outline, IndexIsBelow}
-use Rattle.client_core.proofs.ShapeLaws.{no_index}
+use Rattle.client_core.specs.Shapes.{outline}
 use Rattle.pir_world.specs.Runs.{
   State,
   Link,
@@ -39,12 +38,12 @@ use Rattle.pir_world.specs.Runs.{
   served_at,
   reported_at,
 }
-use Rattle.pir_world.specs.Shapes.{sent_shapes, reply_shapes, HaveEqualShapes}
+use Rattle.pir_world.specs.Shapes.{sent_shapes, reply_shapes, call_refusals, HaveEqualShapes}
 use Rattle.pir_world.proofs.Later.{get_same, get_other}
 use Rattle.pir_world.proofs.Wires.{IsFew, Split, split_few}
 use Rattle.pir_world.proofs.ShapesFrames.{IsFrameLike, same_frame, same_shape, AreFramesLike, IsWireLike, sent_like, arrived_like, beyond_like}
 use Rattle.pir_world.proofs.ShapesServed.{equal_append, IsTurnLike, turns_like}
-use Rattle.pir_world.proofs.ShapesClients.{IsWantLike, same_want, IsReaders, called_outline, call_frame_like, replied_outline, replied_sends}
+use Rattle.pir_world.proofs.ShapesClients.{IsWantLike, IsReaders, called_outline, call_frame_like, replied_outline, replied_sends}
 
 -- ---- states
 
@@ -88,12 +87,12 @@ both_itself None = tt
 both_itself (Some l) = record { outlined = refl; standing = refl; up = wire_itself l.up; down = wire_itself l.down }
 
 pub state_itself : (s : State) → IsStateLike s s
-state_itself s = record { history = refl; links = λ k. both_itself (slice_get s.links k); logs = record { sent = λ k. refl; replies = λ k. refl } }
+state_itself s = record { history = refl; links = λ k. both_itself (slice_get s.links k); logs = record { sent = λ k. refl; replies = λ k. refl; refusals = λ k. refl } }
 
 -- ---- what a client writes into the log
 
 called_equal : (k : ℕ) (v w : Want) (f g : Frame) → IsFrameLike f g → HaveEqualShapes (Called k v None ∷ Sent k f ∷ []) (Called k w None ∷ Sent k g ∷ [])
-called_equal k v w f g e = record { sent = λ j. rw (same_shape f g e) refl; replies = λ j. refl }
+called_equal k v w f g e = record { sent = λ j. rw (same_shape f g e) refl; replies = λ j. refl; refusals = λ j. refl }
 
 reports_sent : (j k : ℕ) (q : Call) (f : Frame) (e : Event) → sent_shapes j (reports k q f e ∷ []) ≡ []
 reports_sent j k (Ask i s v n) f e = refl
@@ -113,20 +112,30 @@ reacts_replied j k q f (Asks s v p) = refl
 reacts_replied j k q f (Reports e) = reports_replied j k q f e
 reacts_replied j k q f (Fails fault) = refl
 
+reports_no_refusal : (j k : ℕ) (q : Call) (f : Frame) (e : Event) → call_refusals j (reports k q f e ∷ []) ≡ []
+reports_no_refusal j k (Ask i s v n) f e = refl
+reports_no_refusal j k q f e = refl
+
+reacts_no_refusal : (j k : ℕ) (q : Call) (f : Frame) (r : Reaction) → call_refusals j (reacts k q f r) ≡ []
+reacts_no_refusal j k q f (Asks s v p) = refl
+reacts_no_refusal j k q f (Reports e) = reports_no_refusal j k q f e
+reacts_no_refusal j k q f (Fails fault) = refl
+
 reacts_equal : (k : ℕ) (q q2 : Call) (f g : Frame) (r r2 : Reaction) → sends_of r ≡ sends_of r2 → HaveEqualShapes (reacts k q f r) (reacts k q2 g r2)
 reacts_equal k q q2 f g r r2 e = record {
   sent = λ j. reacts_sent j k q f r ∙ ap (λ (fs : List Frame). sent_shapes j (map (λ (y : Frame). Sent k y) fs)) e ∙ sym (reacts_sent j k q2 g r2);
   replies = λ j. reacts_replied j k q f r ∙ sym (reacts_replied j k q2 g r2);
+  refusals = λ j. reacts_no_refusal j k q f r ∙ sym (reacts_no_refusal j k q2 g r2);
 }
 
 abbrev none_or : Bool → List Entry
 none_or b = cond b [] []
 
 nothing_equal : (b d : Bool) → HaveEqualShapes (none_or b) (none_or d)
-nothing_equal true true = record { sent = λ j. refl; replies = λ j. refl }
-nothing_equal true false = record { sent = λ j. refl; replies = λ j. refl }
-nothing_equal false true = record { sent = λ j. refl; replies = λ j. refl }
-nothing_equal false false = record { sent = λ j. refl; replies = λ j. refl }
+nothing_equal true true = record { sent = λ j. refl; replies = λ j. refl; refusals = λ j. refl }
+nothing_equal true false = record { sent = λ j. refl; replies = λ j. refl; refusals = λ j. refl }
+nothing_equal false true = record { sent = λ j. refl; replies = λ j. refl; refusals = λ j. refl }
+nothing_equal false false = record { sent = λ j. refl; replies = λ j. refl; refusals = λ j. refl }
 
 -- ---- at most one reply
 
@@ -140,7 +149,7 @@ not_few f f2 fs (inl e) = cc
 not_few f f2 fs (inr z) = let e : f ∷ f2 ∷ fs ≡ z.0 ∷ [] = z.1 in cc
 
 taken_like : (k : ℕ) (c d : ClientState) (fs gs : List Frame) → outline c ≡ outline d → AreFramesLike fs gs → IsFew fs → AreTakenLike k c d fs gs
-taken_like k c d [] [] a e few = record { outlined = a; sends = refl; logs = record { sent = λ j. refl; replies = λ j. refl } }
+taken_like k c d [] [] a e few = record { outlined = a; sends = refl; logs = record { sent = λ j. refl; replies = λ j. refl; refusals = λ j. refl } }
 taken_like k c d (f ∷ []) (g ∷ []) a e few = record {
   outlined = replied_outline c d f g a e.0;
   sends = replied_sends c d f g a e.0;
@@ -164,6 +173,10 @@ few_arrive w most few = of_split (split_few w most few)
 
 -- ---- a link's steps
 
+-- at two links whose clients differ in indices and words alone, two calls are refused alike
+abbrev pub IsRefusedLike : Want → Want → Option Link → Option Link → Type 0
+IsRefusedLike v w o o2 = (l m : Link) → o ≡ Some l → o2 ≡ Some m → outline l.client ≡ outline m.client → refusal v l.client ≡ refusal w m.client
+
 module _ (s t : State) (a : IsStateLike s t) (k : ℕ) where
   replaced : (l m l2 m2 : Link) (h h2 : History) (es gs : List Entry)
       → slice_get s.links k ≡ Some l → slice_get t.links k ≡ Some m → h2 ≡ h → IsLinkLike l2 m2 → HaveEqualShapes es gs
@@ -177,7 +190,7 @@ module _ (s t : State) (a : IsStateLike s t) (k : ℕ) where
   call_like : (v w : Want) (l m : Link) (f : Option CallFault)
       → slice_get s.links k ≡ Some l → slice_get t.links k ≡ Some m → IsLinkLike l m → IsReaders v → IsWantLike v w
       → IsStateLike (call_at s k v l f) (call_at t k w m f)
-  call_like v w l m (Some fault) at at2 b r e = replaced l m l m s.history t.history _ _ at at2 a.history b (record { sent = λ j. refl; replies = λ j. refl })
+  call_like v w l m (Some fault) at at2 b r e = replaced l m l m s.history t.history _ _ at at2 a.history b (record { sent = λ j. refl; replies = λ j. refl; refusals = λ j. refl })
   call_like v w l m None at at2 b r e =
       let f = call_frame_like l.client m.client v w r b.outlined e in
       replaced l m (link_called v l) (link_called w m) s.history t.history _ _ at at2 a.history
@@ -190,15 +203,15 @@ module _ (s t : State) (a : IsStateLike s t) (k : ℕ) where
       (called_equal k v w _ _ f)
 
   pub called_like : (v w : Want) (o o2 : Option Link) → slice_get s.links k ≡ o → slice_get t.links k ≡ o2 → AreBothLike o o2 → IsReaders v → IsWantLike v w
-      → ((l : Link) → o ≡ Some l → IndexIsBelow v l.client) → ((l : Link) → o2 ≡ Some l → IndexIsBelow w l.client)
+      → IsRefusedLike v w o o2
       → IsStateLike (called_at s v k o) (called_at t w k o2)
-  called_like v w None None at at2 b r e below below2 = a
-  called_like v w (Some l) (Some m) at at2 b r e below below2 =
+  called_like v w None None at at2 b r e same = a
+  called_like v w (Some l) (Some m) at at2 b r e same =
       subst (λ (f : Option CallFault). IsStateLike (call_at s k v l (refusal v l.client)) (call_at t k w m f))
-      (no_index.same_refusal l.client m.client v w (below l refl) (below2 m refl) b.outlined (same_want v w e))
+      (same l m refl refl b.outlined)
       (call_like v w l m (refusal v l.client) at at2 b r e)
-  called_like v w None (Some m) at at2 b r e below below2 = absurd b
-  called_like v w (Some l) None at at2 b r e below below2 = absurd b
+  called_like v w None (Some m) at at2 b r e same = absurd b
+  called_like v w (Some l) None at at2 b r e same = absurd b
 
   pub served_like : (x : Setting) (most : ℕ) (o o2 : Option Link) → slice_get s.links k ≡ o → slice_get t.links k ≡ o2 → AreBothLike o o2
       → IsStateLike (served_at x false s k most o) (served_at x false t k most o2)
@@ -220,7 +233,7 @@ module _ (s t : State) (a : IsStateLike s t) (k : ℕ) where
       at_start : (l m : Link) → IsLinkLike l m
           → IsTurnLike (record { history = s.history; standing = l.standing; replies = []; log = [] })
           (record { history = t.history; standing = m.standing; replies = []; log = [] })
-      at_start l m b = record { history = a.history; standing = b.standing; replies = tt; log = record { sent = λ j. refl; replies = λ j. refl } }
+      at_start l m b = record { history = a.history; standing = b.standing; replies = tt; log = record { sent = λ j. refl; replies = λ j. refl; refusals = λ j. refl } }
   served_like x most None (Some m) at at2 b = absurd b
   served_like x most (Some l) None at at2 b = absurd b
 

@@ -39,16 +39,16 @@ use Rattle.pir_world.specs.Runs.{
   setting_in,
 }
 use Rattle.pir_world.specs.Versions.{seed_of}
-use Rattle.pir_world.specs.Shapes.{IsStepLike, AreStepsLike, HadMemory, AskIsBelow, AsksAreBelow, IsPlainRun, IndicesChangeNoShape}
+use Rattle.pir_world.specs.Shapes.{IsStepLike, AreStepsLike, HadMemory, AskIsWithin, AsksAreWithin, IsPlainRun, IndicesChangeNoShape}
 use Rattle.pir_world.specs.Invariants.{WorldInvariant}
 use Rattle.pir_world.proofs.Calls.{few_frames}
 use Rattle.pir_world.proofs.Keeping.{step_inv}
 use Rattle.pir_world.proofs.Opening.{opening_inv}
 use Rattle.pir_world.proofs.Wires.{IsFew}
 use Rattle.pir_world.proofs.ShapesServed.{equal_append, all_first, all_last, turns_same}
-use Rattle.client_core.specs.Shapes.{IndexIsBelow}
+use Rattle.client_core.proofs.ShapeLaws.{no_index, same_ask}
 use Rattle.pir_world.proofs.ShapesClients.{IsWantLike, IsReaders}
-use Rattle.pir_world.proofs.ShapesLinks.{IsStateLike, state_itself, called_like, served_like, reported_like}
+use Rattle.pir_world.proofs.ShapesLinks.{IsStateLike, IsRefusedLike, state_itself, called_like, served_like, reported_like}
 use Rattle.digit_pack.specs.Layout.{is_layout}
 
 -- ---- one step
@@ -66,7 +66,7 @@ module _ (x : Setting) (s t : State) (a : IsStateLike s t) where
   history_like h o = record {
     history = refl;
     links = a.links;
-    logs = equal_append s.log t.log (Plain o ∷ []) (Plain o ∷ []) a.logs (record { sent = λ k. refl; replies = λ k. refl });
+    logs = equal_append s.log t.log (Plain o ∷ []) (Plain o ∷ []) a.logs (record { sent = λ k. refl; replies = λ k. refl; refusals = λ k. refl });
   }
 
   edit_like : (i : ℕ) (bytes : List ℕ) → IsStateLike (edit_after x s i bytes) (edit_after x t i bytes)
@@ -91,20 +91,31 @@ module _ (x : Setting) (s t : State) (a : IsStateLike s t) where
       (history_like _ _))
 
   calls_like : (k : ℕ) (v w : Want) → IsReaders v → IsWantLike v w
-      → ((l : Link) → slice_get s.links k ≡ Some l → IndexIsBelow v l.client) → ((l : Link) → slice_get t.links k ≡ Some l → IndexIsBelow w l.client)
+      → IsRefusedLike v w (slice_get s.links k) (slice_get t.links k)
       → IsStateLike (called_at s v k (slice_get s.links k)) (called_at t w k (slice_get t.links k))
-  calls_like k v w r e below below2 = called_like s t a k v w (slice_get s.links k) (slice_get t.links k) refl refl (a.links k) r e below below2
+  calls_like k v w r e same = called_like s t a k v w (slice_get s.links k) (slice_get t.links k) refl refl (a.links k) r e same
+
+  -- asks of one client are refused alike, where none of another index is refused for it
+  asks_refused : (k i j : ℕ) → AskIsWithin s (Ask k i) (Ask k j) → AskIsWithin t (Ask k j) (Ask k i)
+      → IsRefusedLike (want_ask i) (want_ask j) (slice_get s.links k) (slice_get t.links k)
+  asks_refused k i j b b2 l m at at2 alike =
+      same_ask l.client m.client i j alike
+      (λ n. b (λ e. n (let same : Ask k j ≡ Ask k i = e in cc)) l at)
+      (λ n. b2 (λ e. n (let same : Ask k i ≡ Ask k j = e in cc)) m at2)
 
   pub after_like : (seeds : List (List ℕ)) → WorldInvariant x seeds s → (step other : Step) → IsStepLike step other
-      → AskIsBelow s step → AskIsBelow t other → IsStateLike (state_after x false s step) (state_after x false t other)
+      → AskIsWithin s step other → AskIsWithin t other step → IsStateLike (state_after x false s step) (state_after x false t other)
   after_like seeds inv (Edit i bytes) other e b b2 = rw e (edit_like i bytes)
   after_like seeds inv (Append bytes) other e b b2 = rw e (append_like bytes)
   after_like seeds inv Publish other e b b2 = rw e publish_like
-  after_like seeds inv (Hello k) other e b b2 = rw e (calls_like k (want_hello reader_key) (want_hello reader_key) tt refl (λ l at. tt) (λ l at. tt))
-  after_like seeds inv (Sync k scheme) other e b b2 = rw e (calls_like k (want_sync scheme) (want_sync scheme) tt refl (λ l at. tt) (λ l at. tt))
+  after_like seeds inv (Hello k) other e b b2 = rw e (calls_like k (want_hello reader_key) (want_hello reader_key) tt refl
+      (λ l m at at2 alike. no_index.same_refusal l.client m.client (want_hello reader_key) (want_hello reader_key) tt tt alike refl))
+  after_like seeds inv (Sync k scheme) other e b b2 = rw e (calls_like k (want_sync scheme) (want_sync scheme) tt refl
+      (λ l m at at2 alike. no_index.same_refusal l.client m.client (want_sync scheme) (want_sync scheme) tt tt alike refl))
   after_like seeds inv (Ask k i) other e b b2 =
-      let P : Step → Type 0 = λ o. AskIsBelow t o → IsStateLike (state_after x false s (Ask k i)) (state_after x false t o) in
-      subst P (sym e.1) (λ b3. calls_like k (want_ask i) (want_ask e.0) tt (e.0, refl) b b3) b2
+      let P : Step → Type 0 = λ o. AskIsWithin s (Ask k i) o → AskIsWithin t o (Ask k i)
+      → IsStateLike (state_after x false s (Ask k i)) (state_after x false t o) in
+      subst P (sym e.1) (λ b3 b4. calls_like k (want_ask i) (want_ask e.0) tt (e.0, refl) (asks_refused k i e.0 b3 b4)) b b2
   after_like seeds inv (ToServer k most) other e b b2 = rw e (served_like s t a k x most (slice_get s.links k) (slice_get t.links k) refl refl (a.links k))
   after_like seeds inv (ToClient k most) other e b b2 = rw e (reported_like s t a k most (slice_get s.links k) (slice_get t.links k) refl refl (a.links k) few)
     where
@@ -182,21 +193,21 @@ run_kept P x s (step ∷ steps) t r all = steps_kept x s P step r.0 r.1 (run_kep
 
 module _ (law : RetrievalGivesTheRecord) (x : Setting) (seeds : List (List ℕ)) where
   runs_like : (s t : State) (steps others : List Step) (s2 t2 : State) → IsStateLike s t → WorldInvariant x seeds s → WorldInvariant x seeds t
-      → AreStepsLike steps others → IsPlainRun x s steps s2 → IsPlainRun x t others t2 → IsStateLike s2 t2
+      → AreStepsLike steps others → IsPlainRun x s steps others s2 → IsPlainRun x t others steps t2 → IsStateLike s2 t2
   runs_like s t [] [] s2 t2 a i j e r q = rw (r.run, q.run) a
   runs_like s t (step ∷ steps) (other ∷ others) s2 t2 a i j e r q =
       let here = r.run in
       let there = q.run in
       let first = step_is x s step here.0 here.1 (run_kept HadMemory x here.0 steps s2 here.2 r.memory) in
       let second = step_is x t other there.0 there.1 (run_kept HadMemory x there.0 others t2 there.2 q.memory) in
-      let like = after_like x s t a seeds i step other e.0 r.below.0 q.below.0 in
+      let like = after_like x s t a seeds i step other e.0 r.within.0 q.within.0 in
       runs_like here.0 there.0 steps others s2 t2
       (subst (λ (u : State). IsStateLike u there.0) (sym first) (subst (λ (u : State). IsStateLike (state_after x false s step) u) (sym second) like))
       (step_inv law x seeds s step here.0 here.1 i)
       (step_inv law x seeds t other there.0 there.1 j)
       e.1
-      (record { run = here.2; memory = r.memory; below = subst (λ (u : State). AsksAreBelow x u steps) (sym first) r.below.1 })
-      (record { run = there.2; memory = q.memory; below = subst (λ (u : State). AsksAreBelow x u others) (sym second) q.below.1 })
+      (record { run = here.2; memory = r.memory; within = subst (λ (u : State). AsksAreWithin x u steps others) (sym first) r.within.1 })
+      (record { run = there.2; memory = q.memory; within = subst (λ (u : State). AsksAreWithin x u others steps) (sym second) q.within.1 })
   runs_like s t [] (other ∷ others) s2 t2 a i j e r q = absurd e
   runs_like s t (step ∷ steps) [] s2 t2 a i j e r q = absurd e
 

@@ -1,15 +1,18 @@
--- The shapes of what goes over a client's link, read off the log: the frames that it sends, and the server's replies to them.
-use Rattle.std.specs.Prelude.{◌≡◌, ◌≢◌, ◌<◌, ◌==◌, ℕ, List, [], ◌∷◌, Some, false, cond, slice_get}
+-- The shapes of what goes over a client's link, read off the log: the frames that it sends, the server's replies to them, and why its calls are refused.
+use Rattle.std.specs.Prelude.{◌≡◌, ◌≢◌, ◌==◌, ℕ, List, [], ◌∷◌, Some, false, cond, slice_get}
 use Rattle.std.specs.List.{flat_map, AllByRecursion}
 use Rattle.frame_codec.specs.declared.refusal.Refusal.TheVariants.{Memory}
 use Rattle.frame_codec.specs.Refusals.{refused}
 use Rattle.snapshot_file.specs.declared.snapshot.Header.{Header}
 use Rattle.server_core.specs.Serving.{Setting}
-use Rattle.client_core.specs.States.{known_count}
+use Rattle.client_core.specs.declared.state.CallFault.{CallFault}
+use Rattle.client_core.specs.declared.state.CallFault.TheVariants.{BadIndex}
+use Rattle.client_core.specs.Calls.{refusal}
+use Rattle.client_core.specs.Calls.{Ask as want_ask}
 use Rattle.client_core.specs.Shapes.{FrameShape, shape_of_frame}
 use Rattle.pir_world.specs.declared.steps.Step.{Step}
 use Rattle.pir_world.specs.declared.steps.Step.TheVariants.{Ask}
-use Rattle.pir_world.specs.Runs.{State, Link, Entry, Sent, Served, Run, state_after, opening, setting_in}
+use Rattle.pir_world.specs.Runs.{State, Link, Entry, Called, Sent, Served, Run, state_after, opening, setting_in}
 use Rattle.pir_world.specs.Headlines.{IsOpening}
 use Rattle.pir_world.specs.Worlds.{Kept}
 
@@ -33,10 +36,21 @@ sent_shapes k log = flat_map (sent_shape k) log
 abbrev pub reply_shapes : ℕ → List Entry → List FrameShape
 reply_shapes k log = flat_map (reply_shape k) log
 
--- two logs say that over each link the same shapes went, each way in the same order
+-- why an entry's call was refused, where client k made it
+abbrev pub call_refusal : ℕ → Entry → List CallFault
+call_refusal k (Called j want (Some fault)) = cond (j == k) (fault ∷ []) []
+call_refusal k _ = []
+
+-- why calls of client k were refused, in order
+abbrev pub call_refusals : ℕ → List Entry → List CallFault
+call_refusals k log = flat_map (call_refusal k) log
+
+-- Two logs say that over each link the same shapes went, each way in the same order, and that the same calls were refused: as many, for
+-- the same causes in the same order.
 pub record HaveEqualShapes (log other : List Entry) : Type 0 where
   pub sent : (k : ℕ) → sent_shapes k log ≡ sent_shapes k other
   pub replies : (k : ℕ) → reply_shapes k log ≡ reply_shapes k other
+  pub refusals : (k : ℕ) → call_refusals k log ≡ call_refusals k other
 
 -- ---- steps that differ in indices alone
 
@@ -51,43 +65,44 @@ AreStepsLike [] [] = Unit {0}
 AreStepsLike (step ∷ steps) (other ∷ others) = IsStepLike step other × AreStepsLike steps others
 AreStepsLike _ _ = ⊥
 
--- ---- runs without refusals for memory or for an index
+-- ---- runs without refusals for memory or for an index that differs
 
 -- no reply was refused here because the server was out of memory
 abbrev pub HadMemory : Entry → Type 0
 HadMemory (Served k f now reply) = reply ≢ Some (refused Memory)
 HadMemory _ = Unit {0}
 
--- an ask is of a record below the count that its client knows
-abbrev pub AskIsBelow : State → Step → Type 0
-AskIsBelow s (Ask k i) = (l : Link) → slice_get s.links k ≡ Some l → i < known_count l.client.known
-AskIsBelow s _ = Unit {0}
+-- an ask is not refused for its index, if the other step is one of another index
+abbrev pub AskIsWithin : State → Step → Step → Type 0
+AskIsWithin s (Ask k i) other = other ≢ Ask k i → (l : Link) → slice_get s.links k ≡ Some l → refusal (want_ask i) l.client ≢ Some BadIndex
+AskIsWithin s _ other = Unit {0}
 
--- each ask of some steps, one after another, is of a record below the count that its client knows then; the server has memory
-abbrev pub AsksAreBelow : Setting → State → List Step → Type 0
-AsksAreBelow x s [] = Unit {0}
-AsksAreBelow x s (step ∷ steps) = AskIsBelow s step × AsksAreBelow x (state_after x false s step) steps
+-- Of some steps, one after another, no ask is refused for its index whose index differs from that of the other step in its place; the
+-- server has memory. An ask that is the same in both lists is any, also one of no record, or of a client that was not let in.
+abbrev pub AsksAreWithin : Setting → State → List Step → List Step → Type 0
+AsksAreWithin x s (step ∷ steps) (other ∷ others) = AskIsWithin s step other × AsksAreWithin x (state_after x false s step) steps others
+AsksAreWithin x s _ _ = Unit {0}
 
--- a run without refusals for memory, in which each ask is of a record below the count that its client knows
-pub record IsPlainRun (x : Setting) (s : State) (steps : List Step) (t : State) : Type 0 where
+-- a run without refusals for memory, in which no ask is refused for its index whose index differs from that in the other steps
+pub record IsPlainRun (x : Setting) (s : State) (steps others : List Step) (t : State) : Type 0 where
   pub run : Run x s steps t
   pub memory : AllByRecursion HadMemory t.log
-  pub below : AsksAreBelow x s steps
+  pub within : AsksAreWithin x s steps others
 
 -- ---- the law
 
 -- In two runs from one opening, whose steps differ in the indices of asks alone, as many frames go each way over each link,
--- in the same order, of the same kinds and lengths. In both no reply is refused for lack of memory, and each ask is of a
--- record below the count that its client knows.
+-- in the same order, of the same kinds and lengths, and the same calls are refused for the same causes. In both no reply is refused
+-- for lack of memory, and none of the asks whose indices differ is refused for its index.
 abbrev pub IndicesChangeNoShape : Type 0
 IndicesChangeNoShape = (h : Header) (records : List ℕ) (seeds : List (List ℕ)) (steps others : List Step) (last last2 : State) →
     IsOpening h records → AreStepsLike steps others →
-    IsPlainRun (setting_in h) (opening h records seeds) steps last → IsPlainRun (setting_in h) (opening h records seeds) others last2 →
+    IsPlainRun (setting_in h) (opening h records seeds) steps others last → IsPlainRun (setting_in h) (opening h records seeds) others steps last2 →
     HaveEqualShapes last.log last2.log
 
--- in a world the same shapes went over each link as in each run from its opening whose steps differ from its own in the
--- indices of asks alone
+-- in a world the same shapes went over each link, and the same calls were refused, as in each run from its opening whose steps
+-- differ from its own in the indices of asks alone
 abbrev pub HidesIndices : Kept → State → Type 0
 HidesIndices w s = (others : List Step) (last : State) → AreStepsLike w.steps others →
-    AllByRecursion HadMemory s.log → AsksAreBelow (setting_in w.header) (opening w.header w.records w.seeds) w.steps →
-    IsPlainRun (setting_in w.header) (opening w.header w.records w.seeds) others last → HaveEqualShapes s.log last.log
+    AllByRecursion HadMemory s.log → AsksAreWithin (setting_in w.header) (opening w.header w.records w.seeds) w.steps others →
+    IsPlainRun (setting_in w.header) (opening w.header w.records w.seeds) others w.steps last → HaveEqualShapes s.log last.log

@@ -26,8 +26,8 @@ pub fn answers_are_fresh()
 }
 
 /// What goes over the links, each frame by its kind and its length, is the same in two runs from one opening
-/// whose steps differ in the indices of asks alone. In both each ask is of a record below the count that its
-/// client knows then, and no reply is refused because the server is out of memory.
+/// whose steps differ in the indices of asks alone, and the same calls are refused. In both none of the asks whose
+/// indices differ is refused for its index, and no reply is refused because the server is out of memory.
 pub fn indices_change_no_shape()
     ensures { IndicesChangeNoShape }
 {

@@ -104,9 +104,10 @@ impl<K: Kernel> World<K> {
     /// to anybody when its query was served.
     ///
     /// Steps that differ from these in the indices of asks alone put the same shapes on each link: as many
-    /// frames each way, in the same order, of the same kinds and lengths. Of both it is asked that no reply
-    /// was refused because the server is out of memory, and that each ask is of a record below the count
-    /// that its client knew.
+    /// frames each way, in the same order, of the same kinds and lengths; and the same calls are refused, for
+    /// the same causes. Of both it is asked that no reply was refused because the server is out of memory, and
+    /// of the asks whose index differs that none is refused for its index. An ask that is the same in both may
+    /// be of no record, or come too early: it is refused alike, and sends nothing.
     pub fn outcomes(&self) -> &[Outcome]
         ensures kept { result.now ≡ self.now.outcomes }
         ensures right { (s : State) × IsRunOf self.now s × (result.now ≡ outcomes_of s.log) ×

@@ -27,6 +27,10 @@ settled Either = New
 settled Unclear = Unclear
 settled New = New
 
+-- A file of these bytes was synced and given the name, and whoever did that was killed before the folder was synced.
+abbrev pub just_renamed : List ℕ → Device
+just_renamed bytes = record { lead = Either; synced = Some bytes; renamed = Some bytes }
+
 -- where one step leads
 abbrev pub after_step : Device → Step → Device
 after_step device Makes = record device { synced = None }

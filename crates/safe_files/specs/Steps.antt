@@ -3,6 +3,8 @@ use Rattle.std.specs.Prelude.{ℕ, List, [], ◌∷◌, Option, Result, Ok, Err}
 use Rattle.std.specs.List.{FoldsTo}
 use Rattle.std.specs.Io.KnownBytes.{Appends}
 use Rattle.safe_files.specs.declared.replacing.ReplaceFault.{ReplaceFault}
+use Rattle.safe_files.specs.declared.replacing.SettleFault.{SettleFault}
+use Rattle.safe_files.specs.declared.replacing.SettleFault.TheVariants as settle
 use Rattle.safe_files.specs.declared.replacing.ReplaceFault.TheVariants.{Make, Write, Memory, Sync, Rename, SyncFolder}
 
 -- One step, and what came of it. The bytes are those that the new file shows, if it shows them.
@@ -51,6 +53,12 @@ course shown (Err Memory) = Makes ∷ Removes ∷ []
 course shown (Err Sync) = Makes ∷ SyncFails ∷ Removes ∷ []
 course shown (Err Rename) = Makes ∷ Syncs shown ∷ RenameFails ∷ Removes ∷ []
 course shown (Err SyncFolder) = Makes ∷ Syncs shown ∷ Renames shown ∷ SyncFolderFails ∷ []
+
+-- All steps by which a file that stands is sent to the device, in their order.
+abbrev pub settling : {T : Type 0} → Option (List ℕ) → Result T SettleFault → List Step
+settling shown (Ok _) = Syncs shown ∷ SyncsFolder ∷ []
+settling shown (Err settle.Sync) = SyncFails ∷ []
+settling shown (Err settle.SyncFolder) = Syncs shown ∷ SyncFolderFails ∷ []
 
 -- The disk took these steps and no others, and what the new file showed when it was synced and renamed is what a new file
 -- shows and then the bytes.

@@ -6,7 +6,7 @@
 //! disk of a real file, and [`replace_file`] does all of it. That a real device keeps what was synced, and that a real
 //! renaming is done at one moment, is the system's promise and nothing that is proved here.
 //!
-//! [`lock_beside`] keeps two processes from replacing one file: its lock is on a file `NAME.lock`, which is never
+//! [`Place::lock`] keeps two processes from replacing one file: its lock is on a file `NAME.lock`, which is never
 //! renamed nor removed, since a lock belongs to a file and not to its name.
 #![tactic(auto)]
 
@@ -16,13 +16,15 @@ mod laws;
 mod locking;
 mod place;
 mod replacing;
+mod steady;
 
 pub use content::{Bytes, Content, ContentFault};
 pub use disk::{Disk, DiskFailed};
-pub use laws::{done_is_new, each_moment_is_whole, refused_is_old};
-pub use locking::{FileLock, LockFault, lock, lock_beside};
-pub use place::{Place, replace_file};
-pub use replacing::{ReplaceFault, replace};
+pub use laws::{done_is_new, each_moment_is_whole, refused_is_old, settled_is_new};
+pub use locking::{FileLock, LockFault, lock};
+pub use place::{Place, open_file, replace_file};
+pub use replacing::{ReplaceFault, SettleFault, replace, settle};
+pub use steady::SteadyFile;
 
 #[cfg(test)]
 mod tests;

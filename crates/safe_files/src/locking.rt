@@ -2,7 +2,7 @@
 
 ghost use Rattle.std.specs.Prelude.{◌≡◌};
 
-use crate::place::{keep_owner, real_name};
+use crate::place::keep_owner;
 use std::alloc::AllocError;
 use std::fs::{File, Metadata, OpenOptions, TryLockError};
 use std::io::ErrorKind;
@@ -44,6 +44,13 @@ pub struct FileLock {
     file: File,
 }
 
+impl FileLock {
+    // Gives the lock's file the owner of another.
+    pub(crate) fn keep_owner_of(&self, old: &Metadata) {
+        keep_owner(&self.file, old);
+    }
+}
+
 /// Takes the lock on a file of this name, which is made where there is none, and is never to be renamed or removed. It
 /// is not waited for.
 ///
@@ -62,23 +69,6 @@ pub fn lock(rt: &HostRuntime, name: &str) -> Result<FileLock, LockFault> {
         Err(TryLockError::WouldBlock) => Err(LockFault::Held),
         Err(TryLockError::Error(_)) => Err(LockFault::File),
     }
-}
-
-/// Takes the lock of a file that is to be replaced: that on `NAME.lock` beside it. Links in the name are followed first,
-/// so that each name of a file leads to one lock. A lock's file that is made gets the owner of the file.
-///
-/// # Errors
-///
-/// As [`lock`], and `Memory`.
-pub fn lock_beside(rt: &HostRuntime, name: &str) -> Result<FileLock, LockFault> {
-    let name = real_name(rt, name)?;
-    let name = name.as_str();
-    let beside = format!(in rt.alloc(); "{name}.lock")?;
-    let taken = lock(rt, beside.as_str())?;
-    if let Ok(old) = fs::metadata(rt, name) {
-        keep_owner(&taken.file, &old);
-    }
-    Ok(taken)
 }
 
 // Opens the lock's file, or makes it. What is in it is never read nor written.

@@ -2,7 +2,9 @@
 
 use crate::content::Content;
 use crate::disk::{Disk, DiskFailed};
+use crate::locking::{FileLock, LockFault, lock};
 use crate::replacing::{ReplaceFault, replace};
+use crate::steady::SteadyFile;
 use std::alloc::AllocError;
 use std::fs::{File, Metadata, OpenOptions};
 use std::io::ErrorKind;
@@ -23,7 +25,7 @@ const MODE_BITS: u32 = 0o7777;
 ///
 /// The new file has `.new` after its name, or, where something stands there, random digits too: what stands beside is
 /// never opened, followed nor removed. It gets the old one's mode, and its owner where the system permits that; 0600
-/// where there was none. A file that a killed process left beside stays there.
+/// where there was none. A file that a killed process left beside stays there, unless [`Place::lock`] removes it.
 #[derive(Drop)]
 pub struct Place<'a> {
     rt: &'a HostRuntime,
@@ -35,6 +37,8 @@ pub struct Place<'a> {
     others: Vec<String>,
     // The folder, open since the file was made, so that it can surely be sent to the device later.
     folder: Option<File>,
+    // A descriptor that is kept for the new file, so that there is one for it whatever else is open.
+    spare: Option<File>,
 }
 
 impl<'a> Place<'a> {
@@ -53,6 +57,7 @@ impl<'a> Place<'a> {
             beside,
             others,
             folder: None,
+            spare: None,
         })
     }
 
@@ -69,9 +74,78 @@ impl<'a> Place<'a> {
         self.name.as_str()
     }
 
+    /// Whether anything stands at the name, also a link that leads nowhere.
+    pub fn is_taken(&self) -> bool {
+        match fs::symlink_metadata(self.rt, self.name.as_str()) {
+            Ok(_) => true,
+            Err(fault) => fault.kind() != ErrorKind::NotFound,
+        }
+    }
+
+    /// Takes the lock of the file, on `NAME.lock` beside it, whether the file stands or not. Then files that killed processes left
+    /// beside it are removed, `NAME.new-` and 16 hex digits, and each file that is made beside it from then on has such a name. What a
+    /// replacement needs is kept open.
+    ///
+    /// # Errors
+    ///
+    /// As [`lock`], and `Memory`.
+    pub fn lock(&mut self) -> Result<FileLock, LockFault> {
+        let beside = format!(in self.rt.alloc(); "{}.lock", self.name)?;
+        let taken = lock(self.rt, beside.as_str())?;
+        if let Ok(old) = fs::metadata(self.rt, self.name.as_str()) {
+            taken.keep_owner_of(&old);
+        }
+        self.remove_left();
+        if let Some(other) = self.others.get_mut(0) {
+            mem::swap(&mut self.beside, other);
+        }
+        if let Ok(folder) = File::open(self.rt, folder_of(self.name.as_str())) {
+            self.folder = Some(folder);
+        }
+        self.keep_spare();
+        Ok(taken)
+    }
+
+    /// Opens the file to read it.
+    ///
+    /// # Errors
+    ///
+    /// As [`open_file`].
+    pub fn open(&self) -> io::Result<SteadyFile> {
+        open_file(self.rt, self.name.as_str())
+    }
+
+    // Removes the files that killed processes left beside. Whoever has the lock is the only one who makes such.
+    fn remove_left(&self) {
+        let Ok(entries) = fs::read_dir(self.rt, folder_of(self.name.as_str())) else {
+            return;
+        };
+        let name = base_of(self.name.as_str());
+        for entry in entries {
+            let Ok(entry) = entry else {
+                return;
+            };
+            let path = entry.path();
+            if is_left_of(name, base_of(path.as_str())) && is_own_file(self.rt, path.as_str()) {
+                // One that stays takes room, and does no other harm.
+                let _ = fs::remove_file(self.rt, path.as_str());
+            }
+        }
+    }
+
+    // Keeps a descriptor, where there is one.
+    fn keep_spare(&mut self) {
+        if let Some(folder) = &self.folder {
+            self.spare = folder.try_clone().ok();
+        }
+    }
+
     // Makes a new file under the first of some names that nothing has.
     fn make_beside(&mut self) -> io::Result<File> {
-        self.folder = Some(File::open(self.rt, folder_of(self.name.as_str()))?);
+        if self.folder.is_none() {
+            self.folder = Some(File::open(self.rt, folder_of(self.name.as_str()))?);
+        }
+        self.spare = None;
         for at in 0..=self.others.len() {
             match new_file(self.rt, self.beside.as_str()) {
                 Err(fault) if fault.kind() == ErrorKind::AlreadyExists => {}
@@ -86,7 +160,8 @@ impl<'a> Place<'a> {
 
     // Gives the new file what the old one has, but its bytes.
     fn keep_access(&self, file: &File) -> io::Result<()> {
-        match fs::metadata(self.rt, self.name.as_str()) {
+        match fs::symlink_metadata(self.rt, self.name.as_str()) {
+            Ok(old) if !old.is_file() => Ok(()),
             Ok(old) => {
                 keep_owner(file, &old);
                 let mut access = old.permissions();
@@ -100,14 +175,14 @@ impl<'a> Place<'a> {
 }
 
 impl Disk for Place<'_> {
-    type File = File;
+    type File = SteadyFile;
 
-    fn make(&mut self) -> Result<File, DiskFailed> {
+    fn make(&mut self) -> Result<SteadyFile, DiskFailed> {
         let Ok(file) = self.make_beside() else {
             return Err(DiskFailed);
         };
         match self.keep_access(&file) {
-            Ok(()) => Ok(file),
+            Ok(()) => Ok(SteadyFile::new(file)),
             Err(_) => {
                 self.remove();
                 Err(DiskFailed)
@@ -115,14 +190,16 @@ impl Disk for Place<'_> {
         }
     }
 
-    fn sync(&mut self, file: &File) -> Result<(), DiskFailed> {
-        match file.sync_all() {
+    fn sync(&mut self, file: &SteadyFile) -> Result<(), DiskFailed> {
+        match file.file().sync_all() {
             Ok(()) => Ok(()),
             Err(_) => Err(DiskFailed),
         }
     }
 
-    fn rename(&mut self, _file: File) -> Result<(), DiskFailed> {
+    fn rename(&mut self, file: SteadyFile) -> Result<(), DiskFailed> {
+        drop(file);
+        self.keep_spare();
         match fs::rename(self.rt, self.beside.as_str(), self.name.as_str()) {
             Ok(()) => Ok(()),
             Err(_) => Err(DiskFailed),
@@ -185,6 +262,52 @@ fn folder_of(name: &str) -> &str {
         Some((folder, _)) => folder,
         None => ".",
     }
+}
+
+// The last part of a file's name, after its folder.
+fn base_of(name: &str) -> &str {
+    match name.rsplit_once('/') {
+        Some((_, base)) => base,
+        None => name,
+    }
+}
+
+// Whether a name is one that the file of another name has beside it while it is replaced.
+fn is_left_of(name: &str, other: &str) -> bool {
+    let Some(rest) = other.strip_prefix(name) else {
+        return false;
+    };
+    let Some(digits) = rest.strip_prefix(".new-") else {
+        return false;
+    };
+    digits.len() == 16
+        && digits
+            .bytes()
+            .all(|byte| matches!(byte, b'0'..=b'9' | b'a'..=b'f'))
+}
+
+// Whether a file stands at a name, and no link to one.
+fn is_own_file(rt: &HostRuntime, name: &str) -> bool {
+    match fs::symlink_metadata(rt, name) {
+        Ok(found) => found.is_file(),
+        Err(_) => false,
+    }
+}
+
+/// Opens a file to read it.
+///
+/// # Errors
+///
+/// Where it can't be opened, or is no file, as a folder. A pipe is not waited for.
+pub fn open_file(rt: &HostRuntime, name: &str) -> io::Result<SteadyFile> {
+    if !fs::metadata(rt, name)?.is_file() {
+        return Err(ErrorKind::InvalidInput.into());
+    }
+    let file = File::open(rt, name)?;
+    if !file.metadata()?.is_file() {
+        return Err(ErrorKind::InvalidInput.into());
+    }
+    Ok(SteadyFile::new(file))
 }
 
 // Names beside a file that nobody can guess; none where there is no randomness.

@@ -1,6 +1,7 @@
 //! A file replaced, step by step.
 
-ghost use Rattle.safe_files.specs.Steps.{Replaces};
+ghost use Rattle.std.specs.List.{FoldsTo};
+ghost use Rattle.safe_files.specs.Steps.{Replaces, settling};
 
 use crate::content::{Content, ContentFault};
 use crate::disk::Disk;
@@ -75,4 +76,32 @@ pub fn replace<D: Disk, C: Content>(
         Ok(()) => Ok(()),
         Err(_) => Err(ReplaceFault::SyncFolder),
     }
+}
+
+/// Why a file that stands was not sent to the device.
+#[derive(Clone, Copy, Debug, PartialEq, Eq, Error)]
+pub enum SettleFault {
+    /// Its bytes could not be sent.
+    #[error("the file could not be synced")]
+    Sync,
+    /// Its name could not be sent.
+    #[error("the folder could not be synced")]
+    SyncFolder,
+}
+
+/// Sends a file that stands to the device, and then its name: whoever replaced it may have been killed before.
+///
+/// # Errors
+///
+/// Each exactly when its step failed.
+pub fn settle<D: Disk>(disk: &mut D, file: &D::File) -> Result<(), SettleFault>
+    ensures { FoldsTo D.does disk.old (settling (D.File.contents file.now) result) disk.new }
+{
+    if disk.sync(file).is_err() {
+        return Err(SettleFault::Sync);
+    }
+    let Ok(()) = disk.sync_folder() else {
+        return Err(SettleFault::SyncFolder);
+    };
+    Ok(())
 }

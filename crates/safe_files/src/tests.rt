@@ -3,8 +3,8 @@
 ghost use Rattle.std.specs.Prelude.{[]};
 
 use crate::{
-    Bytes, Content, ContentFault, Disk, DiskFailed, LockFault, Place, ReplaceFault, lock,
-    lock_beside, replace, replace_file,
+    Bytes, Content, ContentFault, Disk, DiskFailed, FileLock, LockFault, Place, ReplaceFault, lock,
+    open_file, replace, replace_file, settle,
 };
 use std::alloc::Global;
 use std::io::{ErrorKind, Write};
@@ -255,19 +255,65 @@ fn a_link_to_a_file_stays_and_the_file_is_replaced(rt: HostRuntime) -> Result<()
     Ok(())
 }
 
+// The lock of a file, by its name.
+fn locked(rt: &HostRuntime, name: &str) -> Result<FileLock, LockFault> {
+    Place::of(rt, name)?.lock()
+}
+
+#[test]
+fn what_killed_processes_left_is_removed_under_the_lock(rt: HostRuntime) -> Result<(), Fail> {
+    fs::create_dir(&rt, "left")?;
+    for name in [
+        "left/file",
+        "left/file.new",
+        "left/file.new-0123456789abcdef",
+        "left/file.new-0123456789abcdeF",
+        "left/file.new-0123456789abcde",
+        "left/other.new-0123456789abcdef",
+    ] {
+        fs::write(&rt, name, "left")?;
+    }
+    symlink(&rt, "file", "left/file.new-0000000000000000")?;
+    let mut place = Place::of(&rt, "left/file")?;
+    assert!(rt; fs::exists(&rt, "left/file.new-0123456789abcdef")?);
+    let lock = place.lock();
+    assert!(rt; lock.is_ok());
+    assert!(rt; !fs::exists(&rt, "left/file.new-0123456789abcdef")?);
+    for name in [
+        "left/file.new",
+        "left/file.new-0123456789abcdeF",
+        "left/file.new-0123456789abcde",
+        "left/other.new-0123456789abcdef",
+        "left/file.new-0000000000000000",
+    ] {
+        assert!(rt; fs::exists(&rt, name)?);
+    }
+    assert_eq!(rt; replace(rt.alloc(), &mut place, &Bytes(NEW)), Ok(()));
+    assert_eq!(rt; found(&rt, "left/file")?.as_slice(), NEW);
+    let file = place.open()?;
+    assert_eq!(rt; settle(&mut place, &file), Ok(()));
+    assert!(rt; open_file(&rt, "left").is_err());
+    fs::remove_dir_all(&rt, "left")?;
+    Ok(())
+}
+
 #[test]
 fn a_lock_is_had_once(rt: HostRuntime) -> Result<(), Fail> {
     fs::create_dir(&rt, "locks")?;
     fs::write(&rt, "locks/file", "old")?;
     symlink(&rt, "file", "locks/link")?;
-    let first = lock_beside(&rt, "locks/file");
+    let first = locked(&rt, "locks/file");
     assert!(rt; first.is_ok());
-    assert!(rt; matches!(lock_beside(&rt, "locks/link"), Err(LockFault::Held)));
+    assert!(rt; matches!(locked(&rt, "locks/link"), Err(LockFault::Held)));
     // The lock outlives the file.
     assert_eq!(rt; replace_file(&rt, "locks/file", &Bytes(NEW)), Ok(()));
-    assert!(rt; matches!(lock_beside(&rt, "locks/file"), Err(LockFault::Held)));
+    assert!(rt; matches!(locked(&rt, "locks/file"), Err(LockFault::Held)));
     drop(first);
-    assert!(rt; lock_beside(&rt, "locks/file").is_ok());
+    assert!(rt; locked(&rt, "locks/file").is_ok());
+    // A file that is not there yet has its lock, too.
+    let first = locked(&rt, "locks/later");
+    assert!(rt; first.is_ok());
+    assert!(rt; matches!(locked(&rt, "locks/later"), Err(LockFault::Held)));
     symlink(&rt, "file", "locks/other.lock")?;
     assert!(rt; matches!(lock(&rt, "locks/other.lock"), Err(LockFault::File)));
     assert!(rt; matches!(lock(&rt, "locks"), Err(LockFault::File)));

@@ -55,7 +55,7 @@ prefix_clear (f ∷ rs) others e = first (is_memory f) (lacks_memory (rs ++ othe
 reported_clear : (replies reported more : List Frame) → replies ≡ reported ++ more → lacks_memory replies ≡ false → lacks_memory reported ≡ false
 reported_clear replies reported more e lacks = prefix_clear reported more (subst (λ (y : List Frame). lacks_memory y ≡ false) e lacks)
 
-memory_or : (a : Result (Unit {0}) ReadFault) → (a ≡ Err Memory) ⊎ (a ≢ Err Memory)
+pub memory_or : (a : Result (Unit {0}) ReadFault) → (a ≡ Err Memory) ⊎ (a ≢ Err Memory)
 memory_or (Ok d) = inr (λ e. let bad : Ok d ≡ Err Memory = e in cc)
 memory_or (Err TooLong) = inr (λ e. let bad : Err TooLong ≡ Err Memory = e in cc)
 memory_or (Err UnknownKind) = inr (λ e. let bad : Err UnknownKind ≡ Err Memory = e in cc)
@@ -75,7 +75,7 @@ after_open (Err Memory) h2 middle after reported more replies e all = absurd e
 after_open (Err Failed) h2 middle after reported more replies e all = absurd e
 
 -- after any frames
-after_frames : (answer : Result (Unit {0}) ReadFault) (h2 : History) (middle after : Standing) (reported more replies : List Frame) →
+pub after_frames : (answer : Result (Unit {0}) ReadFault) (h2 : History) (middle after : Standing) (reported more replies : List Frame) →
     EndsPiece answer middle after more → replies ≡ reported ++ more
     → record { history = h2; standing = after; replies = replies }
     ≡ cond (is_closed middle) (record { history = h2; standing = middle; replies = reported })
@@ -94,11 +94,11 @@ closed_before Reader after more e = absurd e
 closed_before Publisher after more e = absurd e
 
 -- where the codec wanted memory
-record Silent (x : Setting) (h : History) (st : Standing) (frames : List Frame) (h2 : History) (after : Standing) (replies : List Frame) : Type 0 where
-  shut : is_closed after ≡ true
-  serves : ServesAll x h st frames h2 after replies
+pub record Silent (x : Setting) (h : History) (st : Standing) (frames : List Frame) (h2 : History) (after : Standing) (replies : List Frame) : Type 0 where
+  pub shut : is_closed after ≡ true
+  pub serves : ServesAll x h st frames h2 after replies
 
-silent : (x : Setting) (h : History) (old : Session) (piece : List ℕ) (h2 : History) (new : Session) (replies : List Frame)
+pub silent : (x : Setting) (h : History) (old : Session) (piece : List ℕ) (h2 : History) (new : Session) (replies : List Frame)
     (s : ServesPiece x h old piece h2 new replies) → s.answer ≡ Err Memory → Silent x h old.standing s.frames h2 new.standing replies
 silent x h old piece h2 new replies s m =
     let c = closed_before s.middle new.standing s.more (subst (λ (y : Result (Unit {0}) ReadFault). EndsPiece y s.middle new.standing s.more) m s.ends) in
@@ -107,7 +107,7 @@ silent x h old piece h2 new replies s m =
 
 -- ---- a piece
 
-by_course : (x : Setting) (h : History) (st : Standing) (frames : List Frame) (answer : Result (Unit {0}) ReadFault) (c : SessionCourse) →
+pub by_course : (x : Setting) (h : History) (st : Standing) (frames : List Frame) (answer : Result (Unit {0}) ReadFault) (c : SessionCourse) →
     c ≡ course_of x h st frames → cond (is_closed c.standing) c (at_end answer c) ≡ course_of_piece x h st frames answer
 by_course x h st frames answer c e = ap (λ (y : SessionCourse). cond (is_closed y.standing) y (at_end answer y)) e
 
@@ -140,13 +140,13 @@ piece_decided decide begin x h old piece h2 new replies answer frames rest s lac
           (f ∙ by_course x h old.standing frames answer c e, λ open_. d.2)
     ]
 
-served_open : (x : Setting) (h : History) (old : Session) (piece : List ℕ) (h2 : History) (new : Session) (replies : List Frame) →
+pub served_open : (x : Setting) (h : History) (old : Session) (piece : List ℕ) (h2 : History) (new : Session) (replies : List Frame) →
     is_closed old.standing ≡ false → MatchBool (is_closed old.standing) ((h2 ≡ h) × (new ≡ old) × (replies ≡ [])) (ServesPiece x h old piece h2 new replies)
     → ServesPiece x h old piece h2 new replies
 served_open x h old piece h2 new replies open_ f =
     subst (λ (b : Bool). MatchBool b ((h2 ≡ h) × (new ≡ old) × (replies ≡ [])) (ServesPiece x h old piece h2 new replies)) open_ f
 
-served_closed : (x : Setting) (h : History) (old : Session) (piece : List ℕ) (h2 : History) (new : Session) (replies : List Frame) →
+pub served_closed : (x : Setting) (h : History) (old : Session) (piece : List ℕ) (h2 : History) (new : Session) (replies : List Frame) →
     is_closed old.standing ≡ true → MatchBool (is_closed old.standing) ((h2 ≡ h) × (new ≡ old) × (replies ≡ [])) (ServesPiece x h old piece h2 new replies)
     → (h2 ≡ h) × (new ≡ old) × (replies ≡ [])
 served_closed x h old piece h2 new replies shut f =
@@ -197,7 +197,7 @@ both_served decide begin agree x h old piece h2 h3 new new2 replies replies2 s t
       ]
     ]
 
-same_session : (a b : Session) → a.standing ≡ b.standing → a.unfinished ≡ b.unfinished → b ≡ a
+pub same_session : (a b : Session) → a.standing ≡ b.standing → a.unfinished ≡ b.unfinished → b ≡ a
 same_session a b e f = let g : record { standing = b.standing; unfinished = b.unfinished } ≡ record { standing = a.standing; unfinished = a.unfinished } =
     rw (e, f) refl in g
 

@@ -1,13 +1,12 @@
--- Feeds and queries that are alike.
-use Rattle.std.proofs.Common.{◌≡◌, ℕ, ◌+◌, ◌*◌, Bool, true, false, cond, List, ◌++◌, length, Option, Some, None, refl, sym, ap, subst, ◌∙◌}
+-- Queries that are alike.
+use Rattle.std.proofs.Common.{◌≡◌, ℕ, ◌+◌, ◌*◌, Bool, true, false, cond, List, length, Option, Some, None, refl, sym, ap, subst, ◌∙◌}
 use Rattle.std.specs.Prelude.{◌==◌}
-use Rattle.std.specs.List.{flat_map}
 use Rattle.frame_codec.specs.declared.frame.Frame.{Frame}
 use Rattle.frame_codec.specs.declared.frame.Frame.TheVariants.{Answer, Stale}
 use Rattle.frame_codec.specs.declared.refusal.Refusal.{Refusal}
 use Rattle.frame_codec.specs.declared.refusal.Refusal.TheVariants as refusal
 use Rattle.frame_codec.specs.Refusals.{refused}
-use Rattle.frame_codec.specs.Frames.{kind_of, payload_of, encoding}
+use Rattle.frame_codec.specs.Frames.{kind_of, payload_of}
 use Rattle.frame_codec.proofs.Payloads.{payload_sized}
 use Rattle.pir_schemes.specs.declared.scheme.Scheme.{Scheme}
 use Rattle.pir_schemes.specs.Schemes.{scheme_byte, scheme_of_byte}
@@ -16,19 +15,8 @@ use Rattle.pir_schemes.specs.Retrievals.{query_count, answer_count, answer_words
 use Rattle.pir_schemes.proofs.Lengths.{length-answer}
 use Rattle.version_store.specs.Histories.{History, current_version}
 use Rattle.server_core.specs.declared.standing.Standing.{Standing}
-use Rattle.server_core.specs.Laws.{PiecesAgree, FeedsAreAlike, AreAlikeReplies, RepliesHoldNoIndex, RepliesHoldNoLength, AnswersHaveTheirLayoutsLength}
+use Rattle.server_core.specs.Laws.{AreAlikeReplies, RepliesHoldNoIndex, RepliesHoldNoLength, AnswersHaveTheirLayoutsLength}
 use Rattle.server_core.specs.Serving.{Setting, Outcome, query_asked, replies_with, refuses, stale, words_asked, is_welcome}
-
-pub feeds_are_alike : PiecesAgree → FeedsAreAlike
-feeds_are_alike agree x h old old2 piece done done2 store store2 new new2 before after before2 after2 f g like clear clear2 =
-    let a = agree x h old old2 piece done done2 f.history g.history new new2 f.replies g.replies like f.course g.course clear clear2 in
-    record {
-      written = flat_map encoding f.replies;
-      first = f.written;
-      second = g.written ∙ ap (λ (y : List Frame). before2 ++ flat_map encoding y) (sym a.2);
-      session = a.1;
-      history = a.0;
-    }
 
 -- ---- queries
 

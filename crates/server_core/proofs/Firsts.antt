@@ -8,7 +8,7 @@ use Rattle.std.proofs.lemmas.List.{append-nil}
 use Rattle.std.proofs.lemmas.List.Concat.{flat_map-append}
 use Rattle.frame_codec.specs.declared.frame.Frame.{Frame}
 use Rattle.frame_codec.specs.declared.reader.ReadFault.{ReadFault}
-use Rattle.frame_codec.specs.declared.reader.ReadFault.TheVariants.{TooLong, UnknownKind, BadPayload, Memory, Failed}
+use Rattle.frame_codec.specs.declared.reader.ReadFault.TheVariants.{Memory}
 use Rattle.frame_codec.specs.declared.reader.Taken.{Taken}
 use Rattle.frame_codec.specs.Frames.{IsFrame, encoding}
 use Rattle.frame_codec.specs.Streams.{Feeds, FeedsFrame}
@@ -16,8 +16,8 @@ use Rattle.frame_codec.proofs.Runs.{all_append}
 use Rattle.version_store.specs.Histories.{StoreState, History, StandsFor}
 use Rattle.server_core.specs.declared.standing.Standing.{Standing}
 use Rattle.server_core.specs.declared.standing.Standing.TheVariants.{Closed}
-use Rattle.server_core.specs.Serving.{Setting, setting_of, Serves, ServesAll, ServedAll, is_closed}
-use Rattle.server_core.specs.Sessions.{Session, IsLive, EndsPiece, ServesPiece, IsStop, IsUnjudged, IsUnread, ClosesForMemory, FeedsSession, FedFirst, Ended, ServedFrames, frames_taken, bytes_used, reading_end, ServesFrame, HasTaken, ClosesBeforeFrame, FeedsFirst}
+use Rattle.server_core.specs.Serving.{Setting, setting_of, Serves, ServedAll, is_closed}
+use Rattle.server_core.specs.Sessions.{Session, IsLive, ServesPiece, IsStop, IsUnjudged, IsFirstUnread, FedFirst, Ended, ServedFrames, frames_taken, bytes_used, reading_end, ServesFrame, HasTaken}
 use Rattle.server_core.specs.Laws.{FirstsArePieces, StopsArePieces}
 use Rattle.server_core.proofs.Pieces.{stays_live, unread, ended}
 use Rattle.server_core.proofs.Runs.{serves_one}
@@ -50,9 +50,11 @@ first_live old piece answer new after f live =
 
 -- an open session's reading that stopped without a fault was refused memory
 pub first_unread : (old : Option (List ℕ)) (piece : List ℕ) (answer : Result Taken ReadFault) (new : Option (List ℕ)) → old ≢ None →
-    FeedsFrame old piece answer new → IsUnjudged (reading_end answer) → IsUnread old piece new
+    FeedsFrame old piece answer new → IsUnjudged (reading_end answer) → IsFirstUnread old piece new
 first_unread old piece (Ok t) new live f u = absurd u
-first_unread old piece (Err fault) new live f u = unread old piece (Err fault) [] new live f u
+first_unread old piece (Err fault) new live f u =
+    let is : Err fault ≡ Err Memory = unread old piece (Err fault) [] new live f u in
+    subst (λ (r : Result (Unit {0}) ReadFault). Feeds old piece r [] new) is f
 
 -- ---- served, or not
 

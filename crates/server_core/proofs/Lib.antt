@@ -7,3 +7,4 @@ pub mod Firsts
 pub mod Runs
 pub mod Alike
 pub mod Deltas
+pub mod Memories

@@ -1,7 +1,7 @@
 -- What a piece does to a session.
-use Rattle.std.proofs.Common.{◌≡◌, ◌≢◌, ℕ, Bool, true, false, List, [], ◌∷◌, ◌++◌, length, Some, None, Option, refl, sym, ap, subst, ◌∙◌, append_assoc, arith, inl, inr, Result, Ok, Err, IsErr, OnErr, OnOk, IfOk}
+use Rattle.std.proofs.Common.{◌≡◌, ◌≢◌, ℕ, true, false, List, [], ◌∷◌, ◌++◌, length, Some, None, Option, refl, sym, ap, ◌∙◌, append_assoc, inl, inr, Result, Ok, Err, IsErr, OnErr, OnOk, IfOk}
 use Rattle.std.proofs.Math.Seq.{take-length}
-use Rattle.std.specs.Prelude.{MatchBool, IsOk}
+use Rattle.std.specs.Prelude.{IsOk}
 use Rattle.std.specs.List.{flat_map}
 use Rattle.std.specs.declared.alloc.AllocError.{AllocError}
 use Rattle.std.proofs.lemmas.List.{append-nil}
@@ -18,7 +18,7 @@ use Rattle.version_store.specs.Histories.{StoreState, History, StandsFor}
 use Rattle.server_core.specs.declared.standing.Standing.{Standing}
 use Rattle.server_core.specs.declared.standing.Standing.TheVariants.{Closed}
 use Rattle.server_core.specs.Serving.{Setting, setting_of, ServedAll, is_closed, BrokenOff}
-use Rattle.server_core.specs.Sessions.{Session, IsLive, AfterReading, EndsPiece, ServesPiece, Fed, Ended, ServedFrames, StoppedFrames, IsUnjudged, IsUnread}
+use Rattle.server_core.specs.Sessions.{Session, IsLive, AfterReading, ServesPiece, Fed, Ended, ServedFrames, ServedOpen, StoppedFrames, IsUnjudged, IsUnread}
 
 -- ---- a piece's frames and its end
 
@@ -149,14 +149,36 @@ stays_live old piece (Err e) frames u after f live open_ = let bad : false ≡ t
 
 -- an open session's reading that stopped without a fault was refused memory
 pub unread : (old : Option (List ℕ)) (piece : List ℕ) (answer : Result (Unit {0}) ReadFault) (frames : List Frame) (new : Option (List ℕ)) → old ≢ None →
-    Feeds old piece answer frames new → IsUnjudged answer → IsUnread old piece new
+    Feeds old piece answer frames new → IsUnjudged answer → answer ≡ Err Memory
 unread None piece answer frames new live f u = absurd (live refl)
 unread (Some bytes) piece (Ok d) frames new live f u = absurd u
 unread (Some bytes) piece (Err TooLong) frames new live f u = absurd u
 unread (Some bytes) piece (Err UnknownKind) frames new live f u = absurd u
 unread (Some bytes) piece (Err BadPayload) frames new live f u = absurd u
-unread (Some bytes) piece (Err Memory) frames new live f u = (frames, f)
+unread (Some bytes) piece (Err Memory) frames new live f u = refl
 unread (Some bytes) piece (Err Failed) frames new live f u = absurd f.0.2
+
+is_err : (answer : Result (Unit {0}) ReadFault) → IsUnjudged answer → IsErr answer
+is_err (Ok d) u = absurd u
+is_err (Err fault) u = refl
+
+-- and so were no frames of the piece left out
+pub unread_after : (x : Setting) (h : History) (old : Session) (piece : List ℕ) (e : AllocError) (store : StoreState) (u : Option (List ℕ))
+    (before new : List ℕ) (answer : Result (Unit {0}) ReadFault) (frames : List Frame) → is_closed old.standing ≡ false → IsLive old.standing old.unfinished
+    → Feeds old.unfinished piece answer frames u → IsUnjudged answer → ServedOpen x h old.standing frames store before new →
+    IsUnread x h old piece store (record { standing = Closed; unfinished = u }) before new
+unfolding fed_short stopped_after
+unread_after x h old piece e store u before new answer frames open_ live reads unjudged s = record {
+  refusal = e;
+  fed = fed_short x h old piece e store u before new answer frames open_ reads
+      (stopped_after x h old.standing frames answer store s.middle before new new s.goes_on s.frames_are (is_err answer unjudged) refl);
+  answer_is = unread old.unfinished piece answer frames u (live open_) reads unjudged;
+  all = refl;
+}
+
+pub both_err : {T E P Q R : Type 0} (r : Result T E) → OnErr r P → OnErr r Q → (P → Q → R) → OnErr r R
+both_err (Ok x) p q f = tt
+both_err (Err x) p q f = f p q
 
 pub on_err : {T E P Q : Type 0} (r : Result T E) → OnErr r P → (P → Q) → OnErr r Q
 on_err (Ok x) p f = tt

@@ -1,5 +1,5 @@
 -- What callers see of a server.
-use Rattle.std.specs.Prelude.{◌≡◌, ℕ, List, Bool, false, not, Option, Some, None, Result, Ok, Err}
+use Rattle.std.specs.Prelude.{ℕ, List, Bool, false, not, Option, Some, None, Result, Ok, Err}
 use Rattle.std.specs.Map.{lookup}
 use Rattle.std.specs.BTreeMap.{is_at}
 use Rattle.std.specs.Ordering.{nat_cmp}
@@ -7,7 +7,7 @@ use Rattle.std.specs.declared.alloc.AllocError.{AllocError}
 use Rattle.frame_codec.specs.Streams.{unfinished_size}
 use Rattle.version_store.specs.Histories.{StoreState, History}
 use Rattle.server_core.specs.Serving.{Setting, is_closed}
-use Rattle.server_core.specs.Sessions.{Session, Fed, FedFirst, IsUnread}
+use Rattle.server_core.specs.Sessions.{Session, Fed, FedFirst, IsFirstUnread}
 use Rattle.server_core.specs.declared.server.FeedError.{FeedError}
 use Rattle.server_core.specs.declared.server.FeedError.TheVariants.{NoSession, Memory}
 
@@ -30,11 +30,11 @@ abbrev pub unfinished_in : Option Session → ℕ
 unfinished_in None = 0
 unfinished_in (Some s) = unfinished_size s.unfinished
 
--- memory was refused to the reading of a session's piece, and its stream has failed
-abbrev pub IsUnreadBy : Option Session → List ℕ → Option Session → Type 0
-IsUnreadBy None piece new = ⊥
-IsUnreadBy (Some old) piece None = ⊥
-IsUnreadBy (Some old) piece (Some new) = IsUnread old.unfinished piece new.unfinished
+-- memory was refused to the reading of the first frame of a session's piece
+abbrev pub IsFirstUnreadBy : Option Session → List ℕ → Option Session → Type 0
+IsFirstUnreadBy None piece new = ⊥
+IsFirstUnreadBy (Some old) piece None = ⊥
+IsFirstUnreadBy (Some old) piece (Some new) = IsFirstUnread old.unfinished piece new.unfinished
 
 -- What a piece did, as the answer says: all of it was served, or memory was refused. Without a session nothing is served.
 abbrev pub FeedsCore : Setting → History → Session → List ℕ → Result (Unit {0}) FeedError → StoreState → Session → List ℕ → List ℕ → Type 0
@@ -53,3 +53,9 @@ abbrev pub OnNoSession : {T : Type 0} → Result T FeedError → Type 0 → Type
 OnNoSession (Ok done) P = Unit {0}
 OnNoSession (Err NoSession) P = P
 OnNoSession (Err Memory) P = Unit {0}
+
+-- where memory was refused
+abbrev pub OnMemory : {T : Type 0} → Result T FeedError → Type 0 → Type 0
+OnMemory (Ok done) P = Unit {0}
+OnMemory (Err NoSession) P = Unit {0}
+OnMemory (Err Memory) P = P

@@ -1,14 +1,17 @@
 -- What frames lead to where memory is never refused.
-use Rattle.std.specs.Prelude.{List, [], ◌∷◌, ◌++◌, Bool, false, ◌==◌, ◌||◌, cond, option_to_list, Result, Ok, Err}
+use Rattle.std.specs.Prelude.{◌≡◌, ◌≢◌, ◌⊎◌, ℕ, List, [], ◌∷◌, ◌++◌, Bool, true, false, ◌==◌, ◌||◌, cond, option_to_list, MatchBool, Result, Ok, Err}
 use Rattle.frame_codec.specs.declared.frame.Frame.{Frame}
 use Rattle.frame_codec.specs.declared.frame.Frame.TheVariants.{Refused}
 use Rattle.frame_codec.specs.declared.refusal.Refusal.TheVariants as refusal
 use Rattle.frame_codec.specs.Refusals.{code_of, refused}
 use Rattle.frame_codec.specs.declared.reader.ReadFault.{ReadFault}
+use Rattle.frame_codec.specs.declared.reader.ReadFault.TheVariants.{Memory}
+use Rattle.frame_codec.specs.Streams.{Feeds}
 use Rattle.version_store.specs.Histories.{History}
 use Rattle.server_core.specs.declared.standing.Standing.{Standing}
 use Rattle.server_core.specs.declared.standing.Standing.TheVariants.{Closed}
 use Rattle.server_core.specs.Serving.{Setting, Outcome, outcome_of_frame, is_closed}
+use Rattle.server_core.specs.Sessions.{Session, ServesPiece}
 
 -- the history and the standing after some frames, and the replies
 pub record SessionCourse : Type 0 where
@@ -46,3 +49,21 @@ is_memory _ = false
 abbrev pub lacks_memory : List Frame → Bool
 lacks_memory [] = false
 lacks_memory (f ∷ fs) = is_memory f || lacks_memory fs
+
+-- An open session's piece to which no memory was refused: not to its reading, and to none of the frames that were read, so that
+-- each of them led to what the checks say.
+pub record ServesWithMemory (x : Setting) (h : History) (old : Session) (piece : List ℕ) (h2 : History) (new : Session) (replies : List Frame) : Type 0 where
+  pub serves : ServesPiece x h old piece h2 new replies
+  pub read : serves.answer ≢ Err Memory
+  pub frames_are : record { history = h2; standing = serves.middle; replies = serves.reported } ≡ course_of x h old.standing serves.frames
+
+-- what a piece does to a session where no memory is refused; a closed session takes bytes without any
+abbrev pub FeedsWithMemory : Setting → History → Session → List ℕ → History → Session → List Frame → Type 0
+FeedsWithMemory x h old piece h2 new replies =
+    MatchBool (is_closed old.standing) ((h2 ≡ h) × (new ≡ old) × (replies ≡ [])) (ServesWithMemory x h old piece h2 new replies)
+
+-- Memory was refused while a piece was served to its end: a reply says so, or the reading was refused it after frames that had closed the session.
+abbrev pub WasShortOfMemory : Session → List ℕ → Session → List Frame → Type 0
+WasShortOfMemory old piece new replies =
+    (lacks_memory replies ≡ true)
+    ⊎ ((frames : List Frame) × Feeds old.unfinished piece (Err Memory) frames new.unfinished × (is_closed new.standing ≡ true))

@@ -1,5 +1,5 @@
 -- Laws of sessions.
-use Rattle.std.specs.Prelude.{◌≡◌, ◌≢◌, ◌≤◌, ℕ, List, [], ◌∷◌, ◌++◌, length, take, false, Option, Result, Ok, Err}
+use Rattle.std.specs.Prelude.{◌≡◌, ◌≢◌, ◌⊎◌, ◌≤◌, ℕ, List, [], ◌∷◌, ◌++◌, length, take, false, Option, Result, Ok, Err}
 use Rattle.std.specs.declared.alloc.AllocError.{AllocError}
 use Rattle.pir_schemes.specs.declared.scheme.Scheme.{Scheme}
 use Rattle.pir_schemes.specs.Retrievals.{answer_words}
@@ -11,7 +11,7 @@ use Rattle.frame_codec.specs.declared.reader.ReadFault.TheVariants.{Memory}
 use Rattle.frame_codec.specs.Streams.{Feeds}
 use Rattle.version_store.specs.Histories.{StoreState, History, current_version}
 use Rattle.server_core.specs.declared.standing.Standing.{Standing}
-use Rattle.server_core.specs.Courses.{course_of_piece, lacks_memory}
+use Rattle.server_core.specs.Courses.{course_of_piece, lacks_memory, FeedsWithMemory, WasShortOfMemory}
 use Rattle.server_core.specs.Serving.{Setting, is_closed, outcome_of_frame, replies_with, words_answered}
 use Rattle.server_core.specs.Sessions.{Session, FeedsSession, FeedsFirst, Fed}
 
@@ -64,23 +64,29 @@ SessionsNeverMeet = (x : Setting) (pieces : List (History × List ℕ)) (old old
     (new new2 : Session)
     → IsAlike old old2 → FeedsInTurn x old pieces outcomes new → FeedsInTurn x old2 pieces outcomes2 new2 → (outcomes ≡ outcomes2) × IsAlike new new2
 
--- What two feeds have in common: what they wrote, the session then, and the history after them.
+-- What two feeds have in common: what they wrote, the session then with its unfinished bytes, and the history after them.
 pub record SameFeed (before after before2 after2 : List ℕ) (new new2 : Session) (end end2 : History) : Type 0 where
   pub written : List ℕ
   pub first : after ≡ before ++ written
   pub second : after2 ≡ before2 ++ written
-  pub session : IsAlike new new2
+  pub session : new ≡ new2
   pub history : end ≡ end2
 
 -- Where memory is refused to none of them, what a feed writes, the session after it and the history after it are
 -- decided by the piece, by that session's standing and unfinished bytes before it, by the history and by the setting,
--- whatever other sessions there are.
+-- whatever other sessions there are. The session after it is its standing and all of its unfinished bytes, of a closed session, too.
 abbrev pub FeedsAreAlike : Type 0
-FeedsAreAlike = (x : Setting) (h : History) (old old2 : Session) (piece : List ℕ) (done done2 : Unit {0}) (store store2 : StoreState) (new new2 : Session)
+FeedsAreAlike = (x : Setting) (h : History) (old : Session) (piece : List ℕ) (done done2 : Unit {0}) (store store2 : StoreState) (new new2 : Session)
     (before after before2 after2 : List ℕ)
-    → (f : Fed x h old piece (Ok done) store new before after) → (g : Fed x h old2 piece (Ok done2) store2 new2 before2 after2) → IsAlike old old2 →
-    lacks_memory f.replies ≡ false → lacks_memory g.replies ≡ false
+    → (f : Fed x h old piece (Ok done) store new before after) → (g : Fed x h old piece (Ok done2) store2 new2 before2 after2) →
+    FeedsWithMemory x h old piece f.history new f.replies → FeedsWithMemory x h old piece g.history new2 g.replies
     → SameFeed before after before2 after2 new new2 f.history g.history
+
+-- a piece that was served to its end was served without a refusal of memory, or one can be named
+abbrev pub FeedsHadMemory : Type 0
+FeedsHadMemory = (x : Setting) (h : History) (old : Session) (piece : List ℕ) (done : Unit {0}) (h2 : History) (new : Session) (replies : List Frame) →
+    FeedsSession x h old piece (Ok done) h2 new replies
+    → FeedsWithMemory x h old piece h2 new replies ⊎ WasShortOfMemory old piece new replies
 
 -- replies alike: the same, but for the words of an answer, of which there are as many
 abbrev pub AreAlikeReplies : Frame → Frame → Type 0

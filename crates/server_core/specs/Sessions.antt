@@ -54,10 +54,6 @@ IsUnjudged (Err BadPayload) = ⊥
 IsUnjudged (Err Memory) = Unit {0}
 IsUnjudged (Err Failed) = Unit {0}
 
--- memory was refused to the reading of a piece, after which the stream has failed
-abbrev pub IsUnread : Option (List ℕ) → List ℕ → Option (List ℕ) → Type 0
-IsUnread old piece new = (frames : List Frame) × Feeds old piece (Err Memory) frames new
-
 -- the frames that the piece completes are served in order, and then a fault is reported
 pub record ServesPiece (x : Setting) (h : History) (old : Session) (piece : List ℕ) (h2 : History) (new : Session) (replies : List Frame) : Type 0 where
   pub answer : Result (Unit {0}) ReadFault
@@ -99,6 +95,13 @@ pub record Fed (x : Setting) (h : History) (old : Session) (piece : List ℕ) (r
   pub written : after ≡ before ++ flat_map encoding replies
   pub each : AllByRecursion IsFrame replies
 
+-- Memory was refused to the reading of a piece, and to nothing else: all frames that were read before it are served, and `after` has their replies.
+pub record IsUnread (x : Setting) (h : History) (old : Session) (piece : List ℕ) (store : StoreState) (new : Session) (before after : List ℕ) : Type 0 where
+  pub refusal : AllocError
+  pub fed : Fed x h old piece (Err refusal) store new before after
+  pub answer_is : fed.course.1.answer ≡ Err Memory
+  pub all : fed.course.1.count ≡ length fed.course.1.frames
+
 -- what the end of a piece wrote
 pub record Ended (answer : Result (Unit {0}) ReadFault) (middle after : Standing) (before new : List ℕ) : Type 0 where
   pub more : List Frame
@@ -125,6 +128,12 @@ pub record StoppedFrames (x : Setting) (h : History) (st : Standing) (frames : L
   pub stop : IsStop answer frames count
   pub goes_on : is_closed middle ≡ false
   pub frames_are : ServedAll x h st (take count frames) store middle before new
+
+-- all frames of a piece were served, and leave the session open
+pub record ServedOpen (x : Setting) (h : History) (st : Standing) (frames : List Frame) (store : StoreState) (before new : List ℕ) : Type 0 where
+  pub middle : Standing
+  pub goes_on : is_closed middle ≡ false
+  pub frames_are : ServedAll x h st frames store middle before new
 
 -- ---- one frame of a piece
 
@@ -168,6 +177,10 @@ pub record ClosesBeforeFrame (x : Setting) (h : History) (old : Session) (piece 
   pub same : h2 ≡ h
   pub none : replies ≡ []
   pub shut : new.standing ≡ Closed
+
+-- memory was refused to the reading of the first frame
+abbrev pub IsFirstUnread : Option (List ℕ) → List ℕ → Option (List ℕ) → Type 0
+IsFirstUnread old piece new = FeedsFrame old piece (Err Memory) new
 
 -- What the first frame of a piece does to a session, as `FeedsSession` of a whole piece. A closed session takes all of it.
 abbrev pub FeedsFirst : Setting → History → Session → List ℕ → Result ℕ AllocError → History → Session → List Frame → Type 0

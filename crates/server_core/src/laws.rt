@@ -11,6 +11,7 @@ ghost use Rattle.server_core.specs.Laws.{
   PiecesAgree,
   SessionsNeverMeet,
   FeedsAreAlike,
+  FeedsHadMemory,
   RepliesHoldNoIndex,
   RepliesHoldNoLength,
   AnswersHaveTheirLayoutsLength,
@@ -50,13 +51,15 @@ pub fn sessions_never_meet()
     pieces_decide();
 }
 
-/// Where memory isn't refused, what a feed writes, and the session's standing and unfinished bytes after it, are
-/// decided by the piece, by that session's standing and unfinished bytes before it, by the history and by the
-/// setting. `ServerCore::feed` itself says that every other session stays.
+/// Where memory isn't refused, what a feed writes, and the session's standing and unfinished bytes after it, a closed
+/// session's, too, are decided by the piece, by that session's standing and unfinished bytes before it, by the history and by
+/// the setting (`same`). Of a piece that was served to its end either no memory was refused, or a refusal can be named
+/// (`either`). `ServerCore::feed` itself says that every other session stays.
 pub fn feeds_are_alike()
-    ensures { FeedsAreAlike }
+    ensures same { FeedsAreAlike }
+    ensures either { FeedsHadMemory }
 {
-    pieces_decide();
+    frame_codec::laws::feeds_decide();
 }
 
 /// The kind, the version, the count and the length of the reply to a query are decided by the setting, the

@@ -4,7 +4,7 @@ ghost use Rattle.std.specs.Prelude.{◌≡◌, ◌≢◌, ◌⊎◌, ◌≤◌, 
 ghost use Rattle.digit_pack.specs.Layout.{is_layout};
 ghost use Rattle.pir_schemes.specs.Plans.{fits, shape_at};
 ghost use Rattle.version_store.specs.Histories.{History, StandsFor, after_edit, after_append, published, held_appended, held_published};
-ghost use Rattle.server_core.specs.Cores.{session_of, is_open, FeedsCore, FeedsCoreFirst, IsUnreadBy, OnNoSession, unfinished_in};
+ghost use Rattle.server_core.specs.Cores.{session_of, is_open, FeedsCore, FeedsCoreFirst, IsFirstUnreadBy, OnMemory, OnNoSession, unfinished_in};
 ghost use Rattle.server_core.specs.Serving.{setting_of, IsFull};
 ghost use Rattle.server_core.specs.Sessions as sessions;
 
@@ -195,7 +195,7 @@ impl<K: Kernel> ServerCore<K> {
     ///
     /// `NoSession` exactly when there is no session of this number: nothing changes. At `Memory` the session
     /// is closed and `out` has gained the whole replies to the frames before the one at hand, which isn't
-    /// served. A closed session takes bytes and replies nothing. No other session changes.
+    /// served: there was no room in `out` for a reply, or the reading was refused memory after just these frames. A closed session takes bytes and replies nothing. No other session changes.
     pub fn feed(&mut self, id: u64, piece: &[u8], out: &mut Vec<u8>) -> Result<(), FeedError>
         ensures fed { (h : History) → StandsFor self.old.store h → (old : sessions.Session) →
             session_of self.old.sessions id ≡ Some old →
@@ -204,8 +204,11 @@ impl<K: Kernel> ServerCore<K> {
             out.old.items out.new.items }
         ensures no_session { IsErrOf result FeedError.NoSession ↔
             (session_of self.old.sessions id ≡ None) }
-        ensures full { IsErrOf result FeedError.Memory → IsFull out.new ⊎ IsUnreadBy
-            (session_of self.old.sessions id) piece.now (session_of self.new.sessions id) }
+        ensures full { OnMemory result ((h : History) → StandsFor self.old.store h →
+            (old : sessions.Session) → session_of self.old.sessions id ≡ Some old →
+            (new : sessions.Session) × (session_of self.new.sessions id ≡ Some new)
+            × (IsFull out.new ⊎ sessions.IsUnread (setting_of self.old.store) h old piece.now
+            self.new.store new out.old.items out.new.items)) }
         ensures unchanged { OnNoSession result ((self.new ≡ self.old) ×
             (out.new.items ≡ out.old.items)) }
         ensures others { (other : ℕ) → other ≢ id →
@@ -246,7 +249,7 @@ impl<K: Kernel> ServerCore<K> {
             (out.new.items ≡ out.old.items)) }
         ensures no_session { IsErrOf result FeedError.NoSession ↔
             (session_of self.old.sessions id ≡ None) }
-        ensures full { IsErrOf result FeedError.Memory → IsFull out.new ⊎ IsUnreadBy
+        ensures full { IsErrOf result FeedError.Memory → IsFull out.new ⊎ IsFirstUnreadBy
             (session_of self.old.sessions id) piece.now (session_of self.new.sessions id) }
         ensures unchanged { OnNoSession result ((self.new ≡ self.old) ×
             (out.new.items ≡ out.old.items)) }

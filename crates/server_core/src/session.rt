@@ -6,7 +6,7 @@ ghost use Rattle.frame_codec.specs.Refusals.{refused};
 ghost use Rattle.frame_codec.specs.Frames.{IsFrame, encoding};
 ghost use Rattle.version_store.specs.Histories.{History, StandsFor};
 ghost use Rattle.server_core.specs.Serving.{setting_of, is_closed, IsFull};
-ghost use Rattle.server_core.specs.Sessions.{new_session, frames_taken, bytes_used, reading_end, HasTaken, Ended, Fed, FedFirst, ServedFrames, StoppedFrames, IsUnjudged, IsUnread};
+ghost use Rattle.server_core.specs.Sessions.{new_session, frames_taken, bytes_used, reading_end, HasTaken, Ended, Fed, FedFirst, ServedFrames, ServedOpen, StoppedFrames, IsUnjudged, IsUnread, IsFirstUnread};
 
 use crate::replies::{SHORT_REPLY, put_refused};
 use crate::serve::{serve_frame, serve_frames};
@@ -72,8 +72,9 @@ impl Session {
         ensures fed { (h : History) → StandsFor store.old h →
             Fed (setting_of store.old) h self.old piece.now result store.new self.new out.old.items
             out.new.items }
-        ensures full { OnErr result (IsFull out.new ⊎
-            IsUnread self.old.unfinished piece.now self.new.unfinished) }
+        ensures full { (h : History) → StandsFor store.old h → OnErr result (IsFull out.new ⊎
+            IsUnread (setting_of store.old) h self.old piece.now store.new self.new out.old.items
+            out.new.items) }
     {
         if self.standing.is_closed() {
             return Ok(());
@@ -111,7 +112,7 @@ impl Session {
         ensures refused { OnErr result ((store.new ≡ store.old) ×
             (out.new.items ≡ out.old.items)) }
         ensures full { OnErr result (IsFull out.new ⊎
-            IsUnread self.old.unfinished piece.now self.new.unfinished) }
+            IsFirstUnread self.old.unfinished piece.now self.new.unfinished) }
     {
         if self.standing.is_closed() {
             return Ok(piece.len());
@@ -182,7 +183,9 @@ fn serve_completed<K: Kernel>(
         StoppedFrames (setting_of store.old) h standing frames.now read store.new out.old.items
         out.new.items) }
     ensures live { IfOk result (λ after. (is_closed after ≡ false) → IsOk read) }
-    ensures full { OnErr result (IsFull out.new ⊎ IsUnjudged read) }
+    ensures full { OnErr result (IsFull out.new ⊎ (IsUnjudged read × ((h : History) →
+        StandsFor store.old h → ServedOpen (setting_of store.old) h standing frames.now store.new
+        out.old.items out.new.items))) }
 {
     let middle = match serve_frames(alloc, store, standing, frames, out) {
         Ok(middle) => middle,

@@ -1,3 +1,4 @@
+pub mod Awaiting
 pub mod Moves
 pub mod Deeds
 pub mod Replies

@@ -3,6 +3,8 @@ use Rattle.std.proofs.Common.{◌≡◌, ℕ, List, [], ◌∷◌, ◌++◌, ref
 use Rattle.std.specs.List.{FoldsTo, flat_map}
 use Rattle.std.proofs.lemmas.List.{append-nil}
 use Rattle.std.proofs.lemmas.List.Concat.{flat_map-append, flat_map-cons}
+use Rattle.std.specs.Prelude.{length, nat_lt}
+use Rattle.service_core.proofs.Awaiting.{write_keeps}
 use Rattle.service_core.specs.Links.{LinkState, Move, Receives, Ends, Answers, Writes, MovesTo, Keeps, LinksKeep, accepted, bytes_received, bytes_served, bytes_replied, bytes_written}
 
 -- one more move
@@ -52,7 +54,7 @@ keeps_one done l (Writes bytes now) m k s =
     let v = one bytes_served done (Writes bytes now) ∙ append-nil (flat_map bytes_served done) in
     let o = one bytes_replied done (Writes bytes now) ∙ append-nil (flat_map bytes_replied done) in
     let w = one bytes_written done (Writes bytes now) in
-    let u : m.unserved ≡ l.unserved = ap (λ (y : LinkState). y.unserved) s.1 in
+    let u : m.unserved ≡ l.unserved = ap (λ (y : LinkState). y.unserved) s.1 ∙ write_keeps (nat_lt (length bytes) l.awaited) (length bytes) now l in
     record {
       input = r ∙ k.input ∙ sym (ap (λ (y : List ℕ). y ++ m.unserved) v ∙ ap (λ (y : List ℕ). flat_map bytes_served done ++ y) u);
       output = o ∙ k.output ∙ ap (λ (y : List ℕ). flat_map bytes_written done ++ y) s.0 ∙ sym (append_assoc (flat_map bytes_written done) bytes m.owed)

@@ -13,30 +13,28 @@ use Rattle.server_core.specs.Serving.{Setting, is_closed}
 use Rattle.server_core.specs.Sessions.{Session, FeedsFirst, FedFirst}
 use Rattle.service_core.specs.Links.{LinkState, is_progress, after_frame}
 use Rattle.service_core.specs.Turns.{ServesNext, StopsNext}
-
--- the moment of the last progress, from what the code says of it
-progress_is : (reply : List ℕ) (live : Bool) (n progress before now : ℕ) → n ≡ length reply → (n ≡ 0 → live ≡ true → progress ≡ before) →
-    (0 < n → progress ≡ now) → (live ≡ false → progress ≡ now) → progress ≡ cond (is_progress reply live) now before
-progress_is [] true n progress before now e none some shut = none e refl
-progress_is [] false n progress before now e none some shut = shut refl
-progress_is (b ∷ reply) true n progress before now e none some shut = some (omega (arith, e))
-progress_is (b ∷ reply) false n progress before now e none some shut = some (omega (arith, e))
+use Rattle.service_core.specs.declared.link.Progress.{Progress}
 
 -- what was fed and how the code saw it
-pub record Saw (old : LinkState) (after : Core) (id now : ℕ) (owed : List ℕ) (live : Bool) (progress replied : ℕ) : Type 0 where
+pub record Saw (old : LinkState) (after : Core) (id now : ℕ) (owed : List ℕ) (live : Bool) (last : Progress) (replied : ℕ) : Type 0 where
   pub live_is : live ≡ is_open (session_of after.sessions id)
   pub replied_is : replied ≡ length owed - length old.owed
-  pub none : replied ≡ 0 → live ≡ true → progress ≡ old.progress
-  pub some : 0 < replied → progress ≡ now
-  pub shut : live ≡ false → progress ≡ now
+  pub last_is : last ≡ cond (is_progress old.awaited replied live) (record { moment = now; awaited = length owed })
+      (record { moment = old.progress; awaited = old.awaited })
+
+-- the two parts of the last progress
+parts : (b : Bool) (last : Progress) (now owed moment awaited : ℕ) → last ≡ cond b (record { moment = now; awaited = owed })
+    (record { moment = moment; awaited = awaited }) → (last.moment ≡ cond b now moment) × (last.awaited ≡ cond b owed awaited)
+parts true last now owed moment awaited e = (ap (λ (p : Progress). p.moment) e, ap (λ (p : Progress). p.awaited) e)
+parts false last now owed moment awaited e = (ap (λ (p : Progress). p.moment) e, ap (λ (p : Progress). p.awaited) e)
 
 pub serves_next : (x : Setting) (h : History) (s : Session) (id now : ℕ) (old : LinkState) (after : Core) (count : ℕ) (owed : List ℕ) (live : Bool)
-    (progress replied : ℕ) → count ≤ length old.unserved
+    (last : Progress) (replied : ℕ) → count ≤ length old.unserved
     → (t : Session) × (session_of after.sessions id ≡ Some t) × FedFirst x h s old.unserved (Ok count) after.store t old.owed owed
-    → Saw old after id now owed live progress replied
+    → Saw old after id now owed live last replied
     → ServesNext x h s id now old
-    (record { unserved = drop count old.unserved; owed = owed; live = live; ended = old.ended; progress = progress }) after
-serves_next x h s id now old after count owed live progress replied le fed saw =
+    (record { unserved = drop count old.unserved; owed = owed; live = live; ended = old.ended; progress = last.moment; awaited = last.awaited }) after
+serves_next x h s id now old after count owed live last replied le fed saw =
     let t : Session = fed.0 in
     let f = fed.2 in
     let reply : List ℕ = flat_map encoding f.replies in
@@ -44,11 +42,17 @@ serves_next x h s id now old after count owed live progress replied le fed saw =
     let owed_is : owed ≡ old.owed ++ reply = f.written in
     let live_is : live ≡ open_ = saw.live_is ∙ ap is_open fed.1 in
     let size : replied ≡ length reply = omega (arith, saw.replied_is, ap length owed_is, length-append old.owed reply) in
-    let e : progress ≡ cond (is_progress reply live) now old.progress =
-    progress_is reply live replied progress old.progress now size saw.none saw.some saw.shut in
-    let progress_is : progress ≡ cond (is_progress reply open_) now old.progress =
-    e ∙ ap (λ (b : Bool). cond (is_progress reply b) now old.progress) live_is in
-    let new_is : record { unserved = drop count old.unserved; owed = owed; live = live; ended = old.ended; progress = progress }
+    let b : Bool = is_progress old.awaited (length reply) open_ in
+    let flag : is_progress old.awaited replied live ≡ b =
+    ap (λ (n : ℕ). is_progress old.awaited n live) size ∙ ap (is_progress old.awaited (length reply)) live_is in
+    let both = parts b last now (length (old.owed ++ reply)) old.progress old.awaited
+    (saw.last_is ∙ ap (λ (c : Bool). let p : Progress = cond c (record { moment = now; awaited = length owed })
+    (record { moment = old.progress; awaited = old.awaited }) in p) flag
+    ∙ ap (λ (ys : List ℕ). let p : Progress = cond b (record { moment = now; awaited = length ys })
+    (record { moment = old.progress; awaited = old.awaited }) in p) owed_is) in
+    let moment_is = both.0 in
+    let awaited_is = both.1 in
+    let new_is : record { unserved = drop count old.unserved; owed = owed; live = live; ended = old.ended; progress = last.moment; awaited = last.awaited }
     ≡ after_frame count reply open_ now old = cc in
     record {
       count = count;
@@ -67,7 +71,7 @@ serves_next x h s id now old after count owed live progress replied le fed saw =
 pub stops_next : (x : Setting) (h : History) (s : Session) (id : ℕ) (old : LinkState) (after : Core) (e : FeedError) (owed : List ℕ)
     → (t : Session) × (session_of after.sessions id ≡ Some t) × FeedsCoreFirst x h s old.unserved (Err e) after.store t old.owed owed
     → owed ≡ old.owed
-    → StopsNext x h s id old (record { unserved = old.unserved; owed = owed; live = old.live; ended = old.ended; progress = old.progress }) after
+    → StopsNext x h s id old (record { unserved = old.unserved; owed = owed; live = old.live; ended = old.ended; progress = old.progress; awaited = old.awaited }) after
 stops_next x h s id old after NoSession owed fed same = absurd fed.2
 stops_next x h s id old after Memory owed fed same =
     let f = fed.2.1 in
@@ -85,6 +89,7 @@ stops_next x h s id old after Memory owed fed same =
         live = old.live;
         ended = old.ended;
         progress = old.progress;
+        awaited = old.awaited;
       } in l) same;
     }
 
@@ -93,7 +98,7 @@ pub stops_given : (x : Setting) (h : History) (s : Session) (id : ℕ) (old : Li
     → piece ≡ old.unserved → before ≡ old.owed
     → (t : Session) × (session_of after.sessions id ≡ Some t) × FeedsCoreFirst x h s piece (Err e) after.store t before owed
     → owed ≡ before
-    → StopsNext x h s id old (record { unserved = old.unserved; owed = owed; live = old.live; ended = old.ended; progress = old.progress }) after
+    → StopsNext x h s id old (record { unserved = old.unserved; owed = owed; live = old.live; ended = old.ended; progress = old.progress; awaited = old.awaited }) after
 stops_given x h s id old after e piece before owed first second fed same =
     stops_next x h s id old after e owed (
       fed.0,

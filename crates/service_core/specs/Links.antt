@@ -1,20 +1,21 @@
 -- Connections, as their callers see them.
-use Rattle.std.specs.Prelude.{◌≡◌, ◌<◌, ◌++◌, ◌⊎◌, ℕ, List, [], ◌∷◌, length, drop, Bool, true, false, cond}
+use Rattle.std.specs.Prelude.{◌≡◌, ◌<◌, ◌≤◌, ◌-◌, ◌++◌, ◌⊎◌, ℕ, List, [], ◌∷◌, length, drop, Bool, true, false, cond, not, ◌&&◌, ◌||◌, nat_eq, nat_lt}
 use Rattle.std.specs.List.{FoldsTo, flat_map}
 use Rattle.service_core.specs.Sizes.{owed_limit}
 
 -- A connection: what was received and not yet served, what is owed and not yet written, whether its session is open, whether its
--- input ended, and the moment of its last progress.
+-- input ended, the moment of its last progress, and how many bytes of what was owed then have to be taken until the next.
 pub record LinkState : Type 0 where
   pub unserved : List ℕ
   pub owed : List ℕ
   pub live : Bool
   pub ended : Bool
   pub progress : ℕ
+  pub awaited : ℕ
 
 -- a connection that was accepted at a moment
 abbrev pub accepted : ℕ → LinkState
-accepted now = record { unserved = []; owed = []; live = true; ended = false; progress = now }
+accepted now = record { unserved = []; owed = []; live = true; ended = false; progress = now; awaited = 0 }
 
 -- more may be read: all that came was served, and little is owed
 pub record MayRead (l : LinkState) : Type 0 where
@@ -41,24 +42,32 @@ after_receipt bytes l = record l { unserved = bytes }
 abbrev pub after_end : LinkState → LinkState
 after_end l = record l { ended = true }
 
--- some of what is owed was written, which is progress
-abbrev pub after_write : ℕ → ℕ → LinkState → LinkState
-after_write n now l = record l { owed = drop n l.owed; progress = now }
+-- Some of what is owed was written, and it was not all that is awaited: so this is no progress.
+abbrev pub after_part : ℕ → LinkState → LinkState
+after_part n l = record l { owed = drop n l.owed; awaited = l.awaited - n }
 
--- whether a step was progress: it replied, or closed the session
-abbrev pub is_progress : List ℕ → Bool → Bool
-is_progress [] live = cond live false true
-is_progress (b ∷ reply) live = true
+-- Some of what is owed was written, with all that was awaited. What is owed still is awaited now.
+abbrev pub after_all : ℕ → ℕ → LinkState → LinkState
+after_all n now l = record l { owed = drop n l.owed; progress = now; awaited = length (drop n l.owed) }
+
+-- Some of what is owed was written. That is progress once all that was owed at the last progress is taken, however many bytes go before.
+abbrev pub after_write : ℕ → ℕ → LinkState → LinkState
+after_write n now l = cond (nat_lt n l.awaited) (after_part n l) (after_all n now l)
+
+-- whether a step that replied so many bytes was progress: it closed the session, or it replied while nothing was awaited
+abbrev pub is_progress : ℕ → ℕ → Bool → Bool
+is_progress awaited replied live = not live || (nat_eq awaited 0 && nat_lt 0 replied)
 
 -- So many bytes of what was received were used up for a frame, and this was replied. Bytes of a frame that is unfinished still are no
--- progress.
+-- progress, nor is a reply that must wait for others to be taken.
 abbrev pub after_frame : ℕ → List ℕ → Bool → ℕ → LinkState → LinkState
 after_frame count reply live now l = record {
   unserved = drop count l.unserved;
   owed = l.owed ++ reply;
   live = live;
   ended = l.ended;
-  progress = cond (is_progress reply live) now l.progress;
+  progress = cond (is_progress l.awaited (length reply) live) now l.progress;
+  awaited = cond (is_progress l.awaited (length reply) live) (length (l.owed ++ reply)) l.awaited;
 }
 
 -- one thing that happens to a connection
@@ -108,3 +117,12 @@ pub record Keeps (moves : List Move) (l : LinkState) : Type 0 where
 -- after any moves of a connection that was accepted at any moment no byte is lost, is there twice or goes elsewhere
 abbrev pub LinksKeep : Type 0
 LinksKeep = (moves : List Move) (now : ℕ) (l : LinkState) → FoldsTo MovesTo (accepted now) moves l → Keeps moves l
+
+-- What is awaited is a part of what is owed, and is nothing only where nothing is owed.
+pub record IsAwaited (l : LinkState) : Type 0 where
+  pub part : l.awaited ≤ length l.owed
+  pub some : l.awaited ≡ 0 → l.owed ≡ []
+
+-- after any moves of a connection that was accepted at any moment, something is awaited while something is owed
+abbrev pub LinksAwait : Type 0
+LinksAwait = (moves : List Move) (now : ℕ) (l : LinkState) → FoldsTo MovesTo (accepted now) moves l → IsAwaited l

@@ -1,6 +1,6 @@
 //! Laws of connections. Each function does nothing: its clause is the law.
 
-ghost use Rattle.service_core.specs.Links.{LinksKeep};
+ghost use Rattle.service_core.specs.Links.{LinksAwait, LinksKeep};
 ghost use Rattle.service_core.specs.Runs.{DeedsAreOneRun};
 ghost use Rattle.service_core.specs.Turns.{OwedIsBounded, ServedFramesAreDeeds, ServedFramesAreMoves};
 
@@ -8,6 +8,12 @@ ghost use Rattle.service_core.specs.Turns.{OwedIsBounded, ServedFramesAreDeeds, 
 /// was replied is what was written and then what is owed.
 pub fn links_keep()
     ensures { LinksKeep }
+{}
+
+/// After any moves of a connection, something is awaited exactly while something is owed: so whoever takes nothing, or some bytes now
+/// and then, has the idle time for what was owed at the last progress.
+pub fn links_await()
+    ensures { LinksAwait }
 {}
 
 /// What all connections do to a server, in the order in which they do it, is one run over one history: each piece of a stream

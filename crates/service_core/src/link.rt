@@ -1,8 +1,8 @@
 //! A connection.
 
-ghost use Rattle.std.specs.Prelude.{◌≡◌, ◌≢◌, ◌≤◌, ◌<◌, ◌+◌, ◌-◌, ◌^◌, ◌↔◌, min, List, ℕ, None, [], length, true, false, IsTrue, OnOk, OnErr};
+ghost use Rattle.std.specs.Prelude.{◌≡◌, ◌≢◌, ◌≤◌, ◌<◌, ◌+◌, ◌-◌, ◌^◌, ◌↔◌, min, cond, List, ℕ, None, [], length, IsTrue, OnOk, OnErr};
 ghost use Rattle.server_core.specs.Cores.{session_of};
-ghost use Rattle.service_core.specs.Links.{accepted, after_end, after_receipt, after_write, IsDone, MayRead, MayServe};
+ghost use Rattle.service_core.specs.Links.{accepted, after_end, after_receipt, after_write, is_progress, IsDone, MayRead, MayServe};
 ghost use Rattle.service_core.specs.Runs.{OthersStay};
 ghost use Rattle.service_core.specs.Turns.{AtEach, ServesNext, StopsNext};
 
@@ -27,8 +27,16 @@ pub struct Link {
     live: bool,
     // A read found the end of the input.
     ended: bool,
-    // When a frame was replied to last, or the session closed, or bytes written.
-    progress: u64,
+    last: Progress,
+}
+
+// The last progress of a connection.
+#[derive(Clone, Copy)]
+struct Progress {
+    // Its moment.
+    moment: u64,
+    // How many bytes of what was owed then have to be taken until the next.
+    awaited: usize,
 }
 
 impl Model for Link {
@@ -43,7 +51,8 @@ impl Model for Link {
       owed = l.owed;
       live = l.live;
       ended = l.ended;
-      progress = l.progress;
+      progress = l.last.moment;
+      awaited = l.last.awaited;
     } };
 
     ghost invariant = { λ l. length l.unserved ≤ piece_size };
@@ -59,7 +68,10 @@ impl Link {
             owed: Tail::new(alloc),
             live: true,
             ended: false,
-            progress: now,
+            last: Progress {
+                moment: now,
+                awaited: 0,
+            },
         }
     }
 
@@ -96,15 +108,16 @@ impl Link {
     pub fn expires_at(&self, idle: u64) -> u64
         ensures { result ≡ min (self.now.progress + idle) (2 ^ 64 - 1) }
     {
-        self.progress.saturating_add(idle)
+        self.last.moment.saturating_add(idle)
     }
 
-    /// Whether there was no progress for so many milliseconds: no frame was replied to, its session was not closed, and
-    /// nothing was written. Bytes of a frame that is unfinished are no progress.
+    /// Whether there was no progress for so many milliseconds: its session was not closed, no frame was replied to while
+    /// nothing was owed, and what was owed at the last progress was not taken whole. Bytes of a frame that is unfinished are no
+    /// progress, and neither is a part of what is awaited.
     pub fn is_expired(&self, now: u64, idle: u64) -> bool
         ensures { IsTrue result ↔ (idle ≤ now - self.now.progress) }
     {
-        now.saturating_sub(self.progress) >= idle
+        now.saturating_sub(self.last.moment) >= idle
     }
 
     /// A read brought bytes.
@@ -156,7 +169,8 @@ impl Link {
                 let replied = self.owed.len().saturating_sub(owed);
                 self.unserved.skip(count);
                 self.live = core.is_open(id);
-                self.progress = progress_after(replied, self.live, now, self.progress);
+                let awaited = self.owed.len();
+                self.last = progress_after(self.last, replied, self.live, now, awaited);
                 Ok(())
             }
             Err(_) => {
@@ -179,16 +193,29 @@ impl Link {
         ensures { self.new ≡ after_write n now self.old }
     {
         self.owed.skip(n);
-        self.progress = now;
+        if n < self.last.awaited {
+            self.last.awaited -= n;
+        } else {
+            self.last = Progress {
+                moment: now,
+                awaited: self.owed.len(),
+            };
+        }
     }
 }
 
-// The moment of the last progress after a step that replied so many bytes: now, if there were any, or if the session was
-// closed.
-fn progress_after(replied: usize, live: bool, now: u64, before: u64) -> u64
-    ensures none { replied ≡ 0 → live ≡ true → result ≡ before }
-    ensures some { 0 < replied → result ≡ now }
-    ensures closed { live ≡ false → result ≡ now }
+// The last progress after a step that replied so many bytes, with so many owed then: this one, if the session was closed, or if
+// there are replies and nothing was awaited.
+fn progress_after(before: Progress, replied: usize, live: bool, now: u64, owed: usize) -> Progress
+    ensures { result ≡ cond (is_progress before.awaited replied live)
+        (record { moment = now; awaited = owed }) before }
 {
-    if replied > 0 || !live { now } else { before }
+    if !live || before.awaited == 0 && replied > 0 {
+        Progress {
+            moment: now,
+            awaited: owed,
+        }
+    } else {
+        before
+    }
 }

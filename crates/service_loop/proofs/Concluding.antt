@@ -1,6 +1,7 @@
 -- What the end of a turn makes of places and sessions.
 use Rattle.std.proofs.Common.{◌≡◌, ◌<◌, ℕ, List, length, Option, None, Some, set, inl, refl, sym, subst, ◌∙◌}
-use Rattle.server_core.specs.Cores.{Core, session_of, unfinished_in}
+use Rattle.server_core.specs.Cores.{Core, session_of}
+use Rattle.service_loop.specs.Holding.{held_by}
 use Rattle.service_core.specs.Runs.{OthersStay, DoesToCore, Closes}
 use Rattle.service_loop.specs.declared.connection.Connection.{Connection}
 use Rattle.service_loop.specs.declared.connection.Outcome.{Outcome}
@@ -12,7 +13,7 @@ use Rattle.service_loop.proofs.Leaving.{others_stay, goes_on, settles_others, se
 use Rattle.service_loop.proofs.Noted.{left_noted, back_noted, settled_noted}
 
 -- a turn's end as it goes on, or as it is over
-either_end : (P : Type 0) (o : Outcome) → (GoesOn o → P) → ((GoesOn o → ⊥) → P) → P
+pub either_end : (P : Type 0) (o : Outcome) → (GoesOn o → P) → ((GoesOn o → ⊥) → P) → P
 either_end P Busy first second = first tt
 either_end P Waits first second = first tt
 either_end P Over first second = second (λ h. h)
@@ -48,7 +49,7 @@ module _ (o : Outcome) (place : ℕ) (c d : Connection) (places freed : List (Op
 
   -- what is noted stays right
   pub concluded_noted : (next : ℕ) → place < length places → connection_at places place ≡ Some c → AreNoted places old next
-      → d.unfinished ≡ unfinished_in (session_of mid.sessions d.id) → AreNoted after new next
+      → d.held ≡ held_by (session_of mid.sessions d.id) d.link → AreNoted after new next
   concluded_noted next within there n is = either_end (AreNoted after new next) o
       (λ g. settled_noted place d (set places place None) mid after new next (puts g)
       (back_noted places place c d old mid next within there n stay id is))

@@ -3,7 +3,8 @@ use Rattle.std.proofs.Common.{◌≡◌, ◌<◌, ◌≤◌, ℕ, List, length, 
 use Rattle.std.specs.Prelude.{option_map}
 use Rattle.std.proofs.lemmas.Bool.{cases_eq, cases_lt}
 use Rattle.std.proofs.lemmas.List.{get_or-set_same, get_or-set_other, get_or_past, length-set}
-use Rattle.server_core.specs.Cores.{Core, session_of, unfinished_in}
+use Rattle.server_core.specs.Cores.{Core, session_of}
+use Rattle.service_loop.specs.Holding.{held_by}
 use Rattle.service_loop.specs.declared.connection.Connection.{Connection}
 use Rattle.service_loop.specs.Places.{connection_at, noted, unflagged, OnlyFlagsChange}
 use Rattle.service_loop.specs.Sessions.{AreNoted}
@@ -37,7 +38,7 @@ pub flags_go_on : (a b c : List (Option Connection)) → OnlyFlagsChange a b →
 flags_go_on a b c first second = λ i. second i ∙ first i
 
 -- the connection that is there but for its flags
-bare_there : (o p : Option Connection) (c : Connection) → option_map unflagged p ≡ option_map unflagged o → p ≡ Some c
+pub bare_there : (o p : Option Connection) (c : Connection) → option_map unflagged p ≡ option_map unflagged o → p ≡ Some c
     → (d : Connection) × (o ≡ Some d) × (unflagged c ≡ unflagged d)
 bare_there None p c e is = let no : Some (unflagged c) ≡ None = ap (option_map unflagged) (sym is) ∙ e in cc
 bare_there (Some d) p c e is =
@@ -48,7 +49,7 @@ bare_there (Some d) p c e is =
 pub flags_noted : (before after : List (Option Connection)) (core : Core) (next : ℕ) → OnlyFlagsChange before after → AreNoted before core next → AreNoted after core next
 flags_noted before after core next flags n = record {
   noted = λ i c is. let h = there i c is in
-      subst (λ (k : Connection). k.unfinished ≡ unfinished_in (session_of core.sessions k.id)) (sym h.2) (n.noted i h.0 h.1);
+      subst (λ (k : Connection). k.held ≡ held_by (session_of core.sessions k.id) k.link) (sym h.2) (n.noted i h.0 h.1);
   below = λ i c is. let h = there i c is in subst (λ (k : Connection). k.id < next) (sym h.2) (n.below i h.0 h.1);
   apart = λ i j c d is js same. let h = there i c is in let k = there j d js in
       n.apart i j h.0 k.0 h.1 k.1 (sym (ap (λ (x : Connection). x.id) h.2) ∙ (same ∙ ap (λ (x : Connection). x.id) k.2));

@@ -7,7 +7,7 @@ use Rattle.std.specs.List.{IsFirstMaxByKey}
 use Rattle.server_core.specs.Cores.{Core, session_of}
 use Rattle.service_core.specs.Runs.{OthersStay, DoesToCore, Closes}
 use Rattle.service_loop.specs.declared.connection.Connection.{Connection}
-use Rattle.service_loop.specs.Places.{connection_at, unfinished_bytes, all_unfinished, OthersStayOrGo}
+use Rattle.service_loop.specs.Places.{connection_at, held_bytes, all_held, OthersStayOrGo}
 use Rattle.service_loop.specs.Sessions.{Settles, SessionsStayOrGo}
 
 -- a place that is given a connection, or none
@@ -71,31 +71,31 @@ settles_sessions id place c before first old after new stay (inr (lost, _, close
 sum_of : (s all filled after own u free size : ℕ) → s ≡ all → filled + free ≡ all + own → free ≡ 0 → after + size ≡ filled + 0 → size ≡ u → own ≤ u → s - (u - own) ≡ after
 sum_of s all filled after own u free size a b c d e f = omega arith
 
--- the longest unfinished frame is no shorter than that of a connection that was put into a place
+-- the most that is held for one is no less than what is held for a connection that was put into a place
 pub largest_is_no_less : (places : List (Option Connection)) (place : ℕ) (c : Connection) (best : ℕ) (x : Option Connection) → place < length places
-    → IsFirstMaxByKey unfinished_bytes (set places place (Some c)) (length (set places place (Some c))) best
-    → x ≡ get_or (set places place (Some c)) best x → c.unfinished ≤ unfinished_bytes x
+    → IsFirstMaxByKey held_bytes (set places place (Some c)) (length (set places place (Some c))) best
+    → x ≡ get_or (set places place (Some c)) best x → c.held ≤ held_bytes x
 largest_is_no_less places place c best x within max is =
     let filled = set places place (Some c) in
     let there : place < length filled = subst (λ n. place < n) (sym (length-set places place (Some c))) within in
-    let le : unfinished_bytes (get_or filled place x) ≤ unfinished_bytes (get_or filled best x) = max.1 place x there in
-    let own : c.unfinished ≤ unfinished_bytes (get_or filled best x) =
-    subst (λ (o : Option Connection). unfinished_bytes o ≤ unfinished_bytes (get_or filled best x)) (get_or-set_same places place (Some c) x within) le in
-    subst (λ (o : Option Connection). c.unfinished ≤ unfinished_bytes o) (sym is) own
+    let le : held_bytes (get_or filled place x) ≤ held_bytes (get_or filled best x) = max.1 place x there in
+    let own : c.held ≤ held_bytes (get_or filled best x) =
+    subst (λ (o : Option Connection). held_bytes o ≤ held_bytes (get_or filled best x)) (get_or-set_same places place (Some c) x within) le in
+    subst (λ (o : Option Connection). c.held ≤ held_bytes o) (sym is) own
 
--- what the unfinished frames have together after a connection was put into a free place and the longest was taken away
+-- what is held for all after a connection was put into a free place and the one with the most was taken away
 pub sum_without_largest : (places : List (Option Connection)) (place : ℕ) (c : Connection) (best : ℕ) (x : Option Connection) (s : ℕ) → place < length places
     → connection_at places place ≡ None
-    → IsFirstMaxByKey unfinished_bytes (set places place (Some c)) (length (set places place (Some c))) best
-    → x ≡ get_or (set places place (Some c)) best x → s ≡ all_unfinished places
-    → s - (unfinished_bytes x - c.unfinished) ≡ all_unfinished (set (set places place (Some c)) best None)
+    → IsFirstMaxByKey held_bytes (set places place (Some c)) (length (set places place (Some c))) best
+    → x ≡ get_or (set places place (Some c)) best x → s ≡ all_held places
+    → s - (held_bytes x - c.held) ≡ all_held (set (set places place (Some c)) best None)
 sum_without_largest places place c best x s within free max is sum =
     let filled = set places place (Some c) in
-    let more = sum_by-set unfinished_bytes places place (Some c) None within in
-    let none : unfinished_bytes (get_or places place None) ≡ 0 = ap unfinished_bytes free in
-    let less = sum_by-set unfinished_bytes filled best None None max.0 in
+    let more = sum_by-set held_bytes places place (Some c) None within in
+    let none : held_bytes (get_or places place None) ≡ 0 = ap held_bytes free in
+    let less = sum_by-set held_bytes filled best None None max.0 in
     let there : get_or filled best None ≡ x = get_or_default filled best None x max.0 ∙ sym is in
-    let size : unfinished_bytes (get_or filled best None) ≡ unfinished_bytes x = ap unfinished_bytes there in
+    let size : held_bytes (get_or filled best None) ≡ held_bytes x = ap held_bytes there in
     let own = largest_is_no_less places place c best x within max is in
-    sum_of s (all_unfinished places) (all_unfinished filled) (all_unfinished (set filled best None)) c.unfinished (unfinished_bytes x)
-    (unfinished_bytes (get_or places place None)) (unfinished_bytes (get_or filled best None)) sum more none less size own
+    sum_of s (all_held places) (all_held filled) (all_held (set filled best None)) c.held (held_bytes x)
+    (held_bytes (get_or places place None)) (held_bytes (get_or filled best None)) sum more none less size own

@@ -2,7 +2,8 @@
 use Rattle.std.proofs.Common.{◌≡◌, ◌≢◌, ◌⊎◌, ◌<◌, ◌+◌, ℕ, zero, suc, replicate, List, length, Option, None, Some, set, inl, inr, refl, sym, ap, subst, ◌∙◌, arith}
 use Rattle.std.proofs.lemmas.Bool.{cases_eq}
 use Rattle.std.proofs.lemmas.List.{get_or-set_other, length-set}
-use Rattle.server_core.specs.Cores.{Core, session_of, unfinished_in}
+use Rattle.server_core.specs.Cores.{Core, session_of}
+use Rattle.service_loop.specs.Holding.{held_by}
 use Rattle.service_core.specs.Runs.{OthersStay}
 use Rattle.service_loop.specs.declared.connection.Connection.{Connection}
 use Rattle.service_loop.specs.Places.{connection_at}
@@ -29,8 +30,8 @@ there_after places p c i d within is = elim (cases_eq i p) [
 
 -- what no other session's change does to a number
 kept_number : (id : ℕ) (old new : Core) → OthersStay id old new → (d : Connection) → d.id ≢ id
-    → d.unfinished ≡ unfinished_in (session_of old.sessions d.id) → d.unfinished ≡ unfinished_in (session_of new.sessions d.id)
-kept_number id old new stay d ne is = is ∙ ap unfinished_in (sym (stay d.id ne))
+    → d.held ≡ held_by (session_of old.sessions d.id) d.link → d.held ≡ held_by (session_of new.sessions d.id) d.link
+kept_number id old new stay d ne is = is ∙ ap (λ s. held_by s d.link) (sym (stay d.id ne))
 
 -- a connection is away from its place, and only its session has changed
 pub left_noted : (places : List (Option Connection)) (p : ℕ) (c : Connection) (old new : Core) (next : ℕ) → connection_at places p ≡ Some c
@@ -56,11 +57,11 @@ HasNone places id = (i : ℕ) (d : Connection) → connection_at places i ≡ So
 
 -- a connection was put into a place, with a number of its own, and what is noted of it is right
 pub given_noted : (places : List (Option Connection)) (p : ℕ) (c : Connection) (core : Core) (next : ℕ) → p < length places
-    → AreNoted places core next → HasNone places c.id → c.id < next → c.unfinished ≡ unfinished_in (session_of core.sessions c.id)
+    → AreNoted places core next → HasNone places c.id → c.id < next → c.held ≡ held_by (session_of core.sessions c.id) c.link
     → AreNoted (set places p (Some c)) core next
 given_noted places p c core next within n none low is = record {
   noted = λ i d there. elim (there_after places p c i d within there) [
-    | inl (_, e) ↦ subst (λ (k : Connection). k.unfinished ≡ unfinished_in (session_of core.sessions k.id)) (sym e) is
+    | inl (_, e) ↦ subst (λ (k : Connection). k.held ≡ held_by (session_of core.sessions k.id) k.link) (sym e) is
     | inr (_, h) ↦ n.noted i d h
   ];
   below = λ i d there. elim (there_after places p c i d within there) [
@@ -79,7 +80,7 @@ given_noted places p c core next within n none low is = record {
   ];
 }
 
--- after a connection was put into a place, and one went for its unfinished frame or none
+-- after a connection was put into a place, and one went for what is held for it or none
 pub settled_noted : (place : ℕ) (c : Connection) (before : List (Option Connection)) (old : Core) (after : List (Option Connection)) (new : Core) (next : ℕ)
     → Settles place c before old after new → AreNoted (set before place (Some c)) old next → AreNoted after new next
 settled_noted place c before old after new next (inl (is, same)) n =
@@ -90,7 +91,7 @@ settled_noted place c before old after new next (inr (lost, goes, closes)) n =
 
 -- A connection is back in its place after a turn, in which its session alone has changed, and what is noted of it is right.
 pub back_noted : (places : List (Option Connection)) (p : ℕ) (c d : Connection) (old new : Core) (next : ℕ) → p < length places → connection_at places p ≡ Some c
-    → AreNoted places old next → OthersStay c.id old new → d.id ≡ c.id → d.unfinished ≡ unfinished_in (session_of new.sessions d.id)
+    → AreNoted places old next → OthersStay c.id old new → d.id ≡ c.id → d.held ≡ held_by (session_of new.sessions d.id) d.link
     → AreNoted (set (set places p None) p (Some d)) new next
 back_noted places p c d old new next within there n stay id is =
     given_noted (set places p None) p d new next (subst (λ k. p < k) (sym (length-set places p None)) within)

@@ -1,6 +1,5 @@
 -- When something is to be done for a connection, and what becomes of it after a turn.
-use Rattle.std.specs.Prelude.{◌≡◌, ◌≤◌, ◌+◌, ◌-◌, ◌^◌, ℕ, List, Option, None, Some, min, unwrap_or}
-use Rattle.std.specs.List.{fold}
+use Rattle.std.specs.Prelude.{◌≡◌, ◌≤◌, ◌+◌, ◌-◌, ◌^◌, ℕ, None, min, unwrap_or}
 use Rattle.service_core.specs.Links.{MayServe}
 use Rattle.service_loop.specs.declared.connection.Connection.{Connection}
 use Rattle.service_loop.specs.declared.connection.Outcome.{Outcome}
@@ -18,15 +17,11 @@ pub record IsIdle (c : Connection) (now idle : ℕ) : Type 0 where
   pub nothing : MayServe c.link → ⊥
   pub late : idle ≤ now - c.link.progress
 
+-- a connection was idle at a moment, since its last progress before that
+pub record HasBeenIdle (c : Connection) (moment idle : ℕ) : Type 0 where
+  pub idles : IsIdle c moment idle
+  pub began : c.link.progress ≤ moment
+
 -- the moment at which something is to be done for a connection even if no event comes: its end, or that at which it is idle
 abbrev pub due_of : ℕ → Connection → ℕ
 due_of idle c = unwrap_or c.lingers (min (c.link.progress + idle) (2 ^ 64 - 1))
-
--- the earlier one of a moment and that of a place
-abbrev pub sooner : ℕ → ℕ → Option Connection → ℕ
-sooner idle until None = until
-sooner idle until (Some c) = min until (due_of idle c)
-
--- the earliest of a moment and those of all places
-abbrev pub soonest : ℕ → ℕ → List (Option Connection) → ℕ
-soonest idle until places = fold (sooner idle) until places

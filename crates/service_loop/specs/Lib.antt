@@ -1,3 +1,5 @@
+pub mod Holding
 pub mod Judging
+pub mod Lines
 pub mod Places
 pub mod Sessions

@@ -1,8 +1,9 @@
 //! A connection, and its turns.
 
-ghost use Rattle.std.specs.Prelude.{◌≡◌, ◌≢◌, ◌↔◌, None, IfOk, IsTrue, length, true};
-ghost use Rattle.server_core.specs.Cores.{session_of, unfinished_in};
+ghost use Rattle.std.specs.Prelude.{◌≡◌, ◌≢◌, ◌↔◌, None, IfOk, IsTrue, length, true, false};
+ghost use Rattle.server_core.specs.Cores.{session_of};
 ghost use Rattle.service_core.specs.Runs.{OthersStay};
+ghost use Rattle.service_loop.specs.Holding.{held_by};
 ghost use Rattle.service_loop.specs.Judging.{GoesOn, IsIdle, due_of};
 
 use crate::device::{Device, Saver};
@@ -31,8 +32,10 @@ pub struct Connection {
     pub writable: bool,
     /// All was written, and the writing was ended: until this moment what still comes is read and forgotten.
     pub lingers: Option<u64>,
-    /// How many bytes of an unfinished frame its session keeps.
-    pub unfinished: usize,
+    /// How many bytes its session keeps of an unfinished frame, and how many are owed.
+    pub held: usize,
+    /// It will have its turn in this round, or the next one.
+    pub queued: bool,
 }
 
 /// What a turn came to.
@@ -61,7 +64,7 @@ impl Outcome {
 }
 
 impl Connection {
-    /// A connection that was accepted, and has a session of this number.
+    /// A connection that was accepted, has a session of this number, and will have its turn.
     pub fn opened(stream: TcpStream, id: u64, link: Link) -> Connection
         ensures { result ≡ record {
           stream = stream;
@@ -70,7 +73,8 @@ impl Connection {
           readable = true;
           writable = true;
           lingers = None;
-          unfinished = 0;
+          held = 0;
+          queued = true;
         } }
     {
         Connection {
@@ -80,7 +84,8 @@ impl Connection {
             readable: true,
             writable: true,
             lingers: None,
-            unfinished: 0,
+            held: 0,
+            queued: true,
         }
     }
 
@@ -108,9 +113,11 @@ impl Connection {
         buffer: &mut [u8],
     ) -> Result<(Kept<S>, Outcome), RunFault>
         ensures id { self.new.id ≡ self.old.id }
-        ensures unfinished { self.new.unfinished ≡ self.old.unfinished }
+        ensures held { self.new.held ≡ self.old.held }
         ensures others { IfOk result (λ it. OthersStay self.old.id kept.core it.0.core) }
+        ensures queued { self.new.queued ≡ false }
     {
+        self.queued = false;
         if let Some(until) = self.lingers {
             return Ok((kept, self.linger(now, until, buffer)));
         }
@@ -145,13 +152,14 @@ impl Connection {
         self.lingers.is_none() && !self.link.may_serve() && self.link.is_expired(now, idle)
     }
 
-    /// Notes how many bytes of an unfinished frame its session keeps.
-    pub fn note_unfinished<S: Saver>(&mut self, kept: &Kept<S>)
+    /// Notes how many bytes its session keeps of an unfinished frame, and how many are owed.
+    pub fn note_held<S: Saver>(&mut self, kept: &Kept<S>)
         ensures { self.new ≡ record self.old {
-          unfinished = unfinished_in (session_of kept.now.core.sessions self.old.id);
+          held = held_by (session_of kept.now.core.sessions self.old.id) self.old.link;
         } }
     {
-        self.unfinished = kept.core.unfinished_len(self.id);
+        let unfinished = kept.core.unfinished_len(self.id);
+        self.held = unfinished.saturating_add(self.link.owed().len());
     }
 
     // The turn of a connection that is not over.
@@ -165,8 +173,9 @@ impl Connection {
         requires there { session_of kept.core.sessions self.old.id ≢ None }
         requires room { length buffer.old ≡ 65536 }
         ensures id { self.new.id ≡ self.old.id }
-        ensures unfinished { self.new.unfinished ≡ self.old.unfinished }
+        ensures held { self.new.held ≡ self.old.held }
         ensures others { IfOk result (λ it. OthersStay self.old.id kept.core it.0.core) }
+        ensures queued { self.new.queued ≡ self.old.queued }
     {
         let Kept { mut core, saver } = kept;
         let mut device = Device {
@@ -195,7 +204,8 @@ impl Connection {
     // What is next after a turn.
     fn next(&mut self, now: u64) -> Outcome
         ensures id { self.new.id ≡ self.old.id }
-        ensures unfinished { self.new.unfinished ≡ self.old.unfinished }
+        ensures held { self.new.held ≡ self.old.held }
+        ensures queued { self.new.queued ≡ self.old.queued }
     {
         if self.link.is_done() {
             return self.end(now);
@@ -213,7 +223,8 @@ impl Connection {
     // Ends the writing.
     fn end(&mut self, now: u64) -> Outcome
         ensures id { self.new.id ≡ self.old.id }
-        ensures unfinished { self.new.unfinished ≡ self.old.unfinished }
+        ensures held { self.new.held ≡ self.old.held }
+        ensures queued { self.new.queued ≡ self.old.queued }
     {
         if self.stream.shutdown(Shutdown::Write).is_err() {
             return Outcome::Over;
@@ -229,7 +240,8 @@ impl Connection {
     // Reads and forgets, until the peer has ended too, or has had its time.
     fn linger(&mut self, now: u64, until: u64, buffer: &mut [u8]) -> Outcome
         ensures id { self.new.id ≡ self.old.id }
-        ensures unfinished { self.new.unfinished ≡ self.old.unfinished }
+        ensures held { self.new.held ≡ self.old.held }
+        ensures queued { self.new.queued ≡ self.old.queued }
     {
         if now >= until {
             return Outcome::Over;

@@ -53,9 +53,8 @@ impl<S: Saver> Outside<Lanes> for Device<'_, S> {
         match stream.read(buffer) {
             Ok(n) => Ok(n),
             Err(e) => {
-                let stop = stop_of(&e);
-                self.readable = stop != Stop::Later;
-                Err(stop)
+                self.readable = !must_wait(&e);
+                Err(stop_of(&e))
             }
         }
     }
@@ -72,17 +71,21 @@ impl<S: Saver> Outside<Lanes> for Device<'_, S> {
             Ok(0) => Err(Stop::Failed),
             Ok(n) => Ok(n),
             Err(e) => {
-                let stop = stop_of(&e);
-                self.writable = stop != Stop::Later;
-                Err(stop)
+                self.writable = !must_wait(&e);
+                Err(stop_of(&e))
             }
         }
     }
 }
 
-// Why a call gave nothing. A signal does not interrupt a call that does not wait.
+// Whether a call would have waited.
+fn must_wait(e: &Error) -> bool {
+    e.kind() == ErrorKind::WouldBlock
+}
+
+// Why a call gave nothing. One that a signal interrupted is made again in the next turn.
 fn stop_of(e: &Error) -> Stop {
-    if e.kind() == ErrorKind::WouldBlock {
+    if must_wait(e) || e.kind() == ErrorKind::Interrupted {
         Stop::Later
     } else {
         Stop::Failed

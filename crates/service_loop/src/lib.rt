@@ -7,11 +7,13 @@
 mod connection;
 mod device;
 mod kept;
+mod lines;
 mod places;
 mod report;
 mod serving;
 
 pub use device::Saver;
+pub use lines::say_line;
 pub use report::RunFault;
 pub use service_core::SaveFailed;
 pub use serving::{Limits, run_service};

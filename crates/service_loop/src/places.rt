@@ -1,24 +1,24 @@
-//! The places of connections, and what their unfinished frames take.
+//! The places of connections, and what is held for them.
 
-ghost use Rattle.std.specs.Prelude.{◌≡◌, ◌≤◌, ◌<◌, ◌↔◌, None, Some, IsTrue, IsSome, IfSome, IfNone, IfOk, is_some, not, length, replicate, slice_set};
-ghost use Rattle.std.specs.List.{IsFirstMaxByKey, list_any};
-ghost use Rattle.service_loop.specs.Judging.{soonest};
-ghost use Rattle.service_loop.specs.Places.{connection_at, unfinished_bytes, all_unfinished, noted, LosesLargest};
+ghost use Rattle.std.specs.Prelude.{◌≡◌, ◌≢◌, ◌≤◌, ◌<◌, ◌↔◌, ℕ, None, Some, IsTrue, IsSome, IsSomeAnd, IfSome, IfNone, IfOk, option_map, false, length, replicate, slice_set};
+ghost use Rattle.std.specs.List.{IsFirstMaxByKey};
+ghost use Rattle.service_loop.specs.Judging.{due_of};
+ghost use Rattle.service_loop.specs.Places.{connection_at, held_bytes, all_held, noted, LosesLargest};
 
 use crate::connection::Connection;
 use std::alloc::{AllocError, Global};
 
-/// A place for each connection that there may be at once. Between two calls the unfinished frames of all of them have no
-/// more bytes together than is allowed.
+/// A place for each connection that there may be at once. Between two calls no more bytes are held for all of them, of
+/// unfinished frames and of replies that are owed, than is allowed.
 #[derive(Drop)]
 pub struct Places {
     connections: Vec<Option<Connection>>,
-    // How many bytes the unfinished frames of all connections may have together.
+    // How many bytes may be held for all connections.
     memory: usize,
-    // How many they have.
-    unfinished: usize,
-    ghost is_sum: { unfinished ≡ all_unfinished connections.items },
-    ghost within: { unfinished ≤ memory },
+    // How many are held.
+    held: usize,
+    ghost is_sum: { held ≡ all_held connections.items },
+    ghost within: { held ≤ memory },
 }
 
 impl Places {
@@ -38,7 +38,7 @@ impl Places {
         Ok(Places {
             connections,
             memory,
-            unfinished: 0,
+            held: 0,
         })
     }
 
@@ -57,40 +57,66 @@ impl Places {
         matches!(self.connections.get(place), Some(None))
     }
 
-    /// Whether a place is free.
-    pub fn has_free(&self) -> bool
-        ensures { result ≡ list_any (λ place. not (is_some place)) self.now.connections.items }
+    /// A free place: the first from this one on, or the first of all.
+    pub fn free_from(&self, from: usize) -> Option<usize>
+        ensures free { IfSome result (λ place. (place < length self.now.connections.items)
+            × (connection_at self.now.connections.items place ≡ None)) }
+        ensures none { IfNone result ((place : ℕ) → place < length self.now.connections.items
+            → connection_at self.now.connections.items place ≢ None) }
     {
-        self.connections.iter().any(|place| place.is_none())
+        match self.first_free(from) {
+            Some(place) => Some(place),
+            None => self.first_free(0),
+        }
     }
 
-    /// The moment at which something is to be done for a connection even if no event comes, or this one where that is
-    /// earlier.
-    pub fn due(&self, idle: u64, latest: u64) -> u64
-        ensures { result ≡ soonest idle latest self.now.connections.items }
+    // The first free place from this one on.
+    fn first_free(&self, from: usize) -> Option<usize>
+        ensures free { IfSome result (λ place. (place < length self.now.connections.items)
+            × (connection_at self.now.connections.items place ≡ None)) }
+        ensures none { IfNone result ((place : ℕ) → from ≤ place
+            → place < length self.now.connections.items
+            → connection_at self.now.connections.items place ≢ None) }
     {
-        let mut until = latest;
-        for place in &self.connections {
-            if let Some(connection) = place {
-                until = until.min(connection.due(idle));
+        for place in from..self.connections.len() {
+            if self.connections[place].is_none() {
+                return Some(place);
             }
         }
-        until
+        None
     }
 
-    /// Notes that the socket of the connection at a place may be read or written.
-    pub fn note(&mut self, place: usize, readable: bool, writable: bool)
+    /// The moment at which something is to be done for the connection at a place even if no event comes.
+    pub fn due_at(&self, place: usize, idle: u64) -> Option<u64>
+        ensures { result ≡ option_map (due_of idle)
+            (connection_at self.now.connections.items place) }
+    {
+        match self.connections.get(place) {
+            Some(Some(connection)) => Some(connection.due(idle)),
+            _ => None,
+        }
+    }
+
+    /// Notes that the connection at a place will have its turn, and whether its socket may be read or written. Answers whether
+    /// there is one that was not to have its turn before.
+    pub fn note(&mut self, place: usize, readable: bool, writable: bool) -> bool
+        ensures new { IsTrue result ↔ IsSomeAnd
+            (connection_at self.old.connections.items place) (λ c. c.queued ≡ false) }
         ensures places { self.new.connections.items ≡ slice_set self.old.connections.items place
             (noted readable writable (connection_at self.old.connections.items place)) }
         ensures memory { self.new.memory ≡ self.old.memory }
     {
         if place >= self.connections.len() {
-            return;
+            return false;
         }
-        if let Some(connection) = &mut self.connections[place] {
-            connection.readable = connection.readable || readable;
-            connection.writable = connection.writable || writable;
-        }
+        let Some(connection) = &mut self.connections[place] else {
+            return false;
+        };
+        let queued = connection.queued;
+        connection.readable = connection.readable || readable;
+        connection.writable = connection.writable || writable;
+        connection.queued = true;
+        !queued
     }
 
     /// Takes the connection at a place away.
@@ -105,12 +131,12 @@ impl Places {
         if place >= self.connections.len() {
             return None;
         }
-        self.unfinished -= unfinished_at(&self.connections[place]);
+        self.held -= held_at(&self.connections[place]);
         self.connections[place].take()
     }
 
-    /// Puts a connection into a free place. Where the unfinished frames of all have too many bytes then, the one with the
-    /// longest is taken away.
+    /// Puts a connection into a free place. If too many bytes are held for all then, the one for which most are held is taken
+    /// away.
     pub fn put(&mut self, place: usize, connection: Connection) -> Option<Connection>
         requires within { place < length self.old.connections.items }
         requires free { connection_at self.old.connections.items place ≡ None }
@@ -120,40 +146,40 @@ impl Places {
             (slice_set self.old.connections.items place (Some connection)) lost
             self.new.connections.items) }
         ensures exactly { IsSome result ↔ (self.old.memory <
-            all_unfinished (slice_set self.old.connections.items place (Some connection))) }
+            all_held (slice_set self.old.connections.items place (Some connection))) }
         ensures memory { self.new.memory ≡ self.old.memory }
     {
-        let own = connection.unfinished;
+        let own = connection.held;
         let free = &mut self.connections[place];
         *free = Some(connection);
-        if own <= self.memory - self.unfinished {
-            self.unfinished += own;
+        if own <= self.memory - self.held {
+            self.held += own;
             return None;
         }
         let largest = largest(&self.connections);
-        self.unfinished -= unfinished_at(&self.connections[largest]) - own;
+        self.held -= held_at(&self.connections[largest]) - own;
         self.connections[largest].take()
     }
 }
 
-// How many bytes of an unfinished frame the connection at a place has.
-fn unfinished_at(place: &Option<Connection>) -> usize
-    ensures { result ≡ unfinished_bytes place.now }
+// How many bytes are held for the connection at a place.
+fn held_at(place: &Option<Connection>) -> usize
+    ensures { result ≡ held_bytes place.now }
 {
     match place {
-        Some(connection) => connection.unfinished,
+        Some(connection) => connection.held,
         None => 0,
     }
 }
 
-// The first of the places whose connections have the longest unfinished frames.
+// The first of the places of those connections for which most is held.
 fn largest(connections: &[Option<Connection>]) -> usize
     requires { 0 < length connections.now }
-    ensures { IsFirstMaxByKey unfinished_bytes connections.now (length connections.now) result }
+    ensures { IsFirstMaxByKey held_bytes connections.now (length connections.now) result }
 {
     let mut best = 0;
     for place in 1..connections.len() {
-        if unfinished_at(&connections[place]) > unfinished_at(&connections[best]) {
+        if held_at(&connections[place]) > held_at(&connections[best]) {
             best = place;
         }
     }

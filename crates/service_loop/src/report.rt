@@ -1,4 +1,4 @@
-//! How a service ends, and what is said of its connections.
+//! How a service ends, and why a connection is closed.
 
 use service_core::Fault;
 use std::io;
@@ -38,7 +38,7 @@ pub enum Closing {
     Turn(Fault),
     /// There was no progress for too long.
     Idle,
-    /// The unfinished frames of all connections had too many bytes, and this one's the most.
+    /// Too many bytes were held for all connections, and for this one the most.
     Crowded,
 }
 
@@ -51,14 +51,5 @@ impl Closing {
             Closing::Idle => "Idle",
             Closing::Crowded => "Memory",
         }
-    }
-}
-
-/// Prints why a connection was closed, unless nothing is to be said.
-pub fn report(rt: &HostRuntime, quiet: bool, closing: Closing) {
-    if !quiet {
-        let name = closing.name();
-        // Where this can't be printed there is nobody to report to.
-        let _ = eprintln!(rt; "connection: {name}");
     }
 }

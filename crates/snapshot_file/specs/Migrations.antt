@@ -5,7 +5,8 @@ use Rattle.digit_pack.specs.Slots.{slot_of}
 use Rattle.snapshot_file.specs.declared.migration.MigrateError.{MigrateError}
 use Rattle.snapshot_file.specs.declared.migration.MigrateError.TheVariants.{NotFormOne, TooWide, Memory}
 use Rattle.snapshot_file.specs.declared.snapshot.Header.{Header}
-use Rattle.snapshot_file.specs.Snapshots.{shape_of, records_len}
+use Rattle.snapshot_file.specs.declared.snapshot.Snapshot.{Snapshot}
+use Rattle.snapshot_file.specs.Snapshots.{header_of, shape_of, records_len}
 
 -- the fields of the same records in slots: form 2, and two bytes more for each
 abbrev pub in_slots : Header → Header
@@ -15,6 +16,13 @@ in_slots h = record h { form = 2; record_len = h.record_len + 2 }
 pub record AreInSlots (h : Header) (records moved : List ℕ) : Type 0 where
   pub len : length moved ≡ records_len (in_slots h)
   pub each : records_in (shape_of (in_slots h)) moved ≡ map (slot_of (h.record_len + 2)) (records_in (shape_of h) records)
+
+-- a snapshot that the records of one of form 1 were moved into: the layout of their slots is accepted, and each record has its own
+pub record IsMoved (h : Header) (records : List ℕ) (moved : Snapshot) : Type 0 where
+  pub form : h.form ≡ 1
+  pub layout : IsLayout (shape_of (in_slots h))
+  pub header : header_of moved ≡ in_slots h
+  pub slots : AreInSlots h records moved.records.items
 
 -- the first cause that stands
 abbrev pub IsMigrateFault : Header → MigrateError → Type 0

@@ -3,7 +3,7 @@
 ghost use Rattle.std.specs.Prelude.{◌≡◌, ◌*◌, ◌+◌, IfOk, IfErr, length, map};
 ghost use Rattle.digit_pack.specs.Layout.{IsLayout, records_in};
 ghost use Rattle.digit_pack.specs.Slots.{slot_of};
-ghost use Rattle.snapshot_file.specs.Migrations.{in_slots, AreInSlots, IsMigrateFault};
+ghost use Rattle.snapshot_file.specs.Migrations.{IsMoved, IsMigrateFault};
 ghost use Rattle.snapshot_file.specs.Names.{migrate_error_name};
 ghost use Rattle.snapshot_file.specs.Snapshots.{header_of, shape_of, records_len};
 
@@ -51,18 +51,16 @@ impl From<AllocError> for MigrateError {
 }
 
 /// The same records in form 2: version, seed, publisher and dimension stay, and each record stands in a slot of two
-/// bytes more.
+/// bytes more. The snapshot has form 1, and the layout of the slots is accepted, wherever there is a result.
 ///
 /// # Errors
 ///
 /// `NotFormOne` exactly where the snapshot's form is not 1; `TooWide` exactly where it is 1 and no layout has records of
-/// so many bytes; `Memory` where memory for the slots was refused.
+/// so many bytes; `Memory`, in no other case, where memory for the slots was refused.
 pub fn migrate(alloc: Global, snapshot: &Snapshot) -> Result<Snapshot, MigrateError>
     requires layout { IsLayout (shape_of (header_of snapshot.now)) }
     requires len { length snapshot.now.records.items ≡ records_len (header_of snapshot.now) }
-    ensures header { IfOk result (λ s. header_of s ≡ in_slots (header_of snapshot.now)) }
-    ensures records { IfOk result (λ s. AreInSlots (header_of snapshot.now)
-        snapshot.now.records.items s.records.items) }
+    ensures moved { IfOk result (IsMoved (header_of snapshot.now) snapshot.now.records.items) }
     ensures refused { IfErr result (IsMigrateFault (header_of snapshot.now)) }
 {
     let header = snapshot.header();

@@ -1,6 +1,6 @@
 //! The hints of DoublePIR, after the rows of digits that changed.
 
-ghost use Rattle.std.specs.Prelude.{◌≡◌, ◌-◌, ◌*◌, ◌<◌, ◌≤◌, IfOk, filter, length, vec_capacity};
+ghost use Rattle.std.specs.Prelude.{◌≡◌, ◌-◌, ◌*◌, ◌<◌, ◌≤◌, IfOk, filter, length, max, min, vec_capacity};
 ghost use Rattle.std.specs.List.{range_with_len};
 ghost use Rattle.lane_kernels.specs.Digit.{split_count};
 ghost use Rattle.version_store.specs.Editions.{FollowsRows, is_marked};
@@ -23,12 +23,13 @@ pub struct FollowRoom {
 }
 
 impl FollowRoom {
-    /// Memory for changes of at most so many rows, in a hint with so many columns, of digits of w bits. Only refused memory
-    /// gives an `Err`.
+    /// Memory for changes of at most so many rows, in a hint with so many columns, of digits of w bits: for all of them together, or
+    /// for 128 where there are more. Only refused memory gives an `Err`.
     pub fn new(alloc: Global, rows: usize, cols: usize, w: u32) -> Result<FollowRoom, AllocError>
         requires cols { cols ≤ 1024 }
         requires width { (6 ≤ w) × (w ≤ 10) }
-        ensures { IfOk result (IsRoomForRows cols) }
+        ensures rows { IfOk result (λ room. room.rows.public.rows ≡ max (min rows 128) 1) }
+        ensures room { IfOk result (IsRoomForRows cols) }
     {
         let most = NEAR_ROWS.min(rows).max(1);
         let listed = Vec::with_capacity(alloc, most)?;

@@ -91,12 +91,13 @@ pub record IsReported (e : Event) (out : ReportedEvent) : Type 0 where
   pub kind : out.kind ≡ event_kind e
   pub detail : out.detail ≡ event_detail e
   pub index : out.index ≡ event_index e
+  pub reserved : out.reserved ≡ 0
   pub version : out.version ≡ event_version e
   pub record_len : out.record_len ≡ length (event_record e)
 
--- the first of these events as C reads it, of kind 0 where there is none
+-- the first of these events as C reads it, with all fields 0 where there is none
 abbrev pub Reports : List Event → ReportedEvent → Type 0
-Reports [] out = out.kind ≡ 0
+Reports [] out = out ≡ record { kind = 0; detail = 0; index = 0; reserved = 0; version = 0; record_len = 0 }
 Reports (e ∷ es) out = IsReported e out
 
 -- what the server reported of its store as C reads it, all 0 before it let the client in

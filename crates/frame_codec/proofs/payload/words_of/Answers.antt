@@ -1,4 +1,4 @@
-use Rattle.std.proofs.Common.{rules, ◌≡◌, ◌++◌, ◌+◌, ◌*◌, ◌/◌, ℕ, List, [], length, arith, ap, sym, ◌∙◌, append_assoc}
+use Rattle.std.proofs.Common.{rules, ◌≡◌, ◌++◌, ◌+◌, ℕ, List, [], length, arith, ap, sym, ◌∙◌, append_assoc}
 use Rattle.std.proofs.lemmas.List.{take-append-drop, append-nil, length-append, nil_from_length}
 use Rattle.frame_codec.specs.Numbers.{word_bytes}
 use Rattle.frame_codec.proofs.NumberBytes.{no_words}

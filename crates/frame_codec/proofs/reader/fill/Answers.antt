@@ -3,7 +3,7 @@ use Rattle.std.specs.Prelude.{OnOk}
 use Rattle.std.proofs.lemmas.Result.{err_from_is_err_and}
 use Rattle.frame_codec.specs.declared.reader.ReadFault.{ReadFault}
 use Rattle.frame_codec.specs.declared.reader.ReadFault.TheVariants.{Memory}
-use Rattle.frame_codec.specs.Streams.{HasFault, StopsAt, IsReadable}
+use Rattle.frame_codec.specs.Streams.{HasBadLength, HasFault, StopsAt, IsReadable}
 use Rattle.frame_codec.proofs.Pieces.{filled_whole, filled_alone, filled_until, sound_stops}
 use Rattle.frame_codec.proofs.Prefixes.{fault_stops}
 use Rattle.frame_codec.proofs.reader.fill.Goals as goal
@@ -59,5 +59,6 @@ returns-clause-until c =
 pub returns-clause-err : goal.returns-clause-err
 returns-clause-err c =
     let sound : IsReadable (c.args.pending.now.items ++ c.args.piece.now) c.in_ok-size.size = rw c.deref.ensures.value at c.in_ok-size.ensures.ok in
+    let good : HasBadLength (c.args.pending.now.items ++ c.args.piece.now) → ⊥ = rw c.deref.ensures.value at c.in_ok-size.ensures.judged in
     memory_stops c.top_up.result (c.args.pending.now.items ++ c.args.piece.now) c.top_up.ensures.err
-    (sound_stops (c.args.pending.now.items ++ c.args.piece.now) c.in_ok-size.size sound)
+    (sound_stops (c.args.pending.now.items ++ c.args.piece.now) c.in_ok-size.size sound good)

@@ -1,4 +1,4 @@
-use Rattle.std.proofs.Common.{◌≡◌, ℕ, ◌+◌, ◌-◌, ◌*◌, ◌<◌, ◌≤◌, arith, ap}
+use Rattle.std.proofs.Common.{◌≡◌, ℕ, ◌+◌, ◌-◌, ◌*◌, ◌<◌, ◌≤◌, arith}
 use Rattle.std.proofs.lemmas.Nat.{mul-add-lt}
 use Rattle.lane_kernels.specs.Digit.{split_count}
 use Rattle.digit_pack.proofs.DigitSums.{split_some}
@@ -11,16 +11,8 @@ within word step cols some l =
     let turn : step * cols ≡ cols * step = grind arith in
     omega (arith, last, turn, some)
 
-pub overflow_mul-first : goal.overflow_mul-first
-overflow_mul-first g c =
-    let some : 0 < split_count c.args.w = split_some c.args.w (omega (arith, c.requires.width.0)) in
-    let low = within c.args.word (split_count c.args.w) c.args.hint.now.cols some c.requires.word in
-    let is : c.args.word * c.split_count.result ≡ c.args.word * split_count c.args.w = ap (λ s. c.args.word * s) c.split_count.ensures in
-    omega (arith, low, is, c.requires.server_rows, c.rows-rows.ensures.value)
-
 pub word_in-old-requires-clause-rows : goal.word_in-old-requires-clause-rows
 word_in-old-requires-clause-rows g c =
     let some : 0 < split_count c.args.w = split_some c.args.w (omega (arith, c.requires.width.0)) in
     let low = within c.args.word (split_count c.args.w) c.args.hint.now.cols some c.requires.word in
-    let is : c.args.word * c.split_count.result ≡ c.args.word * split_count c.args.w = ap (λ s. c.args.word * s) c.split_count.ensures in
-    omega (arith, low, is, c.requires.server_rows)
+    omega (arith, low, c.requires.server_rows)

@@ -1,4 +1,4 @@
-use Rattle.std.proofs.Common.{List, [], ◌∷◌, Ok, Err}
+use Rattle.std.proofs.Common.{[], ◌∷◌, Ok, Err}
 use Rattle.version_store.specs.Histories.{History, StandsFor}
 use Rattle.server_core.specs.declared.standing.Standing.{Standing}
 use Rattle.server_core.specs.Serving.{setting_of}

@@ -17,9 +17,9 @@ returns-clause-combined g c = λ q l.
     let wide : c.args.self.now.combined.len ≡ public.cols = c.args.self.now.combined.ok.0 ∙ c.requires.room.combined in
     let fresh : zeros ≡ replicate public.cols 0 = c.deref_mut-2.ensures.value ∙ c.fill.ensures.items (λ y h. h) ∙ ap (λ n. replicate n 0) wide in
     let long : length zeros ≡ public.cols = ap length fresh ∙ length-replicate public.cols 0 in
-    let kept : common ≡ written = c.deref.ensures.value ∙ with_items_is c.args.self.now.common written (c.put_common-self.ensures ∙ c.deref_mut.ensures.len) in
+    let kept : common ≡ written = c.deref.ensures.value ∙ with_items_is c.args.self.now.common written (c.put_common-self.ensures.length ∙ c.deref_mut.ensures.len) in
     let high : length common ≡ public.rows =
-    ap length kept ∙ c.put_common-self.ensures ∙ ap length c.deref_mut.ensures.value ∙ c.requires.room.common in
+    ap length kept ∙ c.put_common-self.ensures.length ∙ ap length c.deref_mut.ensures.value ∙ c.requires.room.common in
     let clear : (q : ℕ) → q < length zeros → slice_index zeros q ≡ 0 = λ q m.
     let inside : q < public.cols = omega (arith, m, long) in
     rw fresh (get_or-replicate public.cols q 0 0 inside) in

@@ -1,4 +1,4 @@
-use Rattle.std.proofs.Common.{◌≡◌, ◌∙◌, ap, refl, sym, subst}
+use Rattle.std.proofs.Common.{◌∙◌, ap, refl, sym, subst}
 use Rattle.version_store.specs.Histories.{StoreState, StandsFor}
 use Rattle.server_core.specs.Serving.{setting_of}
 use Rattle.server_core.proofs.Firsts.{first_well, first_short, used_some}

@@ -1,9 +1,13 @@
-use Rattle.std.proofs.Common.{◌≡◌}
-use Rattle.service_loop.specs.Places.{OnlyFlagsChange}
+use Rattle.std.proofs.Common.{◌≡◌, ℕ}
+use Rattle.service_loop.specs.Places.{HasTurnIfMarked, OnlyFlagsChange}
 use Rattle.service_loop.proofs.serving.Service.note_all.Given as goal
 
 abbrev pub invariant-loop-event : goal.invariant-loop-event
 invariant-loop-event l = record {
   flags : OnlyFlagsChange l.fn.self.places.connections.items l.self.places.connections.items;
+  marked : (i : ℕ) → HasTurnIfMarked l.fn.self.places.connections.items l.fn.self.visits_all l.fn.self.ready.items i
+      → HasTurnIfMarked l.self.places.connections.items l.self.visits_all l.self.ready.items i;
+  limits : l.self.limits ≡ l.fn.self.limits;
+  scanned : l.self.scanned ≡ l.fn.self.scanned;
   number : l.self.next_id ≡ l.fn.self.next_id;
 }

@@ -1,9 +1,13 @@
-use Rattle.std.proofs.Common.{◌≡◌, ◌<◌, ◌+◌, None, Result, Ok, Err, OnOk, true, false, sym, ap, subst, ◌∙◌, arith}
+use Rattle.std.proofs.Common.{◌≡◌, ◌<◌, ◌+◌, None, Some, Result, Ok, Err, OnOk, true, false, sym, ap, subst, ◌∙◌, arith}
 use Rattle.std.specs.Result.{is_err}
-use Rattle.server_core.specs.Cores.{session_of, unfinished_in}
+use Rattle.server_core.specs.Cores.{session_of}
+use Rattle.service_loop.specs.Holding.{held_by}
 use Rattle.service_loop.specs.declared.connection.Connection.{Connection}
+use Rattle.service_loop.specs.declared.places.Places.{Places}
+use Rattle.server_core.specs.Sessions.{new_session}
 use Rattle.service_loop.specs.Sessions.{AreNoted, Settles}
 use Rattle.service_loop.proofs.Noted.{opened_noted, given_noted, settled_noted}
+use Rattle.service_loop.proofs.Marks.{settled_comes, turn_moved}
 use Rattle.service_loop.proofs.serving.Service.open.Goals as goal
 
 on_ok : {T E P : Type 0} (r : Result T E) → is_err r ≡ false → OnOk r P → P
@@ -23,13 +27,33 @@ returns-clause-noted g c =
       readable = true;
       writable = true;
       lingers = None;
-      unfinished = 0;
+      held = 0;
+      queued = true;
     } in
-    let settles = subst (λ (k : Connection). Settles c.args.place k before mid c.settle.new.self.places.connections.items c.settle.new.kept.core)
-    c.opened-connection.ensures c.settle.ensures.settles in
+    let pushed = subst (λ (k : Connection). Settles c.args.place k c.push_ready.new.self.places.connections.items mid
+    c.settle.new.self.places.connections.items c.settle.new.kept.core) c.opened-connection.ensures c.settle.ensures.settles in
+    let settles = subst (λ (k : Places). Settles c.args.place made k.connections.items mid c.settle.new.self.places.connections.items c.settle.new.kept.core)
+    c.push_ready.ensures.places pushed in
     let on = opened_noted before c.args.kept.now.core mid next c.requires.noted does.3 in
     let low : next < next + 1 = omega arith in
-    let is : 0 ≡ unfinished_in (session_of mid.sessions next) = sym (ap unfinished_in does.1) in
-    subst (λ n. AreNoted c.settle.new.self.places.connections.items c.settle.new.kept.core n) (sym (c.settle.ensures.number ∙ c.in-Some.ensures.1))
+    let is : 0 ≡ held_by (session_of mid.sessions next) c.new.result =
+    sym (ap (λ s. held_by s c.new.result) does.1 ∙ ap (held_by (Some new_session)) c.new.ensures) in
+    subst (λ n. AreNoted c.settle.new.self.places.connections.items c.settle.new.kept.core n) (sym (c.settle.ensures.number ∙ (c.push_ready.ensures.number ∙ c.in-Some.ensures.1)))
     (settled_noted c.args.place made before mid c.settle.new.self.places.connections.items c.settle.new.kept.core (next + 1) settles
     (given_noted before c.args.place made mid (next + 1) c.requires.within on.0 on.1 low is))
+
+pub returns-clause-turns : goal.returns-clause-turns
+returns-clause-turns g c = λ i h. turn_moved c.push_ready.new.self.visits_all c.settle.new.self.visits_all c.push_ready.new.self.ready.items c.settle.new.self.ready.items i
+    c.settle.ensures.all (ap (λ v. v.items) c.settle.ensures.ready) (c.push_ready.ensures.others i h)
+
+pub returns-clause-comes : goal.returns-clause-comes
+returns-clause-comes g c =
+    let mid = c.open_session.new.self.core in
+    let made = c.opened-connection.result in
+    let after = c.settle.new.self.places.connections.items in
+    let settles = subst (λ (k : Places). Settles c.args.place made k.connections.items mid after c.settle.new.kept.core)
+    c.push_ready.ensures.places c.settle.ensures.settles in
+    settled_comes c.args.place made c.args.self.now.places.connections.items mid after c.settle.new.kept.core c.settle.new.self.visits_all
+    c.settle.new.self.ready.items c.requires.within (ap (λ (k : Connection). k.queued) c.opened-connection.ensures)
+    (turn_moved c.push_ready.new.self.visits_all c.settle.new.self.visits_all c.push_ready.new.self.ready.items c.settle.new.self.ready.items c.args.place
+    c.settle.ensures.all (ap (λ v. v.items) c.settle.ensures.ready) c.push_ready.ensures.noted) settles

@@ -1,5 +1,11 @@
+use Rattle.std.proofs.Common.{ℕ}
+use Rattle.service_loop.specs.Places.{AreMarkedNoted, HasNoIdle}
 use Rattle.service_loop.specs.Sessions.{AreNoted}
 use Rattle.service_loop.proofs.serving.Service.run.Given as goal
 
 abbrev pub invariant-loop : goal.invariant-loop
-invariant-loop g l = AreNoted l.self.places.connections.items l.kept.core l.self.next_id
+invariant-loop g l = record {
+  noted : AreNoted l.self.places.connections.items l.kept.core l.self.next_id;
+  marked : AreMarkedNoted l.self.places.connections.items l.self.visits_all l.self.ready.items;
+  idle : (i : ℕ) → HasNoIdle l.self.places.connections.items i l.self.scanned l.self.limits.idle;
+}

@@ -1,0 +1,16 @@
+use Rattle.std.proofs.Common.{List, Option, sym, ap, subst, ◌∙◌}
+use Rattle.service_loop.specs.declared.connection.Connection.{Connection}
+use Rattle.service_loop.specs.declared.places.Places.{Places}
+use Rattle.service_loop.specs.Places.{connection_at, HasTurn, HasTurnIfMarked}
+use Rattle.service_loop.proofs.Marks.{anyhow, note_marked}
+use Rattle.service_loop.proofs.serving.Service.queue.Goals as goal
+
+pub returns-then-note-clause-marked : goal.returns-then-note-clause-marked
+returns-then-note-clause-marked c = λ i h.
+    let places = c.args.self.now.places.connections.items in
+    let all = c.push_ready.new.self.visits_all in
+    let ready = c.push_ready.new.self.ready.items in
+    let moved = note_marked places c.args.place c.args.readable c.args.writable c.args.self.now.visits_all all c.args.self.now.ready.items ready
+    c.push_ready.ensures.others (anyhow (connection_at places c.args.place) (HasTurn all ready c.args.place) c.push_ready.ensures.noted) i h in
+    subst (λ (k : List (Option Connection)). HasTurnIfMarked k all ready i)
+    (sym (ap (λ (p : Places). p.connections.items) c.push_ready.ensures.places ∙ c.note.ensures.places)) moved

@@ -1,0 +1,16 @@
+use Rattle.std.proofs.Common.{◌≡◌, ◌≤◌, ◌<◌, ℕ, Some, true}
+use Rattle.service_loop.specs.declared.connection.Connection.{Connection}
+use Rattle.service_loop.specs.Judging.{due_of}
+use Rattle.service_loop.specs.Places.{connection_at, HasTurnIfMarked, OnlyFlagsChange}
+use Rattle.service_loop.proofs.serving.Service.queue_due.Given as goal
+
+abbrev pub invariant-loop-place : goal.invariant-loop-place
+invariant-loop-place l = record {
+  flags : OnlyFlagsChange l.fn.self.places.connections.items l.self.places.connections.items;
+  marked : (i : ℕ) → HasTurnIfMarked l.fn.self.places.connections.items l.fn.self.visits_all l.fn.self.ready.items i
+      → HasTurnIfMarked l.self.places.connections.items l.self.visits_all l.self.ready.items i;
+  number : l.self.next_id ≡ l.fn.self.next_id;
+  limits : l.self.limits ≡ l.fn.self.limits;
+  scanned : l.self.scanned ≡ l.fn.self.scanned;
+  due : (i : ℕ) (c : Connection) → i < l.place → connection_at l.self.places.connections.items i ≡ Some c → due_of l.self.limits.idle c ≤ l.now → c.queued ≡ true;
+}

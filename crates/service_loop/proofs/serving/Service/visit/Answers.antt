@@ -1,0 +1,47 @@
+use Rattle.std.proofs.Common.{◌∙◌, sym, ap, subst}
+use Rattle.service_loop.specs.declared.places.Places.{Places}
+use Rattle.service_loop.specs.Places.{HasTurnIfMarked, OnlyFlagsChange}
+use Rattle.service_loop.specs.Sessions.{AreNoted}
+use Rattle.service_loop.proofs.Flags.{flags_noted}
+use Rattle.service_loop.proofs.Idle.{flags_active, visit_stays}
+use Rattle.service_loop.proofs.Marks.{marked_moved, turn_marked, turn_marks_stay}
+use Rattle.service_loop.proofs.serving.Service.visit.Goals as goal
+
+pub returns : goal.returns
+returns g c = record {
+  noted =
+      let before = c.take_turn_at.new.self.places.connections.items in
+      let after = c.queue_again.new.self.places.connections.items in
+      let flags = subst (λ (p : Places). OnlyFlagsChange p.connections.items after) c.note_next_at.ensures.places c.queue_again.ensures.flags in
+      subst (λ n. AreNoted after c.in_ok-kept.kept.core n) (sym (c.queue_again.ensures.number ∙ c.note_next_at.ensures.number))
+      (flags_noted before after c.in_ok-kept.kept.core c.take_turn_at.new.self.next_id flags c.in_ok-kept.ensures.noted);
+  idle =
+      let before = c.take_turn_at.new.self.places.connections.items in
+      let after = c.queue_again.new.self.places.connections.items in
+      let flags = subst (λ (p : Places). OnlyFlagsChange p.connections.items after) c.note_next_at.ensures.places c.queue_again.ensures.flags in
+      flags_active before after c.args.self.now.scanned c.args.self.now.limits.idle c.args.place flags c.in_ok-kept.ensures.idle;
+  stays =
+      let before = c.take_turn_at.new.self.places.connections.items in
+      let after = c.queue_again.new.self.places.connections.items in
+      let flags = subst (λ (p : Places). OnlyFlagsChange p.connections.items after) c.note_next_at.ensures.places c.queue_again.ensures.flags in
+      visit_stays c.args.self.now.places.connections.items before after c.args.place c.args.self.now.scanned c.args.self.now.limits.idle
+      c.in_ok-kept.ensures.others c.in_ok-kept.ensures.idle flags;
+  limits = c.queue_again.ensures.limits ∙ (c.note_next_at.ensures.limits ∙ c.in_ok-kept.ensures.limits);
+  scanned = c.queue_again.ensures.scanned ∙ (c.note_next_at.ensures.scanned ∙ c.in_ok-kept.ensures.scanned);
+  turns = c.queue_again.ensures.turns ∙ (c.note_next_at.ensures.turns ∙ c.in_ok-kept.ensures.turns);
+  marked =
+      let mid = c.take_turn_at.new.self.places.connections.items in
+      let all = c.note_next_at.new.self.visits_all in
+      let ready = c.note_next_at.new.self.ready.items in
+      c.queue_again.ensures.marked c.args.place (subst (λ (p : Places). HasTurnIfMarked p.connections.items all ready c.args.place)
+      (sym c.note_next_at.ensures.places) (turn_marked mid c.args.place all ready c.in_ok-kept.ensures.unmarked));
+  marks_stay = λ i h.
+      let before = c.args.self.now.places.connections.items in
+      let mid = c.take_turn_at.new.self.places.connections.items in
+      let all = c.args.self.now.visits_all in
+      let ready = c.args.self.now.ready.items in
+      c.queue_again.ensures.marked i (marked_moved mid c.note_next_at.new.self.places.connections.items all c.note_next_at.new.self.visits_all ready
+      c.note_next_at.new.self.ready.items i (ap (λ (p : Places). p.connections.items) c.note_next_at.ensures.places)
+      (c.note_next_at.ensures.all ∙ c.in_ok-kept.ensures.all) (ap (λ v. v.items) c.note_next_at.ensures.ready ∙ ap (λ v. v.items) c.in_ok-kept.ensures.ready)
+      (turn_marks_stay before mid c.args.place all ready c.in_ok-kept.ensures.unmarked c.in_ok-kept.ensures.others i h));
+}
