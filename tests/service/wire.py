@@ -3,6 +3,7 @@ import os
 import resource
 import signal
 import socket
+from socket import SO_LINGER, SO_RCVBUF, SOL_SOCKET
 import struct
 import subprocess
 import time
@@ -102,13 +103,14 @@ class Connection:
 class Server:
     """A server's process, which listens."""
 
-    def __init__(self, program, *words, prepare=None, keep_signals=False):
+    def __init__(self, program, *words, prepare=None, keep_signals=False, errors=subprocess.PIPE, more=None):
         self.process = subprocess.Popen(
             [program, *words],
             stdin=subprocess.DEVNULL,
             stdout=subprocess.PIPE,
-            stderr=subprocess.PIPE,
+            stderr=errors,
             preexec_fn=prepare,
+            env={**os.environ, **(more or {})},
             # Python ignores SIGXFSZ, and a process that is to see that a file is too large needs it ignored, too.
             restore_signals=not keep_signals,
         )
@@ -129,12 +131,13 @@ class Server:
 
     def ended(self, seconds=30):
         """Waits for its end: the status, and what it printed on standard error."""
-        if self.process.stderr.closed:
+        if self.process.stdout.closed:
             return self.process.returncode, ""
         _, errors = self.process.communicate(timeout=seconds)
         self.process.stdout.close()
-        self.process.stderr.close()
-        return self.process.returncode, errors.decode()
+        if self.process.stderr:
+            self.process.stderr.close()
+        return self.process.returncode, (errors or b"").decode()
 
     def memory(self, name="VmHWM"):
         """Bytes of memory: VmHWM is the most that it had, VmRSS what it has."""
@@ -152,6 +155,29 @@ def files_limited_to(count):
         resource.setrlimit(resource.RLIMIT_FSIZE, (count, count))
 
     return prepare
+
+
+def descriptors_limited_to(count):
+    """What a process does before it begins so that it may have at most so many descriptors, or as many as the system lets it."""
+
+    def prepare():
+        _, hard = resource.getrlimit(resource.RLIMIT_NOFILE)
+        most = count if hard == resource.RLIM_INFINITY else min(count, hard)
+        resource.setrlimit(resource.RLIMIT_NOFILE, (most, hard))
+
+    return prepare
+
+
+def is_connected(port, connection):
+    """Whether a server still has its end of a connection, as the system says it."""
+    local = f":{port:04X}"
+    own = f":{connection.getsockname()[1]:04X}"
+    with open("/proc/net/tcp", encoding="ascii") as lines:
+        for line in list(lines)[1:]:
+            _, here, there, state = line.split()[:4]
+            if here.endswith(local) and there.endswith(own):
+                return state == "01"
+    return False
 
 
 def as_nobody():
