@@ -1,51 +1,65 @@
 -- What a conversation leaves, whatever the server says.
-use Rattle.std.proofs.Common.{◌≡◌, ℕ, false, List, [], ◌∷◌, Option, Result, Ok, Err, ap, inl, inr}
+use Rattle.std.proofs.Common.{◌≡◌, ℕ, false, List, [], ◌∷◌, Option, Result, Ok, Err, inl, inr}
+use Rattle.client_core.specs.declared.state.ClientFault.{ClientFault}
 use Rattle.client_core.specs.declared.state.Event.{Event}
-use Rattle.client_core.specs.Feeding.{Client}
+use Rattle.client_core.specs.Feeding.{Client, FeedsClient}
 use Rattle.client_core.specs.Endings.{Ends, IsNoSync}
-use Rattle.client_core.proofs.EndingLaws.{first_event_ends_the_call, feeding_spends_no_number}
+use Rattle.client_core.proofs.EndingLaws.{first_event_ends_the_call}
 use Rattle.client_core.proofs.HintKeeping.{only_syncs_change_the_hint}
 use Rattle.session_engines.specs.declared.conversing.ConverseFault.{ConverseFault}
 use Rattle.session_engines.specs.declared.conversing.ConverseFault.TheVariants.{Ended, Read, Write, BadWelcome, BadReply, Memory, TurnsUsedUp, Failed}
 use Rattle.session_engines.specs.Conversing.{WaitsForReply, Receives, NeverReceives, Converses}
 
-same_number : (old new : Client) → new ≡ old → new.state.number ≡ old.state.number
-same_number old new e = ap (λ (c : Client). c.state.number) e
+-- ---- what each feed keeps
 
-waits_number : (old : Client) (read out : List ℕ) (new : Client) → WaitsForReply old read out new → new.state.number ≡ old.state.number
-waits_number old read out new (inl none) = same_number old new none.2
-waits_number old read out new (inr fed) = feeding_spends_no_number old new read out [] _ fed
+-- what holds of a client and what it is fed to become, whatever the piece
+abbrev pub HoldsOfFeeds : (Client → Client → Type 0) → Type 0
+HoldsOfFeeds P = (old new : Client) (piece out : List ℕ) (events : List Event) (fault : Option ClientFault) → FeedsClient old piece out events fault new →
+    P old new
 
-receives_number : (old : Client) (turns : ℕ) (result : Result Event ConverseFault) (read out : List ℕ) (left : Option (List ℕ)) (new : Client) →
-    Receives old turns result read out left new → new.state.number ≡ old.state.number
-receives_number old turns (Ok event) read out left new h = feeding_spends_no_number old new read out _ _ h.2
-receives_number old turns (Err Ended) read out left new h = waits_number old read out new h.0
-receives_number old turns (Err Read) read out left new h = waits_number old read out new h
-receives_number old turns (Err Write) read out left new h = feeding_spends_no_number old new read _ _ _ h.3
-receives_number old turns (Err BadWelcome) read out left new h = feeding_spends_no_number old new read out _ _ h
-receives_number old turns (Err BadReply) read out left new h = feeding_spends_no_number old new read out _ _ h
-receives_number old turns (Err Memory) read out left new h = feeding_spends_no_number old new read out _ _ h
-receives_number old turns (Err TurnsUsedUp) read out left new h = waits_number old read out new h.0
-receives_number old turns (Err Failed) read out left new h = feeding_spends_no_number old new read out _ _ h
+-- what holds of a client and itself
+abbrev pub HoldsOfItself : (Client → Client → Type 0) → Type 0
+HoldsOfItself P = (old new : Client) → new ≡ old → P old new
 
-never_number : (old : Client) (first : List ℕ) (result : Result Event ConverseFault) (read out : List ℕ) (new : Client) →
-    NeverReceives old first result read out new → new.state.number ≡ old.state.number
-never_number old first (Err Write) read out new h = same_number old new h.2
-never_number old first (Err Memory) read out new h = same_number old new h.2
-never_number old first (Ok event) read out new h = absurd h
-never_number old first (Err Ended) read out new h = absurd h
-never_number old first (Err Read) read out new h = absurd h
-never_number old first (Err BadWelcome) read out new h = absurd h
-never_number old first (Err BadReply) read out new h = absurd h
-never_number old first (Err TurnsUsedUp) read out new h = absurd h
-never_number old first (Err Failed) read out new h = absurd h
+waits : (P : Client → Client → Type 0) → HoldsOfItself P → HoldsOfFeeds P → (old : Client) (read out : List ℕ) (new : Client) →
+    WaitsForReply old read out new → P old new
+waits P still fed old read out new (inl none) = still old new none.2
+waits P still fed old read out new (inr h) = fed old new read out [] _ h
 
--- no conversation spends a number
-pub conversing_spends_no_number : (old : Client) (first : List ℕ) (turns : ℕ) (result : Result Event ConverseFault) (read out : List ℕ)
-    (left : Option (List ℕ)) (new : Client)
-    → Converses old first turns result read out left new → new.state.number ≡ old.state.number
-conversing_spends_no_number old first turns result read out left new (inl h) = never_number old first result read out new h
-conversing_spends_no_number old first turns result read out left new (inr h) = receives_number old turns result read h.0 left new h.2
+receives_keep : (P : Client → Client → Type 0) → HoldsOfItself P → HoldsOfFeeds P → (old : Client) (turns : ℕ) (result : Result Event ConverseFault)
+    (read out : List ℕ) (left : Option (List ℕ)) (new : Client)
+    → Receives old turns result read out left new → P old new
+receives_keep P still fed old turns (Ok event) read out left new h = fed old new read out _ _ h.2
+receives_keep P still fed old turns (Err Ended) read out left new h = waits P still fed old read out new h.0
+receives_keep P still fed old turns (Err Read) read out left new h = waits P still fed old read out new h
+receives_keep P still fed old turns (Err Write) read out left new h = fed old new read _ _ _ h.3
+receives_keep P still fed old turns (Err BadWelcome) read out left new h = fed old new read out _ _ h
+receives_keep P still fed old turns (Err BadReply) read out left new h = fed old new read out _ _ h
+receives_keep P still fed old turns (Err Memory) read out left new h = fed old new read out _ _ h
+receives_keep P still fed old turns (Err TurnsUsedUp) read out left new h = waits P still fed old read out new h.0
+receives_keep P still fed old turns (Err Failed) read out left new h = fed old new read out _ _ h
+
+never_keeps : (P : Client → Client → Type 0) → HoldsOfItself P → (old : Client) (first : List ℕ) (result : Result Event ConverseFault) (read out : List ℕ)
+    (new : Client)
+    → NeverReceives old first result read out new → P old new
+never_keeps P still old first (Err Write) read out new h = still old new h.2
+never_keeps P still old first (Err Memory) read out new h = still old new h.2
+never_keeps P still old first (Ok event) read out new h = absurd h
+never_keeps P still old first (Err Ended) read out new h = absurd h
+never_keeps P still old first (Err Read) read out new h = absurd h
+never_keeps P still old first (Err BadWelcome) read out new h = absurd h
+never_keeps P still old first (Err BadReply) read out new h = absurd h
+never_keeps P still old first (Err TurnsUsedUp) read out new h = absurd h
+never_keeps P still old first (Err Failed) read out new h = absurd h
+
+-- what holds of a client and what it becomes by any feed holds of it and what it becomes by a conversation
+pub conversing_keeps : (P : Client → Client → Type 0) → HoldsOfItself P → HoldsOfFeeds P → (old : Client) (first : List ℕ) (turns : ℕ)
+    (result : Result Event ConverseFault) (read out : List ℕ) (left : Option (List ℕ)) (new : Client)
+    → Converses old first turns result read out left new → P old new
+conversing_keeps P still fed old first turns result read out left new (inl h) = never_keeps P still old first result read out new h
+conversing_keeps P still fed old first turns result read out left new (inr h) = receives_keep P still fed old turns result read h.0 left new h.2
+
+-- ---- the hint, and the end
 
 -- a conversation that came to an event leaves the hint as it is where no sync is outstanding, unless the client fails
 pub event_leaves_the_hint : (old : Client) (first : List ℕ) (turns : ℕ) (event : Event) (read out : List ℕ) (left : Option (List ℕ)) (new : Client)

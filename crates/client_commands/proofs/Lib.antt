@@ -3,5 +3,7 @@ pub mod Endings
 pub mod Numbers
 pub mod Sendings
 pub mod Speaking
-pub mod Skipping
 pub mod Dropping
+pub mod Seeds
+pub mod Histories
+pub mod HintWords

@@ -1,18 +1,23 @@
 -- How many numbers a command spends.
-use Rattle.std.proofs.Common.{◌≡◌, ◌⊎◌, ◌+◌, ℕ, List, [], ◌∷◌, Option, Result, Ok, Err, refl, ap, ◌∙◌, inl, inr}
+use Rattle.std.proofs.Common.{◌≡◌, ◌⊎◌, ◌+◌, ℕ, false, List, [], ◌∷◌, Option, Some, None, Result, Ok, Err, refl, sym, ap, ◌∙◌, inl, inr}
+use Rattle.std.specs.Prelude.{is_some, if◌then◌else◌}
 use Rattle.client_core.specs.declared.state.ClientState.{ClientState}
 use Rattle.client_core.specs.declared.state.CallFault.{CallFault}
 use Rattle.client_core.specs.declared.state.Event.{Event}
 use Rattle.client_core.specs.declared.state.Event.TheVariants as event
 use Rattle.client_core.specs.States.{delta_base}
-use Rattle.client_core.specs.Calls.{Want, Hello, Sync, Ask, Edit, Append, Publish, Accepts, Refuses}
+use Rattle.client_core.specs.Calls.{Want, Hello, Sync, Ask, Edit, Append, Publish, refusal, Accepts, Refuses}
 use Rattle.client_core.specs.Feeding.{Client}
 use Rattle.client_core.proofs.NumberLaws.{sync_number}
+use Rattle.client_core.proofs.EndingLaws.{feeding_spends_no_number}
 use Rattle.pir_schemes.specs.declared.scheme.Scheme.{Scheme}
+use Rattle.client_core.specs.Laws.{Accepted, Lacking}
 use Rattle.client_commands.specs.declared.fault.CommandError.{CommandError}
 use Rattle.client_commands.specs.declared.fault.CommandError.TheVariants.{Refused, Stale, Unreadable, ShortSecrets, Call, Conversation}
+use Rattle.client_commands.specs.Runs.{number_after_ask}
 use Rattle.client_commands.specs.Transcripts.{most_reads, Answers, Exchanges, RefusesCall, ComesTo, CommandStep, Calls, Judges, EndsWith, IsLastOf, Transacts, retrieval}
-use Rattle.client_commands.proofs.Conversations.{conversing_spends_no_number}
+use Rattle.client_commands.proofs.Conversations.{HoldsOfFeeds, HoldsOfItself, conversing_keeps}
+use Rattle.client_commands.proofs.Seeds.{goes_on, feeding_keeps_seed}
 
 -- ---- one call
 
@@ -45,19 +50,30 @@ refused_number (Edit i b) old new fault calm (inr r) = number_after old new _ r.
 refused_number (Append b) old new fault calm (inr r) = number_after old new _ r.2 refl
 refused_number Publish old new fault calm (inr r) = number_after old new _ r.2 refl
 
+-- what holds of a client and what it becomes by any feed holds of it and what it becomes as its call is answered
+answered_keeps : (P : Client → Client → Type 0) → HoldsOfItself P → HoldsOfFeeds P → (called : Client) (first : List ℕ) (result : Result Event CommandError)
+    (read out : List ℕ) (left : Option (List ℕ)) (new : Client)
+    → Answers called first result read out left new → P called new
+answered_keeps P still fed called first (Ok event) read out left new h =
+    conversing_keeps P still fed called first most_reads (Ok event) read out left new h.1
+answered_keeps P still fed called first (Err (Refused code)) read out left new h =
+    conversing_keeps P still fed called first most_reads (Ok (event.Refused code)) read out left new h
+answered_keeps P still fed called first (Err (Stale version)) read out left new h =
+    conversing_keeps P still fed called first most_reads (Ok (event.Stale version)) read out left new h
+answered_keeps P still fed called first (Err (Unreadable index version)) read out left new h =
+    conversing_keeps P still fed called first most_reads (Ok (event.Unreadable index version)) read out left new h
+answered_keeps P still fed called first (Err (ShortSecrets dimension)) read out left new h = absurd h
+answered_keeps P still fed called first (Err (Call fault)) read out left new h = absurd h
+answered_keeps P still fed called first (Err (Conversation fault)) read out left new h =
+    conversing_keeps P still fed called first most_reads (Err fault) read out left new h
+
+-- the number is the same
+abbrev SameNumber : Client → Client → Type 0
+SameNumber old new = new.state.number ≡ old.state.number
+
 answered_number : (called : Client) (first : List ℕ) (result : Result Event CommandError) (read out : List ℕ) (left : Option (List ℕ)) (new : Client)
     → Answers called first result read out left new → new.state.number ≡ called.state.number
-answered_number called first (Ok event) read out left new h = conversing_spends_no_number called first most_reads (Ok event) read out left new h.1
-answered_number called first (Err (Refused code)) read out left new h =
-    conversing_spends_no_number called first most_reads (Ok (event.Refused code)) read out left new h
-answered_number called first (Err (Stale version)) read out left new h =
-    conversing_spends_no_number called first most_reads (Ok (event.Stale version)) read out left new h
-answered_number called first (Err (Unreadable index version)) read out left new h =
-    conversing_spends_no_number called first most_reads (Ok (event.Unreadable index version)) read out left new h
-answered_number called first (Err (ShortSecrets dimension)) read out left new h = absurd h
-answered_number called first (Err (Call fault)) read out left new h = absurd h
-answered_number called first (Err (Conversation fault)) read out left new h =
-    conversing_spends_no_number called first most_reads (Err fault) read out left new h
+answered_number = answered_keeps SameNumber (λ old new e. ap (λ (c : Client). c.state.number) e) feeding_spends_no_number
 
 -- a call was refused, or accepted and answered
 either : (old : Client) (want : Want) (result : Result Event CommandError) (read out : List ℕ) (left : Option (List ℕ)) (new : Client)
@@ -78,10 +94,44 @@ calm_call old want result read out left new calm c = elim (either old want resul
   | inr x ↦ answered_number x.called x.first result read out left new x.answered ∙ accepted_number want old.state x.called.state x.first calm x.accepted
 ]
 
+-- ---- the seed
+
+-- the seed is the same, unless the client failed
+abbrev SameSeed : Client → Client → Type 0
+SameSeed old new = new.state.failed ≡ false → new.state.seed ≡ old.state.seed
+
+-- a call leaves the seed as it is, unless the client fails
+pub call_keeps_seed : (old : Client) (want : Want) (result : Result Event CommandError) (read out : List ℕ) (left : Option (List ℕ)) (new : Client)
+    → ComesTo old want result read out left new → new.state.failed ≡ false → new.state.seed ≡ old.state.seed
+call_keeps_seed old want result read out left new c alive = elim (either old want result read out left new c) [
+  | inl r ↦ elim (r.1.refused) [
+    | inl e ↦ ap (λ (c : ClientState). c.seed) e.1
+    | inr e ↦ ap (λ (c : ClientState). c.seed) e.2 ∙ (goes_on old.state (Lacking want)).seed
+  ]
+  | inr x ↦ answered_keeps SameSeed (λ old new e alive. ap (λ (c : Client). c.state.seed) e) feeding_keeps_seed x.called x.first result read out left new x.answered alive
+      ∙ ap (λ (c : ClientState). c.seed) x.accepted.state ∙ (goes_on old.state (Accepted want)).seed
+]
+
+-- ---- an ask
+
 asking_number : (old : Client) (i : ℕ) (result : Result Event CommandError) (read out : List ℕ) (left : Option (List ℕ)) (new : Client)
     → Exchanges old (Ask i) result read out left new → new.state.number ≡ old.state.number + 1
 asking_number old i result read out left new x =
     answered_number x.called x.first result read out left new x.answered ∙ ap (λ (c : ClientState). c.number) x.accepted.state
+
+-- whatever comes of an ask, the next number is one more, unless a check of the client refused it
+pub ask_number : (old : Client) (i : ℕ) (result : Result Event CommandError) (read out : List ℕ) (left : Option (List ℕ)) (new : Client)
+    → ComesTo old (Ask i) result read out left new → new.state.number ≡ number_after_ask i old.state
+ask_number old i result read out left new c = elim (either old (Ask i) result read out left new c) [
+  | inl r ↦ elim (r.1.refused) [
+    | inl e ↦ ap (λ (c : ClientState). c.number) e.1 ∙ sym (by_check old.state (Some r.0) e.0)
+    | inr e ↦ ap (λ (c : ClientState). c.number) e.2 ∙ sym (by_check old.state None e.1)
+  ]
+  | inr x ↦ asking_number old i result read out left new x ∙ sym (by_check old.state None x.accepted.may)
+]
+  where
+    by_check : (c : ClientState) (o : Option CallFault) → refusal (Ask i) c ≡ o → number_after_ask i c ≡ (if is_some o then c.number else c.number + 1)
+    by_check c o e = ap (λ (x : Option CallFault). if is_some x then c.number else c.number + 1) e
 
 -- ---- a command
 

@@ -1,3 +1,5 @@
 pub mod Transcripts
 pub mod Sent
-pub mod Claimed
+pub mod Runs
+pub mod Kept
+pub mod Laws
