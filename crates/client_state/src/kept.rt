@@ -1,0 +1,99 @@
+//! The file of a hint in a client's folder, open.
+
+use client_core::Hint;
+use hint_file::{
+    HintError, KeptHead, KeptHint, MOST_HEAD, PartSpan, head_in, parts_in, place_of, read_hint,
+};
+use std::fs::File;
+use std::io;
+use std::io::Read;
+use std::os::unix::fs::FileExt;
+
+/// The file of a hint that was kept, open: what another run puts in its place changes nothing of it.
+#[derive(Drop)]
+pub struct KeptFile<'a> {
+    rt: &'a HostRuntime,
+    file: File,
+    head: KeptHead,
+}
+
+// A file as it is read from its start.
+#[derive(Drop)]
+struct FromStart<'a> {
+    file: &'a File,
+    at: u64,
+}
+
+impl Read for FromStart<'_> {
+    fn read(&mut self, buffer: &mut [u8]) -> io::Result<usize> {
+        let count = self.file.read_at(buffer, self.at)?;
+        self.at = self.at.saturating_add(count as u64);
+        Ok(count)
+    }
+}
+
+impl<'a> KeptFile<'a> {
+    /// Reads the head of an open file. Its words are not read.
+    ///
+    /// # Errors
+    ///
+    /// `Damaged` when the file begins with no head of a hint, or is longer or shorter than that head says; `Read` when it can't be
+    /// read; `Memory` when memory was refused.
+    pub(crate) fn of(rt: &'a HostRuntime, file: File) -> Result<KeptFile<'a>, HintError> {
+        let Ok(found) = file.metadata() else {
+            return Err(HintError::Read);
+        };
+        let most = found.len().min(MOST_HEAD as u64) as usize;
+        let mut bytes = vec![in rt.alloc(); 0u8; most]?;
+        if file.read_exact_at(&mut bytes, 0).is_err() {
+            return Err(HintError::Read);
+        }
+        let head = head_in(rt.alloc(), &bytes)?;
+        if found.len() != head.file_len() {
+            return Err(HintError::Damaged);
+        }
+        Ok(KeptFile { rt, file, head })
+    }
+
+    /// The head: which hint the file has, and the digests of its parts.
+    pub fn head(&self) -> &KeptHead {
+        &self.head
+    }
+
+    /// The head alone.
+    pub(crate) fn into_head(self) -> KeptHead {
+        self.head
+    }
+
+    /// The hint, of which the parts of a span are read; its other words are zeros.
+    ///
+    /// # Errors
+    ///
+    /// `Damaged` when the hint has no such parts, or the file has other bytes than its head says; `Read` when it can't be read;
+    /// `Memory` when memory was refused.
+    pub fn parts(&self, span: PartSpan) -> Result<Hint, HintError> {
+        let alloc = self.rt.alloc();
+        let Some((start, len)) = place_of(&self.head, span) else {
+            return Err(HintError::Damaged);
+        };
+        let mut bytes = vec![in alloc; 0u8; len]?;
+        if self.file.read_exact_at(&mut bytes, start).is_err() {
+            return Err(HintError::Read);
+        }
+        parts_in(alloc, &self.head, span, &bytes)
+    }
+
+    /// The whole hint, with what the server had reported last. No more than the bytes of one of its parts stand in memory beside
+    /// its words.
+    ///
+    /// # Errors
+    ///
+    /// `Damaged` when the file is no hint's, `Read` when it can't be read, `Memory` when memory was refused.
+    pub fn whole(&self) -> Result<KeptHint, HintError> {
+        let mut reader = FromStart {
+            file: &self.file,
+            at: 0,
+        };
+        read_hint(self.rt.alloc(), &mut reader)
+    }
+}

@@ -1,0 +1,124 @@
+//! A folder of before, which had a seed, the number of the next retrieval, and one hint that named the seed.
+
+use crate::fault::FolderFault;
+use crate::files::{open_file, remove_file};
+use crate::folder::Folder;
+use hint_file::{HintError, KeptHint, read_old_hint};
+use safe_files::{FileLock, LockFault, lock};
+use std::os::unix::fs::FileExt;
+
+/// The files of a folder of before, the secret one first, and what each begins with.
+const OLD_FILES: [(&str, [u8; 8]); 3] = [
+    ("seed", *b"PIRSEED1"),
+    ("counter", *b"PIRNEXT1"),
+    ("hint", *b"PIRHINT2"),
+];
+
+/// What else may stand in a folder of before: what a killed process left, and the lock last.
+const LEFT_FILES: [&str; 4] = ["seed.new", "counter.new", "hint.new", "lock"];
+
+/// A folder of before that was taken over: its files are gone.
+#[derive(Clone, Copy, Debug, PartialEq, Eq)]
+pub struct OldFolder {
+    /// Whether its hint is kept.
+    pub hint_kept: bool,
+}
+
+impl Folder<'_> {
+    /// Takes a folder of before over, when this is one: its hint is kept, when it is a sound one, and its seed, its counter, its hint
+    /// and its lock are removed. None when this is no such folder, or another process uses it as one.
+    ///
+    /// # Errors
+    ///
+    /// `State` when the hint can't be kept, and then nothing is removed, or when a file can't be removed; `Memory` when memory was
+    /// refused.
+    pub fn take_old(&self) -> Result<Option<OldFolder>, FolderFault> {
+        if !has_old(self)? {
+            return Ok(None);
+        }
+        let Some(_lock) = old_lock(self)? else {
+            return Ok(None);
+        };
+        let hint_kept = match old_hint(self)? {
+            Some(kept) => {
+                self.keep(&kept.known, &kept.hint)?;
+                true
+            }
+            None => false,
+        };
+        let removed = remove_old(self)?;
+        remove_left(self)?;
+        // Another run may have taken it over just before the lock was had.
+        if removed {
+            Ok(Some(OldFolder { hint_kept }))
+        } else {
+            Ok(None)
+        }
+    }
+}
+
+// Whether a file of a folder of before stands there.
+fn has_old(folder: &Folder<'_>) -> Result<bool, FolderFault> {
+    for (name, magic) in OLD_FILES {
+        if is_old(folder, name, magic)? {
+            return Ok(true);
+        }
+    }
+    Ok(false)
+}
+
+// Whether a file begins so. What can't be opened does not.
+fn is_old(folder: &Folder<'_>, name: &str, magic: [u8; 8]) -> Result<bool, FolderFault> {
+    match open_file(folder.rt(), folder.path(), name) {
+        Ok(Some(file)) => {
+            let mut begins = [0u8; 8];
+            Ok(file.read_exact_at(&mut begins, 0).is_ok() && begins == magic)
+        }
+        Ok(None) | Err(FolderFault::State) => Ok(false),
+        Err(FolderFault::Memory) => Err(FolderFault::Memory),
+    }
+}
+
+// The lock of a folder of before; none when another process has it.
+fn old_lock(folder: &Folder<'_>) -> Result<Option<FileLock>, FolderFault> {
+    let path = folder.path();
+    let name = format!(in folder.rt().alloc(); "{path}/lock")?;
+    match lock(folder.rt(), name.as_str()) {
+        Ok(taken) => Ok(Some(taken)),
+        Err(LockFault::Held) => Ok(None),
+        Err(fault) => Err(fault.into()),
+    }
+}
+
+// The hint of a folder of before, when there is a sound one.
+fn old_hint(folder: &Folder<'_>) -> Result<Option<KeptHint>, FolderFault> {
+    match open_file(folder.rt(), folder.path(), "hint") {
+        Ok(Some(mut file)) => match read_old_hint(folder.rt().alloc(), &mut file) {
+            Ok(kept) => Ok(Some(kept)),
+            Err(HintError::Damaged | HintError::Read) => Ok(None),
+            Err(HintError::Memory) => Err(FolderFault::Memory),
+        },
+        Ok(None) | Err(FolderFault::State) => Ok(None),
+        Err(FolderFault::Memory) => Err(FolderFault::Memory),
+    }
+}
+
+// Removes the files of a folder of before. Whether there was one.
+fn remove_old(folder: &Folder<'_>) -> Result<bool, FolderFault> {
+    let mut removed = false;
+    for (name, magic) in OLD_FILES {
+        if is_old(folder, name, magic)? {
+            remove_file(folder.rt(), folder.path(), name)?;
+            removed = true;
+        }
+    }
+    Ok(removed)
+}
+
+// Removes what else a folder of before had: what killed processes left, and its lock.
+fn remove_left(folder: &Folder<'_>) -> Result<(), FolderFault> {
+    for name in LEFT_FILES {
+        remove_file(folder.rt(), folder.path(), name)?;
+    }
+    Ok(())
+}

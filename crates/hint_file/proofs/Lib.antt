@@ -1,0 +1,10 @@
+pub mod Bytes
+pub mod Fields
+pub mod FieldsBack
+pub mod PartDigests
+pub mod HeadBytes
+pub mod WordParts
+pub mod WordsRead
+pub mod PartsRead
+pub mod WholeRead
+pub mod HeadTexts
