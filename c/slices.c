@@ -9,8 +9,12 @@ uint32_t vul_client_append_bytes(vul_client *client, const uint8_t *record, size
 uint32_t vul_client_feed_bytes(vul_client *client, const uint8_t *piece, size_t len);
 uint32_t vul_client_take_bytes(vul_client *client, uint8_t *out, size_t len);
 uint32_t vul_client_next_bytes(vul_client *client, uint8_t *record, size_t len);
+uint32_t vul_client_plan_bytes(vul_client *client, uint8_t *plan, size_t len);
+uint32_t vul_client_save_bytes(vul_client *client, uint8_t *out, size_t len);
+uint32_t vul_client_resume_bytes(vul_client *client, const uint8_t *file, size_t len);
 uint32_t vul_server_open_bytes(vul_server *server, const uint8_t *snapshot, size_t len);
 uint32_t vul_server_feed_bytes(vul_server *server, uint64_t id, const uint8_t *piece, size_t len);
+uint32_t vul_server_feed_frame_bytes(vul_server *server, uint64_t id, const uint8_t *piece, size_t len, size_t *taken);
 uint32_t vul_server_take_bytes(vul_server *server, uint8_t *out, size_t len);
 uint32_t vul_server_edit_bytes(vul_server *server, uint32_t index, const uint8_t *record, size_t len);
 uint32_t vul_server_append_bytes(vul_server *server, const uint8_t *record, size_t len);
@@ -47,6 +51,21 @@ uint32_t vul_client_next(vul_client *client, uint8_t *record, size_t len)
     return IS_BAD(record, len) ? VUL_NULL : vul_client_next_bytes(client, PLACE(record), len);
 }
 
+uint32_t vul_client_plan(vul_client *client, uint8_t *plan, size_t len)
+{
+    return IS_BAD(plan, len) ? VUL_NULL : vul_client_plan_bytes(client, PLACE(plan), len);
+}
+
+uint32_t vul_client_save(vul_client *client, uint8_t *out, size_t len)
+{
+    return IS_BAD(out, len) ? VUL_NULL : vul_client_save_bytes(client, PLACE(out), len);
+}
+
+uint32_t vul_client_resume(vul_client *client, const uint8_t *file, size_t len)
+{
+    return IS_BAD(file, len) ? VUL_NULL : vul_client_resume_bytes(client, PLACE(file), len);
+}
+
 uint32_t vul_server_open(vul_server *server, const uint8_t *snapshot, size_t len)
 {
     return IS_BAD(snapshot, len) ? VUL_NULL : vul_server_open_bytes(server, PLACE(snapshot), len);
@@ -55,6 +74,12 @@ uint32_t vul_server_open(vul_server *server, const uint8_t *snapshot, size_t len
 uint32_t vul_server_feed(vul_server *server, uint64_t id, const uint8_t *piece, size_t len)
 {
     return IS_BAD(piece, len) ? VUL_NULL : vul_server_feed_bytes(server, id, PLACE(piece), len);
+}
+
+uint32_t vul_server_feed_frame(vul_server *server, uint64_t id, const uint8_t *piece, size_t len, size_t *taken)
+{
+    *taken = 0;
+    return IS_BAD(piece, len) ? VUL_NULL : vul_server_feed_frame_bytes(server, id, PLACE(piece), len, taken);
 }
 
 uint32_t vul_server_take(vul_server *server, uint8_t *out, size_t len)

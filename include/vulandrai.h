@@ -63,11 +63,17 @@ enum {
     VUL_BAD_DIGEST = 67,
     VUL_TRAILING_BYTES = 68,
     VUL_BAD_SLOT = 69,
-    VUL_NOT_READ = 70 /* kept for a read that fails: bytes in memory are always read */
+    VUL_NOT_READ = 70, /* kept for a read that fails: bytes in memory are always read */
+    /* A hint's file, when a client is resumed. */
+    VUL_DAMAGED_HINT = 80, /* the bytes are no file of a hint */
+    VUL_OTHER_HINT = 81    /* its hint is of another store or of a later version than the server's: sync instead */
 };
 
 /* Schemes. */
 enum { VUL_SIMPLE = 0, VUL_DOUBLE = 1 };
+
+/* How many bytes say which store a server's is. */
+enum { VUL_PLAN_LEN = 41 };
 
 /* Kinds of events. */
 enum {
@@ -102,8 +108,10 @@ typedef struct {
     uint32_t dimension;  /* words of a secret: fewer than 1024 hide the index less */
 } vul_known;
 
-/* A client with a secret seed. No number is ever to be used twice under one seed, also by another client or another run:
- * begin where `vul_client_number` left off. VUL_BAD_NUMBER, VUL_MEMORY. */
+/* A client with a secret seed of 32 bytes. No number is ever to be used twice under one seed, also by another client or another
+ * run. Give each client fresh bytes of the system's random source (getrandom) and the number 0, and keep neither: then
+ * nothing is left to be used twice. Whoever gives one seed to several clients keeps its numbers, and begins where
+ * `vul_client_number` left off. VUL_BAD_NUMBER, VUL_MEMORY. */
 uint32_t vul_client_open(vul_client *client, const uint8_t seed[32], uint64_t first_number);
 
 /* Frees the client, if the handle holds one. */
@@ -148,6 +156,21 @@ uint32_t vul_client_next(vul_client *client, uint8_t *record, size_t len);
 /* The number of the next retrieval. */
 uint32_t vul_client_number(vul_client *client, uint64_t *number);
 
+/* How many bytes the file of the hint held has, 0 where there is no hint or the handle is closed. */
+size_t vul_client_hint_len(vul_client *client);
+
+/* Writes the file of the hint held, which holds no secret: the same bytes as pir_client's folder keeps. VUL_MEMORY. */
+uint32_t vul_client_save(vul_client *client, uint8_t *out, size_t len);
+
+/* Goes on with the hint of such a file, once a greeting was accepted: a sync then goes by what has changed since, and is needed only
+ * where the version is another. VUL_DAMAGED_HINT, VUL_MEMORY, then VUL_FAILED, VUL_NOT_READY, VUL_BUSY, VUL_OTHER_HINT. With each
+ * of them the client is as it was. */
+uint32_t vul_client_resume(vul_client *client, const uint8_t *file, size_t len);
+
+/* Writes the VUL_PLAN_LEN bytes that say which store the server's is. A hint's file has those of its store after its first 8
+ * bytes, so who keeps several files finds the server's. VUL_NOT_READY before a greeting was accepted, then VUL_BAD_LENGTH. */
+uint32_t vul_client_plan(vul_client *client, uint8_t *plan, size_t len);
+
 /* What the client knows of its server. */
 uint32_t vul_client_known(vul_client *client, vul_known *known);
 
@@ -176,6 +199,12 @@ uint32_t vul_server_session_is_open(vul_server *server, uint64_t id, uint32_t *o
 /* Takes a piece of a session's stream. The replies wait to be sent to it. VUL_NO_SESSION, VUL_MEMORY, VUL_UNTAKEN where
  * replies to an earlier piece wait. */
 uint32_t vul_server_feed(vul_server *server, uint64_t id, const uint8_t *piece, size_t len);
+
+/* Takes a piece of a session's stream up to the end of the first frame that becomes whole, or all of it where none does: *taken is
+ * how many bytes, at least 1 of a piece that has some. The reply waits; take it, and feed the rest then. A few bytes may
+ * ask for a reply of 256 KiB, so a piece fed whole may make a thousand times its size, and one frame at a time no more than
+ * one reply. The codes of `vul_server_feed`; with each but VUL_OK *taken is 0. */
+uint32_t vul_server_feed_frame(vul_server *server, uint64_t id, const uint8_t *piece, size_t len, size_t *taken);
 
 /* How many bytes of replies wait, 0 where the handle is closed. */
 size_t vul_server_waiting(vul_server *server);

@@ -119,6 +119,26 @@ static void listens(vul_client *client)
     }
 }
 
+/* Feeds a piece frame by frame, and gives all replies. */
+static uint8_t *fed_by_frames(vul_server *server, uint64_t id, const uint8_t *piece, size_t count, size_t *len)
+{
+    uint8_t *replies = room(0);
+    *len = 0;
+    for (size_t at = 0, taken; at < count; at += taken) {
+        IS_ONE_OF(vul_server_feed_frame(server, id, piece + at, count - at, &taken), VUL_OK);
+        if (taken == 0 || taken > count - at)
+            exit(1);
+        size_t more = vul_server_waiting(server);
+        uint8_t *all = room(*len + more);
+        memcpy(all, replies, *len);
+        IS_ONE_OF(vul_server_take(server, all + *len, more), VUL_OK);
+        gone(replies);
+        replies = all;
+        *len += more;
+    }
+    return replies;
+}
+
 /* One stream to each side: calls, and what comes of them spoilt on both ways. */
 static void stream(vul_server *server, vul_client *client, uint64_t id)
 {
@@ -129,10 +149,14 @@ static void stream(vul_server *server, vul_client *client, uint64_t id)
             calls(client);
         uint8_t *bytes = taken_from_client(client, &len);
         uint8_t *piece = piece_of(bytes, len, &count);
-        IS_ONE_OF(vul_server_feed(server, id, piece, count), VUL_OK);
         gone(bytes);
+        if (below(2) == 0) {
+            bytes = fed_by_frames(server, id, piece, count, &len);
+        } else {
+            IS_ONE_OF(vul_server_feed(server, id, piece, count), VUL_OK);
+            bytes = taken_from_server(server, &len);
+        }
         gone(piece);
-        bytes = taken_from_server(server, &len);
         piece = piece_of(bytes, len, &count);
         IS_ONE_OF(vul_client_feed(client, piece, count), VUL_OK, VUL_BAD_WELCOME, VUL_BAD_REPLY, VUL_FAILED);
         gone(bytes);

@@ -90,11 +90,18 @@ static void is_closed(void)
     SAME(vul_client_next(&client, byte, 1), VUL_CLOSED);
     SAME(vul_client_number(&client, &number), VUL_CLOSED);
     SAME(vul_client_known(&client, &known), VUL_CLOSED);
+    SAME(vul_client_plan(&client, byte, 1), VUL_CLOSED);
+    SAME(vul_client_hint_len(&client), 0);
+    SAME(vul_client_save(&client, byte, 1), VUL_CLOSED);
+    SAME(vul_client_resume(&client, byte, 1), VUL_CLOSED);
     vul_client_close(&client);
     SAME(vul_server_session_open(&server, 1), VUL_CLOSED);
     SAME(vul_server_session_close(&server, 1), VUL_CLOSED);
     SAME(vul_server_session_is_open(&server, 1, &open), VUL_CLOSED);
+    size_t taken = 9;
     SAME(vul_server_feed(&server, 1, byte, 1), VUL_CLOSED);
+    SAME(vul_server_feed_frame(&server, 1, byte, 1, &taken), VUL_CLOSED);
+    same("a closed server takes nothing", taken, 0);
     SAME(vul_server_waiting(&server), 0);
     SAME(vul_server_take(&server, byte, 1), VUL_CLOSED);
     SAME(vul_server_edit(&server, 0, byte, 1), VUL_CLOSED);
@@ -116,8 +123,15 @@ static void is_null(vul_server *server, vul_client *client)
     SAME(vul_client_feed(client, NULL, 1), VUL_NULL);
     SAME(vul_client_take(client, NULL, 1), VUL_NULL);
     SAME(vul_client_next(client, NULL, 1), VUL_NULL);
+    SAME(vul_client_plan(client, NULL, 1), VUL_NULL);
+    SAME(vul_client_plan(client, NULL, 0), VUL_NOT_READY);
+    SAME(vul_client_save(client, NULL, 1), VUL_NULL);
+    SAME(vul_client_resume(client, NULL, 1), VUL_NULL);
     SAME(vul_server_open(server, NULL, 1), VUL_NULL);
+    size_t taken = 9;
     SAME(vul_server_feed(server, SESSION, NULL, 1), VUL_NULL);
+    SAME(vul_server_feed_frame(server, SESSION, NULL, 1, &taken), VUL_NULL);
+    same("of a null pointer nothing is taken", taken, 0);
     SAME(vul_server_take(server, NULL, 1), VUL_NULL);
     SAME(vul_server_edit(server, 0, NULL, 1), VUL_NULL);
     SAME(vul_server_append(server, NULL, 1), VUL_NULL);
@@ -126,6 +140,7 @@ static void is_null(vul_server *server, vul_client *client)
     SAME(vul_client_feed(client, NULL, 0), VUL_OK);
     SAME(vul_server_take(server, NULL, 0), VUL_OK);
     SAME(vul_server_feed(server, SESSION, NULL, 0), VUL_OK);
+    SAME(vul_server_feed_frame(server, SESSION, NULL, 0, &taken), VUL_OK);
 }
 
 /* What bytes that are no snapshot file are answered; the handle stays as it was. */
@@ -297,6 +312,171 @@ static void grows(const uint8_t *file, size_t size, const uint8_t key[32], size_
     gone(fourth);
 }
 
+/* Takes the replies that wait, puts them at `at`, and says how many they are. */
+static size_t taken_to(vul_server *server, uint8_t *at)
+{
+    size_t len = vul_server_waiting(server);
+    SAME(vul_server_take(server, at, len), VUL_OK);
+    return len;
+}
+
+enum { HELLO = 39, PART = 18, PARTS = 3, HALF = 7, LONG = HELLO + PARTS * PART };
+
+/* A greeting of a reader and so many times the ask for the first part of version 1's SimplePIR hint. */
+static void asks_parts(uint8_t stream[LONG])
+{
+    static const uint8_t ask[PART] = {13, 0, 0, 0, 3, VUL_SIMPLE, 1};
+    memset(stream, 0, LONG);
+    stream[0] = HELLO - 5;
+    stream[4] = 2;
+    stream[5] = 2;
+    for (size_t i = 0; i < PARTS; i++)
+        memcpy(stream + HELLO + i * PART, ask, PART);
+}
+
+/* A stream fed frame by frame: each call takes the bytes of one frame, and makes one reply wait. All replies are those of the
+ * stream fed whole. */
+static void is_fed_by_frames(const uint8_t *file, size_t size)
+{
+    vul_server server = {0};
+    uint8_t stream[LONG], *whole = room(1 << 20), *parts = room(1 << 20);
+    size_t taken = 9, at, len, got;
+    asks_parts(stream);
+    SAME(vul_server_open(&server, file, size), VUL_OK);
+    SAME(vul_server_feed_frame(&server, SESSION, stream, LONG, &taken), VUL_NO_SESSION);
+    same("without a session nothing is taken", taken, 0);
+    SAME(vul_server_session_open(&server, SESSION), VUL_OK);
+    SAME(vul_server_feed(&server, SESSION, stream, LONG), VUL_OK);
+    len = taken_to(&server, whole);
+
+    SAME(vul_server_session_open(&server, SESSION + 1), VUL_OK);
+    SAME(vul_server_feed_frame(&server, SESSION + 1, stream, HALF, &taken), VUL_OK);
+    same("less than a frame is taken whole", taken, HALF);
+    same("and has no reply", vul_server_waiting(&server), 0);
+    SAME(vul_server_feed_frame(&server, SESSION + 1, stream + HALF, LONG - HALF, &taken), VUL_OK);
+    same("the rest of the greeting is taken", taken, HELLO - HALF);
+    SAME(vul_server_feed_frame(&server, SESSION + 1, stream + HELLO, PART, &taken), VUL_UNTAKEN);
+    same("while a reply waits nothing is taken", taken, 0);
+    got = taken_to(&server, parts);
+    for (at = HELLO; at < LONG; at += taken) {
+        SAME(vul_server_feed_frame(&server, SESSION + 1, stream + at, LONG - at, &taken), VUL_OK);
+        same("one frame is taken", taken, PART);
+        got += taken_to(&server, parts + got);
+    }
+    same("how many bytes the replies have", got, len);
+    same("the bytes of the replies", (uint64_t)memcmp(parts, whole, len), 0);
+
+    /* a frame of a kind that there is none of is refused, and a closed session takes what comes */
+    SAME(vul_server_feed_frame(&server, SESSION + 1, (const uint8_t *)"\0\0\0\0\x7f\0\0", 7, &taken), VUL_OK);
+    same("after a fault all is taken", taken, 7);
+    same("the refusal of a bad frame", taken_to(&server, parts), 6);
+    SAME(vul_server_feed_frame(&server, SESSION + 1, stream, LONG, &taken), VUL_OK);
+    same("a closed session takes all", taken, LONG);
+    same("and says nothing", vul_server_waiting(&server), 0);
+    vul_server_close(&server);
+    gone(whole);
+    gone(parts);
+}
+
+/* Before the server let the client in there is no plan. */
+static void has_no_plan(vul_client *client)
+{
+    uint8_t plan[VUL_PLAN_LEN];
+    memset(plan, 9, sizeof plan);
+    SAME(vul_client_plan(client, plan, VUL_PLAN_LEN), VUL_NOT_READY);
+    SAME(vul_client_plan(client, plan, VUL_PLAN_LEN - 1), VUL_NOT_READY);
+    for (size_t i = 0; i < sizeof plan; i++)
+        same("no byte of a plan is written", plan[i], 9);
+}
+
+/* The plan of a store in form 1 whose records have so many bytes, with digits of 8 bits, one record in a group and a public seed of zeros. A
+ * hint's file has it after its first 8 bytes. */
+static void has_plan(vul_client *client, size_t len, const uint8_t *saved)
+{
+    const uint8_t wanted[VUL_PLAN_LEN] = {1, 0, 8, (uint8_t)len, (uint8_t)(len >> 8), 1, 0, 1024 & 255, 1024 >> 8};
+    uint8_t plan[VUL_PLAN_LEN + 1];
+    memset(plan, 9, sizeof plan);
+    SAME(vul_client_plan(client, NULL, 0), VUL_BAD_LENGTH);
+    SAME(vul_client_plan(client, plan, VUL_PLAN_LEN - 1), VUL_BAD_LENGTH);
+    SAME(vul_client_plan(client, plan, VUL_PLAN_LEN + 1), VUL_BAD_LENGTH);
+    for (size_t i = 0; i < sizeof plan; i++)
+        same("no byte of a plan is written", plan[i], 9);
+    SAME(vul_client_plan(client, plan, VUL_PLAN_LEN), VUL_OK);
+    same("the bytes of the plan", (uint64_t)memcmp(plan, wanted, VUL_PLAN_LEN), 0);
+    same("the plan in a hint's file", (uint64_t)memcmp(saved + 8, wanted, VUL_PLAN_LEN), 0);
+    same("no byte after the plan is written", plan[VUL_PLAN_LEN], 9);
+}
+
+/* A client of another seed goes on with the hint that one has saved, and gets a record without a sync. */
+static void goes_on(const uint8_t *file, size_t size, const uint8_t key[32], const uint8_t *zeroth, size_t len, uint32_t scheme)
+{
+    vul_server server = {0};
+    vul_client first = {0}, other = {0};
+    uint8_t seed[32];
+    memset(seed, 0x55, sizeof seed);
+    greeted(&server, &first, file, size, key);
+    same("no hint is held", vul_client_hint_len(&first), 0);
+    SAME(vul_client_save(&first, NULL, 0), VUL_OK);
+    SAME(vul_client_sync(&first, scheme), VUL_OK);
+    ended(&server, &first, 1000, VUL_SYNCED);
+    forget(&first);
+    size_t have = vul_client_hint_len(&first);
+    uint8_t *saved = room(have);
+    SAME(vul_client_save(&first, saved, have - 1), VUL_BAD_LENGTH);
+    SAME(vul_client_save(&first, saved, have), VUL_OK);
+    vul_client_close(&first);
+
+    SAME(vul_server_session_close(&server, SESSION), VUL_OK);
+    SAME(vul_server_session_open(&server, SESSION), VUL_OK);
+    SAME(vul_client_open(&other, seed, 0), VUL_OK);
+    SAME(vul_client_resume(&other, saved, have), VUL_NOT_READY);
+    has_no_plan(&other);
+    SAME(vul_client_hello(&other, key), VUL_OK);
+    SAME(vul_client_resume(&other, saved, have), VUL_NOT_READY);
+    ended(&server, &other, 1000, VUL_WELCOMED);
+    forget(&other);
+    has_plan(&other, len, saved);
+    SAME(vul_client_resume(&other, saved, have - 1), VUL_DAMAGED_HINT);
+    saved[have - 1] ^= 1;
+    SAME(vul_client_resume(&other, saved, have), VUL_DAMAGED_HINT);
+    saved[have - 1] ^= 1;
+    SAME(vul_client_ask(&other, 0), VUL_NOT_READY);
+    SAME(vul_client_resume(&other, saved, have), VUL_OK);
+    same("the file is that of the hint held", vul_client_hint_len(&other), have);
+    gets(&server, &other, 1000, 0, 1, zeroth, len);
+    vul_client_close(&other);
+    vul_server_close(&server);
+    gone(saved);
+}
+
+/* A hint of a later version than the server's is none to go on with. */
+static void is_another(const uint8_t *file, size_t size, const uint8_t key[32], size_t len)
+{
+    vul_server server = {0};
+    vul_client client = {0};
+    uint8_t *edited = room(len);
+    memset(edited, 9, len);
+    greeted(&server, &client, file, size, key);
+    SAME(vul_server_edit(&server, 0, edited, len), VUL_OK);
+    SAME(vul_server_publish(&server), VUL_OK);
+    SAME(vul_client_sync(&client, VUL_SIMPLE), VUL_OK);
+    ended(&server, &client, 1000, VUL_STALE);
+    forget(&client);
+    SAME(vul_client_sync(&client, VUL_SIMPLE), VUL_OK);
+    ended(&server, &client, 1000, VUL_SYNCED);
+    forget(&client);
+    size_t have = vul_client_hint_len(&client);
+    uint8_t *saved = room(have);
+    SAME(vul_client_save(&client, saved, have), VUL_OK);
+    greeted(&server, &client, file, size, key);
+    SAME(vul_client_resume(&client, saved, have), VUL_OTHER_HINT);
+    same("no hint is held then", vul_client_hint_len(&client), 0);
+    vul_client_close(&client);
+    vul_server_close(&server);
+    gone(saved);
+    gone(edited);
+}
+
 /* A store with no room for a further record, whose records have one byte. */
 static void is_full(const uint8_t *file, size_t size, const uint8_t key[32])
 {
@@ -362,6 +542,10 @@ int main(int count, char **words)
     SAME(vul_client_number(&client, &number), VUL_OK);
     same("numbers are spent one by one", number, 5 + 2 * 4);
     publishes(&server, key, len);
+    is_fed_by_frames(file, size);
+    goes_on(file, size, key, zeroth, len, VUL_SIMPLE);
+    goes_on(file, size, key, zeroth, len, VUL_DOUBLE);
+    is_another(file, size, key, len);
     grows(file, size, key, len, VUL_SIMPLE);
     grows(file, size, key, len, VUL_DOUBLE);
     size_t full_size;

@@ -5,16 +5,23 @@
 //! overwrite it.
 #![tactic(auto)]
 
-ghost use Rattle.std.specs.Prelude.{◌≡◌, ◌≤◌, ◌^◌, [], None, Some, length};
+ghost use Rattle.std.specs.Prelude.{◌≡◌, ◌≤◌, ◌^◌, [], None, Some, OnOk, OnErr, length};
 ghost use Rattle.std.specs.Slice.{IsItemAt};
 ghost use Rattle.client_core.specs.States.{fresh};
 ghost use Rattle.client_core.specs.Calls.{Want};
-ghost use Rattle.client_session.specs.Sessions.{Answers, Feeds, record_of, rest};
+ghost use Rattle.hint_file.specs.Files.{plan_bytes};
+ghost use Rattle.client_session.specs.Sessions.{Answers, Feeds, Resumes, hint_file_of, store_of, record_of, rest};
 
+use client_core::{Plan, SavedClient};
 pub use client_core::{CallFault, ClientCore, ClientFault, Event, Scheme, ServerInfo};
+pub use hint_file::HintError;
+use hint_file::{hint_file, hint_file_len, read_hint};
 use lane_kernels::Lanes;
-use std::alloc::Global;
+use std::alloc::{AllocError, Global};
 use thiserror::Error;
+
+/// How many bytes say which store a server's is.
+pub const STORE_LEN: usize = 41;
 
 /// Why a call was not made.
 #[derive(Clone, Copy, Debug, PartialEq, Eq, Error)]
@@ -36,6 +43,17 @@ pub enum FeedFault {
     /// The client stopped.
     #[error("the client stopped")]
     Client(ClientFault),
+}
+
+/// Why a client doesn't go on with a hint's file.
+#[derive(Clone, Copy, Debug, PartialEq, Eq, Error)]
+pub enum ResumeFault {
+    /// The bytes are no file of a hint, or there is no memory for it.
+    #[error(transparent)]
+    File(HintError),
+    /// The client refuses it.
+    #[error("the client refuses it")]
+    Call(CallFault),
 }
 
 /// A client over lanes, the bytes that wait to be sent, and the events that wait to be taken.
@@ -177,6 +195,64 @@ impl ClientSession {
         }
     }
 
+    /// The bytes that say which store the server's is, by which files of hints are told apart: `None` before it let the client
+    /// in.
+    pub fn store(&self) -> Option<[u8; STORE_LEN]>
+        ensures { result ≡ store_of self.now.core.state.known }
+    {
+        let ServerInfo { plan, .. } = self.core.known()?;
+        Some(store_bytes(&plan))
+    }
+
+    /// How many bytes the file of the hint held has: 0 when the client holds none.
+    pub fn hint_len(&self) -> usize
+        ensures { result ≡ length (hint_file_of self.now.core.state) }
+    {
+        let (Some(known), Some(hint)) = (self.core.known(), self.core.hint()) else {
+            return 0;
+        };
+        let _ = seed_len(&known.plan.seed);
+        hint_file_len(hint)
+    }
+
+    /// Writes the file of the hint held, with what the server reported last; no byte when the client holds none. Only refused
+    /// memory gives an `Err`, and then nothing is written.
+    pub fn copy_hint(&self, alloc: Global, out: &mut [u8]) -> Result<(), AllocError>
+        requires { length out.old ≡ length (hint_file_of self.now.core.state) }
+        ensures written { OnOk result (out.new ≡ hint_file_of self.now.core.state) }
+        ensures refused { OnErr result (out.new ≡ out.old) }
+    {
+        let (Some(known), Some(hint)) = (self.core.known(), self.core.hint()) else {
+            return Ok(());
+        };
+        let file = hint_file(alloc, &known, hint)?;
+        file.write_into(out);
+        Ok(())
+    }
+
+    /// [`ClientCore::resume`] with the hint of a file, of which these are all bytes. Answers whether its hint is held now.
+    ///
+    /// The file's faults come first, `Damaged` exactly when the bytes are no file of a hint; then those of the client. What waits
+    /// stays.
+    pub fn resume(&mut self, alloc: Global, bytes: &[u8]) -> Result<bool, ResumeFault>
+        ensures { Resumes self.old bytes.now result self.new }
+    {
+        let mut left = bytes;
+        let kept = match read_hint(alloc, &mut left) {
+            Ok(kept) => kept,
+            Err(fault) => return Err(ResumeFault::File(fault)),
+        };
+        let saved = SavedClient {
+            number: self.core.next_number(),
+            known: Some(kept.known),
+            hint: Some(kept.hint),
+        };
+        match self.core.resume(saved) {
+            Ok(held) => Ok(held),
+            Err(fault) => Err(ResumeFault::Call(fault)),
+        }
+    }
+
     /// How many bytes wait to be sent.
     pub fn waiting_len(&self) -> usize
         ensures { result ≡ length self.now.waiting.items }
@@ -247,4 +323,33 @@ impl ClientSession {
     {
         self.core.known()
     }
+}
+
+// The bytes that say which store this is the plan of. They take no memory.
+#[tactic(auto, unfolding(hint_file::specs::Files::plan_bytes, frame_codec::specs::Numbers::number_bytes))]
+fn store_bytes(plan: &Plan) -> [u8; STORE_LEN]
+    ensures { result ≡ plan_bytes plan.now }
+{
+    let mut bytes = [0; STORE_LEN];
+    let (form, rest) = bytes.split_at_mut(2);
+    form.copy_from_slice(&plan.form.to_le_bytes());
+    let (width, rest) = rest.split_at_mut(1);
+    width.copy_from_slice(&[plan.width]);
+    let (record_len, rest) = rest.split_at_mut(2);
+    record_len.copy_from_slice(&plan.record_len.to_le_bytes());
+    let (groups, rest) = rest.split_at_mut(2);
+    groups.copy_from_slice(&plan.groups.to_le_bytes());
+    let (dimension, seed) = rest.split_at_mut(2);
+    dimension.copy_from_slice(&plan.dimension.to_le_bytes());
+    seed.copy_from_slice(&plan.seed);
+    bytes
+}
+
+// How many bytes a public seed has.
+fn seed_len(seed: &[u8]) -> usize
+    requires { length seed.now ≡ 32 }
+    ensures count { result ≡ 32 }
+    ensures len { length seed.now ≡ 32 }
+{
+    seed.len()
 }

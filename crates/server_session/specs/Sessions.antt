@@ -1,5 +1,5 @@
 -- What a server does with calls and pieces, as its core says it, and what of its replies waits.
-use Rattle.std.specs.Prelude.{◌≡◌, ◌≢◌, ◌<◌, ◌≤◌, ◌+◌, ◌^◌, ◌↔◌, ℕ, List, [], length, true, false, None, Some, Result, Ok, Err, IfOk, OnOk, OnErr, IsErrOf, IsSome}
+use Rattle.std.specs.Prelude.{◌≡◌, ◌≢◌, ◌<◌, ◌≤◌, ◌+◌, ◌^◌, ◌↔◌, ℕ, List, [], length, take, true, false, None, Some, Result, Ok, Err, IfOk, OnOk, OnErr, IsErrOf, IsSome}
 use Rattle.snapshot_file.specs.declared.snapshot.Header.{Header}
 use Rattle.snapshot_file.specs.Snapshots.{snapshot_bytes, IsSnapshot}
 use Rattle.digit_pack.specs.Layout.{is_layout}
@@ -16,7 +16,7 @@ use Rattle.server_core.specs.declared.server.FeedError.{FeedError}
 use Rattle.server_core.specs.declared.server.FeedError.TheVariants as feed
 use Rattle.server_core.specs.declared.server.SessionError.{SessionError}
 use Rattle.server_core.specs.declared.server.SessionError.TheVariants as opening
-use Rattle.server_core.specs.Cores.{session_of, FeedsCore, OnNoSession}
+use Rattle.server_core.specs.Cores.{session_of, FeedsCore, FeedsCoreFirst, OnNoSession}
 use Rattle.server_core.specs.Serving.{setting_of}
 use Rattle.server_core.specs.Sessions.{Session, new_session}
 use Rattle.server_session.specs.declared.ServerSession.{ServerSession}
@@ -58,6 +58,27 @@ abbrev pub Feeds : ServerSession → ℕ → List ℕ → Result (Unit {0}) Piec
 Feeds old id piece (Ok done) new = ServesPiece old id piece (Ok done) new
 Feeds old id piece (Err fault.Untaken) new = (0 < length old.replies.items) × (new ≡ old)
 Feeds old id piece (Err (fault.Server e)) new = ServesPiece old id piece (Err e) new
+
+-- What the first frame of a piece did, of which so many bytes were taken: what these do as a piece of their own. They are all bytes of the piece, or those
+-- up to the end of the first frame that they make whole, and one at least where there is one. Its reply waits now, and no other session changed.
+pub record ServesFirst (old : ServerSession) (id : ℕ) (piece : List ℕ) (answer : Result ℕ FeedError) (new : ServerSession) : Type 0 where
+  pub silent : length old.replies.items ≡ 0
+  pub fed : (h : History) → StandsFor old.core.store h → (was : Session) → session_of old.core.sessions id ≡ Some was →
+      (is : Session) × (session_of new.core.sessions id ≡ Some is)
+      × FeedsCoreFirst (setting_of old.core.store) h was piece answer new.core.store is old.replies.items new.replies.items
+  pub as_piece : IfOk answer (λ taken. ServesPiece old id (take taken piece) (Ok tt) new)
+  pub within : IfOk answer (λ taken. taken ≤ length piece)
+  pub some : IfOk answer (λ taken. 0 < length piece → 0 < taken)
+  pub no_session : IsErrOf answer feed.NoSession ↔ (session_of old.core.sessions id ≡ None)
+  pub refused : OnErr answer ((new.core.store ≡ old.core.store) × (new.replies.items ≡ old.replies.items))
+  pub unchanged : OnNoSession answer ((new.core ≡ old.core) × (new.replies.items ≡ old.replies.items))
+  pub others : (other : ℕ) → other ≢ id → session_of new.core.sessions other ≡ session_of old.core.sessions other
+
+-- what the first frame of a piece did, as the answer says: replies waited, and nothing changed; or it was served
+abbrev pub FeedsFirst : ServerSession → ℕ → List ℕ → Result ℕ PieceFault → ServerSession → Type 0
+FeedsFirst old id piece (Ok taken) new = ServesFirst old id piece (Ok taken) new
+FeedsFirst old id piece (Err fault.Untaken) new = (0 < length old.replies.items) × (new ≡ old)
+FeedsFirst old id piece (Err (fault.Server e)) new = ServesFirst old id piece (Err e) new
 
 -- what an edit of the draft did: the record is replaced in it; or there is no such record, or the bytes can't be one, or no memory, and the store
 -- is as it was

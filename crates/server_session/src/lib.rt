@@ -8,7 +8,7 @@ ghost use Rattle.std.specs.Prelude.{◌≡◌, ◌≢◌, ℕ, [], None, IfOk, I
 ghost use Rattle.snapshot_file.specs.Verdicts.{MayRefuse};
 ghost use Rattle.version_store.specs.Openings.{snapshot_of};
 ghost use Rattle.server_core.specs.Cores.{session_of, is_open};
-ghost use Rattle.server_session.specs.Sessions.{Opens, OpensSession, Feeds, Edits, Appends, Publishes};
+ghost use Rattle.server_session.specs.Sessions.{Opens, OpensSession, Feeds, FeedsFirst, Edits, Appends, Publishes};
 
 use lane_kernels::Lanes;
 pub use server_core::{FeedError, ServerCore, SessionError};
@@ -99,6 +99,22 @@ impl ServerSession {
         }
         match self.core.feed(id, piece, &mut self.replies) {
             Ok(()) => Ok(()),
+            Err(fault) => Err(PieceFault::Server(fault)),
+        }
+    }
+
+    /// [`ServerCore::feed_frame`], whose reply waits from then on: serves one frame at most, and answers how many bytes of the
+    /// piece it took. These are all, or those up to the end of the first frame that they make whole; the rest is for a later
+    /// call. So no more than one reply waits at a time, whatever a piece asks for. `Untaken` exactly when replies wait
+    /// already, and then nothing changes; else as the server answers.
+    pub fn feed_frame(&mut self, id: u64, piece: &[u8]) -> Result<usize, PieceFault>
+        ensures { FeedsFirst self.old id piece.now result self.new }
+    {
+        if !self.replies.is_empty() {
+            return Err(PieceFault::Untaken);
+        }
+        match self.core.feed_frame(id, piece, &mut self.replies) {
+            Ok(taken) => Ok(taken),
             Err(fault) => Err(PieceFault::Server(fault)),
         }
     }

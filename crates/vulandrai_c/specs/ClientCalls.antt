@@ -1,16 +1,19 @@
 -- What the calls on a client's handle do.
-use Rattle.std.specs.Prelude.{◌≡◌, ◌≢◌, ◌⊎◌, ◌<◌, ◌^◌, ℕ, List, [], ◌∷◌, length, Option, None, Some, Result}
+use Rattle.std.specs.Prelude.{◌≡◌, ◌≢◌, ◌⊎◌, ◌<◌, ◌^◌, ℕ, List, [], ◌∷◌, length, Bool, Option, None, Some, Result}
 use Rattle.pir_schemes.specs.Schemes.{scheme_byte}
 use Rattle.client_core.specs.declared.state.Event.{Event}
 use Rattle.client_core.specs.declared.state.Event.TheVariants as event
 use Rattle.client_core.specs.declared.state.ServerInfo.{ServerInfo}
 use Rattle.client_core.specs.States.{fresh}
 use Rattle.client_core.specs.Calls.{Want}
+use Rattle.hint_file.specs.Files.{plan_bytes}
 use Rattle.client_session.specs.declared.ClientSession.{ClientSession}
 use Rattle.client_session.specs.declared.SessionFault.{SessionFault}
 use Rattle.client_session.specs.declared.FeedFault.{FeedFault}
-use Rattle.client_session.specs.Sessions.{Answers, Feeds, event_record, record_of, rest}
-use Rattle.vulandrai_c.specs.ClientCodes.{session_code, feed_code}
+use Rattle.client_session.specs.declared.ResumeFault.{ResumeFault}
+use Rattle.client_session.specs.Sessions.{Answers, Feeds, hint_file_of, event_record, record_of, rest}
+use Rattle.client_session.specs.Sessions as session
+use Rattle.vulandrai_c.specs.ClientCodes.{session_code, feed_code, resume_code}
 use Rattle.vulandrai_c.specs.declared.reported.ReportedEvent.{ReportedEvent}
 use Rattle.vulandrai_c.specs.declared.reported.ReportedServer.{ReportedServer}
 
@@ -53,6 +56,31 @@ TakesEvent old new before after code =
     ((code ≡ 0) × (after ≡ record_of old.events.items) × (new.events.items ≡ rest old.events.items) × (new.core ≡ old.core)
     × (new.waiting ≡ old.waiting))
     ⊎ ((code ≡ 35) × (length before ≢ length (record_of old.events.items)) × (after ≡ before) × (new ≡ old))
+
+-- the file of the hint that a client holds, none where there is no client
+abbrev pub hint_file_in : Option ClientSession → List ℕ
+hint_file_in None = []
+hint_file_in (Some s) = hint_file_of s.core.state
+
+-- the whole file of the hint held was copied; or there was no memory (5); or there is room for another number of bytes (35)
+abbrev pub CopiesHint : ClientSession → List ℕ → List ℕ → ℕ → Type 0
+CopiesHint s before after code =
+    ((code ≡ 0) × (after ≡ hint_file_of s.core.state)) ⊎ ((code ≡ 5) × (after ≡ before))
+    ⊎ ((code ≡ 35) × (length before ≢ length (hint_file_of s.core.state)) × (after ≡ before))
+
+-- what a call for the bytes that say which store the server's is did: the server let no client in yet (1), or there is room for another number of
+-- bytes than 41 (35), and nothing was written; or they were written
+abbrev pub CopiesPlan : Option ServerInfo → List ℕ → List ℕ → ℕ → Type 0
+CopiesPlan None before after code = (code ≡ 1) × (after ≡ before)
+CopiesPlan (Some known) before after code =
+    ((code ≡ 0) × (length before ≡ 41) × (after ≡ plan_bytes known.plan))
+    ⊎ ((code ≡ 35) × (length before ≢ 41) × (after ≡ before))
+
+-- what the bytes of a hint's file did, and the code of the answer
+pub record Resumes (old : ClientSession) (bytes : List ℕ) (new : ClientSession) (code : ℕ) : Type 0 where
+  pub answer : Result Bool ResumeFault
+  pub code_is : code ≡ resume_code answer
+  pub did : session.Resumes old bytes answer new
 
 -- the number of an event's kind; 0 is kept for no event
 abbrev pub event_kind : Event → ℕ

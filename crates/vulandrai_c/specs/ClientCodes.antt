@@ -1,5 +1,5 @@
 -- The codes of a client's answers, as include/vulandrai.h lists them.
-use Rattle.std.specs.Prelude.{ℕ, Result, Ok, Err}
+use Rattle.std.specs.Prelude.{ℕ, Bool, true, false, Result, Ok, Err}
 use Rattle.client_core.specs.declared.state.CallFault.{CallFault}
 use Rattle.client_core.specs.declared.state.CallFault.TheVariants as call
 use Rattle.client_core.specs.declared.state.ClientFault.{ClientFault}
@@ -8,6 +8,10 @@ use Rattle.client_session.specs.declared.SessionFault.{SessionFault}
 use Rattle.client_session.specs.declared.SessionFault.TheVariants as session
 use Rattle.client_session.specs.declared.FeedFault.{FeedFault}
 use Rattle.client_session.specs.declared.FeedFault.TheVariants as feed
+use Rattle.client_session.specs.declared.ResumeFault.{ResumeFault}
+use Rattle.client_session.specs.declared.ResumeFault.TheVariants as resume
+use Rattle.hint_file.specs.declared.heads.HintError.{HintError}
+use Rattle.hint_file.specs.declared.heads.HintError.TheVariants as hint
 
 -- the code of a call that the client refuses
 abbrev pub call_code : CallFault → ℕ
@@ -37,3 +41,16 @@ abbrev pub feed_code : Result (Unit {0}) FeedFault → ℕ
 feed_code (Ok done) = 0
 feed_code (Err feed.Untaken) = 36
 feed_code (Err (feed.Client fault)) = client_code fault
+
+-- the code of bytes that are no file of a hint, or that there is no memory for
+abbrev pub hint_code : HintError → ℕ
+hint_code hint.Damaged = 80
+hint_code hint.Read = 70
+hint_code hint.Memory = 5
+
+-- the code of a resumption
+abbrev pub resume_code : Result Bool ResumeFault → ℕ
+resume_code (Ok true) = 0
+resume_code (Ok false) = 81
+resume_code (Err (resume.File fault)) = hint_code fault
+resume_code (Err (resume.Call fault)) = call_code fault

@@ -1,5 +1,5 @@
 -- What the calls on a server's handle do.
-use Rattle.std.specs.Prelude.{◌≡◌, ◌≢◌, ◌⊎◌, ℕ, List, [], length, Option, None, Some, Result, is_some, if◌then◌else◌}
+use Rattle.std.specs.Prelude.{◌≡◌, ◌≢◌, ◌⊎◌, ℕ, List, [], length, Option, None, Some, Result, Ok, Err, is_some, if◌then◌else◌}
 use Rattle.snapshot_file.specs.declared.snapshot.SnapshotFault.{SnapshotFault}
 use Rattle.snapshot_file.specs.Verdicts.{MayRefuse}
 use Rattle.version_store.specs.declared.store.EditError.{EditError}
@@ -11,7 +11,7 @@ use Rattle.server_core.specs.Cores.{session_of}
 use Rattle.server_session.specs.declared.ServerSession.{ServerSession}
 use Rattle.server_session.specs.declared.PieceFault.{PieceFault}
 use Rattle.server_session.specs.Sessions as session
-use Rattle.vulandrai_c.specs.ServerCodes.{snapshot_code, opening_code, piece_code, edit_code, append_code, publication_code}
+use Rattle.vulandrai_c.specs.ServerCodes.{snapshot_code, opening_code, piece_code, frame_code, edit_code, append_code, publication_code}
 
 -- the server of a snapshot file
 abbrev pub IsServerOf : List ℕ → Option ServerSession → Type 0
@@ -47,6 +47,18 @@ pub record TakesPiece (old : ServerSession) (id : ℕ) (bytes : List ℕ) (new :
   pub answer : Result (Unit {0}) PieceFault
   pub code_is : code ≡ piece_code answer
   pub did : session.Feeds old id bytes answer new
+
+-- how many bytes of a piece were taken by an answer, 0 where the piece was refused
+abbrev pub bytes_taken : Result ℕ PieceFault → ℕ
+bytes_taken (Ok taken) = taken
+bytes_taken (Err fault) = 0
+
+-- what the first frame of a piece of a session's stream did, how many bytes of the piece were taken, and the code of the answer
+pub record TakesFrame (old : ServerSession) (id : ℕ) (bytes : List ℕ) (taken : ℕ) (new : ServerSession) (code : ℕ) : Type 0 where
+  pub answer : Result ℕ PieceFault
+  pub code_is : code ≡ frame_code answer
+  pub taken_is : taken ≡ bytes_taken answer
+  pub did : session.FeedsFirst old id bytes answer new
 
 -- the replies that wait to be sent, none where there is no server
 abbrev pub replies_of : Option ServerSession → List ℕ

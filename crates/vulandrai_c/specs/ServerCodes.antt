@@ -43,6 +43,11 @@ piece_code (Ok done) = 0
 piece_code (Err piece.Untaken) = 36
 piece_code (Err (piece.Server fault)) = served_code fault
 
+-- the code of the first frame of a piece
+abbrev pub frame_code : Result ℕ PieceFault → ℕ
+frame_code (Ok taken) = 0
+frame_code (Err fault) = piece_code (Err fault)
+
 -- the code of a server's edit
 abbrev pub edit_code : Result (Unit {0}) EditError → ℕ
 edit_code (Ok done) = 0

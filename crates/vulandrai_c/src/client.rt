@@ -4,9 +4,11 @@ ghost use Rattle.std.specs.Prelude.{◌≡◌, ◌≤◌, ◌<◌, None, length}
 ghost use Rattle.client_core.specs.Calls.{Want};
 ghost use Rattle.pir_schemes.specs.declared.scheme.Scheme.TheVariants.{Simple, Double};
 ghost use Rattle.vulandrai_c.specs.Handles.{CallsOn};
-ghost use Rattle.vulandrai_c.specs.ClientCalls.{Opens, Calls, TakesPiece, TakesWaiting, TakesEvent, Reports, waiting_of, reported_server};
+ghost use Rattle.vulandrai_c.specs.ClientCalls.{Opens, Calls, CopiesHint, CopiesPlan, Resumes, TakesPiece, TakesWaiting, TakesEvent, Reports, hint_file_in, waiting_of, reported_server};
 
-use crate::client_answers::{append, ask, edit, feed, hello, next, publish, sync, take};
+use crate::client_answers::{
+    append, ask, edit, feed, hello, next, plan, publish, resume, save, sync, take,
+};
 use crate::client_handle::ClientHandle;
 use crate::codes::{BAD_LENGTH, BAD_NUMBER, BAD_SCHEME, CLOSED, MEMORY, OK};
 use crate::reported::{ReportedEvent, ReportedServer, first_reported, server_reported};
@@ -282,4 +284,74 @@ pub extern "C" fn vul_client_known(
     *out = server_reported(&session);
     *client = ClientHandle::of(session);
     OK
+}
+
+/// Copies the 41 bytes that say which store the server's is. 32; 1 exactly before the server let the client in; 35 exactly when `out` has
+/// another length.
+#[unsafe(no_mangle)]
+pub extern "C" fn vul_client_plan_bytes(
+    client: &mut ClientHandle,
+    alloc: Global,
+    out: &mut [u8],
+) -> u32
+    ensures { CallsOn client.old.held.session client.new.held.session result
+        (λ old new. (new ≡ old) × CopiesPlan old.core.state.known out.old out.new result) }
+{
+    let Some(session) = replace(client, ClientHandle::closed(alloc)).into_box() else {
+        return CLOSED;
+    };
+    let code = plan(&session, out);
+    *client = ClientHandle::of(session);
+    code
+}
+
+/// How many bytes the file of the hint held has, 0 when there is no hint or the handle is closed.
+#[unsafe(no_mangle)]
+pub extern "C" fn vul_client_hint_len(client: &mut ClientHandle, alloc: Global) -> usize
+    ensures kept { client.new.held.session ≡ client.old.held.session }
+    ensures len { result ≡ length (hint_file_in client.old.held.session) }
+{
+    let Some(session) = replace(client, ClientHandle::closed(alloc)).into_box() else {
+        return 0;
+    };
+    let len = session.hint_len();
+    *client = ClientHandle::of(session);
+    len
+}
+
+/// Copies the file of the hint held. 32; 35 exactly when `out` has another length than it has; else it is copied, or 5.
+#[unsafe(no_mangle)]
+pub extern "C" fn vul_client_save_bytes(
+    client: &mut ClientHandle,
+    alloc: Global,
+    out: &mut [u8],
+) -> u32
+    ensures { CallsOn client.old.held.session client.new.held.session result
+        (λ old new. (new ≡ old) × CopiesHint old out.old out.new result) }
+{
+    let Some(session) = replace(client, ClientHandle::closed(alloc)).into_box() else {
+        return CLOSED;
+    };
+    let code = save(&session, alloc, out);
+    *client = ClientHandle::of(session);
+    code
+}
+
+/// Goes on with the hint of a file: the client holds it then, or 81 when it is of another store or of a later version, and then the
+/// client is as it was. 32; 80 exactly when the bytes are no file of a hint; 5; then the client's refusals.
+#[unsafe(no_mangle)]
+pub extern "C" fn vul_client_resume_bytes(
+    client: &mut ClientHandle,
+    alloc: Global,
+    bytes: &[u8],
+) -> u32
+    ensures { CallsOn client.old.held.session client.new.held.session result
+        (λ old new. Resumes old bytes.now new result) }
+{
+    let Some(mut session) = replace(client, ClientHandle::closed(alloc)).into_box() else {
+        return CLOSED;
+    };
+    let code = resume(&mut session, alloc, bytes);
+    *client = ClientHandle::of(session);
+    code
 }

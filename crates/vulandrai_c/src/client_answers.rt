@@ -2,11 +2,12 @@
 
 ghost use Rattle.std.specs.Prelude.{◌≤◌, length};
 ghost use Rattle.client_core.specs.Calls.{Want};
-ghost use Rattle.vulandrai_c.specs.ClientCalls.{Calls, TakesPiece, TakesWaiting, TakesEvent};
+ghost use Rattle.vulandrai_c.specs.ClientCalls.{Calls, CopiesHint, CopiesPlan, Resumes, TakesPiece, TakesWaiting, TakesEvent};
 
-use crate::client_codes::{feed_code, session_code};
-use crate::codes::{BAD_LENGTH, OK};
-use client_session::{ClientSession, Scheme};
+use crate::client_codes::{feed_code, resume_code, session_code};
+use crate::codes::{BAD_LENGTH, MEMORY, NOT_READY, OK};
+use client_session::{ClientSession, STORE_LEN, Scheme};
+use std::alloc::Global;
 
 /// A greeting.
 pub fn hello(client: &mut ClientSession, key: [u8; 32]) -> u32
@@ -87,4 +88,39 @@ pub fn next(client: &mut ClientSession, out: &mut [u8]) -> u32
     client.copy_first_record(out);
     client.forget_first_event();
     OK
+}
+
+/// The file of the hint held.
+pub fn save(client: &ClientSession, alloc: Global, out: &mut [u8]) -> u32
+    ensures { CopiesHint client.now out.old out.new result }
+{
+    if out.len() != client.hint_len() {
+        return BAD_LENGTH;
+    }
+    match client.copy_hint(alloc, out) {
+        Ok(()) => OK,
+        Err(_) => MEMORY,
+    }
+}
+
+/// The bytes that say which store the server's is.
+pub fn plan(client: &ClientSession, out: &mut [u8]) -> u32
+    ensures { CopiesPlan client.now.core.state.known out.old out.new result }
+{
+    let Some(store) = client.store() else {
+        return NOT_READY;
+    };
+    if out.len() != STORE_LEN {
+        return BAD_LENGTH;
+    }
+    out.copy_from_slice(&store);
+    OK
+}
+
+/// A resumption.
+pub fn resume(client: &mut ClientSession, alloc: Global, bytes: &[u8]) -> u32
+    ensures { Resumes client.old bytes.now client.new result }
+{
+    let answer = client.resume(alloc, bytes);
+    resume_code(answer)
 }

@@ -3,14 +3,14 @@
 ghost use Rattle.std.specs.Prelude.{◌≡◌};
 ghost use Rattle.vulandrai_c.specs.ClientCodes as codes;
 
-use crate::codes::{MEMORY, OK, UNTAKEN};
-use client_session::{CallFault, ClientFault, FeedFault, SessionFault};
+use crate::codes::{MEMORY, NOT_READY, OK, UNTAKEN};
+use client_session::{CallFault, ClientFault, FeedFault, HintError, ResumeFault, SessionFault};
 
 fn call_code(fault: CallFault) -> u32
     ensures { result ≡ codes.call_code fault }
 {
     match fault {
-        CallFault::NotReady => 1,
+        CallFault::NotReady => NOT_READY,
         CallFault::Busy => 2,
         CallFault::BadIndex => 3,
         CallFault::SeedUsedUp => 4,
@@ -50,5 +50,27 @@ pub fn feed_code(answer: Result<(), FeedFault>) -> u32
         Ok(()) => OK,
         Err(FeedFault::Untaken) => UNTAKEN,
         Err(FeedFault::Client(fault)) => client_code(fault),
+    }
+}
+
+fn hint_code(fault: HintError) -> u32
+    ensures { result ≡ codes.hint_code fault }
+{
+    match fault {
+        HintError::Damaged => 80,
+        HintError::Read => 70,
+        HintError::Memory => MEMORY,
+    }
+}
+
+/// The code of a resumption.
+pub fn resume_code(answer: Result<bool, ResumeFault>) -> u32
+    ensures { result ≡ codes.resume_code answer }
+{
+    match answer {
+        Ok(true) => OK,
+        Ok(false) => 81,
+        Err(ResumeFault::File(fault)) => hint_code(fault),
+        Err(ResumeFault::Call(fault)) => call_code(fault),
     }
 }

@@ -3,6 +3,9 @@
 /// Done.
 pub const OK: u32 = 0;
 
+/// No greeting was accepted yet, or no hint is held.
+pub const NOT_READY: u32 = 1;
+
 /// There is no memory.
 pub const MEMORY: u32 = 5;
 

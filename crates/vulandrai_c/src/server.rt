@@ -1,14 +1,14 @@
 //! A server for programs in C.
 
-ghost use Rattle.std.specs.Prelude.{◌≡◌, None, length, if◌then◌else◌};
+ghost use Rattle.std.specs.Prelude.{◌≡◌, ◌≢◌, ◌≤◌, None, length, if◌then◌else◌};
 ghost use Rattle.server_core.specs.Cores.{session_of, is_open};
 ghost use Rattle.vulandrai_c.specs.Handles.{CallsOn};
-ghost use Rattle.vulandrai_c.specs.ServerCalls.{Opens, OpensSession, ClosesSession, TakesPiece, TakesReplies, Edits, Appends, Publishes, CopiesSnapshot, replies_of, snapshot_bytes_of};
+ghost use Rattle.vulandrai_c.specs.ServerCalls.{Opens, OpensSession, ClosesSession, TakesPiece, TakesFrame, TakesReplies, Edits, Appends, Publishes, CopiesSnapshot, replies_of, snapshot_bytes_of};
 
 use crate::codes::{CLOSED, MEMORY, OK};
 use crate::server_answers::{
     append_draft, close_session, copy_snapshot, edit_draft, open_session, publish_draft, serve,
-    take_replies,
+    serve_frame, take_replies,
 };
 use crate::server_codes::snapshot_code;
 use crate::server_handle::ServerHandle;
@@ -110,6 +110,31 @@ pub extern "C" fn vul_server_feed_bytes(
         return CLOSED;
     };
     let code = serve(&mut session, id, piece);
+    *server = ServerHandle::of(session);
+    code
+}
+
+/// Takes a piece of a session's stream up to the end of its first frame: `taken` is how many bytes of it, and the rest is for a
+/// later call. 32, 36; 48 exactly when there is no session of this number; else it is served, or 5. With each of these
+/// codes no byte is taken.
+#[unsafe(no_mangle)]
+pub extern "C" fn vul_server_feed_frame_bytes(
+    server: &mut ServerHandle,
+    alloc: Global,
+    id: u64,
+    piece: &[u8],
+    taken: &mut usize,
+) -> u32
+    ensures served { CallsOn server.old.held.session server.new.held.session result
+        (λ old new. TakesFrame old id piece.now taken.new new result) }
+    ensures within { taken.new ≤ length piece.now }
+    ensures refused { result ≢ 0 → taken.new ≡ 0 }
+{
+    *taken = 0;
+    let Some(mut session) = replace(server, ServerHandle::closed(alloc)).into_box() else {
+        return CLOSED;
+    };
+    let code = serve_frame(&mut session, id, piece, taken);
     *server = ServerHandle::of(session);
     code
 }

@@ -34,6 +34,22 @@ pub fn serve(server: &mut ServerSession, id: u64, piece: &[u8]) -> u32
     piece_code(answer)
 }
 
+/// The first frame of a piece of a session's stream, and how many bytes of the piece it took.
+pub fn serve_frame(server: &mut ServerSession, id: u64, piece: &[u8], taken: &mut usize) -> u32
+    ensures { calls.TakesFrame server.old id piece.now taken.new server.new result }
+{
+    match server.feed_frame(id, piece) {
+        Ok(count) => {
+            *taken = count;
+            OK
+        }
+        Err(fault) => {
+            *taken = 0;
+            piece_code(Err(fault))
+        }
+    }
+}
+
 /// The replies that wait to be sent.
 pub fn take_replies(server: &mut ServerSession, out: &mut [u8]) -> u32
     ensures { calls.TakesReplies server.old server.new out.old out.new result }
