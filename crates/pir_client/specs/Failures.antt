@@ -8,13 +8,12 @@ use Rattle.session_engines.specs.declared.conversing.ConverseFault.TheVariants a
 use Rattle.session_engines.specs.Names.{converse_fault_name}
 use Rattle.client_commands.specs.declared.fault.CommandError.{CommandError}
 use Rattle.client_commands.specs.declared.fault.CommandError.TheVariants.{Refused, Stale, Unreadable, ShortSecrets, Call, Conversation}
-use Rattle.claim_counter.specs.declared.handing_out.ClaimError.TheVariants.{Failed, UsedUp}
-use Rattle.client_commands.specs.declared.claimed.AskError.{AskError}
-use Rattle.client_commands.specs.declared.claimed.AskError.TheVariants.{Claim, Passed, Command}
-use Rattle.client_state.specs.declared.folder.FolderFault.{FolderFault}
-use Rattle.client_state.specs.declared.folder.FolderFault.TheVariants as folder
+use Rattle.client_state.specs.declared.fault.FolderFault.{FolderFault}
+use Rattle.client_state.specs.declared.fault.FolderFault.TheVariants as folder
 use Rattle.command_words.specs.declared.failure.Failure.{Failure}
 use Rattle.command_words.specs.declared.failure.Failure.TheVariants as failure
+use Rattle.pir_client.specs.declared.sessions.RetrieveError.{RetrieveError}
+use Rattle.pir_client.specs.declared.sessions.RetrieveError.TheVariants.{Command, DamagedHint}
 
 -- a fault of this name
 abbrev pub IsFault : List ℕ → Failure → Type 0
@@ -40,15 +39,12 @@ IsReported (ShortSecrets dimension) said = IsFault (codes "BadWelcome") said
 IsReported (Call fault) said = IsCallFault fault said
 IsReported (Conversation fault) said = IsConverseFault fault said
 
--- the failure that is printed of a retrieval under a number of its own
-abbrev pub IsAskReported : AskError → Failure → Type 0
-IsAskReported (Claim UsedUp) said = IsFault (codes "SeedUsedUp") said
-IsAskReported (Claim Failed) said = IsFault (codes "State") said
-IsAskReported Passed said = IsFault (codes "State") said
-IsAskReported (Command fault) said = IsReported fault said
+-- the failure that is printed of a retrieval with a folder
+abbrev pub IsRetrieveReported : RetrieveError → Failure → Type 0
+IsRetrieveReported DamagedHint said = IsFault (codes "Damaged") said
+IsRetrieveReported (Command fault) said = IsReported fault said
 
 -- the failure that is printed of a folder
 abbrev pub IsFolderFault : FolderFault → Failure → Type 0
-IsFolderFault folder.Locked said = IsFault (codes "Locked") said
 IsFolderFault folder.State said = IsFault (codes "State") said
 IsFolderFault folder.Memory said = said ≡ failure.Memory

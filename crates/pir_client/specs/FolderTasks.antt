@@ -4,14 +4,7 @@ use Rattle.clap.specs.declared.parser.matches.Found.{Found}
 use Rattle.clap.specs.Matches.{first_value}
 use Rattle.pir_client.specs.Tasks.{IsNumberGiven, IsNumberIfGiven, IsHostGiven, scheme_text}
 use Rattle.pir_client.specs.declared.folder_tasks.FolderTask.{FolderTask}
-use Rattle.pir_client.specs.declared.folder_tasks.FolderTask.TheVariants.{Init, Get, State, Forget}
-
--- a folder to be made, as the options of `init` name it
-abbrev pub ReadsInit : Found → FolderTask → Type 0
-ReadsInit found (Init state seed) = first_value found (codes "state") ≡ Some state.now
-ReadsInit found (Get state server least scheme indices) = ⊥
-ReadsInit found (State state) = ⊥
-ReadsInit found (Forget state) = ⊥
+use Rattle.pir_client.specs.declared.folder_tasks.FolderTask.TheVariants.{Get, State, Forget}
 
 -- the time limit that was given, or half a minute
 abbrev pub IsWithin : Found → Option ℕ → Type 0
@@ -21,8 +14,7 @@ IsWithin found (Some seconds) =
 
 -- retrievals with a folder, as the options of `get` ask for them
 abbrev pub ReadsFolderGet : Found → FolderTask → Type 0
-ReadsFolderGet found (Init state seed) = ⊥
-ReadsFolderGet found (Get state server least scheme indices) =
+ReadsFolderGet found (Get state server least no_older scheme indices) =
     (first_value found (codes "state") ≡ Some state.now) × IsNumberGiven found (codes "port") server.port × IsHostGiven found server
     × IsWithin found server.timeout
     × (first_value found (codes "scheme") ≡ Some (scheme_text scheme))
@@ -31,7 +23,6 @@ ReadsFolderGet found (Forget state) = ⊥
 
 -- a folder that is printed, or whose hint is dropped, as the option of `state` and `forget` names it
 abbrev pub ReadsFolder : Found → FolderTask → Type 0
-ReadsFolder found (Init state seed) = ⊥
-ReadsFolder found (Get state server least scheme indices) = ⊥
+ReadsFolder found (Get state server least no_older scheme indices) = ⊥
 ReadsFolder found (State state) = first_value found (codes "state") ≡ Some state.now
 ReadsFolder found (Forget state) = first_value found (codes "state") ≡ Some state.now

@@ -49,6 +49,7 @@ fn cause_of_fault(name: &str) -> Option<&'static str> {
         ),
         "BadReply" => Some("the server's reply doesn't fit what was asked"),
         "BadIndex" => Some("the store has no record of this number"),
+        "Random" => Some("the system's random source gave no seed"),
         _ => None,
     }
 }

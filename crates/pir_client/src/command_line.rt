@@ -4,9 +4,9 @@ ghost use Rattle.std.specs.Prelude.{◌≡◌, Some, IfOk, codes};
 ghost use Rattle.clap.specs.Matches.{found_of, first_value};
 ghost use Rattle.pir_client.specs.Tasks.{TaskFits, IsDimension, IsTimeout, IsNumberIfGiven, IsServerGiven, IsHostGiven, ReadsGet, ReadsPut, ReadsAppend, ReadsPublish, scheme_text};
 
-use crate::folder_tasks::{FolderTask, folder_get_task, forget_task, init_task, state_task};
+use crate::folder_tasks::{FolderTask, folder_get_task, forget_task, state_task};
 use crate::server::Address;
-use clap::{ArgMatches, Command};
+use clap::{Arg, ArgAction, ArgMatches, Command};
 use command_words::{
     BadLine, Secret, key_at, number_at, option, record_bytes, seed_at, text_at, verbose_flag, word,
 };
@@ -97,12 +97,23 @@ pub struct Asked<'a> {
 }
 
 // An option for how long the server may take.
-fn timeout_option<'a>(alloc: Global, help: &'a str) -> clap::Arg<'a> {
+fn timeout_option<'a>(alloc: Global, help: &'a str) -> Arg<'a> {
     option(alloc, "timeout", "SECONDS", help).required(false)
 }
 
 const TIMEOUT_HELP: &str =
     "How many seconds connecting and each whole reply may take, 1 to 86400; any time if not given";
+
+// The flag by which a server of an older version is refused.
+fn no_older_flag<'a>(alloc: Global) -> Result<Arg<'a>, AllocError> {
+    Arg::new(alloc, "no-older")
+        .long("no-older")
+        .help(
+            "With --state: refuses a server whose version is lower than one seen before, after three connections",
+        )
+        .action(ArgAction::SetTrue)
+        .conflicts_with("seed")
+}
 
 // The command `get`.
 fn get_command<'a>(alloc: Global) -> Result<Command<'a>, AllocError> {
@@ -115,7 +126,7 @@ fn get_command<'a>(alloc: Global) -> Result<Command<'a>, AllocError> {
                 alloc,
                 "seed",
                 "HEX",
-                "Your secret, which alone hides INDEX: 32 bytes as 64 hex digits, or @FILE",
+                "For tests and for who keeps numbers: a secret of 32 bytes, which alone hides INDEX, as 64 hex digits or @FILE",
             )
             .required(false)
             .required_unless_present("state")?
@@ -136,9 +147,10 @@ fn get_command<'a>(alloc: Global) -> Result<Command<'a>, AllocError> {
             alloc,
             "state",
             "DIR",
-            "A folder that init has made, in place of --seed and --number: its hint is used again",
+            "A folder in which the hint is kept for the next time; it is made if there is none, and has no secret",
         )
         .required(false))?
+        .arg(no_older_flag(alloc)?)?
         .arg(option(
             alloc,
             "host",
@@ -168,47 +180,24 @@ fn get_command<'a>(alloc: Global) -> Result<Command<'a>, AllocError> {
 }
 
 const GET_EXAMPLE: &str =
-    "Prints 'retrieved INDEX VERSION HEX', HEX being the record's bytes, or - where it has none. Two retrievals with one seed and one\nnumber can tell the server what they ask, so count N up, also after a get that failed, and keep the seed to yourself.\nSecrets of fewer than 1024 words hide INDEX less: the server chooses their number. --least-dimension 1024 ends a get\nwith 'fault: BadWelcome' where they are fewer, before INDEX is asked for; without it a warning is printed, and with --state fewer than 1024 are refused.\n\nWith --state DIR the folder's seed is used, each number once, and its hint, which is fetched or moved to the server's version first.\n\nExample: pir_client get --state DIR --port 7000 --scheme simple 1\nExample: pir_client get --port 7000 --seed 1111111111111111111111111111111111111111111111111111111111111111 --number 0 --scheme simple 1\n\nWith --verbose a fault has a second line, 'cause: TEXT', that says what failed and where.";
-
-// The command `init`.
-fn init_command<'a>(alloc: Global) -> Result<Command<'a>, AllocError> {
-    Command::new(alloc, "init")
-        .about(
-            "Makes a folder with a secret seed, the number of its next retrieval, and room for a hint",
-        )
-        .after_help(INIT_EXAMPLE)
-        .arg(verbose_flag(alloc))?
-        .arg(option(alloc, "state", "DIR", "The folder"))?
-        .arg(option(
-            alloc,
-            "seed",
-            "HEX",
-            "A seed that has never been used, as 64 hex digits or @FILE; a random one where none is given",
-        )
-        .required(false))
-}
-
-const INIT_EXAMPLE: &str =
-    "Prints 'initialized'. The folder is its owner's alone. A copy of it, or one brought back from a backup, uses numbers twice, which\nshows what was asked: make a new one instead.\n\nExample: pir_client init --state DIR\n\nWith --verbose a fault has a second line, 'cause: TEXT', that says what failed and where.";
+    "Prints 'retrieved INDEX VERSION HEX', HEX being the record's bytes, or - where it has none.\n\nWith --state DIR each run draws a seed of its own from the system's random source, and keeps none. The folder keeps public hints alone, one for\neach scheme and store, so that a second get need not fetch one; it may be copied, restored or removed at any time. A server of a lower version\nthan was seen before is warned of beside the result, and with --no-older refused: 'fault: Older'.\n\nWith --seed and --number it is you who must never use a number twice with one seed, not even after a get that failed: two such retrievals can\ntell the server what they ask.\n\nSecrets of fewer than 1024 words hide INDEX less: the server chooses their number. --least-dimension 1024 ends a get\nwith 'fault: BadWelcome' if they are fewer, before INDEX is asked for; without it a warning is printed, and with --state fewer than 1024 are refused.\n\nExample: pir_client get --state DIR --port 7000 --scheme simple 1\nExample: pir_client get --port 7000 --seed 1111111111111111111111111111111111111111111111111111111111111111 --number 0 --scheme simple 1\n\nWith --verbose a fault has a second line, 'cause: TEXT', that says what failed and where.";
 
 // The command `state`.
 fn state_command<'a>(alloc: Global) -> Result<Command<'a>, AllocError> {
     Command::new(alloc, "state")
-        .about("Prints what a folder has, but for its seed")
+        .about("Prints which hints a folder keeps")
         .after_help(STATE_EXAMPLE)
         .arg(verbose_flag(alloc))?
         .arg(option(alloc, "state", "DIR", "The folder"))
 }
 
 const STATE_EXAMPLE: &str =
-    "Prints 'number N', the number of the next retrieval, and 'hint none', or 'hint SCHEME VERSION' and what the server had reported\nlast: 'version V', 'records COUNT', 'dimension N'.\n\nExample: pir_client state --state DIR\n\nWith --verbose a fault has a second line, 'cause: TEXT', that says what failed and where.";
+    "Prints for each hint 'hint SCHEME VERSION' and what the server had reported last: 'version V', 'records COUNT', 'dimension N'; or 'hint none'.\n\nExample: pir_client state --state DIR\n\nWith --verbose a fault has a second line, 'cause: TEXT', that says what failed and where.";
 
 // The command `forget`.
 fn forget_command<'a>(alloc: Global) -> Result<Command<'a>, AllocError> {
     Command::new(alloc, "forget")
-        .about(
-            "Drops a folder's hint, so that the next retrieval fetches it anew; never its counter",
-        )
+        .about("Drops a folder's hints, so that the next retrieval fetches its hint anew")
         .after_help(FORGET_EXAMPLE)
         .arg(verbose_flag(alloc))?
         .arg(option(alloc, "state", "DIR", "The folder"))
@@ -303,7 +292,6 @@ fn whole_command<'a>(alloc: Global) -> Result<Command<'a>, AllocError> {
         .version(VERSION)
         .about("A client of one pir_server")
         .after_help(EXIT_STATUSES)
-        .subcommand(init_command(alloc)?)?
         .subcommand(get_command(alloc)?)?
         .subcommand(state_command(alloc)?)?
         .subcommand(forget_command(alloc)?)?
@@ -314,10 +302,10 @@ fn whole_command<'a>(alloc: Global) -> Result<Command<'a>, AllocError> {
 }
 
 /// What `--version` prints after the program's name.
-const VERSION: &str = "0.1.0";
+const VERSION: &str = "0.2.0";
 
 const EXIT_STATUSES: &str =
-    "A value @FILE of --seed or --key is read from that file; one on the command line itself stands in the list of\nprocesses, for other users of this machine to see.\n\nExit status: 0 done, 1 refused by the server (or stale, or unreadable), 2 a bad command line, 3 a fault,\n4 out of memory. Whatever the status, a number that was given to get is never to be used again with its seed.\n\nThe server's refusals are one line on standard error, 'refused CODE':\n  1 BadFrame   2 NotWelcome   3 BadProfile   4 BadKey   5 NotPublisher   6 BadIndex   7 BadLength\n  8 NothingToPublish   9 VersionsUsedUp   10 BadPart   11 BadQueryLength   12 Memory   13 BadScheme\n  14 Full\n\nA fault is one line on standard error, 'fault: NAME':\n  File           the file of a seed or key can't be read\n  State          the folder can't be used: no seed with its counter, or others may use it\n  Locked         another process uses the folder\n  Connect        the server's port can't be connected to\n  Timeout        connecting or a whole reply took longer than --timeout allows\n  Read, Write    reading or writing failed\n  Ended          the server closed the connection\n  BadWelcome     the server's greeting is none that this client accepts\n  BadReply       a reply that doesn't fit what was asked\n  Failed         a reply came with more after it, and then a call was made\n  BadIndex       there is no such record\n  SeedUsedUp     the folder's seed has no number left\n  TurnsUsedUp    more reads than a call has\n  Memory         memory was refused (status 4)\n\nWith --verbose a second line 'cause: TEXT' says what failed and where.";
+    "A value @FILE of --seed or --key is read from that file; one on the command line itself stands in the list of\nprocesses, for other users of this machine to see.\n\nExit status: 0 done, 1 refused by the server (or stale, or unreadable), 2 a bad command line, 3 a fault,\n4 out of memory. Whatever the status, a --number that was given to get is never to be used again with its seed.\n\nThe server's refusals are one line on standard error, 'refused CODE':\n  1 BadFrame   2 NotWelcome   3 BadProfile   4 BadKey   5 NotPublisher   6 BadIndex   7 BadLength\n  8 NothingToPublish   9 VersionsUsedUp   10 BadPart   11 BadQueryLength   12 Memory   13 BadScheme\n  14 Full\n\nA fault is one line on standard error, 'fault: NAME':\n  File           the file of a seed or key can't be read\n  State          the folder can't be made or used, or others may use it\n  Random         the system's random source gave no seed\n  Damaged        the kept hint was damaged, and is dropped: ask again\n  Older          --no-older, and the server's version is lower than one seen before\n  Connect        the server's port can't be connected to\n  Timeout        connecting or a whole reply took longer than --timeout allows\n  Read, Write    reading or writing failed\n  Ended          the server closed the connection\n  BadWelcome     the server's greeting is none that this client accepts\n  BadReply       a reply that doesn't fit what was asked\n  Failed         a reply came with more after it, and then a call was made\n  BadIndex       there is no such record\n  TurnsUsedUp    more reads than a call has\n  Memory         memory was refused (status 4)\n\nWith --verbose a second line 'cause: TEXT' says what failed and where.";
 
 // What the words of `get` ask for.
 fn get_task<'a>(found: &ArgMatches<'a>) -> Result<Task<'a>, BadLine<'a>>
@@ -464,9 +452,6 @@ pub fn task_of<'a>(alloc: Global, words: &'a [String]) -> Result<Asked<'a>, BadL
     let matches = whole_command(alloc)?.try_get_matches_from(words)?;
     if let Some(found) = matches.subcommand_matches("get") {
         return asked_for(found, get_or_folder_task(alloc, found)?);
-    }
-    if let Some(found) = matches.subcommand_matches("init") {
-        return asked_for(found, Task::Folder(init_task(found)?));
     }
     if let Some(found) = matches.subcommand_matches("state") {
         return asked_for(found, Task::Folder(state_task(found)?));

@@ -71,12 +71,8 @@ fn done(rt: &HostRuntime, task: Task<'_>) -> Result<u8, Failed>
     Ok(0)
 }
 
-/// The seed that a command line gives, or its file.
-///
-/// # Errors
-///
-/// Those of [`Secret::seed`], with the file in the cause.
-pub fn seed_of(rt: &HostRuntime, seed: Secret<'_>) -> Result<[u8; 32], Failed> {
+// The seed that a command line gives, or its file.
+fn seed_of(rt: &HostRuntime, seed: Secret<'_>) -> Result<[u8; 32], Failed> {
     seed.seed(rt, SEED_TAKES)
         .map_err(|failure| seed.failed(rt, failure))
 }

@@ -1,9 +1,9 @@
 //! How a command that was not done is reported.
 
-ghost use Rattle.pir_client.specs.Failures.{IsReported, IsCallFault, IsConverseFault, IsAskReported, IsFolderFault};
+ghost use Rattle.pir_client.specs.Failures.{IsReported, IsCallFault, IsConverseFault, IsRetrieveReported, IsFolderFault};
 
-use claim_counter::ClaimError;
-use client_commands::{AskError, CommandError};
+use crate::sessions::RetrieveError;
+use client_commands::CommandError;
 use client_state::FolderFault;
 use command_words::Failure;
 use session_core::{CallFault, ConverseFault};
@@ -42,14 +42,13 @@ fn converse_failure(fault: ConverseFault) -> Failure
     }
 }
 
-/// The failure that is printed of a retrieval under a number of its own.
-pub fn ask_failure(fault: AskError) -> Failure
-    ensures { IsAskReported fault result }
+/// The failure that is printed of a retrieval with a folder.
+pub fn retrieve_failure(fault: RetrieveError) -> Failure
+    ensures { IsRetrieveReported fault result }
 {
     match fault {
-        AskError::Claim(ClaimError::UsedUp) => Failure::Fault("SeedUsedUp"),
-        AskError::Claim(ClaimError::Failed) | AskError::Passed => Failure::Fault("State"),
-        AskError::Command(fault) => failure_of(fault),
+        RetrieveError::DamagedHint => Failure::Fault("Damaged"),
+        RetrieveError::Command(fault) => failure_of(fault),
     }
 }
 
@@ -58,7 +57,6 @@ pub fn folder_failure(fault: FolderFault) -> Failure
     ensures { IsFolderFault fault result }
 {
     match fault {
-        FolderFault::Locked => Failure::Fault("Locked"),
         FolderFault::State => Failure::Fault("State"),
         FolderFault::Memory => Failure::Memory,
     }

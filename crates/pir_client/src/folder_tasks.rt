@@ -3,12 +3,12 @@
 ghost use Rattle.std.specs.Prelude.{◌≡◌, Some, IfOk};
 ghost use Rattle.std.specs.Option.{unwrap_or};
 ghost use Rattle.clap.specs.Matches.{found_of};
-ghost use Rattle.pir_client.specs.FolderTasks.{ReadsInit, ReadsFolderGet, ReadsFolder};
+ghost use Rattle.pir_client.specs.FolderTasks.{ReadsFolderGet, ReadsFolder};
 
-use crate::command_line::{INDEX_TAKES, SEED_TAKES, least_dimension, scheme_given, server_at};
+use crate::command_line::{INDEX_TAKES, least_dimension, scheme_given, server_at};
 use crate::server::Address;
 use clap::ArgMatches;
-use command_words::{BadLine, Secret, decimal, seed_at, text_at};
+use command_words::{BadLine, decimal, text_at};
 use session_core::Scheme;
 use std::alloc::Global;
 
@@ -23,45 +23,24 @@ const STATE_TAKES: &str = "--state takes the name of a folder";
 /// What is asked of a folder.
 #[derive(Drop)]
 pub enum FolderTask<'a> {
-    /// To make it, with this seed or a new one.
-    Init {
-        state: &'a str,
-        seed: Option<Secret<'a>>,
-    },
-    /// Private retrievals with its seed, its numbers and its hint.
+    /// Private retrievals with the hint that it keeps.
     Get {
         state: &'a str,
         server: Address<'a>,
         least: usize,
+        // Whether a server of an older version than was seen before is refused.
+        no_older: bool,
         scheme: Scheme,
         indices: Vec<u32>,
     },
-    /// To print what it has.
+    /// To print which hints it has.
     State {
         state: &'a str,
     },
-    /// To drop its hint.
+    /// To drop its hints.
     Forget {
         state: &'a str,
     },
-}
-
-/// What the words of `init` ask for.
-pub fn init_task<'a>(found: &ArgMatches<'a>) -> Result<FolderTask<'a>, BadLine<'a>>
-    ensures { IfOk result (ReadsInit (found_of found.now)) }
-{
-    let state = text_at(found, "state", STATE_TAKES)?;
-    let seed = seed_if_given(found)?;
-    Ok(FolderTask::Init { state, seed })
-}
-
-// The seed, where one is given.
-fn seed_if_given<'a>(found: &ArgMatches<'a>) -> Result<Option<Secret<'a>>, BadLine<'a>> {
-    if found.get_str("seed").is_none() {
-        return Ok(None);
-    }
-    let seed = seed_at(found, "seed", SEED_TAKES)?;
-    Ok(Some(seed))
 }
 
 /// What the words of `get` ask for, where a folder is given.
@@ -76,10 +55,12 @@ pub fn folder_get_task<'a>(
     let scheme = scheme_given(found)?;
     let least = least_dimension(found)?.unwrap_or(WHOLE_SECRET);
     let indices = indices_given(alloc, found)?;
+    let no_older = found.get_flag("no-older");
     Ok(FolderTask::Get {
         state,
         server,
         least,
+        no_older,
         scheme,
         indices,
     })

@@ -1,81 +1,125 @@
-//! The commands of a client that keeps its seed, its numbers and its hint in a folder.
+//! The commands of a client that keeps hints in a folder. A folder has no secret: each run draws a seed of its own.
 
-use crate::commands::seed_of;
-use crate::failures::{ask_failure, folder_failure};
+use crate::failures::{folder_failure, retrieve_failure};
 use crate::folder_tasks::FolderTask;
-use crate::server::{Address, Server};
-use crate::sessions::{Session, sound};
+use crate::server::Address;
+use crate::sessions::{RetrieveError, Session};
+use crate::warnings::Older;
 use client_commands::Retrieved;
-use client_state::{Folder, FolderFault, Kept, state_lines};
-use command_words::{Failed, Failure, Secret, printed};
+use client_state::{Folder, FolderFault, OldFolder};
+use command_words::{Failed, Failure, printed};
+use hint_file::state_lines;
 use rehearsal::shown_bytes;
 use session_core::Scheme;
+use std::alloc::AllocError;
+use std::random::RandomSource;
+
+/// How many connections are tried where each leads to a server of an older version.
+const CONNECTIONS: u32 = 3;
 
 /// Does what is asked of a folder, and prints what came of it.
 pub fn done_in_folder(rt: &HostRuntime, task: FolderTask<'_>) -> Result<(), Failed> {
     match task {
-        FolderTask::Init { state, seed } => make_folder(rt, state, seed),
         FolderTask::Get {
             state,
             server,
             least,
+            no_older,
             scheme,
             indices,
-        } => get_records(rt, state, &server, least, scheme, &indices),
+        } => {
+            let seed = fresh_seed(rt)?;
+            let folder = Folder::open(rt, state).map_err(|fault| folder_failed(rt, state, fault))?;
+            let old = taken_over(&folder)?;
+            let session = if no_older {
+                session_of_no_older(rt, folder, &server, seed, least, scheme)?
+            } else {
+                Session::begin(rt, folder, &server, seed, least, scheme)?
+            };
+            get_records(rt, session, &server, &indices)?;
+            warn_of_old(rt, old);
+            Ok(())
+        }
         FolderTask::State { state } => show_folder(rt, state),
         FolderTask::Forget { state } => forget(rt, state),
     }
 }
 
-// Makes a folder.
-fn make_folder(rt: &HostRuntime, state: &str, seed: Option<Secret<'_>>) -> Result<(), Failed> {
-    let seed = match seed {
-        Some(secret) => Some(seed_of(rt, secret)?),
-        None => None,
-    };
-    Folder::make(rt, state, seed).map_err(|fault| folder_failed(rt, state, fault))?;
-    printed(rt, println!(rt; "initialized"))
+// 32 bytes of the system's random source: no run uses a seed of another one.
+fn fresh_seed(rt: &HostRuntime) -> Result<[u8; 32], Failed> {
+    let mut seed = [0u8; 32];
+    match rt.fill_bytes(&mut seed) {
+        Ok(()) => Ok(seed),
+        Err(_) => Err(Failed::from(Failure::Fault("Random"))),
+    }
 }
 
-// Prints what a folder has, but for its seed.
-fn show_folder(rt: &HostRuntime, state: &str) -> Result<(), Failed> {
-    let folder = Folder::open(rt, state).map_err(|fault| folder_failed(rt, state, fault))?;
-    let kept = Kept {
-        seed: folder.seed(),
-        next: folder.next(),
-        hint: sound(rt, folder.hint())?,
-    };
-    let lines = state_lines(rt.alloc(), &kept)?;
-    printed(rt, print!(rt; "{lines}"))
+// Takes a folder of before over, if it is one. If its hint can't be kept, nothing is removed, and the next run tries again.
+fn taken_over(folder: &Folder<'_>) -> Result<Option<OldFolder>, AllocError> {
+    match folder.take_old() {
+        Ok(old) => Ok(old),
+        Err(FolderFault::State) => Ok(None),
+        Err(FolderFault::Memory) => Err(AllocError),
+    }
 }
 
-// Drops the hint of a folder.
-fn forget(rt: &HostRuntime, state: &str) -> Result<(), Failed> {
-    let folder = Folder::open(rt, state).map_err(|fault| folder_failed(rt, state, fault))?;
-    folder
-        .forget_hint()
-        .map_err(|fault| folder_failed(rt, state, fault))?;
-    printed(rt, println!(rt; "forgotten"))
+// Says that a folder of before was taken over.
+fn warn_of_old(rt: &HostRuntime, old: Option<OldFolder>) {
+    if old.is_some() {
+        let _ = eprintln!(rt;
+            "warning: the folder's seed and numbers are of no more use, and were removed"
+        );
+    }
 }
 
-// Retrieves records over one connection, and prints each.
-fn get_records(
-    rt: &HostRuntime,
-    state: &str,
+// A session with a server of no older version than was seen before.
+fn session_of_no_older<'a>(
+    rt: &'a HostRuntime,
+    folder: Folder<'a>,
     address: &Address<'_>,
+    seed: [u8; 32],
     least: usize,
     scheme: Scheme,
-    indices: &[u32],
-) -> Result<(), Failed> {
-    let folder = Folder::open(rt, state).map_err(|fault| folder_failed(rt, state, fault))?;
-    let server = Server::connect(rt, address)?;
-    let mut session = Session::begin(rt, folder, server, address, least)?;
-    for index in indices {
-        match session.retrieve(scheme, *index) {
-            Ok(got) => print_record(rt, &got)?,
-            Err(fault) => return Err(ask_failed(rt, &session, address, *index, ask_failure(fault))),
+) -> Result<Session<'a>, Failed> {
+    let mut older = Older {
+        version: 0,
+        seen: 0,
+    };
+    for _ in 0..CONNECTIONS {
+        let session = Session::begin(rt, folder, address, seed, least, scheme)?;
+        match session.warnings().older {
+            None => return Ok(session),
+            Some(found) => older = found,
         }
     }
+    let Older { version, seen } = older;
+    Err(Failed::by(
+        Failure::Fault("Older"),
+        format!(in rt.alloc(); "{CONNECTIONS} connections: version {version} after {seen}"),
+    ))
+}
+
+// Retrieves records over one connection, and prints each. A damaged hint is dropped at the end alone: all records are asked for in
+// the same way, whichever of them have their rows in the damaged part.
+fn get_records(
+    rt: &HostRuntime,
+    mut session: Session<'_>,
+    address: &Address<'_>,
+    indices: &[u32],
+) -> Result<(), Failed> {
+    let mut unread = None;
+    for index in indices {
+        match session.retrieve(*index) {
+            Ok(got) => print_record(rt, &got)?,
+            Err(RetrieveError::DamagedHint) => unread = Some(*index),
+            Err(fault) => return Err(retrieve_failed(rt, &session, address, *index, fault)),
+        }
+    }
+    if let Some(index) = unread {
+        session.discard();
+        return Err(retrieve_failed(rt, &session, address, index, RetrieveError::DamagedHint));
+    }
+    session.warnings().print(rt);
     Ok(())
 }
 
@@ -88,18 +132,23 @@ fn print_record(rt: &HostRuntime, got: &Retrieved) -> Result<(), Failed> {
 }
 
 // How a retrieval failed, with its record in the cause.
-fn ask_failed(
+fn retrieve_failed(
     rt: &HostRuntime,
     session: &Session<'_>,
     address: &Address<'_>,
     index: u32,
-    failure: Failure,
+    fault: RetrieveError,
 ) -> Failed {
-    if let Failure::Unreadable { .. } = failure {
-        let cause = format!(in rt.alloc();
-            "INDEX {index}: the kept hint may be another store's: pir_client forget drops it"
-        );
-        return Failed::by(failure, cause);
+    let failure = retrieve_failure(fault);
+    let text = match failure {
+        Failure::Unreadable { .. } => Some(
+            "the kept hint may be another store's: pir_client forget drops it",
+        ),
+        Failure::Fault("Damaged") => Some("the kept hint was damaged and is dropped: ask again"),
+        _ => None,
+    };
+    if let Some(text) = text {
+        return Failed::by(failure, format!(in rt.alloc(); "INDEX {index}: {text}"));
     }
     let Failed { failure, cause } = session.failed(address, failure);
     let text = match cause {
@@ -107,6 +156,27 @@ fn ask_failed(
         None => format!(in rt.alloc(); "INDEX {index}"),
     };
     Failed::by(failure, text)
+}
+
+// Prints which hints a folder has.
+fn show_folder(rt: &HostRuntime, state: &str) -> Result<(), Failed> {
+    let found = Folder::standing(rt, state)
+        .and_then(|folder| folder.kept_heads())
+        .map_err(|fault| folder_failed(rt, state, fault))?;
+    let lines = state_lines(rt.alloc(), &found.heads)?;
+    printed(rt, print!(rt; "{lines}"))?;
+    if found.damaged > 0 {
+        let _ = eprintln!(rt; "warning: the hint kept is damaged");
+    }
+    Ok(())
+}
+
+// Drops the hints of a folder.
+fn forget(rt: &HostRuntime, state: &str) -> Result<(), Failed> {
+    Folder::standing(rt, state)
+        .and_then(|folder| folder.forget())
+        .map_err(|fault| folder_failed(rt, state, fault))?;
+    printed(rt, println!(rt; "forgotten"))
 }
 
 // How a command on a folder failed, with the folder in the cause.

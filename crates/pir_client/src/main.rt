@@ -15,6 +15,7 @@ mod folder_tasks;
 mod folders;
 mod server;
 mod sessions;
+mod warnings;
 mod watching;
 
 use std::process::ExitCode;

@@ -1,44 +1,45 @@
-//! A client with a folder, over one connection.
+//! A client with a folder of hints, over one connection.
+//!
+//! Which frames are sent depends on the head of the hint kept, on the scheme and on what the server says, and not on the records: if the
+//! parts with a record's rows are damaged, its query and all later ones are sent all the same.
+
+ghost use Rattle.client_commands.specs.Transcripts.{IsRecordAsked};
 
 use crate::failures::failure_of;
 use crate::server::{Address, Server};
+use crate::warnings::{Older, Warnings};
 use crate::watching::Watched;
-use client_commands::{
-    AskError, CommandError, Retrieved, ask_claimed, ask_with_rows, check_dimension, greet, sync,
-};
-use client_state::{Folder, HintError, KeptHead, parts_for};
+use client_commands::{CommandError, Retrieved, ask, ask_with_rows, check_dimension, greet, sync};
+use client_state::{Folder, KeptFile};
 use command_words::{Failed, Failure};
+use hint_file::{HintError, PartSpan, parts_for};
 use session_core::{CallFault, ClientCore, Event, Hint, Lanes, SavedClient, Scheme, ServerInfo};
 use std::alloc::AllocError;
 
 /// How often an answer may be stale before a retrieval is given up.
 const STALE_ANSWERS: u32 = 3;
 
-/// The numbers of retrievals are below this one.
-const NUMBERS: u64 = 1 << 62;
+/// Why a record was not retrieved.
+#[derive(Clone, Copy, Debug, PartialEq, Eq)]
+pub enum RetrieveError {
+    /// A call failed.
+    Command(CommandError),
+    /// The hint kept is damaged where the record's rows stand. The record was asked for all the same, but its answer can't be read.
+    DamagedHint,
+}
 
-/// What was read of the hint kept. One that is damaged, or can't be read, is warned of, and is none.
-pub fn sound<T>(
-    rt: &HostRuntime,
-    read: Result<Option<T>, HintError>,
-) -> Result<Option<T>, AllocError> {
-    match read {
-        Ok(kept) => Ok(kept),
-        Err(HintError::Damaged | HintError::Read) => {
-            let _ = eprintln!(rt; "warning: the hint kept is damaged");
-            Ok(None)
-        }
-        Err(HintError::Memory) => Err(AllocError),
+impl From<CommandError> for RetrieveError {
+    fn from(fault: CommandError) -> Self {
+        RetrieveError::Command(fault)
     }
 }
 
-// What was read of the hint kept.
+// The rows of one record.
 #[derive(Drop)]
-enum HintRead {
-    // Its head. The client holds none: of SimplePIR's the rows of a record are read when it is asked for.
-    Head(KeptHead),
-    // All of it, where there is one: what the client holds is whole, and may be moved and kept.
-    All,
+struct Rows {
+    saved: SavedClient,
+    // Whether the rows are those that were kept; else they are zeros.
+    are_sound: bool,
 }
 
 /// A client with a folder, and its connection.
@@ -48,36 +49,41 @@ pub struct Session<'a> {
     folder: Folder<'a>,
     client: ClientCore<Lanes>,
     server: Server,
-    read: HintRead,
+    scheme: Scheme,
+    // The hint kept, which the client doesn't hold: of SimplePIR's the rows of a record are read when it is asked for.
+    kept: Option<KeptFile<'a>>,
+    warnings: Warnings,
 }
 
 impl<'a> Session<'a> {
-    /// Asks to be let in, and judges the length of the server's secrets. Of the hint kept the head is read.
+    /// Connects, asks to be let in, and judges the length of the server's secrets. Of the hint kept for this store the head is read.
+    /// The seed is one that no other run has.
     pub fn begin(
         rt: &'a HostRuntime,
         folder: Folder<'a>,
-        server: Server,
         address: &Address<'_>,
+        seed: [u8; 32],
         least: usize,
+        scheme: Scheme,
     ) -> Result<Session<'a>, Failed> {
-        let first = folder.next().min(NUMBERS);
-        let mut client = ClientCore::new(rt.alloc(), Lanes, folder.seed(), first);
+        let server = Server::connect(rt, address)?;
+        let mut client = ClientCore::new(rt.alloc(), Lanes, seed, 0);
         greet(rt.alloc(), &mut client, &mut &server, &mut &server).map_err(|fault| server.failed(
             address,
             failure_of(fault),
         ))?;
         check_dimension(&client, least).map_err(|fault| server.failed(address, failure_of(fault)))?;
-        let read = match sound(rt, folder.hint_head())? {
-            Some(head) => HintRead::Head(head),
-            None => HintRead::All,
-        };
-        Ok(Session {
+        let mut session = Session {
             rt,
             folder,
             client,
             server,
-            read,
-        })
+            scheme,
+            kept: None,
+            warnings: Warnings::default(),
+        };
+        session.look_up()?;
+        Ok(session)
     }
 
     /// How a command of this session failed.
@@ -85,165 +91,214 @@ impl<'a> Session<'a> {
         self.server.failed(address, failure)
     }
 
-    /// Retrieves a record: again under a new number, with the hint of the next version, where the answer is stale.
-    pub fn retrieve(&mut self, scheme: Scheme, index: u32) -> Result<Retrieved, AskError> {
-        for _ in 0..STALE_ANSWERS {
-            match self.attempt(scheme, index) {
-                Err(AskError::Command(CommandError::Stale(_))) => {}
-                ended => return ended,
-            }
-        }
-        self.attempt(scheme, index)
+    /// What is to be said beside the records.
+    pub fn warnings(&self) -> Warnings {
+        self.warnings
     }
 
-    // Asks for a record: over its rows of the hint kept, or once the hint of the version known is held.
-    fn attempt(&mut self, scheme: Scheme, index: u32) -> Result<Retrieved, AskError> {
-        if let Some(saved) = self.rows_kept(scheme, index).map_err(AskError::Command)? {
-            if let Some(record) = self.ask_over(saved, index)? {
-                return Ok(record);
-            }
+    // Opens the hint that is kept for the store, and notes whether its server had reported a later version.
+    fn look_up(&mut self) -> Result<(), AllocError> {
+        let Some(now) = self.client.known() else {
+            return Ok(());
+        };
+        self.kept = self.kept_hint(self.scheme, &now)?;
+        let other = match self.scheme {
+            Scheme::Simple => Scheme::Double,
+            Scheme::Double => Scheme::Simple,
+        };
+        let beside = self.kept_hint(other, &now)?;
+        let seen = version_seen(&self.kept).max(version_seen(&beside));
+        if now.version < seen {
+            self.warnings.older = Some(Older {
+                version: now.version,
+                seen,
+            });
         }
-        self.hold_hint(scheme).map_err(AskError::Command)?;
-        match ask_claimed(
-            self.rt.alloc(),
-            &mut self.client,
-            &mut self.folder,
-            &mut &self.server,
-            &mut &self.server,
-            index,
-        ) {
-            Ok(
-                Event::Retrieved {
-                    index,
-                    version,
-                    bytes,
-                },
-            ) => Ok(Retrieved {
-                index,
-                version,
-                bytes,
-            }),
-            Ok(_) => unreachable!(),
-            Err(fault) => Err(fault),
-        }
+        Ok(())
     }
 
-    // The hint kept, with the rows of the record alone, where it is one of SimplePIR and of the version known.
-    fn rows_kept(
+    // The hint kept of a scheme for the store. One that is damaged, or can't be read, is none.
+    fn kept_hint(
         &mut self,
         scheme: Scheme,
-        index: u32,
-    ) -> Result<Option<SavedClient>, CommandError> {
-        let HintRead::Head(head) = &self.read else {
-            return Ok(None);
-        };
-        let (Scheme::Simple, Some(now)) = (scheme, self.client.known()) else {
-            return Ok(None);
-        };
-        let Some(span) = parts_for(head, &now, index) else {
-            return Ok(None);
-        };
-        let known = head.fields.known;
-        match self.folder.hint_parts(head, span) {
-            Ok(hint) => Ok(Some(saved(&self.client, known, hint))),
-            Err(HintError::Memory) => Err(CommandError::Call(CallFault::Memory)),
+        now: &ServerInfo,
+    ) -> Result<Option<KeptFile<'a>>, AllocError> {
+        match self.folder.kept(scheme, &now.plan) {
+            Ok(kept) => Ok(kept),
+            Err(HintError::Memory) => Err(AllocError),
             Err(HintError::Damaged | HintError::Read) => {
-                let _ = eprintln!(self.rt; "warning: the hint kept is damaged");
-                self.read = HintRead::All;
+                self.warnings.is_damaged = true;
                 Ok(None)
             }
         }
     }
 
-    // Asks for a record over its rows of the hint kept, which the client doesn't hold any more then. None where that is of
-    // another store: then nothing was asked, and it is of no more use.
-    fn ask_over(&mut self, saved: SavedClient, index: u32) -> Result<Option<Retrieved>, AskError> {
-        match ask_with_rows(
+    /// Retrieves a record: again under a new number, with the hint of the next version, where the answer is stale.
+    pub fn retrieve(&mut self, index: u32) -> Result<Retrieved, RetrieveError> {
+        for _ in 0..STALE_ANSWERS {
+            match self.attempt(index) {
+                Err(RetrieveError::Command(CommandError::Stale(_))) => {}
+                ended => return ended,
+            }
+        }
+        self.attempt(index)
+    }
+
+    /// Drops the hint kept. The file that is open stays as it was until the session ends.
+    pub fn discard(&self) {
+        if let Some(now) = self.client.known() {
+            // One that stays is found damaged again.
+            let _ = self.folder.discard(self.scheme, &now.plan);
+        }
+    }
+
+    // Asks for a record: over its rows of the hint kept, or once the hint of the version known is held.
+    fn attempt(&mut self, index: u32) -> Result<Retrieved, RetrieveError> {
+        if let Some(rows) = self.rows_kept(index)? {
+            if let Some(record) = self.ask_over(rows, index)? {
+                return Ok(record);
+            }
+        }
+        self.hold_hint()?;
+        match ask(
             self.rt.alloc(),
             &mut self.client,
-            &mut self.folder,
+            &mut &self.server,
+            &mut &self.server,
+            index,
+        ) {
+            Ok(event) => Ok(retrieved(index, event)),
+            Err(fault) => Err(RetrieveError::Command(fault)),
+        }
+    }
+
+    // The rows of a record in the hint kept, if that is one of SimplePIR and of the version known. Damaged rows are zeros.
+    fn rows_kept(&self, index: u32) -> Result<Option<Rows>, CommandError> {
+        let (Some(kept), Some(now)) = (&self.kept, self.client.known()) else {
+            return Ok(None);
+        };
+        let Some(span) = parts_for(kept.head(), &now, index) else {
+            return Ok(None);
+        };
+        match kept.parts(span) {
+            Ok(hint) => Ok(Some(rows_of(&self.client, kept, hint, true))),
+            Err(HintError::Memory) => Err(CommandError::Call(CallFault::Memory)),
+            Err(HintError::Damaged | HintError::Read) => match kept.parts(PartSpan {
+                first: 0,
+                end: 0,
+            }) {
+                Ok(zeros) => Ok(Some(rows_of(&self.client, kept, zeros, false))),
+                Err(_) => Err(CommandError::Call(CallFault::Memory)),
+            },
+        }
+    }
+
+    // Asks for a record over its rows, which the client doesn't hold any more then. None where the hint is of another store: then
+    // nothing was asked, and the hint is of no more use.
+    fn ask_over(&mut self, rows: Rows, index: u32) -> Result<Option<Retrieved>, RetrieveError> {
+        let Rows { saved, are_sound } = rows;
+        let asked = ask_with_rows(
+            self.rt.alloc(),
+            &mut self.client,
             &mut &self.server,
             &mut &self.server,
             saved,
             index,
-        ) {
-            Ok(
-                Some(
-                    Event::Retrieved {
-                        index,
-                        version,
-                        bytes,
-                    },
-                ),
-            ) => Ok(Some(Retrieved {
-                index,
-                version,
-                bytes,
-            })),
-            Ok(Some(_)) => unreachable!(),
+        );
+        match asked {
             Ok(None) => {
-                self.warn_of_another_store();
-                self.read = HintRead::All;
+                self.warnings.is_of_another_store = true;
+                self.kept = None;
                 Ok(None)
             }
-            Err(fault) => Err(fault),
+            Ok(Some(_)) | Err(CommandError::Unreadable { .. }) if !are_sound => {
+                Err(RetrieveError::DamagedHint)
+            }
+            Ok(Some(event)) => Ok(Some(retrieved(index, event))),
+            Err(fault) => Err(RetrieveError::Command(fault)),
         }
     }
 
-    // Sees to it that the client holds the scheme's hint of the version known: the one kept, read as a whole, or as a sync has
-    // moved or brought it.
-    fn hold_hint(&mut self, scheme: Scheme) -> Result<(), CommandError> {
-        if let HintRead::Head(_) = &self.read {
-            self.read = HintRead::All;
-            self.take_up_all()?;
+    // Sees to it that the client holds the hint of the version known: the one kept, read as a whole, or as a sync has moved or
+    // brought it.
+    fn hold_hint(&mut self) -> Result<(), CommandError> {
+        if let Some(kept) = self.kept.take() {
+            self.take_up(&kept)?;
         }
         match (self.client.known(), self.client.hint()) {
-            (Some(known), Some(hint)) if hint.scheme == scheme && hint.version == known.version => {
-                Ok(())
-            }
-            _ => self.move_hint(scheme),
+            (Some(known), Some(hint))
+                if hint.scheme == self.scheme && hint.version == known.version => { Ok(()) }
+            _ => self.move_hint(),
         }
     }
 
     // Takes up the hint kept, read as a whole.
-    fn take_up_all(&mut self) -> Result<(), CommandError> {
-        let Ok(read) = sound(self.rt, self.folder.hint()) else {
-            return Err(CommandError::Call(CallFault::Memory));
-        };
-        let Some(kept) = read else {
-            return Ok(());
-        };
-        let saved = saved(&self.client, kept.known, kept.hint);
-        if !self.client.resume(saved).map_err(CommandError::Call)? {
-            self.warn_of_another_store();
+    fn take_up(&mut self, kept: &KeptFile<'_>) -> Result<(), CommandError> {
+        match kept.whole() {
+            Ok(whole) => {
+                let saved = saved(&self.client, whole.known, whole.hint);
+                let is_held = self.client.resume(saved).map_err(CommandError::Call)?;
+                if !is_held && self.warnings.older.is_none() {
+                    self.warnings.is_of_another_store = true;
+                }
+                Ok(())
+            }
+            Err(HintError::Memory) => Err(CommandError::Call(CallFault::Memory)),
+            Err(HintError::Damaged | HintError::Read) => {
+                self.warnings.is_damaged = true;
+                Ok(())
+            }
         }
-        Ok(())
     }
 
     // Moves the hint to the version known, and keeps it.
-    fn move_hint(&mut self, scheme: Scheme) -> Result<(), CommandError> {
-        let alloc = self.rt.alloc();
+    fn move_hint(&mut self) -> Result<(), CommandError> {
         let mut watched = Watched::new(self.rt, &self.server);
         let synced = sync(
-            alloc,
+            self.rt.alloc(),
             &mut self.client,
             &mut watched,
             &mut &self.server,
-            scheme,
+            self.scheme,
         );
         watched.end();
         synced?;
-        let (Some(known), Some(hint)) = (self.client.known(), self.client.hint()) else {
-            return Ok(());
-        };
-        if self.folder.keep_hint(&known, hint).is_err() {
-            let _ = eprintln!(self.rt; "warning: the hint can't be kept");
+        if let (Some(known), Some(hint)) = (self.client.known(), self.client.hint()) {
+            if self.folder.keep(&known, hint).is_err() {
+                self.warnings.is_not_kept = true;
+            }
         }
         Ok(())
     }
+}
 
-    fn warn_of_another_store(&self) {
-        let _ = eprintln!(self.rt; "warning: the hint kept is of another store");
+// The version that a server had reported last beside a hint kept; 0 where there is none.
+fn version_seen(kept: &Option<KeptFile<'_>>) -> u64 {
+    match kept {
+        Some(kept) => kept.head().fields.known.version,
+        None => 0,
+    }
+}
+
+// The record that came of an ask for it.
+fn retrieved(index: u32, event: Event) -> Retrieved
+    requires { IsRecordAsked index event }
+{
+    match event {
+        Event::Retrieved { version, bytes, .. } => Retrieved {
+            index,
+            version,
+            bytes,
+        },
+        _ => unreachable!(),
+    }
+}
+
+// The rows of a record, as a client takes them up.
+fn rows_of(client: &ClientCore<Lanes>, kept: &KeptFile<'_>, hint: Hint, are_sound: bool) -> Rows {
+    Rows {
+        saved: saved(client, kept.head().fields.known, hint),
+        are_sound,
     }
 }
 
