@@ -8,10 +8,10 @@ import zipfile
 
 HERE = os.path.dirname(os.path.abspath(__file__))
 LIBRARY = "libvulandrai.so"
-NAME = "vulandrai-1"
+NAME = "vulandrai-0.2.0"
 METADATA = """Metadata-Version: 2.1
 Name: vulandrai
-Version: 1
+Version: 0.2.0
 Summary: Private information retrieval: a proved client and server, over ctypes
 Requires-Python: >=3.8
 """
@@ -24,7 +24,7 @@ def get_requires_for_build_wheel(config_settings=None):
 def build_wheel(wheel_directory, config_settings=None, metadata_directory=None):
     folder = os.environ.get("VULANDRAI_FOLDER", os.path.join(HERE, os.pardir, "out", "c"))
     package = os.path.join(HERE, "vulandrai")
-    files = {f"vulandrai/{name}": os.path.join(package, name) for name in sorted(os.listdir(package)) if name.endswith(".py")}
+    files = {f"vulandrai/{name}": os.path.join(package, name) for name in sorted(os.listdir(package)) if name.endswith((".py", ".typed"))}
     files[f"vulandrai/{LIBRARY}"] = os.path.join(folder, LIBRARY)
     if not os.path.exists(files[f"vulandrai/{LIBRARY}"]):
         raise SystemExit(f"{LIBRARY} is not in {folder}: make it by scripts/build_c")

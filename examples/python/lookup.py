@@ -3,11 +3,11 @@
 name hashes to i. Who looks a name up gets its bucket, and the server learns neither name nor bucket.
 
 usage: lookup.py make FILE KEY BUCKETS ROOM < ENTRIES    ENTRIES has a line 'NAME VALUE' each; ROOM is a bucket's bytes
-       lookup.py get PORT STATE NAME                     prints the value, or ends with status 1
-       lookup.py put PORT STATE KEY NAME VALUE           sets a value, and publishes
+       lookup.py get PORT HINTS NAME                     prints the value, or ends with status 1
+       lookup.py put PORT HINTS KEY NAME VALUE           sets a value, and publishes
 
 FILE is served by `pir_server run --file FILE --listen 127.0.0.1:PORT`. KEY is a file with the publisher's key, 64 hex digits;
-STATE is a file that keeps the client's secret. PIR_SERVER names the program where it isn't on the path.
+HINTS is a folder that keeps the hint for the next time. PIR_SERVER names the program where it isn't on the path.
 """
 import hashlib
 import os
@@ -55,18 +55,18 @@ def make(file: str, key: str, buckets: int, room: int) -> None:
     subprocess.run([program, *words, file, "--key", f"@{key}"], input=lines.encode(), check=True)
 
 
-def get(port: str, state: str, name: str) -> None:
-    with Client("127.0.0.1", int(port), state=state) as client:
+def get(port: str, hints: str, name: str) -> None:
+    with Client("127.0.0.1", int(port), hints=hints) as client:
         entries = unpacked(client.get(bucket_of(name, client.known.count)))
     if name not in entries:
         sys.exit(f"there is no {name}")
     print(entries[name])
 
 
-def put(port: str, state: str, key: str, name: str, value: str) -> None:
+def put(port: str, hints: str, key: str, name: str, value: str) -> None:
     with open(key, encoding="ascii") as file:
         secret = bytes.fromhex(file.read())
-    with Client("127.0.0.1", int(port), state=state, key=secret) as client:
+    with Client("127.0.0.1", int(port), hints=hints, key=secret) as client:
         index = bucket_of(name, client.known.count)
         entries = {**unpacked(client.get(index)), name: value}
         client.edit(index, packed(entries, client.known.record_len - 2))

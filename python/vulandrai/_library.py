@@ -52,6 +52,8 @@ def _found() -> ctypes.CDLL:
 
 LIBRARY = _found()
 BYTES = [c_char_p, c_size_t]
+# How many bytes say which store a hint is of.
+PLAN = 41
 CLIENT = {
     "open": [c_char_p, c_uint64],
     "close": [],
@@ -66,8 +68,12 @@ CLIENT = {
     "take": BYTES,
     "event": [POINTER(Event)],
     "next": BYTES,
+    "hint_len": [],
+    "save": BYTES,
+    "resume": BYTES,
     "number": [POINTER(c_uint64)],
     "known": [POINTER(KnownServer)],
+    "plan": BYTES,
 }
 SERVER = {
     "open": BYTES,
@@ -76,6 +82,7 @@ SERVER = {
     "session_close": [c_uint64],
     "session_is_open": [c_uint64, POINTER(c_uint32)],
     "feed": [c_uint64, *BYTES],
+    "feed_frame": [c_uint64, *BYTES, POINTER(c_size_t)],
     "waiting": [],
     "take": BYTES,
     "edit": [c_uint32, *BYTES],
@@ -85,7 +92,7 @@ SERVER = {
     "snapshot_len": [],
     "snapshot": BYTES,
 }
-COUNTS = ("waiting", "snapshot_len")
+COUNTS = ("waiting", "hint_len", "snapshot_len")
 for _side, _calls in (("client", CLIENT), ("server", SERVER)):
     for _name, _types in _calls.items():
         _call = getattr(LIBRARY, f"vul_{_side}_{_name}")
@@ -100,12 +107,19 @@ def within(number: int, bits: int, fault: Type[VulandraiError]) -> int:
     return number
 
 
+def bytes_of(data: bytes) -> bytes:
+    """The bytes of bytes, a bytearray or a memoryview, which another thread may change meanwhile."""
+    if not isinstance(data, (bytes, bytearray, memoryview)):
+        raise TypeError(f"bytes are wanted, not {type(data).__name__}")
+    return bytes(data)
+
+
 class Side:
     """A handle and its calls, of which one is made at a time. It is closed with the object; a call on a closed one raises
     `Closed`."""
 
     def __init__(self, side: str) -> None:
-        self._side, self._handle, self._turn = side, Handle(), threading.Lock()
+        self._side, self._handle, self._turn, self._process = side, Handle(), threading.Lock(), os.getpid()
 
     def call(self, name: str, *words: object) -> None:
         """Makes a call that answers a code."""
@@ -129,5 +143,6 @@ class Side:
             return getattr(LIBRARY, f"vul_{self._side}_{name}")(byref(self._handle), *words)
 
     def __del__(self) -> None:
-        if getattr(self, "_turn", None) is not None and LIBRARY is not None:
+        # A thread that was in a call at a fork has its turn for ever in the new process, which gives the memory back when it ends.
+        if LIBRARY is not None and getattr(self, "_process", None) == os.getpid():
             self.close()

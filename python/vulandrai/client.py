@@ -1,18 +1,32 @@
 """A client over a socket, whose calls wait for their ends."""
+import contextlib
 import enum
-import fcntl
-import json
 import os
 import socket
+import threading
+import warnings
 from ctypes import byref, c_uint64
-from typing import NamedTuple, Optional, Union
+from typing import Iterator, NamedTuple, Optional, Tuple, Union
 
 from . import faults
-from ._library import Event, KnownServer, Side, within
+from ._library import PLAN, Event, KnownServer, Side, bytes_of, within
+from .hints import Hints, version_of
 
 READER = bytes(32)
-SYNCED, RETRIEVED, UNREADABLE, REFUSED = 2, 3, 4, 7
+SYNCED, RETRIEVED, UNREADABLE, STALE, REFUSED = 2, 3, 4, 5, 7
 PIECE = 1 << 16
+
+# How often a hint or an answer may be stale before the server is given up: it may publish again and again, or lie.
+STALE_ANSWERS = 3
+
+
+@contextlib.contextmanager
+def _timely() -> Iterator[None]:
+    """Raises `TimeoutError` for a socket's timeout, which before Python 3.10 is an exception of its own."""
+    try:
+        yield
+    except socket.timeout as fault:
+        raise TimeoutError(*fault.args) from None
 
 
 class Scheme(enum.IntEnum):
@@ -41,66 +55,20 @@ class Known(NamedTuple):
     dimension: int
 
 
-class State:
-    """A client's secret seed and the next retrieval number, in a file that is written before a number is spent, so that none
-    is ever spent twice. A file that is not there is made, with a seed of the system's random bytes. One client at a time uses
-    it: a file beside it is locked until `close`."""
-
-    def __init__(self, path: Union[str, os.PathLike]) -> None:
-        self._path = os.fspath(path)
-        self._lock = open(self._path + ".lock", "w", encoding="ascii")
-        try:
-            fcntl.flock(self._lock, fcntl.LOCK_EX | fcntl.LOCK_NB)
-            self._read()
-        except BlockingIOError as fault:
-            self.close()
-            raise faults.StateInUse(self._path) from fault
-        except BaseException:
-            self.close()
-            raise
-
-    def close(self) -> None:
-        """Lets another client use it."""
-        self._lock.close()
-
-    def _read(self) -> None:
-        if not os.path.exists(self._path):
-            self.seed, self.number = os.urandom(32), 0
-            self.keep(0)
-            return
-        with open(self._path, encoding="ascii") as file:
-            try:
-                kept = json.load(file)
-                self.seed, self.number = bytes.fromhex(kept["seed"]), int(kept["number"])
-            except (ValueError, KeyError, TypeError) as fault:
-                raise faults.BadState(self._path) from fault
-        if len(self.seed) != 32 or self.number < 0:
-            raise faults.BadState(self._path)
-
-    def keep(self, number: int) -> None:
-        """Writes the next number, whole and on the disk before it returns."""
-        beside = self._path + ".new"
-        with os.fdopen(os.open(beside, os.O_WRONLY | os.O_CREAT | os.O_TRUNC, 0o600), "w", encoding="ascii") as file:
-            json.dump({"seed": self.seed.hex(), "number": number}, file)
-            file.flush()
-            os.fsync(file.fileno())
-        os.replace(beside, self._path)
-        self.number = number
-
-
-# How often a hint or an answer may be stale before the server is given up: it may publish again and again, or lie.
-STALE_ANSWERS = 3
-
-
 class Client:
     """A client of one server, over a connection of its own.
 
-        with Client("127.0.0.1", 7000, state="client.state") as client:
+        with Client("127.0.0.1", 7000, hints="hints") as client:
             print(client.get(5))
 
-    The client's secret is the state file's seed, or `seed` with `number`, the first retrieval number to spend, where no file
-    is wanted: no number is ever to be spent twice under one seed. `key` is the publisher's, for who edits. A server whose
-    dimension is below `least_dimension` raises `LowDimension`.
+    Its secret seed is drawn from the system's random source (`os.urandom`), and is on no disk; numbers count from 0. With `seed` and
+    `number` it is the caller who must never use a number twice with one seed. `hints` is a folder in which the public hint is kept
+    for the next time, the same as that of `pir_client get --state`. `key` is the publisher's, for who edits. A server whose dimension is
+    below `least_dimension` raises `LowDimension`. Connecting, and each piece that is waited for, may take `timeout` seconds.
+
+    Threads may share a client: each call has the connection to itself until it ends. A client that is used in another process than the
+    one that made it raises `Forked`. A call that fails before its end, by a timeout or any other exception, closes the client; what the
+    server refuses does not.
     """
 
     def __init__(
@@ -108,7 +76,7 @@ class Client:
         host: str,
         port: int,
         *,
-        state: Optional[Union[str, os.PathLike]] = None,
+        hints: Optional[Union[str, "os.PathLike[str]"]] = None,
         seed: Optional[bytes] = None,
         number: int = 0,
         key: bytes = READER,
@@ -116,18 +84,18 @@ class Client:
         least_dimension: int = 1024,
         timeout: Optional[float] = None,
     ) -> None:
-        if (state is None) == (seed is None):
-            raise ValueError("a client has a state file or a seed, and not both")
-        if (seed is not None and len(seed) != 32) or len(key) != 32:
+        if seed is None and number != 0:
+            raise ValueError("a number is that of a seed of your own")
+        seed, key = os.urandom(32) if seed is None else bytes_of(seed), bytes_of(key)
+        if len(seed) != 32 or len(key) != 32:
             raise ValueError("a seed has 32 bytes, and so has a key")
-        self._client, self._scheme, self._synced = Side("client"), scheme, False
-        self._state = self._socket = None
+        self._client, self._scheme, self._is_synced, self._has_looked = Side("client"), Scheme(scheme), False, False
+        self._turn, self._process, self._socket = threading.RLock(), os.getpid(), None
+        self._hints = None if hints is None else Hints(hints)
         try:
-            if state is not None:
-                self._state = State(state)
-                seed, number = self._state.seed, self._state.number
             self._client.call("open", seed, within(number, 64, faults.BadNumber))
-            self._socket = socket.create_connection((host, port), timeout)
+            with _timely():
+                self._socket = socket.create_connection((host, port), timeout)
             self._client.call("hello", key)
             self._ended()
             if self.known.dimension < least_dimension:
@@ -141,13 +109,15 @@ class Client:
 
         A server that publishes meanwhile again and again raises `Stale`.
         """
-        for _ in range(STALE_ANSWERS):
-            self._client.call("sync", self._scheme)
-            event, _ = self._ended()
-            if event.kind == SYNCED:
-                self._synced = True
-                return event.version
-        raise faults.Stale(faults.Stale.__doc__)
+        with self._exclusive():
+            for _ in range(STALE_ANSWERS):
+                self._client.call("sync", self._scheme)
+                event, _ = self._ended()
+                if event.kind == SYNCED:
+                    self._is_synced = True
+                    self._keep_hint()
+                    return event.version
+            raise faults.Stale(faults.Stale.__doc__)
 
     def get(self, index: int) -> bytes:
         """The bytes of a record in the current version."""
@@ -155,59 +125,127 @@ class Client:
 
     def retrieve(self, index: int) -> Record:
         """A record in the current version, with its number."""
-        if not self._synced:
-            self.sync()
-        for _ in range(1 + STALE_ANSWERS):
-            if self._state is not None:
-                self._state.keep(self.next_number + 1)
-            self._client.call("ask", within(index, 32, faults.BadIndex))
-            event, record = self._ended()
-            if event.kind == RETRIEVED:
-                return Record(event.index, event.version, record)
-            if event.kind == UNREADABLE:
-                raise faults.Unreadable(faults.Unreadable.__doc__)
-            self.sync()
-        raise faults.Stale(faults.Stale.__doc__)
+        with self._exclusive():
+            wanted = within(index, 32, faults.BadIndex)
+            self._hold_hint()
+            for _ in range(1 + STALE_ANSWERS):
+                self._client.call("ask", wanted)
+                event, record = self._ended()
+                if event.kind == RETRIEVED:
+                    self._compare(wanted, event)
+                    return Record(event.index, event.version, record)
+                if event.kind == UNREADABLE:
+                    raise faults.Unreadable(faults.Unreadable.__doc__)
+                self.sync()
+            raise faults.Stale(faults.Stale.__doc__)
 
     def edit(self, index: int, record: bytes) -> None:
         """Replaces a record of the server's draft; the client speaks for the publisher."""
-        self._client.call("edit", within(index, 32, faults.NoSuchRecord), record, len(record))
-        self._ended()
+        record = bytes_of(record)
+        with self._exclusive():
+            self._client.call("edit", within(index, 32, faults.NoSuchRecord), record, len(record))
+            self._ended()
 
     def append(self, record: bytes) -> None:
         """Puts a record after those of the server's draft; the client speaks for the publisher."""
-        self._client.call("append", record, len(record))
-        self._ended()
+        record = bytes_of(record)
+        with self._exclusive():
+            self._client.call("append", record, len(record))
+            self._ended()
 
     def publish(self) -> int:
         """Publishes the server's draft, and gives the new version."""
-        self._client.call("publish")
-        return self._ended()[0].version
+        with self._exclusive():
+            self._client.call("publish")
+            return self._ended()[0].version
 
     @property
     def known(self) -> Known:
         """What the server reported of its store."""
-        known = KnownServer()
-        self._client.call("known", byref(known))
-        return Known(known.version, known.count, known.form, known.record_len, known.dimension)
+        with self._exclusive():
+            known = KnownServer()
+            self._client.call("known", byref(known))
+            return Known(known.version, known.count, known.form, known.record_len, known.dimension)
 
     @property
     def next_number(self) -> int:
         """The number of the next retrieval."""
-        number = c_uint64()
-        self._client.call("number", byref(number))
-        return number.value
+        with self._exclusive():
+            number = c_uint64()
+            self._client.call("number", byref(number))
+            return number.value
 
     def close(self) -> None:
-        """Ends the connection, and frees the client. Every later call raises `Closed`."""
+        """Ends the connection, and frees the client. Every later call raises `Closed`. In a process that was forked it lets go of that
+        process's end alone, and the maker's client goes on."""
         if self._socket is not None:
             self._socket.close()
-        if self._state is not None:
-            self._state.close()
-        self._client.close()
+        if os.getpid() == self._process:
+            self._client.close()
 
-    def _ended(self) -> "tuple[Event, bytes]":
+    @contextlib.contextmanager
+    def _exclusive(self) -> Iterator[None]:
+        """The connection for this thread alone."""
+        if os.getpid() != self._process:
+            raise faults.Forked(faults.Forked.__doc__)
+        with self._turn:
+            yield
+
+    def _hold_hint(self) -> None:
+        """Sees to it that a hint of the current version is held: the one kept, or as a sync moves or brings it."""
+        if not self._has_looked:
+            self._has_looked = True
+            self._take_up()
+        if not self._is_synced:
+            self.sync()
+
+    def _take_up(self) -> None:
+        """Takes up the hint that is kept for the store, if there is one. A damaged one is dropped."""
+        if self._hints is None:
+            return
+        scheme, plan = self._scheme.name.lower(), self._client.taken("plan", PLAN)
+        file = self._hints.read(scheme, plan)
+        if file is None:
+            return
+        try:
+            self._client.call("resume", file, len(file))
+        except faults.BadHint:
+            self._hints.drop(scheme, plan)
+        except faults.OtherHint:
+            pass
+        else:
+            self._is_synced = version_of(file) == self.known.version
+
+    def _keep_hint(self) -> None:
+        """Keeps the hint held. That it can't be kept is warned of, since nothing else depends on it."""
+        if self._hints is None:
+            return
+        file = self._client.taken("save", self._client.count("hint_len"))
+        try:
+            self._hints.keep(self._scheme.name.lower(), self._client.taken("plan", PLAN), file)
+        except OSError as fault:
+            warnings.warn(f"the hint can't be kept: {fault}")
+
+    def _compare(self, wanted: int, event: Event) -> None:
+        """An answer is that of the record asked for. The client has compared it already."""
+        if event.index != wanted:
+            self.close()
+            raise faults.BadReply(faults.BadReply.__doc__)
+
+    def _ended(self) -> Tuple[Event, bytes]:
         """The event with which the outstanding call ends, and its record; a refusal is raised."""
+        try:
+            with _timely():
+                event, record = self._conversation()
+        except BaseException:
+            # Nobody knows how far the server is, so nothing more can be said over this connection.
+            self.close()
+            raise
+        if event.kind == REFUSED:
+            raise faults.Refused(event.detail)
+        return event, record
+
+    def _conversation(self) -> Tuple[Event, bytes]:
         event = Event()
         while True:
             waiting = self._client.count("waiting")
@@ -215,15 +253,11 @@ class Client:
                 self._socket.sendall(self._client.taken("take", waiting))
             self._client.call("event", byref(event))
             if event.kind:
-                break
+                return event, self._client.taken("next", event.record_len)
             piece = self._socket.recv(PIECE)
             if not piece:
                 raise faults.Ended(faults.Ended.__doc__)
             self._client.call("feed", piece, len(piece))
-        record = self._client.taken("next", event.record_len)
-        if event.kind == REFUSED:
-            raise faults.Refused(event.detail)
-        return event, record
 
     def __enter__(self) -> "Client":
         return self

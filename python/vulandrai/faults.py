@@ -144,12 +144,16 @@ class LowDimension(VulandraiError):
     """The server's dimension hides the index less than the client accepts."""
 
 
-class StateInUse(VulandraiError):
-    """Another client uses the state file."""
+class BadHint(VulandraiError, ValueError):
+    """The bytes are no file of a hint."""
 
 
-class BadState(VulandraiError, ValueError):
-    """A state file is none."""
+class OtherHint(VulandraiError):
+    """The hint is none that this client may go on with: of another store, or of a later version than the server's."""
+
+
+class Forked(VulandraiError):
+    """The client was made in another process: two that go on with one seed would show what they ask."""
 
 
 BY_CODE: Dict[int, Type[VulandraiError]] = {
@@ -181,6 +185,8 @@ BY_CODE: Dict[int, Type[VulandraiError]] = {
     67: BadDigest,
     68: TrailingBytes,
     69: BadSlot,
+    80: BadHint,
+    81: OtherHint,
 }
 
 

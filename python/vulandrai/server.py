@@ -1,8 +1,10 @@
 """A server over bytes."""
-from ctypes import byref, c_uint32, c_uint64
+import threading
+from ctypes import byref, c_size_t, c_uint32, c_uint64
+from typing import Iterator, Tuple
 
 from . import faults
-from ._library import Side, within
+from ._library import Side, bytes_of, within
 
 
 class ServerCore:
@@ -11,10 +13,13 @@ class ServerCore:
         server = ServerCore(open("store.pir", "rb").read())
         server.open_session(1)
         replies = server.feed(1, piece)
+
+    Threads may share a server: each frame is served, and its reply taken, by one of them alone.
     """
 
     def __init__(self, snapshot: bytes) -> None:
-        self._server = Side("server")
+        snapshot = bytes_of(snapshot)
+        self._server, self._turn = Side("server"), threading.Lock()
         self._server.call("open", snapshot, len(snapshot))
 
     def open_session(self, number: int) -> None:
@@ -32,30 +37,56 @@ class ServerCore:
         return answer.value == 1
 
     def feed(self, number: int, piece: bytes) -> bytes:
-        """Takes a piece of a session's stream, and gives the replies to the frames that are whole now. Where memory runs
+        """Takes a piece of a session's stream, and gives the replies to the frames that are whole now. If memory runs
         out the session is closed, and the fault has the replies to the frames before in `replies`."""
+        replies = []
         try:
-            self._server.call("feed", within(number, 64, faults.NoSession), piece, len(piece))
+            replies.extend(self.feed_frames(number, piece))
         except faults.OutOfMemory as fault:
-            fault.replies = self._taken()
+            fault.replies = b"".join(replies) + fault.replies
             raise
-        return self._taken()
+        return b"".join(replies)
+
+    def feed_frames(self, number: int, piece: bytes) -> Iterator[bytes]:
+        """Takes a piece frame by frame, and gives the reply to each: the next frame is served when the next reply is asked for. So a
+        caller who sends each reply on holds one alone, whatever the piece asks for."""
+        left = bytes_of(piece)
+        while True:
+            reply, took = self._served(number, left)
+            left = left[took:]
+            yield reply
+            if not left:
+                return
+
+    def _served(self, number: int, piece: bytes) -> Tuple[bytes, int]:
+        """The reply to the first frame of a piece, and how many bytes of the piece were taken."""
+        took = c_size_t()
+        with self._turn:
+            try:
+                self._server.call("feed_frame", within(number, 64, faults.NoSession), piece, len(piece), byref(took))
+            except faults.OutOfMemory as fault:
+                fault.replies = self._taken()
+                raise
+            return self._taken(), took.value
 
     def _taken(self) -> bytes:
         return self._server.taken("take", self._server.count("waiting"))
 
     def edit(self, index: int, record: bytes) -> None:
         """Replaces a record of the draft. No reader sees it before it is published."""
+        record = bytes_of(record)
         self._server.call("edit", within(index, 32, faults.NoSuchRecord), record, len(record))
 
     def append(self, record: bytes) -> None:
         """Puts a record after those of the draft. No reader sees it before it is published."""
+        record = bytes_of(record)
         self._server.call("append", record, len(record))
 
     def publish(self) -> int:
         """Makes the draft the current version, and gives its number."""
-        self._server.call("publish")
-        return self.version
+        with self._turn:
+            self._server.call("publish")
+            return self.version
 
     @property
     def version(self) -> int:
@@ -66,7 +97,8 @@ class ServerCore:
 
     def snapshot(self) -> bytes:
         """The snapshot file of the current version."""
-        return self._server.taken("snapshot", self._server.count("snapshot_len"))
+        with self._turn:
+            return self._server.taken("snapshot", self._server.count("snapshot_len"))
 
     def close(self) -> None:
         """Frees the server. Every later call raises `Closed`."""
