@@ -1,5 +1,9 @@
 //! The command line.
 
+ghost use Rattle.std.specs.Prelude.{IfOk, codes};
+ghost use Rattle.clap.specs.Matches.{found_of};
+ghost use Rattle.pir_server.specs.Tasks.{IsNumberOr, ReadsMake, ReadsMigrate, ReadsRekey, ReadsServe};
+
 use crate::run_line::{Running, run_command, running_of};
 use clap::{Arg, ArgAction, ArgMatches, Command};
 use command_words::{BadLine, Secret, key_at, number_at, option, seed_at, text_at, verbose_flag};
@@ -278,13 +282,15 @@ fn whole_command<'a>(alloc: Global) -> Result<Command<'a>, AllocError> {
 }
 
 /// What `--version` prints after the program's name.
-const VERSION: &str = "0.1.0";
+const VERSION: &str = "0.2.0";
 
 const EXIT_STATUSES: &str =
     "Without a command: once.\n\nA value @FILE of --seed or --key is read from that file; one on the command line itself stands in the list of\nprocesses, for other users of this machine to see.\n\nExit status: 0 done, 2 a bad command line, 3 a fault, 4 out of memory.\n\nA fault is one line on standard error, 'fault: NAME':\n  File           a file can't be opened or made, or is none, as a folder or a pipe\n  Read, Write    reading or writing failed\n  BadRecords     the input of make is not whole records, or lines that are none, or too many bytes\n  BadLayout      no store has these sizes\n  NotSnapshot, Short, BadDigest, TrailingBytes, BadSlot   a file that is no whole snapshot\n  NotFormOne     the records that migrate is to move stand in slots already\n  TooWide        no store has records of two bytes more\n  Locked         another process serves or replaces the file\n  Exists         something stands where make --new is to make a file\n  Connect        the port can't be listened on\n  BadInput       the input of once can't be served; its last reply is Refused 1\n  TurnsUsedUp    more reads than a session has\n  Memory         memory was refused (status 4)\n\nWith --verbose a second line 'cause: TEXT' says what failed and where.";
 
 // What the words of `make` ask for.
-fn making_of<'a>(found: &ArgMatches<'a>) -> Result<Making<'a>, BadLine<'a>> {
+fn making_of<'a>(found: &ArgMatches<'a>) -> Result<Making<'a>, BadLine<'a>>
+    ensures { IfOk result (ReadsMake (found_of found.now)) }
+{
     Ok(Making {
         out: text_at(found, "out", OUT_TAKES)?,
         new: found.get_flag("new"),
@@ -298,7 +304,9 @@ fn making_of<'a>(found: &ArgMatches<'a>) -> Result<Making<'a>, BadLine<'a>> {
 }
 
 // The form of a new store: 1 where none is given.
-fn form_of<'a>(found: &ArgMatches<'a>) -> Result<u8, BadLine<'a>> {
+fn form_of<'a>(found: &ArgMatches<'a>) -> Result<u8, BadLine<'a>>
+    ensures { IfOk result (IsNumberOr 1 (found_of found.now) (codes "form")) }
+{
     let Some(text) = found.get_str("form") else {
         return Ok(1);
     };
@@ -309,7 +317,9 @@ fn form_of<'a>(found: &ArgMatches<'a>) -> Result<u8, BadLine<'a>> {
 }
 
 // What the words of `migrate` ask for.
-fn migrating_of<'a>(found: &ArgMatches<'a>) -> Result<Migrating<'a>, BadLine<'a>> {
+fn migrating_of<'a>(found: &ArgMatches<'a>) -> Result<Migrating<'a>, BadLine<'a>>
+    ensures { IfOk result (ReadsMigrate (found_of found.now)) }
+{
     Ok(Migrating {
         file: text_at(found, "file", FILE_TAKES)?,
         out: text_at(found, "out", OUT_TAKES)?,
@@ -317,7 +327,9 @@ fn migrating_of<'a>(found: &ArgMatches<'a>) -> Result<Migrating<'a>, BadLine<'a>
 }
 
 // What the words of `rekey` ask for.
-fn rekeying_of<'a>(found: &ArgMatches<'a>) -> Result<Rekeying<'a>, BadLine<'a>> {
+fn rekeying_of<'a>(found: &ArgMatches<'a>) -> Result<Rekeying<'a>, BadLine<'a>>
+    ensures { IfOk result (ReadsRekey (found_of found.now)) }
+{
     Ok(Rekeying {
         file: text_at(found, "file", FILE_TAKES)?,
         key: key_at(found, "key", KEY_TAKES)?,
@@ -325,7 +337,9 @@ fn rekeying_of<'a>(found: &ArgMatches<'a>) -> Result<Rekeying<'a>, BadLine<'a>> 
 }
 
 // What the words of `serve` ask for.
-fn serving_of<'a>(found: &ArgMatches<'a>) -> Result<Serving<'a>, BadLine<'a>> {
+fn serving_of<'a>(found: &ArgMatches<'a>) -> Result<Serving<'a>, BadLine<'a>>
+    ensures { IfOk result (ReadsServe (found_of found.now)) }
+{
     Ok(Serving {
         file: text_at(found, "file", FILE_TAKES)?,
         port: number_at(found, "port", u64::from(u16::MAX), PORT_TAKES)? as u16,

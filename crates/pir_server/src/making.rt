@@ -1,6 +1,6 @@
 //! The command `make`.
 
-ghost use Rattle.std.specs.Prelude.{◌≡◌, ◌≤◌, ◌+◌, ◌*◌, length, IfOk};
+ghost use Rattle.std.specs.Prelude.{◌≡◌, ◌≤◌, ◌+◌, ◌*◌, ◌/◌, length, IfOk};
 ghost use Rattle.std.specs.Io.KnownBytes.{Consumes, IsAtEnd};
 ghost use Rattle.pir_server.specs.Makings.{header_made};
 
@@ -204,7 +204,8 @@ fn lines_in(text: &[u8]) -> usize
 
 // How many whole records so many bytes are. Records of no bytes are none.
 fn whole_records(making: &Making<'_>, bytes: usize) -> usize
-    ensures { result ≤ bytes }
+    ensures few { result ≤ bytes }
+    ensures whole { 1 ≤ making.now.record_len → result ≡ bytes / making.now.record_len }
 {
     match usize::from(making.record_len) {
         0 => 0,

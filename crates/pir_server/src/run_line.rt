@@ -1,6 +1,8 @@
 //! The words of the command `run`.
 
 ghost use Rattle.std.specs.Prelude.{◌≤◌, IfOk};
+ghost use Rattle.clap.specs.Matches.{found_of};
+ghost use Rattle.pir_server.specs.Tasks.{IsNumberOr, ReadsRun};
 
 use clap::{Arg, ArgAction, ArgMatches, Command};
 use command_words::{BadLine, number_at, option, text_at, verbose_flag};
@@ -101,6 +103,7 @@ pub fn running_of<'a>(found: &ArgMatches<'a>) -> Result<Running<'a>, BadLine<'a>
     ensures most { IfOk result (λ running. (1 ≤ running.most) × (running.most ≤ 65535)) }
     ensures idle { IfOk result (λ running. (1 ≤ running.idle) × (running.idle ≤ 86400)) }
     ensures memory { IfOk result (λ running. (1 ≤ running.memory) × (running.memory ≤ 1048576)) }
+    ensures read { IfOk result (ReadsRun (found_of found.now)) }
 {
     Ok(Running {
         file: text_at(found, "file", FILE_TAKES)?,
@@ -133,6 +136,7 @@ fn number_or<'a>(
     requires most { usual ≤ most }
     ensures least { IfOk result (λ n. 1 ≤ n) }
     ensures most { IfOk result (λ n. n ≤ most) }
+    ensures read { IfOk result (IsNumberOr usual (found_of found.now) name.now) }
 {
     let Some(text) = found.get_str(name) else {
         return Ok(usual);

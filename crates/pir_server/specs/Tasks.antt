@@ -1,0 +1,55 @@
+-- What a command line asks for.
+use Rattle.std.specs.Prelude.{◌≡◌, ℕ, List, codes, Some, MatchOption}
+use Rattle.std.specs.Str.Parse.{IsNumeral, digits_value}
+use Rattle.clap.specs.declared.parser.matches.Found.{Found}
+use Rattle.clap.specs.Matches.{first_value}
+use Rattle.command_words.specs.declared.secrets.Secret.{Secret}
+use Rattle.command_words.specs.Secrets.{IsSecretOf}
+use Rattle.pir_server.specs.declared.command_line.Making.{Making}
+use Rattle.pir_server.specs.declared.command_line.Migrating.{Migrating}
+use Rattle.pir_server.specs.declared.command_line.Rekeying.{Rekeying}
+use Rattle.pir_server.specs.declared.command_line.Serving.{Serving}
+use Rattle.pir_server.specs.declared.run_line.Running.{Running}
+
+-- what was given for a name is this number in decimal digits
+abbrev pub IsNumberGiven : Found → List ℕ → ℕ → Type 0
+IsNumberGiven found name n = MatchOption (first_value found name) ⊥ (λ text. IsNumeral 10 text × (digits_value 10 text ≡ n))
+
+-- what was given for a name is this number in decimal digits, or nothing was given and it is the usual one
+abbrev pub IsNumberOr : ℕ → Found → List ℕ → ℕ → Type 0
+IsNumberOr usual found name n =
+    MatchOption (first_value found name) (n ≡ usual) (λ text. IsNumeral 10 text × (digits_value 10 text ≡ n))
+
+-- what was given for a name is this secret
+abbrev pub IsSecretGiven : Found → List ℕ → Secret → Type 0
+IsSecretGiven found name secret = MatchOption (first_value found name) ⊥ (λ text. IsSecretOf text secret)
+
+-- a new store, as the options of `make` ask for it, but whether it must be new
+abbrev pub ReadsMake : Found → Making → Type 0
+ReadsMake found making =
+    (first_value found (codes "out") ≡ Some making.out.now) × IsNumberOr 1 found (codes "form") making.form
+    × IsNumberGiven found (codes "width") making.width × IsNumberGiven found (codes "record") making.record_len
+    × IsNumberGiven found (codes "groups") making.groups × IsSecretGiven found (codes "seed") making.seed
+    × IsSecretGiven found (codes "key") making.key
+
+-- a move into slots, as those of `migrate` do
+abbrev pub ReadsMigrate : Found → Migrating → Type 0
+ReadsMigrate found migrating =
+    (first_value found (codes "file") ≡ Some migrating.file.now) × (first_value found (codes "out") ≡ Some migrating.out.now)
+
+-- another publisher's key, as those of `rekey` do
+abbrev pub ReadsRekey : Found → Rekeying → Type 0
+ReadsRekey found rekeying =
+    (first_value found (codes "file") ≡ Some rekeying.file.now) × IsSecretGiven found (codes "key") rekeying.key
+
+-- so many connections one after the other, as those of `serve` do
+abbrev pub ReadsServe : Found → Serving → Type 0
+ReadsServe found serving =
+    (first_value found (codes "file") ≡ Some serving.file.now) × IsNumberGiven found (codes "port") serving.port
+    × IsNumberGiven found (codes "connections") serving.connections
+
+-- connections side by side, as those of `run` do, but the address and whether it is quiet
+abbrev pub ReadsRun : Found → Running → Type 0
+ReadsRun found running =
+    (first_value found (codes "file") ≡ Some running.file.now) × IsNumberOr 256 found (codes "most") running.most
+    × IsNumberOr 60 found (codes "idle") running.idle × IsNumberOr 256 found (codes "memory") running.memory
