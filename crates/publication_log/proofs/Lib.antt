@@ -1,0 +1,10 @@
+pub mod Numbers
+pub mod Heads
+pub mod Frames
+pub mod Placings
+pub mod Torn
+pub mod Chains
+pub mod Verdicts
+pub mod Moments
+pub mod Readings
+pub mod Ends
