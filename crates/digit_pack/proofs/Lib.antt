@@ -3,6 +3,8 @@ pub mod Records
 pub mod WindowLemmas
 pub mod Unpacking
 pub mod Changes
+pub mod Limits
+pub mod FormLemmas
 pub mod ColumnLemmas
 pub mod RecordLemmas
 pub mod Triples

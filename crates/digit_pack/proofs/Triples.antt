@@ -96,8 +96,8 @@ whole_unpacked rows cols words = length-list_of (rows * cols) _
 pub holds : (m : WordMatrix) (words : List ℕ) → IsWhole m → IsSmall m → words ≡ packed m → unpacked m.rows m.cols words ≡ m
 holds m words whole s e = ap (λ ws. unpacked m.rows m.cols ws) e ∙ unpack_packed m whole s
 
-pub stays_packed : (m : WordMatrix) (words : List ℕ) → IsWhole m → IsSmall m → words ≡ packed m → m.rows * m.cols ≤ 33554432 → IsPacked m.rows m.cols words
-stays_packed m words whole s e size = record { same = e ∙ ap packed (sym (holds m words whole s e)); size = size }
+pub stays_packed : (m : WordMatrix) (words : List ℕ) → IsWhole m → IsSmall m → words ≡ packed m → IsPacked m.rows m.cols words
+stays_packed m words whole s e = record { same = e ∙ ap packed (sym (holds m words whole s e)) }
 
 pub small_set : (m : WordMatrix) (i j v : ℕ) → IsWhole m → IsSmall m → i < m.rows → j < m.cols → v < 1024 → IsSmall (with_entry m i j v)
 small_set m i j v whole s p q l = record {
@@ -263,4 +263,4 @@ module _ (rows cols : ℕ) (words : List ℕ) (i j v k w : ℕ) (h : IsPacked ro
   written = holds (with_entry (unpacked rows cols words) i j v) (slice_set words k w) now_whole now_small now_packed
 
   pub written_packed : IsPacked rows cols (slice_set words k w)
-  written_packed = stays_packed (with_entry (unpacked rows cols words) i j v) (slice_set words k w) now_whole now_small now_packed h.size
+  written_packed = stays_packed (with_entry (unpacked rows cols words) i j v) (slice_set words k w) now_whole now_small now_packed

@@ -12,8 +12,8 @@ use Rattle.matrix_u32.proofs.Changes.{same-matrix_of}
 use Rattle.lane_kernels.specs.Digit.{digit}
 use Rattle.digit_pack.specs.Digits.{number_of}
 use Rattle.digit_pack.specs.Layout.{Shape, IsLayout, digit_matrix, digit_at, digit_rows, digit_cols, digits_per_record, record_at}
-use Rattle.digit_pack.proofs.RecordLemmas.{no_records, shape_of_layout}
-use Rattle.digit_pack.proofs.Changes.{some_digits}
+use Rattle.digit_pack.proofs.RecordLemmas.{no_records}
+use Rattle.digit_pack.proofs.Limits.{few_groups, few_cols}
 
 -- when record k is written
 abbrev pub turn_of : Shape → ℕ → ℕ
@@ -122,23 +122,19 @@ all_before l xs n h count all = same_digits l (records_before l xs n) xs (λ k. 
   | inr past ↦ past_blank l xs n k past ∙ sym (get_or_past xs k [] (omega (arith, count)))
 ])
 
-few_products : (a b : ℕ) → a ≤ 4096 → b ≤ 4096 → a * b ≤ 16777216
+few_products : (a b : ℕ) → a ≤ 32768 → b ≤ 32768 → a * b ≤ 1073741824
 few_products a b p q = omega (arith, mul-le-mul_right b p)
 
 -- how many turns there are
-pub few_turns : (l : Shape) → IsLayout l → l.groups * digit_cols l ≤ 16777216
-few_turns l h =
-    let some : 1 ≤ digits_per_record l = some_digits l (shape_of_layout l h) in
-    let few : l.groups ≤ 4096 = omega (arith, mul-le-mul_right l.groups some, mul_comm (digits_per_record l) l.groups, h.groups.1) in
-    few_products l.groups (digit_cols l) few h.count.1
+pub few_turns : (l : Shape) → IsLayout l → l.groups * digit_cols l ≤ 1073741824
+few_turns l h = few_products l.groups (digit_cols l) (few_groups l h) (few_cols l h)
 
 -- the number of a turn's record fits
-pub few_places : (l : Shape) (n : ℕ) → IsLayout l → n < l.groups * digit_cols l → n % digit_cols l * l.groups + n / digit_cols l ≤ 16781312
+pub few_places : (l : Shape) (n : ℕ) → IsLayout l → n < l.groups * digit_cols l → n % digit_cols l * l.groups + n / digit_cols l ≤ 1073774592
 few_places l n h inside =
     let c : ℕ = digit_cols l in
     let cols : 0 < c = some_cols l h in
-    let some : 1 ≤ digits_per_record l = some_digits l (shape_of_layout l h) in
-    let few : l.groups ≤ 4096 = omega (arith, mul-le-mul_right l.groups some, mul_comm (digits_per_record l) l.groups, h.groups.1) in
+    let few : l.groups ≤ 32768 = few_groups l h in
     let low : n % c < c = mod-lt n cols in
     let group : n / c < l.groups = div_below n c l.groups cols inside in
-    omega (arith, few, group, few_products (n % c) l.groups (omega (arith, low, h.count.1)) few)
+    omega (arith, few, group, few_products (n % c) l.groups (omega (arith, low, few_cols l h)) few)

@@ -111,7 +111,7 @@ widened_same a cols whole e =
     ap (widened a) e ∙ sym (matrix_by_entries a a.rows a.cols (entry_or_zero a) refl refl whole (λ i j p q. sym (within a i j q)))
 
 -- ---- three digits in a word
-module _ (rows cols wider : ℕ) (words wide : List ℕ) (h : IsPacked rows cols words) (le : cols ≤ wider) (size : rows * wider ≤ 33554432)
+module _ (rows cols wider : ℕ) (words wide : List ℕ) (h : IsPacked rows cols words) (le : cols ≤ wider)
     (is : wide ≡ (widened (record { rows = rows; cols = packed_cols cols; words = words }) (packed_cols wider)).words) where
   abbrev was : WordMatrix
   was = unpacked rows cols words
@@ -163,4 +163,4 @@ module _ (rows cols wider : ℕ) (words wide : List ℕ) (h : IsPacked rows cols
   grown_is = holds grown wide grown_whole grown_small grown_words
 
   pub grown_packed : IsPacked rows wider wide
-  grown_packed = stays_packed grown wide grown_whole grown_small grown_words size
+  grown_packed = stays_packed grown wide grown_whole grown_small grown_words

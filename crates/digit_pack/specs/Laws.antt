@@ -4,7 +4,7 @@ use Rattle.matrix_u32.specs.Matrix.{WordMatrix, entry}
 use Rattle.lane_kernels.specs.Digit.{digit, split_count}
 use Rattle.digit_pack.specs.Slots.{slot_of, is_slot, content_of}
 use Rattle.digit_pack.specs.Digits.{digits_of, number_of, decomposed, recomposed, joined}
-use Rattle.digit_pack.specs.Layout.{Shape, IsShape, IsRecord, FitsRecord, record_digits, record_bytes, digit_matrix, digits_per_record, digit_rows, digit_cols, first_row, column_of, record_at}
+use Rattle.digit_pack.specs.Layout.{Shape, IsShape, IsLayout, HasWidth, HasRecord, ordinary_side, part_words, IsRecord, FitsRecord, record_digits, record_bytes, digit_matrix, digits_per_record, digit_rows, digit_cols, first_row, column_of, record_at}
 
 -- the digits of a word write the word
 abbrev pub SplitJoins : Type 0
@@ -61,6 +61,14 @@ pub record RecordChange (l : Shape) (records : List (List ℕ)) (i : ℕ) (bytes
 abbrev pub ReplacedRecordChangesItsPlace : Type 0
 ReplacedRecordChangesItsPlace = (l : Shape) (records : List (List ℕ)) (i : ℕ) (bytes : List ℕ) →
     IsShape l → i < l.count → i < length records → RecordChange l records i bytes
+
+-- an ordinary matrix of digits leaves the parts of a query few, so an ordinary layout is judged by its rows alone
+abbrev pub OrdinaryPartsAreFew : Type 0
+OrdinaryPartsAreFew = (l : Shape) → HasWidth l → HasRecord l → digit_rows l ≤ ordinary_side → part_words l ≤ 4128768
+
+-- a wide layout has no more digits than a wide store
+abbrev pub WideStoreHasRoom : Type 0
+WideStoreHasRoom = (l : Shape) → IsLayout l → digit_rows l * digit_cols l ≤ 1073741824
 
 -- digits are below 2 to their width
 abbrev pub DigitsAreSmall : Type 0

@@ -1,5 +1,5 @@
 -- Where the digits of records stand.
-use Rattle.std.specs.Prelude.{◌≡◌, ℕ, ◌+◌, ◌-◌, ◌*◌, ◌/◌, ◌%◌, ◌^◌, ◌<◌, ◌≤◌, List, [], length, take, drop, slice_index_or, All, Bool, nat_le, ◌&&◌}
+use Rattle.std.specs.Prelude.{◌≡◌, ◌⊎◌, ℕ, ◌+◌, ◌-◌, ◌*◌, ◌/◌, ◌%◌, ◌^◌, ◌<◌, ◌≤◌, if◌then◌else◌, List, [], length, take, drop, slice_index_or, All, Bool, nat_le, nat_lt, ◌&&◌, ◌||◌}
 use Rattle.digit_pack.specs.declared.layout.LayoutError.{LayoutError}
 use Rattle.digit_pack.specs.declared.layout.LayoutError.TheVariants.{BadWidth, BadRecord, BadGroups, BadCount}
 use Rattle.matrix_u32.specs.Sum.{list_of}
@@ -7,16 +7,43 @@ use Rattle.matrix_u32.specs.Matrix.{WordMatrix, matrix_of}
 use Rattle.lane_kernels.specs.Digit.{digit}
 use Rattle.digit_pack.specs.Digits.{number_of, digits_of}
 
--- digits of `width` bits; records of `record_len` bytes, `groups` of them to a column; `count` records
+-- a matrix of at most `side` rows and as many columns; digits of `width` bits; records of `record_len` bytes, `groups` of them to
+-- a column; `count` records
 pub record Shape : Type 0 where
+  pub side : ℕ
   pub width : ℕ
   pub record_len : ℕ
   pub groups : ℕ
   pub count : ℕ
 
--- the shape of these four sizes
+-- the most rows and columns of an ordinary digit matrix
+abbrev pub ordinary_side : ℕ
+ordinary_side = 4096
+
+-- the most rows and columns of a wide digit matrix
+abbrev pub wide_side : ℕ
+wide_side = 32768
+
+-- the forms whose digit matrix is a wide one
+abbrev pub is_wide : ℕ → Bool
+is_wide form = nat_lt 128 form
+
+-- the most rows and columns of a form's digit matrix
+abbrev pub side_of : ℕ → ℕ
+side_of form = if is_wide form then wide_side else ordinary_side
+
+-- the shape of these five sizes
+abbrev pub shape_within : ℕ → ℕ → ℕ → ℕ → ℕ → Shape
+shape_within side width record_len groups count =
+    record { side = side; width = width; record_len = record_len; groups = groups; count = count }
+
+-- the ordinary shape of these four sizes
 abbrev pub shape : ℕ → ℕ → ℕ → ℕ → Shape
-shape width record_len groups count = record { width = width; record_len = record_len; groups = groups; count = count }
+shape width record_len groups count = shape_within ordinary_side width record_len groups count
+
+-- the shape of these four sizes in a form
+abbrev pub shape_in : ℕ → ℕ → ℕ → ℕ → ℕ → Shape
+shape_in form width record_len groups count = shape_within (side_of form) width record_len groups count
 
 -- how many digits a record has: 8 bits a byte, divided by the width, rounded up
 abbrev pub digits_per_record : Shape → ℕ
@@ -75,25 +102,36 @@ pub record IsRecord (l : Shape) (bytes : List ℕ) : Type 0 where
   pub len : length bytes ≡ l.record_len
   pub each : All (λ b. b < 2 ^ 8) bytes
 
--- what `Layout::new` accepts: digits of 6 to 10 bits
+-- what `Layout::of_form` accepts: digits of 6 to 10 bits
 abbrev pub HasWidth : Shape → Type 0
 HasWidth l = (6 ≤ l.width) × (l.width ≤ 10)
+
+-- in a wide matrix of at most 9 bits: an answer's noise is a sum over a row, and over so many columns it would pass half of
+-- delta with digits of 10 bits
+abbrev pub HasRoomForNoise : Shape → Type 0
+HasRoomForNoise l = (l.side ≤ ordinary_side) ⊎ (l.width ≤ 9)
 
 -- records of 1 to 256 bytes
 abbrev pub HasRecord : Shape → Type 0
 HasRecord l = (1 ≤ l.record_len) × (l.record_len ≤ 256)
 
--- a record or more to a column, of at most 4096 digits
-abbrev pub HasGroups : Shape → Type 0
-HasGroups l = (1 ≤ l.groups) × (digit_rows l ≤ 4096)
+-- how many words the parts of a query have, where each digit of a record is asked for by one word for each row
+abbrev pub part_words : Shape → ℕ
+part_words l = digits_per_record l * digit_rows l
 
--- a record or more, in at most 4096 columns
+-- a record or more to a column, of as many digits as the side has at most, and as many words as a frame has room for
+abbrev pub HasGroups : Shape → Type 0
+HasGroups l = (1 ≤ l.groups) × (digit_rows l ≤ l.side) × (part_words l ≤ 4128768)
+
+-- a record or more, in as many columns as the side has at most
 abbrev pub HasCount : Shape → Type 0
-HasCount l = (1 ≤ l.count) × (digit_cols l ≤ 4096)
+HasCount l = (1 ≤ l.count) × (digit_cols l ≤ l.side)
 
 -- within every limit
 pub record IsLayout (l : Shape) : Type 0 where
+  pub side : l.side ≤ wide_side
   pub width : HasWidth l
+  pub noise : HasRoomForNoise l
   pub record_len : HasRecord l
   pub groups : HasGroups l
   pub count : HasCount l
@@ -101,17 +139,19 @@ pub record IsLayout (l : Shape) : Type 0 where
 -- whether it is within every limit
 unfoldable pub is_layout : Shape → Bool
 is_layout l =
-    (nat_le 6 l.width && nat_le l.width 10)
+    nat_le l.side wide_side
+    && ((nat_le 6 l.width && nat_le l.width 10)
+    && ((nat_le l.side ordinary_side || nat_le l.width 9)
     && ((nat_le 1 l.record_len && nat_le l.record_len 256)
-    && ((nat_le 1 l.groups && nat_le (digit_rows l) 4096)
-    && (nat_le 1 l.count && nat_le (digit_cols l) 4096)))
+    && ((nat_le 1 l.groups && (nat_le (digit_rows l) l.side && nat_le (part_words l) 4128768))
+    && (nat_le 1 l.count && nat_le (digit_cols l) l.side)))))
 
 -- the first limit that a shape breaks
 abbrev pub IsLayoutFault : Shape → LayoutError → Type 0
-IsLayoutFault l BadWidth = ¬ HasWidth l
-IsLayoutFault l BadRecord = HasWidth l × ¬ HasRecord l
-IsLayoutFault l BadGroups = HasWidth l × HasRecord l × ¬ HasGroups l
-IsLayoutFault l BadCount = HasWidth l × HasRecord l × HasGroups l × ¬ HasCount l
+IsLayoutFault l BadWidth = ¬ (HasWidth l × HasRoomForNoise l)
+IsLayoutFault l BadRecord = (HasWidth l × HasRoomForNoise l) × ¬ HasRecord l
+IsLayoutFault l BadGroups = (HasWidth l × HasRoomForNoise l) × HasRecord l × ¬ HasGroups l
+IsLayoutFault l BadCount = (HasWidth l × HasRoomForNoise l) × HasRecord l × HasGroups l × ¬ HasCount l
 
 -- no bit of the number that the digits write stands past the record's last byte
 abbrev pub FitsRecord : Shape → List ℕ → Type 0

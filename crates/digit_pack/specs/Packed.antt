@@ -1,7 +1,7 @@
 -- Three digits of 10 bits in a word.
-use Rattle.std.specs.Prelude.{◌≡◌, ℕ, ◌+◌, ◌*◌, ◌/◌, ◌%◌, ◌^◌, ◌<◌, ◌≤◌, ◌==◌, List, if◌then◌else◌}
+use Rattle.std.specs.Prelude.{◌≡◌, ℕ, ◌+◌, ◌*◌, ◌/◌, ◌%◌, ◌^◌, ◌<◌, ◌==◌, List, if◌then◌else◌}
 use Rattle.matrix_u32.specs.Sum.{list_of}
-use Rattle.matrix_u32.specs.Matrix.{WordMatrix, entry_or_zero, most_words}
+use Rattle.matrix_u32.specs.Matrix.{WordMatrix, entry_or_zero}
 use Rattle.lane_kernels.specs.Packed.{packed_cols, unpacked}
 
 -- word t of row r is the sum of the digits in columns 3 t + u, times 2 ^ (10 u), for u from 0 to 2
@@ -15,7 +15,6 @@ packed a = list_of (a.rows * packed_cols a.cols) (λ k. packed_word a (k / packe
 -- words that are the packed list of the digits that they hold
 pub record IsPacked (rows cols : ℕ) (words : List ℕ) : Type 0 where
   pub same : words ≡ packed (unpacked rows cols words)
-  pub size : rows * cols ≤ most_words
 
 -- a word of three digits with another digit in one of the three places
 abbrev pub IsReplaced : ℕ → ℕ → ℕ → ℕ → Type 0

@@ -3,10 +3,14 @@ use Rattle.std.specs.Prelude.{ℕ, ◌+◌, ◌-◌, ◌++◌, List, length, tak
 use Rattle.std.specs.List.{list_all}
 use Rattle.std.specs.Int.{w16, to_le_bytes, from_le_bytes}
 
--- A form that there is, for records of so many bytes. In form 1 they have these bytes and no others; in form 2 each has a
--- length of its own, and the bytes are those of its slot, which has two at least.
+-- the forms in which each record has a length of its own, and its bytes are those of its slot
+unfoldable pub is_slotted : ℕ → Bool
+is_slotted form = (form == 2) || (form == 130)
+
+-- A form that there is, for records of so many bytes. In forms 1 and 129 records have these bytes and no others; in forms 2 and
+-- 130 these are the bytes of a slot, which has two at least. The digit matrix of forms 129 and 130 is a wide one.
 unfoldable pub is_form : ℕ → ℕ → Bool
-is_form form record_len = (form == 1) || ((form == 2) && nat_le 2 record_len)
+is_form form record_len = (form == 1) || ((form == 129) || (is_slotted form && nat_le 2 record_len))
 
 -- the slot of so many bytes that holds a record: the record's length in two bytes, the lower one first; the record; zeros
 abbrev pub slot_of : ℕ → List ℕ → List ℕ

@@ -2,7 +2,7 @@
 
 ghost use Rattle.std.specs.Prelude.{◌≡◌, ◌+◌, ◌*◌, ◌<◌, ◌≤◌, All, IfOk, length, slice_set};
 ghost use Rattle.digit_pack.specs.Columns.{WritesColumn};
-ghost use Rattle.digit_pack.specs.Layout.{digit_matrix, record_at, records_in};
+ghost use Rattle.digit_pack.specs.Layout.{digit_rows, digit_cols, digit_matrix, record_at, records_in};
 
 use crate::layout::{Layout, pack};
 use crate::store::DigitStore;
@@ -44,8 +44,8 @@ pub fn write_digits<S: DigitStore>(digits: &mut S, first: usize, col: usize, wri
     }
 }
 
-/// The digit matrix of records that stand one after another in `bytes`, kept in a store. Only refused memory
-/// gives an `Err`.
+/// The digit matrix of records that stand one after another in `bytes`, kept in a store that has room for it. Only refused
+/// memory gives an `Err`.
 ///
 /// The records of a group, which have their rows in common, are written one after another, so that these rows stay near
 /// the processor.
@@ -54,7 +54,8 @@ pub fn digits_of_records<S: DigitStore>(
     layout: &Layout,
     bytes: &[u8],
 ) -> Result<S, AllocError>
-    requires { length bytes.now ≡ layout.now.count * layout.now.record_len }
+    requires count { length bytes.now ≡ layout.now.count * layout.now.record_len }
+    requires room { digit_rows layout.now * digit_cols layout.now ≤ S.most }
     ensures { IfOk result (λ store. S.digits store ≡ digit_matrix layout.now
         (records_in layout.now bytes.now)) }
 {

@@ -10,6 +10,8 @@ ghost use Rattle.digit_pack.specs.Laws.{
   RecordStandsInside,
   UnusedSlotsAreZero,
   ReplacedRecordChangesItsPlace,
+  OrdinaryPartsAreFew,
+  WideStoreHasRoom,
   DigitsAreSmall,
   SlotsAreThoseFilled,
 };
@@ -52,6 +54,16 @@ pub fn unused_slots_are_zero()
 /// Another record in the place of record i changes its digits, and no other entry of the digit matrix.
 pub fn replaced_record_changes_its_place()
     ensures { ReplacedRecordChangesItsPlace }
+{}
+
+/// An ordinary layout is judged by its rows and columns alone: the parts of a query are always few enough.
+pub fn ordinary_parts_are_few()
+    ensures { OrdinaryPartsAreFew }
+{}
+
+/// A wide store has room for the digits of every layout.
+pub fn wide_store_has_room()
+    ensures { WideStoreHasRoom }
 {}
 
 /// Digits are below two to their width.

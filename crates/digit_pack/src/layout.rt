@@ -5,6 +5,8 @@ ghost use Rattle.lane_kernels.specs.Digit.{digit};
 ghost use Rattle.digit_pack.specs.Digits.{number_of};
 ghost use Rattle.digit_pack.specs.Layout.{
   shape,
+  shape_within,
+  shape_in,
   IsLayout,
   IsLayoutFault,
   FitsRecord,
@@ -18,6 +20,7 @@ ghost use Rattle.digit_pack.specs.Layout.{
 };
 ghost use Rattle.digit_pack.specs.Windows.{window};
 
+use crate::forms::is_wide;
 use crate::packing::pack_bytes;
 use std::marker::Model;
 use thiserror::Error;
@@ -25,25 +28,34 @@ use thiserror::Error;
 /// The most bytes of a record.
 pub const MAX_RECORD_LEN: usize = 256;
 
-/// The most rows of a digit matrix.
+/// The most rows of an ordinary digit matrix.
 pub const MAX_ROWS: usize = 4096;
 
-/// The most columns of a digit matrix.
+/// The most columns of an ordinary digit matrix.
 pub const MAX_COLS: usize = 4096;
+
+/// The most rows of a wide digit matrix, and the most columns.
+pub const WIDE_SIDE: usize = 32_768;
+
+/// The most words that the parts of a query have: one for each digit of a record and each row. So a frame has room for
+/// a query. All ordinary layouts have fewer.
+pub const MAX_PART_WORDS: usize = 4_128_768;
 
 /// Why there is no such layout: the first cause in the order of the variants.
 #[derive(Clone, Copy, Debug, PartialEq, Eq, Error)]
 pub enum LayoutError {
-    /// A digit has 6 to 10 bits.
+    /// A digit has 6 to 10 bits, and at most 9 in a wide layout.
     #[error("a digit has 6 to 10 bits")]
     BadWidth,
     /// A record has 1 to [`MAX_RECORD_LEN`] bytes.
     #[error("a record has 1 to 256 bytes")]
     BadRecord,
-    /// A column holds at least one record, and its records at most [`MAX_ROWS`] digits.
+    /// A column holds at least one record, and its records at most [`MAX_ROWS`] digits, or [`WIDE_SIDE`] in a wide
+    /// layout; the parts of a query have at most [`MAX_PART_WORDS`] words.
     #[error("a column holds at least one record and at most 4096 digits")]
     BadGroups,
-    /// There is at least one record, and there are at most [`MAX_COLS`] columns of them.
+    /// There is at least one record, and there are at most [`MAX_COLS`] columns of them, or [`WIDE_SIDE`] in a wide
+    /// layout.
     #[error("there are 1 to 4096 columns of records")]
     BadCount,
 }
@@ -53,10 +65,11 @@ pub enum LayoutError {
 #[error("the digits set a bit past the record's last byte")]
 pub struct BadDigits;
 
-/// How many bits a digit has, how many bytes a record, how many records stand in a column, and how many
-/// there are: always within the limits. A contract sees it as a `Shape`.
+/// How many rows and columns there may be, how many bits a digit has, how many bytes a record, how many records stand in a
+/// column, and how many there are: always within the limits. A contract sees it as a `Shape`.
 #[derive(Clone, Copy, Debug, PartialEq, Eq)]
 pub struct Layout {
+    side: usize,
     width: u32,
     record_len: usize,
     groups: usize,
@@ -69,17 +82,24 @@ impl Model for Layout {
     ghost Value = { Shape };
 
     ghost view = { λ l. record {
+      side = l.side;
       width = l.width;
       record_len = l.record_len;
       groups = l.groups;
       count = l.count;
     } };
 
-    ghost inverse = { λ s.
-        record { width = s.width; record_len = s.record_len; groups = s.groups; count = s.count } };
+    ghost inverse = { λ s. record {
+      side = s.side;
+      width = s.width;
+      record_len = s.record_len;
+      groups = s.groups;
+      count = s.count;
+    } };
 
     ghost invariant = { λ l.
         IsLayout (record {
+          side = l.side;
           width = l.width;
           record_len = l.record_len;
           groups = l.groups;
@@ -88,7 +108,7 @@ impl Model for Layout {
 }
 
 impl Layout {
-    /// The layout of these sizes: digits of `width` bits, records of `record_len` bytes, `groups` records to
+    /// The ordinary layout of these sizes: digits of `width` bits, records of `record_len` bytes, `groups` records to
     /// a column, `count` records. It is accepted exactly within the limits; else the first cause is named,
     /// in the order of [`LayoutError`].
     pub fn new(
@@ -101,7 +121,42 @@ impl Layout {
             IsLayout l) }
         ensures refused { IfErr result (IsLayoutFault (shape width record_len groups count)) }
     {
-        if width < 6 || width > 10 {
+        Layout::within(MAX_ROWS, width, record_len, groups, count)
+    }
+
+    /// The layout of these sizes in a form, likewise: a wide one in the forms above 128, else an ordinary one. In a wide
+    /// layout digits have at most 9 bits: with 10, the noise over so many columns would not stay small.
+    pub fn of_form(
+        form: u16,
+        width: u32,
+        record_len: usize,
+        groups: usize,
+        count: usize,
+    ) -> Result<Layout, LayoutError>
+        ensures accepted { IfOk result (λ l.
+            (l ≡ shape_in form width record_len groups count) × IsLayout l) }
+        ensures refused { IfErr result
+            (IsLayoutFault (shape_in form width record_len groups count)) }
+    {
+        let side = if is_wide(form) { WIDE_SIDE } else { MAX_ROWS };
+        Layout::within(side, width, record_len, groups, count)
+    }
+
+    // The layout of these sizes, with at most `side` rows and as many columns.
+    fn within(
+        side: usize,
+        width: u32,
+        record_len: usize,
+        groups: usize,
+        count: usize,
+    ) -> Result<Layout, LayoutError>
+        requires { side ≤ 32768 }
+        ensures accepted { IfOk result (λ l.
+            (l ≡ shape_within side width record_len groups count) × IsLayout l) }
+        ensures refused { IfErr result
+            (IsLayoutFault (shape_within side width record_len groups count)) }
+    {
+        if width < 6 || width > 10 || side > MAX_ROWS && width > 9 {
             return Err(LayoutError::BadWidth);
         }
         if record_len == 0 || record_len > MAX_RECORD_LEN {
@@ -109,13 +164,17 @@ impl Layout {
         }
         let digits = (8 * record_len + width as usize - 1) / width as usize;
         // the first test keeps the product from overflowing
-        if groups == 0 || groups > MAX_ROWS || groups * digits > MAX_ROWS {
+        if groups == 0 || groups > side || groups * digits > side {
             return Err(LayoutError::BadGroups);
         }
-        if count == 0 || count > MAX_COLS * groups {
+        if digits * (groups * digits) > MAX_PART_WORDS {
+            return Err(LayoutError::BadGroups);
+        }
+        if count == 0 || count > side * groups {
             return Err(LayoutError::BadCount);
         }
         Ok(Layout {
+            side,
             width,
             record_len,
             groups,
@@ -156,8 +215,10 @@ impl Layout {
     }
 
     /// How many digits a record has: 8 bits a byte, divided by the width, rounded up.
+    #[tactic(auto, using(crate::proofs::Limits::few_digits))]
     pub fn digits_per_record(&self) -> usize
         ensures value { result ≡ digits_per_record self.now }
+        ensures few { result ≤ 342 }
         ensures layout { IsLayout self.now }
     {
         (8 * self.record_len + self.width as usize - 1) / self.width as usize
@@ -166,6 +227,7 @@ impl Layout {
     /// How many rows the digit matrix has: the digits of a column's records.
     pub fn rows(&self) -> usize
         ensures value { result ≡ digit_rows self.now }
+        ensures few { result ≤ 32768 }
         ensures layout { IsLayout self.now }
     {
         self.digits_per_record() * self.groups
@@ -174,6 +236,7 @@ impl Layout {
     /// How many columns the digit matrix has.
     pub fn cols(&self) -> usize
         ensures value { result ≡ digit_cols self.now }
+        ensures few { result ≤ 32768 }
         ensures layout { IsLayout self.now }
     {
         (self.count + self.groups - 1) / self.groups

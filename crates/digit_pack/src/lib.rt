@@ -10,6 +10,7 @@
 #![tactic(auto)]
 
 mod filling;
+mod forms;
 pub mod laws;
 mod layout;
 mod packed3;
@@ -19,10 +20,12 @@ mod store;
 mod widening;
 
 pub use filling::{digits_of_records, nth_record, write_digits, write_record};
+pub use forms::{is_form, is_slotted, is_wide};
 pub use layout::{
-    BadDigits, Layout, LayoutError, MAX_COLS, MAX_RECORD_LEN, MAX_ROWS, pack, unpack,
+    BadDigits, Layout, LayoutError, MAX_COLS, MAX_PART_WORDS, MAX_RECORD_LEN, MAX_ROWS, WIDE_SIDE,
+    pack, unpack,
 };
-pub use packed3::Packed3;
+pub use packed3::{Packed3, PackedDigits, Wide3};
 pub use packing::{join_word, pack_bytes, split_count, split_word, word_digit};
 pub use slots::{BadSlot, are_slots, fill_slot, read_slot, slot_record, write_slot};
 pub use store::{DigitStore, Flat};

@@ -13,19 +13,26 @@ use matrix_u32::{Kernel, MatrixError};
 use std::alloc::Global;
 use std::marker::Model;
 
-/// A store of digits below 1024, three in each word. A contract sees it as its matrix of digits.
+/// A store of digits below 1024, three in each word, and at most `MOST` of them. A contract sees it as its matrix of digits.
 ///
 /// A row is cols / 3 words, rounded up; digit 3 t + u of it stands in bits 10 u to 10 u + 9 of its word t, and
-/// the other bits are 0. It never holds more than 33,554,432 digits.
+/// the other bits are 0.
 #[derive(Drop)]
-pub struct Packed3 {
+pub struct PackedDigits<const MOST: usize> {
     alloc: Global,
     rows: usize,
     cols: usize,
     words: Vec<u32>,
 }
 
-impl Model for Packed3 {
+/// A store of at most 33,554,432 digits.
+pub type Packed3 = PackedDigits<33_554_432>;
+
+/// A store of at most 2^30 digits: as many as a wide layout has.
+pub type Wide3 = PackedDigits<1_073_741_824>;
+
+impl<const MOST: usize> Model for PackedDigits<MOST> {
+    ghost use Rattle.std.specs.Prelude.{◌*◌, ◌≤◌};
     ghost use Rattle.matrix_u32.specs.Matrix.{WordMatrix};
     ghost use Rattle.lane_kernels.specs.Packed.{unpacked};
     ghost use Rattle.digit_pack.specs.Packed.{IsPacked};
@@ -34,7 +41,7 @@ impl Model for Packed3 {
 
     ghost view = { λ s. unpacked s.rows s.cols s.words.items };
 
-    ghost invariant = { λ s. IsPacked s.rows s.cols s.words.items };
+    ghost invariant = { λ s. IsPacked s.rows s.cols s.words.items × (s.rows * s.cols ≤ MOST) };
 }
 
 // How many words a row of that many columns has.
@@ -99,7 +106,7 @@ fn swap_packed(
     }
 }
 
-impl Packed3 {
+impl<const MOST: usize> PackedDigits<MOST> {
     /// The words, row by row, lent as they are kept.
     pub fn words(&self) -> &[u32]
         ensures { result.now ≡ packed self.now }
@@ -108,13 +115,15 @@ impl Packed3 {
     }
 }
 
-impl DigitStore for Packed3 {
+impl<const MOST: usize> DigitStore for PackedDigits<MOST> {
     ghost digits = { λ s. s };
 
-    fn zeros(alloc: Global, rows: usize, cols: usize) -> Result<Packed3, MatrixError> {
-        judge_size(rows, cols)?;
+    ghost most = { MOST };
+
+    fn zeros(alloc: Global, rows: usize, cols: usize) -> Result<Self, MatrixError> {
+        judge_size(MOST, rows, cols)?;
         match vec![in alloc; 0; rows * row_words(cols)] {
-            Ok(words) => Ok(Packed3 {
+            Ok(words) => Ok(PackedDigits {
                 alloc,
                 rows,
                 cols,
@@ -148,7 +157,7 @@ impl DigitStore for Packed3 {
 
     /// It takes memory only where a row becomes more words.
     fn grow(&mut self, cols: usize) -> Result<(), MatrixError> {
-        judge_size(self.rows, cols)?;
+        judge_size(MOST, self.rows, cols)?;
         let (from, to) = (row_words(self.cols), row_words(cols));
         if from == to {
             self.cols = cols;

@@ -29,7 +29,7 @@ fn byte_window(bytes: &[u8], first: usize) -> u32
 /// as many as `out` has places.
 pub fn pack_bytes(w: u32, bytes: &[u8], out: &mut [u32])
     requires width { (6 ≤ w) × (w ≤ 10) }
-    requires room { length out.old ≤ 4096 }
+    requires room { length out.old ≤ 32768 }
     ensures { out.new ≡ digits_of w (length out.old) (number_of 8 bytes.now) }
 {
     for t in 0..out.len() {

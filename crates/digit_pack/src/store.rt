@@ -15,14 +15,17 @@ pub trait DigitStore: Sized + Drop {
     /// The matrix, however it is kept.
     ghost digits: { Self → WordMatrix };
 
-    /// Digits that are all 0. `TooLarge` exactly when there would be more than 33,554,432 of them; else the
+    /// How many digits it keeps at most.
+    ghost most: { ℕ };
+
+    /// Digits that are all 0. `TooLarge` exactly when there would be more than `most` of them; else the
     /// digits, or `Memory`.
     fn zeros(alloc: Global, rows: usize, cols: usize) -> Result<Self, MatrixError>
         ensures zeros { IfOk result (λ s. (digits s ≡ zero_matrix rows cols) ×
-            (rows * cols ≤ 33554432)) }
+            (rows * cols ≤ most)) }
         ensures refused { IfErr result (λ e.
-            ((e ≡ MatrixError.TooLarge) × (33554432 < rows * cols))
-            ⊎ ((e ≡ MatrixError.Memory) × (rows * cols ≤ 33554432))) };
+            ((e ≡ MatrixError.TooLarge) × (most < rows * cols))
+            ⊎ ((e ≡ MatrixError.Memory) × (rows * cols ≤ most))) };
 
     /// The number of rows.
     fn rows(&self) -> usize
@@ -67,14 +70,14 @@ pub trait DigitStore: Sized + Drop {
 
     /// Adds columns of zeros after the last one, up to `cols` columns; all digits that there were stay.
     ///
-    /// `TooLarge` exactly when there would be more than 33,554,432 digits, judged before any memory is asked for; else
+    /// `TooLarge` exactly when there would be more than `most` digits, judged before any memory is asked for; else
     /// `Memory`, where that is refused. After a refusal all is as it was. As many columns as there are give `Ok`, and
     /// take no memory.
     fn grow(&mut self, cols: usize) -> Result<(), MatrixError>
         requires { (digits self.old).cols ≤ cols }
         ensures grown { OnOk result (digits self.new ≡ widened (digits self.old) cols) }
         ensures too_large { IsErrOf result MatrixError.TooLarge
-            ↔ (33554432 < (digits self.old).rows * cols) }
+            ↔ (most < (digits self.old).rows * cols) }
         ensures cause { IfErr result (λ e.
             (e ≡ MatrixError.TooLarge) ⊎ (e ≡ MatrixError.Memory)) }
         ensures refused { OnErr result (digits self.new ≡ digits self.old) }
@@ -108,14 +111,13 @@ pub trait DigitStore: Sized + Drop {
     }
 }
 
-/// Judges whether a store may have so many digits. It takes no memory.
-pub fn judge_size(rows: usize, cols: usize) -> Result<(), MatrixError>
-    ensures fits { OnOk result (rows * cols ≤ 33554432) }
-    ensures refused { IfErr result (λ e.
-        (e ≡ MatrixError.TooLarge) × (33554432 < rows * cols)) }
+/// Judges whether a store of at most so many digits may have these rows and columns. It takes no memory.
+pub fn judge_size(most: usize, rows: usize, cols: usize) -> Result<(), MatrixError>
+    ensures fits { OnOk result (rows * cols ≤ most) }
+    ensures refused { IfErr result (λ e. (e ≡ MatrixError.TooLarge) × (most < rows * cols)) }
 {
     match rows.checked_mul(cols) {
-        Some(count) if count <= MAX_WORDS => Ok(()),
+        Some(count) if count <= most => Ok(()),
         _ => Err(MatrixError::TooLarge),
     }
 }
@@ -137,6 +139,8 @@ impl Model for Flat {
 
 impl DigitStore for Flat {
     ghost digits = { λ s. s };
+
+    ghost most = { 33554432 };
 
     fn zeros(alloc: Global, rows: usize, cols: usize) -> Result<Flat, MatrixError> {
         let matrix = Matrix::zeros(alloc, rows, cols)?;
@@ -162,7 +166,7 @@ impl DigitStore for Flat {
     fn grow(&mut self, cols: usize) -> Result<(), MatrixError> {
         let old = &self.matrix;
         let (rows, from) = (old.rows(), old.cols());
-        judge_size(rows, cols)?;
+        judge_size(MAX_WORDS, rows, cols)?;
         if from == cols {
             return Ok(());
         }

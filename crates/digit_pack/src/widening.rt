@@ -1,6 +1,6 @@
 //! Rows of words that are written into longer rows.
 
-ghost use Rattle.std.specs.Prelude.{◌≡◌, ◌*◌, ◌≤◌, IfOk, length, replicate};
+ghost use Rattle.std.specs.Prelude.{◌≡◌, ◌*◌, ◌^◌, ◌<◌, ◌≤◌, IfOk, length, replicate};
 ghost use Rattle.matrix_u32.specs.Matrix.{widened};
 
 use std::alloc::{AllocError, Global};
@@ -28,7 +28,7 @@ pub fn widened_words(
 ) -> Result<Vec<u32>, AllocError>
     requires count { length words.now ≡ rows * from }
     requires wider { from ≤ to }
-    requires limit { rows * to ≤ 33554432 }
+    requires limit { rows * to < 2 ^ 64 }
     ensures { IfOk result (λ wide. wide.items
         ≡ (widened (record { rows = rows; cols = from; words = words.now }) to).words) }
 {

@@ -15,7 +15,7 @@ use std::alloc::{AllocError, Global};
 // own, since its words stand far apart.
 pub(crate) fn decompose<S: DigitStore>(alloc: Global, a: &Matrix, w: u32) -> Result<S, AllocError>
     requires width { (6 ≤ w) × (w ≤ 10) }
-    requires size { a.now.cols * split_count w * a.now.rows ≤ 33554432 }
+    requires size { a.now.cols * split_count w * a.now.rows ≤ S.most }
     ensures { IfOk result (λ store. S.digits store ≡ decomposed w (transpose a.now)) }
 {
     let count = split_count(w);
@@ -84,7 +84,7 @@ fn put_digit_row<S: DigitStore>(store: &mut S, words: &[u32], w: u32, r: usize)
 ///
 /// The first layer's hint is read across: no transposed copy is made, and nothing is held but the two hints and one of its
 /// columns.
-/// There are at most 4096 rows and 1024 columns, so only memory can be wanting.
+/// The store has room for the server's hint, and there are at most 1024 columns, so only memory can be wanting.
 pub fn setup<K: Kernel, S: DigitStore>(
     alloc: Global,
     kernel: K,
@@ -95,7 +95,7 @@ pub fn setup<K: Kernel, S: DigitStore>(
     requires width { (6 ≤ w) × (w ≤ 10) }
     requires rows { a2.now.rows ≡ hint.now.rows }
     requires cols { a2.now.cols ≡ hint.now.cols }
-    requires row_limit { hint.now.rows ≤ 4096 }
+    requires room { hint.now.cols * split_count w * hint.now.rows ≤ S.most }
     requires col_limit { hint.now.cols ≤ 1024 }
     ensures server { IfOk result (λ hints. (digits a1 : WordMatrix) → a1.rows ≡ digits.cols →
         hint.now ≡ hint_of digits a1 →

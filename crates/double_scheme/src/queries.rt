@@ -249,9 +249,9 @@ fn put_noisy_part(
 )
     requires number { number < 2 ^ 62 }
     requires width { (6 ≤ w) × (w ≤ 10) }
-    requires part { d < 4096 }
+    requires part { d < 342 }
     requires place { place < length products.now }
-    requires rows { length products.now ≤ 4096 }
+    requires rows { length products.now ≤ 32768 }
     requires noise { length noise.old ≡ length products.now }
     requires room { length out.old ≡ length products.now }
     ensures words { out.new ≡ with_noise w products.now

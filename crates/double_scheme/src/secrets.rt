@@ -18,7 +18,7 @@ pub fn part_secrets(
     mut words: Vec<u32>,
 ) -> Matrix
     requires number { number < 2 ^ 62 }
-    requires parts { parts ≤ 4096 }
+    requires parts { parts ≤ 342 }
     requires cols { n ≤ 1024 }
     requires room { length words.items ≡ parts * n }
     ensures rows { result.rows ≡ parts }
@@ -27,19 +27,19 @@ pub fn part_secrets(
 {
     seed_expand::source_gives_words();
     fill_words(&mut WordSource::at(seed, 4 * number + 2, 0), &mut words);
-    // There are parts * n words, and at most 4096 * 1024 of them: no refusal is left.
+    // There are parts * n words, and at most 342 * 1024 of them: no refusal is left.
     Matrix::from_words(parts, n, words).unwrap()
 }
 
 /// Zeros, a row of them for each part. Only refused memory gives an `Err`.
 pub fn zero_products(alloc: Global, parts: usize, cols: usize) -> Result<Matrix, AllocError>
-    requires { (parts ≤ 4096) × (cols ≤ 4096) }
+    requires { (parts ≤ 342) × (cols ≤ 32768) }
     ensures rows { IfOk result (λ m. m.rows ≡ parts) }
     ensures cols { IfOk result (λ m. m.cols ≡ cols) }
 {
     match Matrix::zeros(alloc, parts, cols) {
         Ok(zeros) => Ok(zeros),
-        // At most 4096 * 4096 words are wanted, so memory was refused.
+        // At most 342 * 32768 words are wanted, so memory was refused.
         Err(_) => Err(AllocError),
     }
 }

@@ -3,7 +3,7 @@ use Rattle.std.proofs.Common.{◌≡◌, ◌∙◌, ℕ, ◌+◌, ◌<◌, ◌�
 use Rattle.std.specs.Prelude.{nat_lt, Some}
 use Rattle.std.proofs.lemmas.Bool.{lt-ltb, leb-true, eqb-true}
 use Rattle.std.proofs.lemmas.List.{get_or-map}
-use Rattle.digit_pack.specs.Slots.{slot_of, is_slot, content_of}
+use Rattle.digit_pack.specs.Slots.{is_slotted, slot_of, is_slot, content_of}
 use Rattle.digit_pack.proofs.SlotLemmas.{fills_and_reads}
 use Rattle.digit_pack.proofs.RecordLemmas.{shape_of_layout}
 use Rattle.digit_pack.specs.Digits.{number_of}
@@ -55,14 +55,14 @@ content_by false len bytes le fits = (refl, refl)
 pub slot_is_record : (p : Plan) (n : ℕ) (bytes : List ℕ) → IsPlan p n → IsRecordOf p bytes → IsRecord (shape_at p n) (slot p bytes)
 unfolding fits slot
 slot_is_record p n bytes ok r =
-    let s = slot_by (p.form == 2) p.record_len bytes ok.layout.record_len.1 r.fits r.each in
+    let s = slot_by (is_slotted p.form) p.record_len bytes ok.layout.record_len.1 r.fits r.each in
     record { len = s.0; each = s.1 }
 
 -- and is the slot of this record
 pub slot_holds : (p : Plan) (n : ℕ) (bytes : List ℕ) → IsPlan p n → fits p bytes ≡ true →
     (is_slot_of p (slot p bytes) ≡ true) × (content p (slot p bytes) ≡ bytes)
 unfolding fits slot is_slot_of content
-slot_holds p n bytes ok fits = content_by (p.form == 2) p.record_len bytes ok.layout.record_len.1 fits
+slot_holds p n bytes ok fits = content_by (is_slotted p.form) p.record_len bytes ok.layout.record_len.1 fits
 
 -- ---- records
 

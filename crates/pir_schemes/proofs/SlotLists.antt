@@ -1,7 +1,7 @@
 -- Records of one length are all records.
-use Rattle.std.proofs.Common.{◌≡◌, ◌==◌, ℕ, List, [], ◌∷◌, Bool, true, false, cond, refl}
+use Rattle.std.proofs.Common.{◌≡◌, ℕ, List, [], ◌∷◌, Bool, true, false, cond, refl}
 use Rattle.std.specs.List.{list_all}
-use Rattle.digit_pack.specs.Slots.{is_slot}
+use Rattle.digit_pack.specs.Slots.{is_slotted, is_slot}
 use Rattle.pir_schemes.specs.declared.plan.Plan.{Plan}
 use Rattle.pir_schemes.specs.Plans.{is_slot_of}
 
@@ -11,6 +11,6 @@ all_by true xs = refl
 all_by false [] = refl
 all_by false (x ∷ xs) = all_by false xs
 
-pub all_slots : (p : Plan) (xs : List (List ℕ)) → list_all (is_slot_of p) xs ≡ cond (p.form == 2) (list_all is_slot xs) true
+pub all_slots : (p : Plan) (xs : List (List ℕ)) → list_all (is_slot_of p) xs ≡ cond (is_slotted p.form) (list_all is_slot xs) true
 unfolding is_slot_of
-all_slots p xs = all_by (p.form == 2) xs
+all_slots p xs = all_by (is_slotted p.form) xs

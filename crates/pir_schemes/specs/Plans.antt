@@ -4,12 +4,12 @@ use Rattle.matrix_u32.specs.Matrix.{WordMatrix}
 use Rattle.seed_expand.specs.Words.{public_rows}
 use Rattle.digit_pack.specs.Digits.{digits_of, number_of}
 use Rattle.pir_schemes.specs.declared.plan.Plan.{Plan}
-use Rattle.digit_pack.specs.Layout.{Shape, IsLayout, shape, digit_rows, digit_cols, digit_matrix, records_in}
-use Rattle.digit_pack.specs.Slots.{is_form, slot_of, is_slot, content_of}
+use Rattle.digit_pack.specs.Layout.{Shape, IsLayout, is_wide, shape_in, digit_rows, digit_cols, digit_matrix, records_in}
+use Rattle.digit_pack.specs.Slots.{is_form, is_slotted, slot_of, is_slot, content_of}
 
 -- the shape of a version with so many records
 abbrev pub shape_at : Plan → ℕ → Shape
-shape_at p count = shape p.width p.record_len p.groups count
+shape_at p count = shape_in p.form p.width p.record_len p.groups count
 
 -- the plan of a form, a shape, a dimension and a public seed
 abbrev pub plan_of : ℕ → Shape → ℕ → List ℕ → Plan
@@ -33,17 +33,21 @@ pub record IsPlan (p : Plan) (count : ℕ) : Type 0 where
 abbrev pub profile_of : Plan → ℕ
 profile_of p = p.form
 
--- the profile that a client asks for in its greeting: both forms are known to it
-abbrev pub client_profile : ℕ
-client_profile = 2
+-- the profile that a client asks for in its greeting, of an ordinary store or of a wide one: both forms are known to it
+abbrev pub client_profile : Bool → ℕ
+client_profile wide = if wide then 130 else 2
 
--- whether a server of this plan accepts a greeting in a profile: a client of profile 1 knows form 1 alone
+-- whether a server of this plan accepts a greeting in a profile: a client of profile 1 knows form 1 alone, and one of profile 129
+-- form 129
 abbrev pub accepts_profile : Plan → ℕ → Bool
-accepts_profile p profile = (profile == 2) || ((profile == 1) && (p.form == 1))
+accepts_profile p profile =
+    if is_wide p.form
+    then ((profile == 130) || ((profile == 129) && (p.form == 129)))
+    else ((profile == 2) || ((profile == 1) && (p.form == 1)))
 
--- whether bytes can be a record: in form 2 two bytes of the slot are for their number
+-- whether bytes can be a record: in forms of slots two bytes are for their number
 unfoldable pub fits : Plan → List ℕ → Bool
-fits p bytes = if p.form == 2 then nat_le (length bytes + 2) p.record_len else length bytes == p.record_len
+fits p bytes = if is_slotted p.form then nat_le (length bytes + 2) p.record_len else length bytes == p.record_len
 
 -- bytes that can be a record of a plan
 pub record IsRecordOf (p : Plan) (bytes : List ℕ) : Type 0 where
@@ -52,15 +56,15 @@ pub record IsRecordOf (p : Plan) (bytes : List ℕ) : Type 0 where
 
 -- the bytes that stand in the digits for a record
 unfoldable pub slot : Plan → List ℕ → List ℕ
-slot p bytes = if p.form == 2 then slot_of p.record_len bytes else bytes
+slot p bytes = if is_slotted p.form then slot_of p.record_len bytes else bytes
 
 -- whether a record has these bytes in the digits
 unfoldable pub is_slot_of : Plan → List ℕ → Bool
-is_slot_of p bytes = if p.form == 2 then is_slot bytes else true
+is_slot_of p bytes = if is_slotted p.form then is_slot bytes else true
 
 -- the record that has these bytes in the digits
 unfoldable pub content : Plan → List ℕ → List ℕ
-content p bytes = if p.form == 2 then content_of bytes else bytes
+content p bytes = if is_slotted p.form then content_of bytes else bytes
 
 -- the bytes that stand in the digits, a list for each record
 abbrev pub slots : Plan → List (List ℕ) → List (List ℕ)

@@ -25,7 +25,7 @@ fn digits_in_words(layout: &Layout, n: usize) -> usize
 pub fn hint_rows(scheme: Scheme, layout: &Layout, n: usize) -> usize
     requires { n ≤ 1024 }
     ensures value { result ≡ rows_of_hint scheme layout.now n }
-    ensures small { result ≤ 6144 }
+    ensures small { result ≤ 32768 }
 {
     match scheme {
         Scheme::Simple => layout.rows(),
@@ -33,11 +33,11 @@ pub fn hint_rows(scheme: Scheme, layout: &Layout, n: usize) -> usize
     }
 }
 
-/// How many words a hint has: at most 6,291,456, which a matrix can hold.
+/// How many words a hint has: at most 33,554,432, which a matrix can hold.
 pub fn hint_len(scheme: Scheme, layout: &Layout, n: usize) -> usize
     requires { n ≤ 1024 }
     ensures value { result ≡ words_of_hint scheme layout.now n }
-    ensures small { result ≤ 6291456 }
+    ensures small { result ≤ 33554432 }
 {
     hint_rows(scheme, layout, n) * n
 }

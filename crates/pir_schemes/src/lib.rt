@@ -25,5 +25,5 @@ pub use parts::{DELTA_ROWS, PART_WORDS, part_len, part_words};
 pub use plan::{Plan, SecretSeed};
 pub use query_room::QueryRoom;
 pub use retrievals::recover;
-pub use scheme::{CLIENT_PROFILE, Scheme};
+pub use scheme::{CLIENT_PROFILE, Scheme, WIDE_PROFILE, client_profile};
 pub use simple_scheme::RecoverError;

@@ -4,15 +4,16 @@ ghost use Rattle.std.specs.Prelude.{◌≡◌, ℕ, List, IfOk, IfErr};
 ghost use Rattle.digit_pack.specs.Layout.{IsLayout, IsLayoutFault, is_layout};
 ghost use Rattle.pir_schemes.specs.Plans.{accepts_profile, shape_at};
 
-use crate::scheme::CLIENT_PROFILE;
-use digit_pack::{Layout, LayoutError};
+use crate::scheme::{CLIENT_PROFILE, WIDE_PROFILE};
+use digit_pack::{Layout, LayoutError, is_wide};
 use std::marker::Model;
 
 /// What stays the same in every version of some records. With a count of records it says how many words hints,
 /// queries and answers have, and with the records of a version what these words are.
 #[derive(Clone, Copy, Debug, PartialEq, Eq)]
 pub struct Plan {
-    /// 1 where all records have one length, 2 where each has its own and stands in a slot.
+    /// 1 if all records have one length, 2 if each has its own and stands in a slot; 129 and 130 likewise, with a wide
+    /// digit matrix.
     pub form: u16,
     /// How many bits a digit has.
     pub width: u8,
@@ -28,11 +29,15 @@ pub struct Plan {
 
 impl Plan {
     /// Whether a server of this plan accepts a greeting in a profile. A client of profile 1 knows records of one length
-    /// alone.
+    /// alone, and one of profile 2 both kinds; of a wide store, profiles 129 and 130 likewise.
     pub fn accepts_profile(&self, profile: u16) -> bool
         ensures { result ≡ accepts_profile self.now profile }
     {
-        profile == CLIENT_PROFILE || profile == 1 && self.form == 1
+        if is_wide(self.form) {
+            profile == WIDE_PROFILE || profile == 129 && self.form == 129
+        } else {
+            profile == CLIENT_PROFILE || profile == 1 && self.form == 1
+        }
     }
 
     /// The sizes of `count` records. They are accepted exactly within the limits; else the first cause is named, in
@@ -41,7 +46,8 @@ impl Plan {
         ensures accepted { IfOk result (λ l. (l ≡ shape_at self.now count) × IsLayout l) }
         ensures refused { IfErr result (IsLayoutFault (shape_at self.now count)) }
     {
-        Layout::new(
+        Layout::of_form(
+            self.form,
             u32::from(self.width),
             usize::from(self.record_len),
             usize::from(self.groups),

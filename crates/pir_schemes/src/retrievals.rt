@@ -7,7 +7,7 @@ ghost use Rattle.pir_schemes.specs.Laws.{ReadsRecordOf};
 
 use crate::plan::{Plan, SecretSeed};
 use crate::scheme::Scheme;
-use digit_pack::read_slot;
+use digit_pack::{is_slotted, read_slot};
 use matrix_u32::{Kernel, Matrix};
 use simple_scheme::RecoverError;
 use std::alloc::Global;
@@ -59,7 +59,7 @@ fn record_in(plan: &Plan, mut bytes: Vec<u8>) -> Result<Vec<u8>, RecoverError>
     ensures refused { IfErr result (λ e. (e ≡ RecoverError.BadDigits)
         × (is_slot_of plan.now bytes.items ≡ false)) }
 {
-    if plan.form != 2 {
+    if !is_slotted(plan.form) {
         return Ok(bytes);
     }
     let Ok(len) = read_slot(&bytes) else {

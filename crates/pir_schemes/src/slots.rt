@@ -7,24 +7,24 @@ ghost use Rattle.digit_pack.specs.Slots.{is_form};
 ghost use Rattle.pir_schemes.specs.Plans.{fits, slot, content, is_slot_of};
 
 use crate::plan::Plan;
-use digit_pack::{Layout, are_slots, slot_record, write_record, write_slot};
+use digit_pack::{Layout, are_slots, is_form, is_slotted, slot_record, write_record, write_slot};
 
 impl Plan {
-    /// Whether there is such a form, for records of so many bytes: 1, or 2 where a record has two bytes at least.
-    #[tactic(auto, unfolding(digit_pack::specs::Slots::is_form))]
+    /// Whether there is such a form, for records of so many bytes: 1 and 129; 2 and 130 if a record has two bytes at
+    /// least.
     pub fn has_form(&self) -> bool
         ensures { result ≡ is_form self.now.form self.now.record_len }
     {
-        self.form == 1 || self.form == 2 && self.record_len >= 2
+        is_form(self.form, self.record_len)
     }
 
-    /// Whether bytes can be a record: in form 1 all have one length, and in form 2 a slot has room for them.
+    /// Whether bytes can be a record: all have one length, or a slot has room for them.
     #[tactic(auto, unfolding(crate::specs::Plans::fits))]
     pub fn fits(&self, bytes: &[u8]) -> bool
         ensures { result ≡ fits self.now bytes.now }
     {
         let room = usize::from(self.record_len);
-        if self.form == 2 {
+        if is_slotted(self.form) {
             room >= 2 && bytes.len() <= room - 2
         } else {
             bytes.len() == room
@@ -37,7 +37,7 @@ impl Plan {
         requires { is_slot_of self.now bytes.now ≡ true }
         ensures { result.now ≡ content self.now bytes.now }
     {
-        if self.form == 2 {
+        if is_slotted(self.form) {
             slot_record(bytes)
         } else {
             bytes
@@ -50,7 +50,7 @@ impl Plan {
         requires { length bytes.now ≡ layout.now.count * layout.now.record_len }
         ensures { result ≡ list_all (is_slot_of self.now) (records_in layout.now bytes.now) }
     {
-        if self.form == 2 {
+        if is_slotted(self.form) {
             are_slots(layout, bytes)
         } else {
             true
@@ -68,7 +68,7 @@ impl Plan {
         ensures { records_in layout.now bytes.new ≡
             slice_set (records_in layout.now bytes.old) i (slot self.now written.now) }
     {
-        if self.form == 2 {
+        if is_slotted(self.form) {
             write_slot(layout, bytes, i, written);
         } else {
             write_record(layout, bytes, i, written);

@@ -121,12 +121,12 @@ pub fn expand(
     rows: usize,
     n: usize,
 ) -> Result<Matrix, AllocError>
-    requires rows { first_row + rows ≤ 4096 }
+    requires rows { first_row + rows ≤ 32768 }
     requires cols { (1 ≤ n) × (n ≤ 1024) }
     ensures { IfOk result (λ m. m ≡ public_rows seed.now stream first_row rows n) }
 {
     let words = stream_words(alloc, seed, stream, (first_row * n) as u64, rows * n)?;
-    // There are rows * n words, and at most 4096 * 1024 of them: no refusal is left.
+    // There are rows * n words, and at most 32768 * 1024 of them: no refusal is left.
     Ok(Matrix::from_words(rows, n, words).unwrap())
 }
 

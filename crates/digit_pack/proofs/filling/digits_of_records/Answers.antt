@@ -6,7 +6,7 @@ use Rattle.digit_pack.specs.Layout.{Shape, digit_matrix, digit_rows, digit_cols,
 use Rattle.digit_pack.specs.Columns.{WritesColumn}
 use Rattle.digit_pack.proofs.ColumnLemmas.{written_as}
 use Rattle.digit_pack.proofs.RecordLemmas.{shape_of_layout, length-record_digits, record_written}
-use Rattle.digit_pack.proofs.Turns.{records_before, turn_of, none_before, turn_is, written_at, others_as_before, no_record, all_before, few_places}
+use Rattle.digit_pack.proofs.Turns.{records_before, turn_of, none_before, turn_is, written_at, others_as_before, no_record, all_before, few_places, column_inside}
 use Rattle.digit_pack.proofs.filling.digits_of_records.Goals as goal
 
 pub loop-n-init : goal.loop-n-init
@@ -18,12 +18,27 @@ loop-n-init g c = record {
   room = c.in_ok-packed.ensures.len ∙ c.digits_per_record.ensures.value;
 }
 
+pub overflow_mul-i : goal.overflow_mul-i
+overflow_mul-i g c =
+    let l : Shape = c.args.layout.now in
+    let turns : c.groups.result * c.cols-cols.result ≡ l.groups * digit_cols l = ap₂ ◌*◌ c.groups.ensures.value c.cols-cols.ensures.value in
+    let below : c.loop-n.n < l.groups * digit_cols l = omega (arith, c.loop-n-test.true, turns) in
+    rw (c.cols-cols.ensures.value, c.groups-in-loop-n.ensures.value) (omega (arith, few_places l c.loop-n.n c.cols.ensures.layout below))
+
 pub overflow_add-i : goal.overflow_add-i
 overflow_add-i g c =
     let l : Shape = c.args.layout.now in
     let turns : c.groups.result * c.cols-cols.result ≡ l.groups * digit_cols l = ap₂ ◌*◌ c.groups.ensures.value c.cols-cols.ensures.value in
     let below : c.loop-n.n < l.groups * digit_cols l = omega (arith, c.loop-n-test.true, turns) in
     rw (c.cols-cols.ensures.value, c.groups-in-loop-n.ensures.value) (omega (arith, few_places l c.loop-n.n c.cols.ensures.layout below))
+
+pub write_digits-requires-clause-col : goal.write_digits-requires-clause-col
+write_digits-requires-clause-col g c =
+    let l : Shape = c.args.layout.now in
+    let i : ℕ = c.loop-n.n % c.cols-cols.result * c.groups-in-loop-n.result + c.loop-n.n / c.cols-cols.result in
+    let inside : i < l.count = omega (arith, c.if-i-count.false, c.count.ensures.value) in
+    let col : c.place-first.result.1 ≡ column_of l i = ap (λ p. p.1) c.place-first.ensures.value in
+    omega (arith, col, ap (λ (m : WordMatrix). m.cols) c.loop-n.invariant.digits, column_inside l i c.cols.ensures.layout inside)
 
 pub loop-n-preserved-then-i-count : goal.loop-n-preserved-then-i-count
 loop-n-preserved-then-i-count g c =

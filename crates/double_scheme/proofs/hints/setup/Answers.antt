@@ -4,7 +4,7 @@ use Rattle.matrix_u32.specs.Matrix.{transpose}
 use Rattle.lane_kernels.specs.Digit.{split_count}
 use Rattle.digit_pack.specs.Digits.{decomposed}
 use Rattle.simple_scheme.specs.Simple.{hint_of}
-use Rattle.double_scheme.proofs.Sizes.{few_across}
+use Rattle.double_scheme.proofs.Sizes.{few_kept}
 use Rattle.double_scheme.proofs.hints.setup.Goals as goal
 
 pub returns-clause-server : goal.returns-clause-server
@@ -16,15 +16,13 @@ pub returns-clause-client : goal.returns-clause-client
 unfolding hint_of
 returns-clause-client g c = c.in_ok-client.ensures
 
-pub decompose-requires-clause-size : goal.decompose-requires-clause-size
-decompose-requires-clause-size g c = few_across c.args.w c.args.hint.now.cols c.args.hint.now.rows c.requires.width.0 c.requires.col_limit c.requires.row_limit
-
 pub setup-requires-clause-size : goal.setup-requires-clause-size
 setup-requires-clause-size g c =
     let rows : (g.S.DigitStore.digits c.in_ok-server.server).rows ≡ c.args.hint.now.cols * split_count c.args.w =
     ap (λ (m : WordMatrix). m.rows) c.in_ok-server.ensures in
-    rw rows (few_across c.args.w c.args.hint.now.cols c.args.a2.now.cols c.requires.width.0 c.requires.col_limit
-    (omega (arith, c.requires.cols, c.requires.col_limit)))
+    let few = few_kept c.args.w c.args.hint.now.cols c.args.a2.now.cols c.requires.width.0 c.requires.col_limit
+    (omega (arith, c.requires.cols, c.requires.col_limit)) in
+    rw rows (omega (arith, few))
 
 pub returns-clause-server_sizes : goal.returns-clause-server_sizes
 returns-clause-server_sizes g c = (

@@ -3,11 +3,16 @@ use Rattle.frame_codec.specs.declared.frame.Frame.{Frame}
 use Rattle.frame_codec.specs.declared.frame.Frame.TheVariants.{Refused}
 use Rattle.matrix_u32.specs.Matrix.{WordMatrix}
 use Rattle.digit_pack.specs.Layout.{Shape, digit_matrix, records_in}
+use Rattle.digit_pack.proofs.Limits.{ordinary_room}
 use Rattle.once_session.specs.declared.stage.Table.{Table}
 use Rattle.once_session.specs.declared.stage.Stage.{Stage}
 use Rattle.once_session.specs.declared.stage.Stage.TheVariants.{Loaded, Bad}
 use Rattle.once_session.specs.Courses.{is_load, loaded_shape, table_of}
 use Rattle.once_session.proofs.stage.load.Goals as goal
+
+pub digits_of_records-requires-clause-room : goal.digits_of_records-requires-clause-room
+digits_of_records-requires-clause-room c =
+    ordinary_room c.in-Some.layout c.in-Some.ensures.layout (ap (λ (s : Shape). s.side) c.in-Some.ensures.some.1)
 
 pub returns : goal.returns
 returns c =

@@ -6,15 +6,15 @@ use Rattle.matrix_u32.proofs.Products.{entry-matrix_of}
 use Rattle.lane_kernels.specs.Digit.{digit}
 use Rattle.lane_kernels.specs.Packed.{packed_cols}
 use Rattle.digit_pack.proofs.Triples.{count_packed}
-use Rattle.digit_pack.proofs.packed3.Packed3DigitStore.get.Goals as goal
+use Rattle.digit_pack.proofs.packed3.PackedDigitsDigitStore.get.Goals as goal
 
 pub word_place-at-requires-clause-count : goal.word_place-at-requires-clause-count
-word_place-at-requires-clause-count c = c.len.ensures ∙ c.self.inside.words.ok.0
-    ∙ count_packed c.self.inside.rows c.self.inside.cols c.self.inside.words.items c.self.invariant
+word_place-at-requires-clause-count g c = c.len.ensures ∙ c.self.inside.words.ok.0
+    ∙ count_packed c.self.inside.rows c.self.inside.cols c.self.inside.words.items c.self.invariant.0
 
 pub returns : goal.returns
 unfolding digit
-returns c =
+returns g c =
     let rows : ℕ = c.self.inside.rows in
     let cols : ℕ = c.self.inside.cols in
     let inside : c.word_place-at.result < length c.self.inside.words.items =

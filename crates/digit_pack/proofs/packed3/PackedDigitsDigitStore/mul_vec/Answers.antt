@@ -3,17 +3,17 @@ use Rattle.std.specs.Prelude.{All}
 use Rattle.matrix_u32.specs.Matrix.{times_vector}
 use Rattle.lane_kernels.specs.Packed.{packed_cols, unpacked}
 use Rattle.digit_pack.proofs.Triples.{count_packed, words_small}
-use Rattle.digit_pack.proofs.packed3.Packed3DigitStore.mul_vec.Goals as goal
+use Rattle.digit_pack.proofs.packed3.PackedDigitsDigitStore.mul_vec.Goals as goal
 
 pub packed_mul_vec-requires-clause-rows_fit : goal.packed_mul_vec-requires-clause-rows_fit
 packed_mul_vec-requires-clause-rows_fit g c =
     let outs : length c.args.out.now ≡ c.self.inside.rows = c.requires.out_fits ∙ sym (ap (λ m. m.rows) c.self.view_is) in
-    ap length c.deref.ensures.value ∙ count_packed c.self.inside.rows c.self.inside.cols c.self.inside.words.items c.self.invariant
+    ap length c.deref.ensures.value ∙ count_packed c.self.inside.rows c.self.inside.cols c.self.inside.words.items c.self.invariant.0
     ∙ ap (λ n. n * packed_cols c.self.inside.cols) (sym outs)
 
 pub packed_mul_vec-requires-clause-three_digits : goal.packed_mul_vec-requires-clause-three_digits
 packed_mul_vec-requires-clause-three_digits g c =
-    subst (All (λ w. w < 2 ^ 30)) (sym c.deref.ensures.value) (words_small c.self.inside.rows c.self.inside.cols c.self.inside.words.items c.self.invariant)
+    subst (All (λ w. w < 2 ^ 30)) (sym c.deref.ensures.value) (words_small c.self.inside.rows c.self.inside.cols c.self.inside.words.items c.self.invariant.0)
 
 pub returns : goal.returns
 returns g c =
