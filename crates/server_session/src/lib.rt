@@ -4,12 +4,14 @@
 //! are taken, and refuses the next piece until then.
 #![tactic(auto)]
 
-ghost use Rattle.std.specs.Prelude.{◌≡◌, ◌≢◌, ℕ, [], None, IfOk, IfErr, OnOk, OnErr, is_some, length};
+ghost use Rattle.std.specs.Prelude.{◌≡◌, ◌≢◌, ◌≤◌, ℕ, [], None, IfOk, IfErr, OnOk, OnErr, is_some, length};
+ghost use Rattle.snapshot_file.specs.Snapshots.{form_bytes};
 ghost use Rattle.snapshot_file.specs.Verdicts.{MayRefuse};
 ghost use Rattle.version_store.specs.Openings.{snapshot_of};
 ghost use Rattle.server_core.specs.Cores.{session_of, is_open};
 ghost use Rattle.server_session.specs.Sessions.{Opens, OpensSession, Feeds, FeedsFirst, Edits, Appends, Publishes};
 
+use digit_pack::is_wide;
 use lane_kernels::Lanes;
 pub use server_core::{FeedError, ServerCore, SessionError};
 pub use snapshot_file::SnapshotFault;
@@ -171,6 +173,7 @@ impl ServerSession {
     {
         let store = self.core.store();
         NUMBERS_LEN
+            + form_len(store.form())
             + key_len(store.seed())
             + key_len(store.publisher())
             + store.bytes().len()
@@ -190,6 +193,15 @@ impl ServerSession {
         out.copy_from_slice(&bytes);
         Ok(())
     }
+}
+
+// How many bytes name the form after a snapshot file's magic: one if the store is a wide one.
+#[tactic(auto, unfolding(snapshot_file::specs::Snapshots::form_bytes))]
+fn form_len(form: u8) -> usize
+    ensures few { result ≤ 1 }
+    ensures value { result ≡ length (form_bytes form) }
+{
+    if is_wide(u16::from(form)) { 1 } else { 0 }
 }
 
 // How many bytes a key has.

@@ -1,25 +1,68 @@
 -- From what was read to what is answered.
-use Rattle.std.proofs.Common.{◌≡◌, ℕ, ◌<◌, List, [], ◌∷◌, ◌++◌, length, Option, Some, None, IfSome, inl, inr, refl, sym, ap, subst, ◌∙◌, append_assoc, arith}
-use Rattle.std.proofs.lemmas.List.{length-append, append-nil, take_at}
+use Rattle.std.proofs.Common.{◌≡◌, ◌⊎◌, ℕ, suc, ◌<◌, List, [], ◌∷◌, slice_index, drop, ◌++◌, length, Option, Some, None, IfSome, inl, inr, refl, sym, ap, subst, ◌∙◌, append_assoc, arith}
+use Rattle.std.proofs.lemmas.List.{length-append, length-drop, append-nil, take_at}
 use Rattle.std.specs.Io.KnownBytes.{Consumes, IsAtEnd}
 use Rattle.sha2.specs.Sha256.{sha256}
 use Rattle.snapshot_file.specs.declared.snapshot.Header.{Header}
 use Rattle.snapshot_file.specs.declared.snapshot.SnapshotFault.{SnapshotFault}
 use Rattle.snapshot_file.specs.declared.snapshot.SnapshotFault.TheVariants as faults
-use Rattle.snapshot_file.specs.Snapshots.{magic, IsForm, IsMagic, header_bytes, hashed_bytes, snapshot_bytes, records_len, IsHeader, IsAccepted, IsFile}
-use Rattle.snapshot_file.specs.Verdicts.{IsUnfinished, HasBadDigest, HasBadSlot, EndsBelow, EndsKept, EndsAfter, StopsReadingAt, MayRefuse}
+use Rattle.snapshot_file.specs.Snapshots.{magic, form_bytes, fields_len, IsForm, IsWideForm, IsMagic, header_bytes, hashed_bytes, snapshot_bytes, records_len, IsHeader, IsAccepted, IsFile}
+use Rattle.snapshot_file.specs.Verdicts.{IsUnfinished, HasBadHeader, HasBadDigest, HasBadSlot, EndsBelow, EndsKept, EndsAfter, StopsReadingAt, MayRefuse}
 
 -- the input ended, or failed, in the fields
-pub stops_in_fields : (fault : SnapshotFault) (form : ℕ) (first part : List ℕ) (left : Option (List ℕ)) → IsForm form → first ≡ magic form → EndsBelow 83 fault part left →
-    StopsReadingAt fault (first ++ part) left
-stops_in_fields faults.Short form first part left f e d = (inr (inl (form, part, f, ap (λ (x : List ℕ). x ++ part) e, d.0)), d.1)
-stops_in_fields faults.Read form first part left f e d = inl (inr (inl (form, part, f, ap (λ (x : List ℕ). x ++ part) e, d)))
-stops_in_fields faults.NotSnapshot form first part left f e d = absurd d
-stops_in_fields faults.BadLayout form first part left f e d = absurd d
-stops_in_fields faults.BadDigest form first part left f e d = absurd d
-stops_in_fields faults.TrailingBytes form first part left f e d = absurd d
-stops_in_fields faults.Memory form first part left f e d = absurd d
-stops_in_fields faults.BadSlot form first part left f e d = absurd d
+pub stops_in_fields : (fault : SnapshotFault) (form : ℕ) (part : List ℕ) (left : Option (List ℕ)) → IsForm form → EndsBelow (fields_len form) fault part left →
+    StopsReadingAt fault (magic form ++ part) left
+stops_in_fields faults.Short form part left f d = (inr (inl (form, part, f, refl, d.0)), d.1)
+stops_in_fields faults.Read form part left f d = inl (inr (inl (form, part, f, refl, d)))
+stops_in_fields faults.NotSnapshot form part left f d = absurd d
+stops_in_fields faults.BadLayout form part left f d = absurd d
+stops_in_fields faults.BadDigest form part left f d = absurd d
+stops_in_fields faults.TrailingBytes form part left f d = absurd d
+stops_in_fields faults.Memory form part left f d = absurd d
+stops_in_fields faults.BadSlot form part left f d = absurd d
+
+-- the header of an ordinary form is what was read
+pub ordinary_header : (form : ℕ) (fields whole : List ℕ) → (form ≡ 1) ⊎ (form ≡ 2) → whole ≡ magic form ++ form_bytes form ++ fields →
+    magic form ++ fields ≡ whole
+unfolding form_bytes
+ordinary_header form fields whole (inl one) e =
+    sym (e ∙ ap (λ (f : ℕ). magic form ++ form_bytes f ++ fields) one ∙ ap (λ (x : List ℕ). x ++ fields) (append-nil (magic form)))
+ordinary_header form fields whole (inr two) e =
+    sym (e ∙ ap (λ (f : ℕ). magic form ++ form_bytes f ++ fields) two ∙ ap (λ (x : List ℕ). x ++ fields) (append-nil (magic form)))
+
+-- the first of some fields, and the others
+pub first_and_rest : (n : ℕ) (fields : List ℕ) → length fields ≡ suc n → fields ≡ slice_index fields 0 ∷ drop 1 fields
+first_and_rest n [] e = absurd (omega (arith, e))
+first_and_rest n (form ∷ rest) e = refl
+
+-- the header of a wide form, likewise
+pub wide_header : (form : ℕ) (rest fields whole : List ℕ) → IsWideForm form → whole ≡ magic form ++ form_bytes form ++ rest →
+    fields ≡ form ∷ rest → magic 129 ++ fields ≡ whole
+unfolding form_bytes magic
+wide_header form rest fields whole (inl is) e f =
+    sym (e ∙ ap (λ (x : ℕ). magic x ++ form_bytes x ++ rest) is ∙ append_assoc (magic 129) (129 ∷ []) rest
+    ∙ ap (λ (x : ℕ). magic 129 ++ (x ∷ rest)) (sym is) ∙ ap (λ (x : List ℕ). magic 129 ++ x) (sym f))
+wide_header form rest fields whole (inr is) e f =
+    sym (e ∙ ap (λ (x : ℕ). magic x ++ form_bytes x ++ rest) is ∙ append_assoc (magic 130) (130 ∷ []) rest
+    ∙ ap (λ (x : ℕ). magic 129 ++ (x ∷ rest)) (sym is) ∙ ap (λ (x : List ℕ). magic 129 ++ x) (sym f))
+
+-- the input ended, or failed, in the fields of a wide form
+pub stops_in_wide_fields : (fault : SnapshotFault) (part : List ℕ) (left : Option (List ℕ)) → EndsBelow 84 fault part left →
+    StopsReadingAt fault (magic 129 ++ part) left
+unfolding form_bytes
+stops_in_wide_fields fault part left d = stops_in_fields fault 129 part left (inr (inr (inl refl))) d
+
+-- its first field names no wide form
+pub stops_at_form : (fields : List ℕ) → length fields ≡ 84 → ¬ IsWideForm (slice_index fields 0) → HasBadHeader (magic 129 ++ fields) []
+stops_at_form fields len other =
+    let same = first_and_rest 83 fields len in
+    inr (
+      slice_index fields 0,
+      drop 1 fields,
+      other,
+      omega (arith, len, length-drop 1 fields),
+      ap (λ (x : List ℕ). magic 129 ++ x) (same ∙ sym (append-nil (slice_index fields 0 ∷ drop 1 fields))),
+    )
 
 -- the input ended, or failed, in the records, or there was no memory for them
 in_records : (h : Header) (part : List ℕ) → IsHeader h → IsAccepted h → length part < records_len h → IsUnfinished (header_bytes h ++ part)
@@ -82,9 +125,14 @@ stops_after faults.BadSlot h records digest part left is e d = absurd d
 more : (read prefix rest ys : List ℕ) → read ≡ prefix ++ rest → read ++ ys ≡ prefix ++ (rest ++ ys)
 more read prefix rest ys e = ap (λ (x : List ℕ). x ++ ys) e ∙ append_assoc prefix rest ys
 
+more_fields : (read first fields ys : List ℕ) → read ≡ first ++ (fields ++ []) → read ++ ys ≡ first ++ (fields ++ ys)
+more_fields read first fields ys e =
+    ap (λ (x : List ℕ). x ++ ys) (e ∙ ap (λ (x : List ℕ). first ++ x) (append-nil fields)) ∙ append_assoc first fields ys
+
 answered : (fault : SnapshotFault) (read ys : List ℕ) → StopsReadingAt fault read (Some ys) → MayRefuse fault (read ++ ys)
 answered faults.NotSnapshot read ys s = (omega (arith, length-append read ys, s.0), λ m. s.1 (subst IsMagic (take_at read ys 8 s.0) m))
-answered faults.BadLayout read ys s = (ys, (s.0, s.1, s.2, more read (header_bytes s.0) [] ys s.3))
+answered faults.BadLayout read ys (inl s) = (ys, inl (s.0, s.1, s.2, more read (header_bytes s.0) [] ys s.3))
+answered faults.BadLayout read ys (inr s) = (ys, inr (s.0, s.1, s.2, s.3, more_fields read (magic 129) (s.0 ∷ s.1) ys s.4))
 answered faults.Short read ys s = subst IsUnfinished (sym (ap (λ (x : List ℕ). read ++ x) s.1 ∙ append-nil read)) s.0
 answered faults.BadDigest read ys s = (ys, (s.0, s.1, s.2, s.3, s.4, s.5, more read (hashed_bytes s.0 s.1 ++ s.2) [] ys s.6))
 answered faults.TrailingBytes read ys s = (s.0, ys, (s.1.0, s.1.1, s.1.2, more read (snapshot_bytes s.1.0 s.1.1) (s.0 ∷ []) ys s.1.3))

@@ -1,22 +1,33 @@
 -- That no input has two verdicts: how far it is good, stage by stage.
-use Rattle.std.proofs.Common.{◌≡◌, ℕ, zero, suc, ◌+◌, ◌-◌, ◌<◌, ◌≤◌, List, [], ◌∷◌, ◌++◌, length, take, true, false, Result, Ok, Err, inl, inr, refl, sym, ap, subst, ◌∙◌, append_assoc, arith}
-use Rattle.std.proofs.lemmas.List.{length-append, length-take, append-nil, take_at}
+use Rattle.std.proofs.Common.{◌≡◌, ℕ, zero, suc, ◌+◌, ◌-◌, ◌*◌, ◌/◌, ◌<◌, ◌≤◌, List, [], ◌∷◌, ◌++◌, length, slice_index, take, true, false, Result, Ok, Err, inl, inr, refl, sym, ap, subst, ◌∙◌, append_assoc, arith}
+use Rattle.std.proofs.lemmas.List.{length-append, length-take, append-nil, take_at, get_or_append_left}
 use Rattle.std.proofs.lemmas.Bool.{cases_lt}
 use Rattle.sha2.specs.Sha256.{sha256}
 use Rattle.snapshot_file.specs.declared.snapshot.Header.{Header}
 use Rattle.snapshot_file.specs.declared.snapshot.SnapshotFault.{SnapshotFault}
 use Rattle.snapshot_file.specs.declared.snapshot.SnapshotFault.TheVariants as faults
-use Rattle.snapshot_file.specs.Snapshots.{magic, IsForm, IsMagic, header_bytes, hashed_bytes, snapshot_bytes, records_len, has_slots, IsHeader, IsAccepted, IsFile, IsSnapshot}
+use Rattle.snapshot_file.specs.Snapshots.{magic, form_bytes, fields_len, IsForm, IsWideForm, IsMagic, header_bytes, hashed_bytes, snapshot_bytes, records_len, has_slots, IsHeader, IsAccepted, IsFile, IsSnapshot}
 use Rattle.snapshot_file.specs.Verdicts.{EndsInHeader, HasHeader, EndsAfterHeader, HasBadHeader, HasBadDigest, HasBadSlot, HasFile, HasSnapshotFault, IsVerdict}
-use Rattle.snapshot_file.proofs.Headers.{length-header, length-magic, header_fields}
-use Rattle.snapshot_file.proofs.Unique.{cut_prefix, one_header, same_records, one_snapshot, length-sha256}
+use Rattle.snapshot_file.proofs.Headers.{length-header, length-magic, header_fields, header_parts}
+use Rattle.snapshot_file.proofs.Unique.{tells_wide, cut_prefix, one_header, same_records, one_snapshot, length-sha256}
+
+-- how many bytes a header has, by the fourth byte of its magic
+abbrev wanted : List ℕ → ℕ
+wanted bytes = 91 + (slice_index bytes 3 - 83) / 4
+
+wanted_is : (form : ℕ) (rest bytes : List ℕ) → IsForm form → bytes ≡ magic form ++ rest → wanted bytes ≡ 8 + fields_len form
+wanted_is form rest bytes is e =
+    let at : slice_index bytes 3 ≡ slice_index (magic form) 3 =
+    ap (λ (x : List ℕ). slice_index x 3) e ∙ get_or_append_left (magic form) rest 0 3 (omega (arith, length-magic form)) in
+    let sum : slice_index bytes 3 ≡ 83 + 4 * length (form_bytes form) = at ∙ tells_wide form is in
+    rw sum (omega arith)
 
 -- so far, and no less, the input is good
 abbrev Reached : ℕ → List ℕ → Type 0
 Reached zero bytes = Unit {0}
 Reached (suc zero) bytes = 8 ≤ length bytes
 Reached (suc (suc zero)) bytes = IsMagic (take 8 bytes)
-Reached (suc (suc (suc zero))) bytes = IsMagic (take 8 bytes) × (91 ≤ length bytes)
+Reached (suc (suc (suc zero))) bytes = IsMagic (take 8 bytes) × (wanted bytes ≤ length bytes)
 Reached (suc (suc (suc (suc zero)))) bytes = (h : Header) × (rest : List ℕ) × HasHeader bytes h rest
 Reached (suc (suc (suc (suc (suc zero))))) bytes = (h : Header) × (rest : List ℕ) × HasHeader bytes h rest × (records_len h + 32 ≤ length rest)
 Reached (suc (suc (suc (suc (suc (suc zero)))))) bytes = (rest : List ℕ) × HasFile bytes rest
@@ -28,21 +39,30 @@ record StopsAfter (n : ℕ) (bytes : List ℕ) : Type 0 where
   reached : Reached n bytes
   last : ¬ Reached (suc n) bytes
 
+one_magic : magic 130 ≡ magic 129
+unfolding magic
+one_magic = refl
+
 is_magic : (form : ℕ) (bytes : List ℕ) → IsForm form → bytes ≡ magic form → IsMagic bytes
 is_magic form bytes (inl a) e = inl (e ∙ ap magic a)
-is_magic form bytes (inr a) e = inr (e ∙ ap magic a)
+is_magic form bytes (inr (inl a)) e = inr (inl (e ∙ ap magic a))
+is_magic form bytes (inr (inr (inl a))) e = inr (inr (e ∙ ap magic a))
+is_magic form bytes (inr (inr (inr a))) e = inr (inr (e ∙ ap magic a ∙ one_magic))
 
 magic_len : (bytes : List ℕ) → IsMagic bytes → length bytes ≡ 8
 magic_len bytes (inl e) = ap length e ∙ length-magic 1
-magic_len bytes (inr e) = ap length e ∙ length-magic 2
+magic_len bytes (inr (inl e)) = ap length e ∙ length-magic 2
+magic_len bytes (inr (inr e)) = ap length e ∙ length-magic 129
 
 -- what stands at the beginning of a header
-prefix_of_header : (h : Header) (rest bytes : List ℕ) → IsHeader h → bytes ≡ header_bytes h ++ rest → IsMagic (take 8 bytes) × (91 ≤ length bytes)
+prefix_of_header : (h : Header) (rest bytes : List ℕ) → IsHeader h → bytes ≡ header_bytes h ++ rest → IsMagic (take 8 bytes) × (wanted bytes ≤ length bytes)
 prefix_of_header h rest bytes is e =
     let fields = header_fields h is in
     let split : bytes ≡ magic h.form ++ (fields.0 ++ rest) = e ∙ ap (λ (x : List ℕ). x ++ rest) fields.1 ∙ append_assoc (magic h.form) fields.0 rest in
-    let len = length-header h is in
-    (is_magic h.form (take 8 bytes) is.form (ap (take 8) split ∙ take_at (magic h.form) (fields.0 ++ rest) 8 (length-magic h.form)), omega (arith, ap length e, length-append (header_bytes h) rest))
+    let len = length-header h is in (
+      is_magic h.form (take 8 bytes) is.form (ap (take 8) split ∙ take_at (magic h.form) (fields.0 ++ rest) 8 (length-magic h.form)),
+      omega (arith, ap length e, length-append (header_bytes h) rest, wanted_is h.form (fields.0 ++ rest) bytes is.form split),
+    )
 
 -- a snapshot has a header, and enough bytes after it
 rest_of_snapshot : (bytes end : List ℕ) → HasFile bytes end → (h : Header) × (rest : List ℕ) × HasHeader bytes h rest × (records_len h + 32 ≤ length rest)
@@ -103,14 +123,55 @@ fault_after _ = faults.BadSlot
 ends_in_header : (bytes : List ℕ) → EndsInHeader bytes → StopsAfter 2 bytes
 ends_in_header bytes p = record {
   reached = is_magic p.0 (take 8 bytes) p.2 (ap (take 8) p.3 ∙ take_at (magic p.0) p.1 8 (length-magic p.0));
-  last = λ q. absurd (omega (arith, ap length p.3, length-append (magic p.0) p.1, length-magic p.0, p.4, q.1));
+  last = λ q. absurd (omega (arith, ap length p.3, length-append (magic p.0) p.1, length-magic p.0, p.4, q.1, wanted_is p.0 p.1 bytes p.2 p.3));
 }
 
+wide_len : fields_len 129 ≡ 84
+unfolding form_bytes
+wide_len = refl
+
+-- the form that a header names after a wide magic is a wide one
+wide_form : (form : ℕ) (first : ℕ) (rest other : List ℕ) → IsForm form → magic form ≡ magic 129 → form_bytes form ++ rest ≡ first ∷ other → IsWideForm first
+unfolding magic form_bytes
+wide_form form first rest other (inl a) m e = absurd (omega (arith, ap (λ (x : List ℕ). slice_index x 3) (sym (ap magic a) ∙ m)))
+wide_form form first rest other (inr (inl a)) m e = absurd (omega (arith, ap (λ (x : List ℕ). slice_index x 3) (sym (ap magic a) ∙ m)))
+wide_form form first rest other (inr (inr (inl a))) m e =
+    inl (sym (ap (λ (x : List ℕ). slice_index x 0) (sym (ap (λ (f : ℕ). form_bytes f ++ rest) a) ∙ e)))
+wide_form form first rest other (inr (inr (inr a))) m e =
+    inr (sym (ap (λ (x : List ℕ). slice_index x 0) (sym (ap (λ (f : ℕ). form_bytes f ++ rest) a) ∙ e)))
+
+wide_named : (h : Header) (left : List ℕ) (form : ℕ) (fields rest bytes : List ℕ) → IsHeader h → bytes ≡ header_bytes h ++ left →
+    bytes ≡ magic 129 ++ ((form ∷ fields) ++ rest) → IsWideForm form
+wide_named h left form fields rest bytes is e w =
+    let f = header_parts h is in
+    let whole : magic h.form ++ ((form_bytes h.form ++ f.0) ++ left) ≡ magic 129 ++ ((form ∷ fields) ++ rest) =
+    sym (e ∙ ap (λ (x : List ℕ). x ++ left) f.1 ∙ append_assoc (magic h.form) (form_bytes h.form ++ f.0) left) ∙ w in
+    let cut = cut_prefix (magic h.form) (magic 129) ((form_bytes h.form ++ f.0) ++ left) ((form ∷ fields) ++ rest) (length-magic h.form ∙ sym (length-magic 129)) whole in
+    wide_form h.form form (f.0 ++ left) (fields ++ rest) is.form cut.0 (sym (append_assoc (form_bytes h.form) f.0 left) ∙ cut.1)
+
 bad_header : (bytes rest : List ℕ) → HasBadHeader bytes rest → StopsAfter 3 bytes
-bad_header bytes rest p = record {
+bad_header bytes rest (inl p) = record {
   reached = prefix_of_header p.0 rest bytes p.1 p.3;
   last = λ q. p.2 (subst IsAccepted (one_header q.0 p.0 q.1 rest q.2.0 p.1 (sym q.2.2 ∙ p.3)).0 q.2.1);
 }
+bad_header bytes rest (inr p) =
+    let one : IsForm 129 = inr (inr (inl refl)) in
+    let len : length ((p.0 ∷ p.1) ++ rest) ≡ 84 + length rest = omega (arith, length-append (p.0 ∷ p.1) rest, p.3) in
+    record {
+      reached = (
+        is_magic 129 (take 8 bytes) one (ap (take 8) p.4 ∙ take_at (magic 129) ((p.0 ∷ p.1) ++ rest) 8 (length-magic 129)),
+        omega (
+          arith,
+          ap length p.4,
+          length-append (magic 129) ((p.0 ∷ p.1) ++ rest),
+          length-magic 129,
+          len,
+          wanted_is 129 ((p.0 ∷ p.1) ++ rest) bytes one p.4,
+          wide_len,
+        ),
+      );
+      last = λ q. p.2 (wide_named q.0 q.1 p.0 p.1 rest bytes q.2.0 q.2.2 p.4);
+    }
 
 ends_after : (bytes : List ℕ) → EndsAfterHeader bytes → StopsAfter 4 bytes
 ends_after bytes p = record {

@@ -5,9 +5,9 @@ use Rattle.std.specs.Int.{w32, to_be_bytes}
 use Rattle.byteorder.specs.Endian.{little_number}
 use Rattle.sha2.specs.Sha256.{sha256, digest_bytes}
 use Rattle.snapshot_file.specs.declared.snapshot.Header.{Header}
-use Rattle.snapshot_file.specs.Snapshots.{magic, IsForm, number_bytes, header_bytes, hashed_bytes, snapshot_bytes, records_len, IsHeader, IsFile}
+use Rattle.snapshot_file.specs.Snapshots.{magic, form_bytes, fields_len, IsForm, number_bytes, header_bytes, hashed_bytes, snapshot_bytes, records_len, IsHeader, IsFile}
 use Rattle.snapshot_file.proofs.NumberBytes.{length-number, number_back}
-use Rattle.snapshot_file.proofs.Headers.{length-header}
+use Rattle.snapshot_file.proofs.Headers.{length-header, length-magic, header_fields}
 
 -- ---- lists
 
@@ -47,17 +47,38 @@ same_fields h k f w r g c n v s p = λ i. record {
   publisher = p i;
 }
 
--- no two forms have the same magic
-other_magic : magic 1 ≡ magic 2 → ⊥
-unfolding magic
-other_magic e =
-    let last : 49 ≡ 50 = ap (λ (bytes : List ℕ). slice_index bytes 7) e in absurd (omega (arith, last))
+-- magic and form bytes tell a form
+tells_form : (form : ℕ) → IsForm form →
+    slice_index (magic form) 7 + slice_index (form_bytes form) 0 ≡ form + 48 + length (form_bytes form)
+unfolding magic form_bytes
+tells_form form (inl e) = rw e refl
+tells_form form (inr (inl e)) = rw e refl
+tells_form form (inr (inr (inl e))) = rw e refl
+tells_form form (inr (inr (inr e))) = rw e refl
 
-pub one_form : (form other : ℕ) → IsForm form → IsForm other → magic form ≡ magic other → form ≡ other
-one_form form other (inl a) (inl b) e = a ∙ sym b
-one_form form other (inl a) (inr b) e = absurd (other_magic (ap magic (sym a) ∙ e ∙ ap magic b))
-one_form form other (inr a) (inl b) e = absurd (other_magic (ap magic (sym b) ∙ sym e ∙ ap magic a))
-one_form form other (inr a) (inr b) e = a ∙ sym b
+-- whether the form is wide stands in the magic: its fourth byte is S or W
+pub tells_wide : (form : ℕ) → IsForm form → slice_index (magic form) 3 ≡ 83 + 4 * length (form_bytes form)
+unfolding magic form_bytes
+tells_wide form (inl e) = rw e refl
+tells_wide form (inr (inl e)) = rw e refl
+tells_wide form (inr (inr (inl e))) = rw e refl
+tells_wide form (inr (inr (inr e))) = rw e refl
+
+-- forms of one magic have as many form bytes
+pub same_len : (form other : ℕ) → IsForm form → IsForm other → magic form ≡ magic other → length (form_bytes form) ≡ length (form_bytes other)
+same_len form other a b e = omega (arith, tells_wide form a, tells_wide other b, ap (λ (bytes : List ℕ). slice_index bytes 3) e)
+
+-- so no two forms begin alike
+pub one_form : (form other : ℕ) → IsForm form → IsForm other → magic form ≡ magic other → form_bytes form ≡ form_bytes other → form ≡ other
+one_form form other a b e f =
+    omega (
+      arith,
+      tells_form form a,
+      tells_form other b,
+      ap (λ (bytes : List ℕ). slice_index bytes 7) e,
+      ap (λ (bytes : List ℕ). slice_index bytes 0) f,
+      ap (λ (bytes : List ℕ). length bytes) f,
+    )
 
 same_header : (h k : Header) → IsHeader h → IsHeader k → header_bytes h ≡ header_bytes k → h ≡ k
 unfolding header_bytes
@@ -71,9 +92,10 @@ same_header h k ih ik e =
     let groups = cut_back 2 _ _ (number_bytes 2 h.groups) (number_bytes 2 k.groups) (length-number 2 h.groups) (length-number 2 k.groups) count.0 in
     let record_len = cut_back 2 _ _ (number_bytes 2 h.record_len) (number_bytes 2 k.record_len) (length-number 2 h.record_len)
     (length-number 2 k.record_len) groups.0 in
-    let width = cut_back 1 (magic h.form) (magic k.form) (h.width ∷ []) (k.width ∷ []) refl refl record_len.0 in
+    let width = cut_back 1 (magic h.form ++ form_bytes h.form) (magic k.form ++ form_bytes k.form) (h.width ∷ []) (k.width ∷ []) refl refl record_len.0 in
+    let first = cut_prefix (magic h.form) (magic k.form) (form_bytes h.form) (form_bytes k.form) (length-magic h.form ∙ sym (length-magic k.form)) width.0 in
     same_fields h k
-    (one_form h.form k.form ih.form ik.form width.0)
+    (one_form h.form k.form ih.form ik.form first.0 first.1)
     (one_byte h.width k.width width.1)
     (one_number 2 h.record_len k.record_len ih.record_len ik.record_len record_len.1)
     (one_number 2 h.groups k.groups ih.groups ik.groups groups.1)
@@ -86,7 +108,14 @@ same_header h k ih ik e =
 -- no header begins another, and no two have the same bytes
 pub one_header : (h k : Header) (x y : List ℕ) → IsHeader h → IsHeader k → header_bytes h ++ x ≡ header_bytes k ++ y → (h ≡ k) × (x ≡ y)
 one_header h k x y ih ik e =
-    let cut = cut_prefix (header_bytes h) (header_bytes k) x y (length-header h ih ∙ sym (length-header k ik)) e in
+    let f = header_fields h ih in
+    let g = header_fields k ik in
+    let whole : magic h.form ++ (f.0 ++ x) ≡ magic k.form ++ (g.0 ++ y) =
+    sym (ap (λ (z : List ℕ). z ++ x) f.1 ∙ append_assoc (magic h.form) f.0 x) ∙ e ∙ ap (λ (z : List ℕ). z ++ y) g.1 ∙ append_assoc (magic k.form) g.0 y in
+    let first = cut_prefix (magic h.form) (magic k.form) (f.0 ++ x) (g.0 ++ y) (length-magic h.form ∙ sym (length-magic k.form)) whole in
+    let len : length (header_bytes h) ≡ length (header_bytes k) =
+    omega (arith, length-header h ih, length-header k ik, same_len h.form k.form ih.form ik.form first.0) in
+    let cut = cut_prefix (header_bytes h) (header_bytes k) x y len e in
     (same_header h k ih ik cut.0, cut.1)
 
 -- ---- a snapshot
@@ -103,7 +132,7 @@ pub length-sha256 : (m : List ℕ) → length (sha256 m) ≡ 32
 unfolding sha256
 length-sha256 m = length-digest_bytes _ 8
 
-pub length-snapshot : (h : Header) (records : List ℕ) → IsFile h records → length (snapshot_bytes h records) ≡ 123 + records_len h
+pub length-snapshot : (h : Header) (records : List ℕ) → IsFile h records → length (snapshot_bytes h records) ≡ 40 + fields_len h.form + records_len h
 length-snapshot h records is =
     let prefix = length-header h is.header in
     let digest = length-sha256 (hashed_bytes h records) in

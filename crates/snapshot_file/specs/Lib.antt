@@ -1,5 +1,6 @@
 pub mod Snapshots
 pub mod Migrations
+pub mod Widenings
 pub mod Verdicts
 pub mod Laws
 pub mod Names

@@ -4,6 +4,8 @@ use Rattle.snapshot_file.specs.declared.migration.MigrateError.{MigrateError}
 use Rattle.snapshot_file.specs.declared.migration.MigrateError.TheVariants as migration
 use Rattle.snapshot_file.specs.declared.snapshot.SnapshotFault.{SnapshotFault}
 use Rattle.snapshot_file.specs.declared.snapshot.SnapshotFault.TheVariants as snapshot
+use Rattle.snapshot_file.specs.declared.widening.WidenError.{WidenError}
+use Rattle.snapshot_file.specs.declared.widening.WidenError.TheVariants as widening
 
 -- the name of what is no snapshot
 unfoldable pub snapshot_fault_name : SnapshotFault → List ℕ
@@ -21,3 +23,9 @@ unfoldable pub migrate_error_name : MigrateError → List ℕ
 migrate_error_name migration.NotFormOne = codes "NotFormOne"
 migrate_error_name migration.TooWide = codes "TooWide"
 migrate_error_name migration.Memory = codes "Memory"
+
+-- the name of why no wide snapshot is made
+unfoldable pub widen_error_name : WidenError → List ℕ
+widen_error_name widening.NotOrdinary = codes "NotOrdinary"
+widen_error_name widening.BadWidth = codes "BadWidth"
+widen_error_name widening.Memory = codes "Memory"

@@ -1,10 +1,10 @@
--- The bytes of a snapshot: a header of 91 bytes, the records, and the digest of both.
-use Rattle.std.specs.Prelude.{◌≡◌, ◌⊎◌, ◌<◌, ◌≤◌, ◌*◌, ◌^◌, ◌==◌, ℕ, List, [], ◌∷◌, ◌++◌, length, Bool, true, if◌then◌else◌, codes}
+-- The bytes of a snapshot: a header of 91 bytes, or 92 in a wide form; the records; and the digest of both.
+use Rattle.std.specs.Prelude.{◌≡◌, ◌⊎◌, ◌<◌, ◌≤◌, ◌+◌, ◌*◌, ◌^◌, ◌==◌, ℕ, List, [], ◌∷◌, ◌++◌, length, Bool, true, if◌then◌else◌, codes}
 use Rattle.std.specs.List.{list_all}
 use Rattle.byteorder.specs.Endian.{little_bytes}
 use Rattle.sha2.specs.Sha256.{sha256}
-use Rattle.digit_pack.specs.Layout.{Shape, shape, IsLayout, records_in}
-use Rattle.digit_pack.specs.Slots.{is_form, is_slot}
+use Rattle.digit_pack.specs.Layout.{Shape, is_wide, shape_in, IsLayout, records_in}
+use Rattle.digit_pack.specs.Slots.{is_form, is_slotted, is_slot}
 use Rattle.snapshot_file.specs.declared.snapshot.Header.{Header}
 use Rattle.snapshot_file.specs.declared.snapshot.Snapshot.{Snapshot}
 
@@ -14,15 +14,27 @@ number_bytes n x = little_bytes n x
 
 -- what every snapshot of a form begins with, in ASCII
 unfoldable pub magic : ℕ → List ℕ
-magic form = if form == 2 then codes "PIRSNAP2" else codes "PIRSNAP1"
+magic form = if form == 1 then codes "PIRSNAP1" else (if form == 2 then codes "PIRSNAP2" else codes "PIRWIDE1")
 
--- the forms that there are: in form 1 all records have one length, in form 2 each has its own and stands in a slot
+-- after its magic, a snapshot of a wide form names the form in a byte
+unfoldable pub form_bytes : ℕ → List ℕ
+form_bytes form = if is_wide form then form ∷ [] else []
+
+-- the wide forms: in 129 all records have one length, in 130 each has its own and stands in a slot
+abbrev pub IsWideForm : ℕ → Type 0
+IsWideForm form = (form ≡ 129) ⊎ (form ≡ 130)
+
+-- the forms that there are: 1 and 2 likewise, and the wide ones
 abbrev pub IsForm : ℕ → Type 0
-IsForm form = (form ≡ 1) ⊎ (form ≡ 2)
+IsForm form = (form ≡ 1) ⊎ (form ≡ 2) ⊎ IsWideForm form
 
 -- what a snapshot begins with
 abbrev pub IsMagic : List ℕ → Type 0
-IsMagic bytes = (bytes ≡ magic 1) ⊎ (bytes ≡ magic 2)
+IsMagic bytes = (bytes ≡ magic 1) ⊎ (bytes ≡ magic 2) ⊎ (bytes ≡ magic 129)
+
+-- how many bytes the fields of a form have, from the magic on
+abbrev pub fields_len : ℕ → ℕ
+fields_len form = length (form_bytes form) + 83
 
 -- the fields of a snapshot but its records
 abbrev pub header_of : Snapshot → Header
@@ -40,16 +52,17 @@ header_of s = record {
 
 -- where the digits of its records stand
 abbrev pub shape_of : Header → Shape
-shape_of h = shape h.width h.record_len h.groups h.count
+shape_of h = shape_in h.form h.width h.record_len h.groups h.count
 
 -- how many bytes its records have together
 abbrev pub records_len : Header → ℕ
 records_len h = h.count * h.record_len
 
--- the magic, the fields in their order, each number as its bytes
+-- the magic, a wide form, the fields in their order, each number as its bytes
 unfoldable pub header_bytes : Header → List ℕ
 header_bytes h =
     magic h.form
+    ++ form_bytes h.form
     ++ (h.width ∷ [])
     ++ number_bytes 2 h.record_len
     ++ number_bytes 2 h.groups
@@ -92,9 +105,9 @@ pub record IsFile (h : Header) (records : List ℕ) : Type 0 where
   pub accepted : IsAccepted h
   pub len : length records ≡ records_len h
 
--- in form 2 the bytes of each record are a slot
+-- in forms of slots the bytes of each record are a slot
 unfoldable pub has_slots : Header → List ℕ → Bool
-has_slots h records = if h.form == 2 then list_all is_slot (records_in (shape_of h) records) else true
+has_slots h records = if is_slotted h.form then list_all is_slot (records_in (shape_of h) records) else true
 
 -- a file whose slots are good
 pub record IsSnapshot (h : Header) (records : List ℕ) : Type 0 where

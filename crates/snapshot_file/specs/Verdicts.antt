@@ -5,11 +5,11 @@ use Rattle.sha2.specs.Sha256.{sha256}
 use Rattle.snapshot_file.specs.declared.snapshot.Header.{Header}
 use Rattle.snapshot_file.specs.declared.snapshot.SnapshotFault.{SnapshotFault}
 use Rattle.snapshot_file.specs.declared.snapshot.SnapshotFault.TheVariants as faults
-use Rattle.snapshot_file.specs.Snapshots.{magic, header_bytes, hashed_bytes, snapshot_bytes, records_len, has_slots, IsForm, IsMagic, IsHeader, IsAccepted, IsFile, IsSnapshot}
+use Rattle.snapshot_file.specs.Snapshots.{magic, fields_len, header_bytes, hashed_bytes, snapshot_bytes, records_len, has_slots, IsForm, IsWideForm, IsMagic, IsHeader, IsAccepted, IsFile, IsSnapshot}
 
--- the magic of a form and a part of the other fields
+-- the magic of a form and a part of its fields
 abbrev pub EndsInHeader : List ℕ → Type 0
-EndsInHeader bytes = (form : ℕ) × (fields : List ℕ) × IsForm form × (bytes ≡ magic form ++ fields) × (length fields < 83)
+EndsInHeader bytes = (form : ℕ) × (fields : List ℕ) × IsForm form × (bytes ≡ magic form ++ fields) × (length fields < fields_len form)
 
 -- an accepted header, and bytes after it
 abbrev pub HasHeader : List ℕ → Header → List ℕ → Type 0
@@ -23,9 +23,14 @@ EndsAfterHeader bytes = (h : Header) × (rest : List ℕ) × HasHeader bytes h r
 abbrev pub IsUnfinished : List ℕ → Type 0
 IsUnfinished bytes = (length bytes < 8) ⊎ EndsInHeader bytes ⊎ EndsAfterHeader bytes
 
+-- the fields of a wide header that names no wide form, and bytes after them
+abbrev pub HasBadForm : List ℕ → List ℕ → Type 0
+HasBadForm bytes rest = (form : ℕ) × (fields : List ℕ) × (¬ IsWideForm form) × (length fields ≡ 83)
+    × (bytes ≡ magic 129 ++ ((form ∷ fields) ++ rest))
+
 -- a header that is not accepted, and bytes after it
 abbrev pub HasBadHeader : List ℕ → List ℕ → Type 0
-HasBadHeader bytes rest = (h : Header) × IsHeader h × (¬ IsAccepted h) × (bytes ≡ header_bytes h ++ rest)
+HasBadHeader bytes rest = ((h : Header) × IsHeader h × (¬ IsAccepted h) × (bytes ≡ header_bytes h ++ rest)) ⊎ HasBadForm bytes rest
 
 -- header and records with another digest than theirs, and bytes after it
 abbrev pub HasBadDigest : List ℕ → List ℕ → Type 0

@@ -1,11 +1,12 @@
 //! A header's bytes, and the digest of a header and its records.
 
-ghost use Rattle.std.specs.Prelude.{◌≡◌, ◌≤◌, ◌++◌, length, take, IfOk, IfSome, IfNone};
+ghost use Rattle.std.specs.Prelude.{◌≡◌, ◌⊎◌, ◌≤◌, ◌++◌, length, take, IfOk, IfSome, IfNone};
 ghost use Rattle.sha2.specs.Sha256.{sha256};
-ghost use Rattle.snapshot_file.specs.Snapshots.{magic, header_bytes, IsForm, IsMagic, IsHeader};
+ghost use Rattle.snapshot_file.specs.Snapshots.{magic, form_bytes, header_bytes, IsForm, IsMagic, IsHeader};
 
 use crate::snapshot::Header;
 use byteorder::{ByteOrder, LittleEndian};
+use digit_pack::is_wide;
 use sha2::{Digest, Sha256};
 use std::alloc::{AllocError, Global};
 
@@ -15,6 +16,9 @@ pub const MAGIC_LEN: usize = 8;
 /// How many bytes the fields after the magic have.
 pub const FIELDS_LEN: usize = 83;
 
+/// How many they have in a wide form, which is the first of them.
+pub const WIDE_FIELDS_LEN: usize = 84;
+
 /// How many bytes the digest has.
 pub const DIGEST_LEN: usize = 32;
 
@@ -23,16 +27,16 @@ pub const DIGEST_LEN: usize = 32;
 pub fn magic_bytes(form: u8) -> [u8; MAGIC_LEN]
     ensures { result ≡ magic form }
 {
-    if form == 2 {
-        *b"PIRSNAP2"
-    } else {
-        *b"PIRSNAP1"
+    match form {
+        1 => *b"PIRSNAP1",
+        2 => *b"PIRSNAP2",
+        _ => *b"PIRWIDE1",
     }
 }
 
-/// The form of a snapshot that begins with these bytes.
+/// What form a snapshot has that begins with these bytes; 129 stands for both wide ones, which the next byte tells apart.
 pub fn form_of(first: [u8; MAGIC_LEN]) -> Option<u8>
-    ensures found { IfSome result (λ form. IsForm form × (first ≡ magic form)) }
+    ensures found { IfSome result (λ form. ((form ≡ 1) ⊎ (form ≡ 2) ⊎ (form ≡ 129)) × (first ≡ magic form)) }
     ensures none { IfNone result (¬ IsMagic first) }
 {
     if first == magic_bytes(1) {
@@ -41,16 +45,22 @@ pub fn form_of(first: [u8; MAGIC_LEN]) -> Option<u8>
     if first == magic_bytes(2) {
         return Some(2);
     }
+    if first == magic_bytes(129) {
+        return Some(129);
+    }
     None
 }
 
 /// The bytes of a header.
-#[tactic(auto, unfolding(crate::specs::Snapshots::header_bytes, crate::specs::Snapshots::number_bytes))]
+#[tactic(auto, unfolding(crate::specs::Snapshots::header_bytes, crate::specs::Snapshots::form_bytes, crate::specs::Snapshots::number_bytes))]
 pub fn header_bytes(alloc: Global, header: &Header) -> Result<Vec<u8>, AllocError>
     ensures { IfOk result (λ bytes. bytes.items ≡ header_bytes header.now) }
 {
-    let mut bytes = Vec::with_capacity(alloc, MAGIC_LEN + FIELDS_LEN)?;
+    let mut bytes = Vec::with_capacity(alloc, MAGIC_LEN + WIDE_FIELDS_LEN)?;
     bytes.extend_from_slice(&magic_bytes(header.form))?;
+    if is_wide(u16::from(header.form)) {
+        bytes.extend_from_slice(&[header.form])?;
+    }
     bytes.extend_from_slice(&[header.width])?;
     bytes.extend_from_slice(&header.record_len.to_le_bytes())?;
     bytes.extend_from_slice(&header.groups.to_le_bytes())?;
@@ -76,7 +86,8 @@ fn first_32(bytes: &[u8]) -> [u8; 32]
 pub fn header_in(form: u8, fields: &[u8]) -> Header
     requires form { IsForm form }
     requires len { length fields.now ≡ 83 }
-    ensures bytes { header_bytes result ≡ magic form ++ fields.now }
+    ensures form { result.form ≡ form }
+    ensures bytes { header_bytes result ≡ magic form ++ form_bytes form ++ fields.now }
     ensures header { IsHeader result }
 {
     Header {

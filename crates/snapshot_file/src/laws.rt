@@ -8,7 +8,7 @@ pub fn one_number()
     ensures { OneNumber }
 {}
 
-/// A header has 91 bytes, and a snapshot 123 and those of its records.
+/// A header has 91 bytes, and a snapshot 123 and those of its records; in a wide form each has one more.
 pub fn length_of_snapshot()
     ensures { LengthOfSnapshot }
 {}

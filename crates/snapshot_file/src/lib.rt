@@ -1,6 +1,6 @@
 //! Snapshot files: the bytes that keep a store's records, its layout and its version.
 //!
-//! A snapshot is a header of 91 bytes, the records one after another, and the SHA-256 digest (FIPS 180-4)
+//! A snapshot is a header of 91 bytes, or 92 in a wide form, the records one after another, and the SHA-256 digest (FIPS 180-4)
 //! of all bytes before it. `specs/Snapshots.antt` defines these bytes, `specs/Verdicts.antt` what a reader
 //! makes of an input. Numbers stand with their lowest byte first.
 //!
@@ -12,9 +12,11 @@ pub mod laws;
 mod migration;
 mod reading;
 mod snapshot;
+mod widening;
 mod writing;
 
 pub use migration::{MigrateError, migrate};
 pub use reading::read_snapshot;
 pub use snapshot::{Header, MAX_DIMENSION, Snapshot, SnapshotFault, WriteFault};
+pub use widening::{WidenError, widen};
 pub use writing::write_snapshot_bytes;

@@ -16,7 +16,7 @@ use thiserror::Error;
 #[derive(Clone, Copy, Debug, PartialEq, Eq, Error)]
 pub enum MigrateError {
     /// The records have slots already, or a form that there is not.
-    #[error("the records are not of form 1")]
+    #[error("the records are not of form 1 or 129")]
     NotFormOne,
     /// With two bytes more for each record the layout is beyond the limits.
     #[error("with their lengths the records are beyond the limits")]
@@ -50,13 +50,13 @@ impl From<AllocError> for MigrateError {
     }
 }
 
-/// The same records in form 2: version, seed, publisher and dimension stay, and each record stands in a slot of two
-/// bytes more. The snapshot has form 1, and the layout of the slots is accepted, wherever there is a result.
+/// The same records in form 2, or in form 130 if they are of form 129: version, seed, publisher and dimension stay, and each
+/// record stands in a slot of two bytes more. The layout of the slots is accepted whenever there is a result.
 ///
 /// # Errors
 ///
-/// `NotFormOne` exactly where the snapshot's form is not 1; `TooWide` exactly where it is 1 and no layout has records of
-/// so many bytes; `Memory`, in no other case, where memory for the slots was refused.
+/// `NotFormOne` exactly when the snapshot's form is neither 1 nor 129; `TooWide` exactly when it is one of these and no layout
+/// has records of so many bytes; `Memory`, in no other case, when memory for the slots was refused.
 pub fn migrate(alloc: Global, snapshot: &Snapshot) -> Result<Snapshot, MigrateError>
     requires layout { IsLayout (shape_of (header_of snapshot.now)) }
     requires len { length snapshot.now.records.items ≡ records_len (header_of snapshot.now) }
@@ -64,13 +64,13 @@ pub fn migrate(alloc: Global, snapshot: &Snapshot) -> Result<Snapshot, MigrateEr
     ensures refused { IfErr result (IsMigrateFault (header_of snapshot.now)) }
 {
     let header = snapshot.header();
-    if header.form != 1 {
+    if header.form != 1 && header.form != 129 {
         return Err(MigrateError::NotFormOne);
     }
     // The sizes are within the limits: no refusal is left.
     let narrow = header.layout().unwrap();
     let moved = Header {
-        form: 2,
+        form: header.form + 1,
         record_len: header.record_len + 2,
         ..header
     };

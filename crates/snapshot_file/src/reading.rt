@@ -2,6 +2,7 @@
 
 ghost use Rattle.std.specs.Prelude.{
   ◌≡◌,
+  ◌⊎◌,
   ◌≤◌,
   ◌<◌,
   ◌*◌,
@@ -37,7 +38,7 @@ ghost use Rattle.snapshot_file.specs.Snapshots.{
 ghost use Rattle.snapshot_file.specs.Verdicts.{EndsBelow, EndsKept, EndsAfter, StopsReadingAt, MayRefuse};
 
 use crate::header::{
-    DIGEST_LEN, FIELDS_LEN, MAGIC_LEN, digest_of, form_of, header_bytes, header_in,
+    DIGEST_LEN, FIELDS_LEN, MAGIC_LEN, WIDE_FIELDS_LEN, digest_of, form_of, header_bytes, header_in,
 };
 use crate::snapshot::{Header, Snapshot, SnapshotFault};
 use connection_io::PIECE_LEN;
@@ -75,6 +76,54 @@ fn read_array<const N: usize, R: Read>(reader: &mut R) -> Result<[u8; N], Snapsh
     Ok(bytes)
 }
 
+// The fields of an ordinary form, after its magic.
+fn read_ordinary_fields<R: Read>(reader: &mut R, form: u8) -> Result<Header, SnapshotFault>
+    requires { (form ≡ 1) ⊎ (form ≡ 2) }
+    ensures ok { IfOk result (λ h. (fields : List ℕ) × IsHeader h
+        × (magic form ++ fields ≡ header_bytes h)
+        × Consumes (R.remaining reader.old) (R.remaining reader.new) fields) }
+    ensures err { IfErr result (λ fault. (read : List ℕ) ×
+        Consumes (R.remaining reader.old) (R.remaining reader.new) read
+        × StopsReadingAt fault (magic form ++ read) (R.remaining reader.new)) }
+{
+    let fields = read_array::<FIELDS_LEN, R>(reader)?;
+    Ok(header_in(form, &fields))
+}
+
+// The fields of a wide form, after its magic: the first of them names the form.
+fn read_wide_fields<R: Read>(reader: &mut R) -> Result<Header, SnapshotFault>
+    ensures ok { IfOk result (λ h. (fields : List ℕ) × IsHeader h
+        × (magic 129 ++ fields ≡ header_bytes h)
+        × Consumes (R.remaining reader.old) (R.remaining reader.new) fields) }
+    ensures err { IfErr result (λ fault. (read : List ℕ) ×
+        Consumes (R.remaining reader.old) (R.remaining reader.new) read
+        × StopsReadingAt fault (magic 129 ++ read) (R.remaining reader.new)) }
+{
+    let fields = read_array::<WIDE_FIELDS_LEN, R>(reader)?;
+    let form = fields[0];
+    if form != 129 && form != 130 {
+        return Err(SnapshotFault::BadLayout);
+    }
+    Ok(header_in(form, &fields[1..]))
+}
+
+// The fields after a magic.
+fn read_fields<R: Read>(reader: &mut R, form: u8) -> Result<Header, SnapshotFault>
+    requires { (form ≡ 1) ⊎ (form ≡ 2) ⊎ (form ≡ 129) }
+    ensures ok { IfOk result (λ h. (fields : List ℕ) × IsHeader h
+        × (magic form ++ fields ≡ header_bytes h)
+        × Consumes (R.remaining reader.old) (R.remaining reader.new) fields) }
+    ensures err { IfErr result (λ fault. (read : List ℕ) ×
+        Consumes (R.remaining reader.old) (R.remaining reader.new) read
+        × StopsReadingAt fault (magic form ++ read) (R.remaining reader.new)) }
+{
+    if form == 129 {
+        read_wide_fields(reader)
+    } else {
+        read_ordinary_fields(reader, form)
+    }
+}
+
 // An accepted header.
 fn read_header<R: Read>(reader: &mut R) -> Result<Header, SnapshotFault>
     ensures ok { IfOk result (λ h. IsHeader h × IsAccepted h ×
@@ -87,8 +136,7 @@ fn read_header<R: Read>(reader: &mut R) -> Result<Header, SnapshotFault>
     let Some(form) = form_of(first) else {
         return Err(SnapshotFault::NotSnapshot);
     };
-    let fields = read_array::<FIELDS_LEN, R>(reader)?;
-    let header = header_in(form, &fields);
+    let header = read_fields(reader, form)?;
     if !header.is_accepted() {
         return Err(SnapshotFault::BadLayout);
     }
@@ -214,7 +262,7 @@ fn read_body<R: Read>(
 }
 
 /// Reads a snapshot, which must be the whole input. Each fault is answered with the first byte that makes
-/// it: `NotSnapshot` with byte 8, `BadLayout` with byte 91, `BadDigest` with the last byte of the digest,
+/// it: `NotSnapshot` with byte 8, `BadLayout` with the header's last byte (91, or 92 in a wide form), `BadDigest` with the last byte of the digest,
 /// `TrailingBytes` with the byte after it; `Short` where the input ends before that, and `BadSlot` at its end. `Read` is answered
 /// where a read fails, an interrupted one too, and `Memory` only after an accepted header. What is
 /// reserved never passes 64 KiB and a small multiple of the bytes that came.

@@ -7,7 +7,7 @@ ghost use Rattle.snapshot_file.specs.Snapshots.{header_of, shape_of, records_len
 ghost use Rattle.snapshot_file.specs.Names.{snapshot_fault_name};
 
 use connection_io::WriteFailed;
-use digit_pack::{Layout, LayoutError, are_slots};
+use digit_pack::{Layout, LayoutError, are_slots, is_form, is_slotted};
 use std::alloc::AllocError;
 use thiserror::Error;
 
@@ -17,7 +17,8 @@ pub const MAX_DIMENSION: u16 = 1024;
 /// The fields of a snapshot but its records.
 #[derive(Clone, Copy, Debug, PartialEq, Eq)]
 pub struct Header {
-    /// 1 where all records have one length, 2 where each has its own and stands in a slot.
+    /// 1 if all records have one length, 2 if each has its own and stands in a slot; 129 and 130 likewise, with a wide
+    /// digit matrix.
     pub form: u8,
     /// How many bits a digit has, 6 to 10 in a snapshot that is read.
     pub width: u8,
@@ -41,7 +42,8 @@ pub struct Header {
 /// [`Header`], and the bytes of the records one after another, record 0 first.
 #[derive(Drop)]
 pub struct Snapshot {
-    /// 1 where all records have one length, 2 where each has its own and stands in a slot.
+    /// 1 if all records have one length, 2 if each has its own and stands in a slot; 129 and 130 likewise, with a wide
+    /// digit matrix.
     pub form: u8,
     /// How many bits a digit has.
     pub width: u8,
@@ -66,11 +68,11 @@ pub struct Snapshot {
 /// Why an input is no snapshot, or could not be read.
 #[derive(Clone, Copy, Debug, PartialEq, Eq, Error)]
 pub enum SnapshotFault {
-    /// The first 8 bytes are neither `PIRSNAP1` nor `PIRSNAP2`.
+    /// The first 8 bytes are none of `PIRSNAP1`, `PIRSNAP2` and `PIRWIDE1`.
     #[error("not a snapshot")]
     NotSnapshot,
-    /// The header's layout is refused, its records have one byte in form 2, its dimension is not in 1 to
-    /// [`MAX_DIMENSION`], or its version is 0.
+    /// The header's layout is refused, its records have one byte in a form of slots, its dimension is not in 1 to
+    /// [`MAX_DIMENSION`], or its version is 0; or a wide header names a form other than 129 and 130.
     #[error("the snapshot's layout, dimension or version is outside the limits")]
     BadLayout,
     /// The input ends in the header, the records or the digest.
@@ -88,7 +90,7 @@ pub enum SnapshotFault {
     /// There is no memory, which is wanted only after an accepted header.
     #[error("out of memory")]
     Memory,
-    /// The bytes of a record are no slot, in form 2. All else is as it should be.
+    /// The bytes of a record are no slot, in a form of slots. All else is as it should be.
     #[error("a record of the snapshot is no slot")]
     BadSlot,
 }
@@ -188,7 +190,8 @@ impl Header {
         ensures accepted { IfOk result (λ l. (l ≡ shape_of self.now) × IsLayout l) }
         ensures refused { IfErr result (IsLayoutFault (shape_of self.now)) }
     {
-        Layout::new(
+        Layout::of_form(
+            u16::from(self.form),
             u32::from(self.width),
             usize::from(self.record_len),
             usize::from(self.groups),
@@ -196,12 +199,11 @@ impl Header {
         )
     }
 
-    /// Whether there is such a form, of records of so many bytes: 1, or 2 where a record has two bytes at least.
-    #[tactic(auto, unfolding(digit_pack::specs::Slots::is_form))]
+    /// Whether there is such a form, of records of so many bytes: 1 and 129; 2 and 130 if a record has two bytes at least.
     pub fn has_form(&self) -> bool
         ensures { result ≡ is_form self.now.form self.now.record_len }
     {
-        self.form == 1 || self.form == 2 && self.record_len >= 2
+        is_form(u16::from(self.form), self.record_len)
     }
 
     /// Whether the bytes of each record are a slot, where the form has slots.
@@ -211,7 +213,7 @@ impl Header {
         requires len { length records.now ≡ records_len self.now }
         ensures { result ≡ has_slots self.now records.now }
     {
-        if self.form != 2 {
+        if !is_slotted(u16::from(self.form)) {
             return true;
         }
         // The sizes are within the limits: no refusal is left.

@@ -20,8 +20,9 @@ use Rattle.matrix_u32.proofs.Changes.{same-matrix_of, transpose-product}
 use Rattle.seed_expand.specs.Words.{public_rows}
 use Rattle.lane_kernels.specs.Digit.{digit}
 use Rattle.digit_pack.specs.Digits.{number_of, decomposed}
-use Rattle.digit_pack.specs.Slots.{is_form, slot_of}
+use Rattle.digit_pack.specs.Slots.{is_form, is_slotted, slot_of}
 use Rattle.digit_pack.proofs.Changes.{zero_digit}
+use Rattle.digit_pack.proofs.FormLemmas.{two_bytes}
 use Rattle.digit_pack.specs.Layout.{Shape, record_at, records_in, digit_at, digit_matrix, digit_rows, digit_cols, digits_per_record}
 use Rattle.double_scheme.specs.Double.{client_hint_of}
 use Rattle.simple_scheme.specs.Simple.{hint_of}
@@ -57,19 +58,10 @@ fits_by : (b : Bool) (len : ℕ) → (b ≡ true → 2 ≤ len) → cond b (nat_
 fits_by true len wide = le-leb (length (blank_by true len) + 2) len (wide refl)
 fits_by false len wide = eq-eqb (length (blank_by false len)) len (length-replicate {A = ℕ} len 0)
 
-two_bytes : (form len : ℕ) → is_form form len ≡ true → (form == 2) ≡ true → 2 ≤ len
-unfolding is_form
-two_bytes form len e two = elim (cases_Bool (form == 1)) [
-  | inl one ↦ absurd (omega (arith, eqb-true form 1 one, eqb-true form 2 two))
-  | inr other ↦
-      let both : ((form == 2) && nat_le 2 len) ≡ true = ap (λ b. b || ((form == 2) && nat_le 2 len)) (sym other) ∙ e in
-      leb-true 2 len (and_parts (form == 2) (nat_le 2 len) both).1
-]
-
 -- a blank can be a record
 pub blank-fits : (p : Plan) → is_form p.form p.record_len ≡ true → fits p (blank p) ≡ true
 unfolding fits
-blank-fits p form = fits_by (p.form == 2) p.record_len (λ two. two_bytes p.form p.record_len form two)
+blank-fits p form = fits_by (is_slotted p.form) p.record_len (λ two. two_bytes p.form p.record_len form two)
 
 slot_by : (b : Bool) (len : ℕ) → (b ≡ true → 2 ≤ len) →
     cond b (slot_of len (blank_by b len)) (blank_by b len) ≡ replicate len 0
@@ -79,7 +71,7 @@ slot_by false len wide = refl
 -- and has zeros in the digits
 pub blank-slot : (p : Plan) → is_form p.form p.record_len ≡ true → slot p (blank p) ≡ replicate p.record_len 0
 unfolding slot
-blank-slot p form = slot_by (p.form == 2) p.record_len (λ two. two_bytes p.form p.record_len form two)
+blank-slot p form = slot_by (is_slotted p.form) p.record_len (λ two. two_bytes p.form p.record_len form two)
 
 -- ---- records
 

@@ -10,7 +10,7 @@ use Rattle.std.proofs.lemmas.List.Elements.{All-drop, All-get_or, All-set, All-t
 use Rattle.std.proofs.lemmas.List.Sums.{AllPass-from_list_all, list_all-from_AllPass}
 use Rattle.matrix_u32.proofs.Products.{at-list_of_any}
 use Rattle.digit_pack.specs.Layout.{Shape, record_at, records_in}
-use Rattle.digit_pack.specs.Slots.{is_form, is_slot, slot_of, content_of}
+use Rattle.digit_pack.specs.Slots.{is_slotted, is_slot, slot_of, content_of}
 use Rattle.digit_pack.proofs.SlotLemmas.{slot_is_filled}
 use Rattle.pir_schemes.specs.declared.plan.Plan.{Plan}
 use Rattle.pir_schemes.specs.Plans.{IsPlan, IsRecordOf, shape_at, fits, slot, slots, is_slot_of, content, records_held}
@@ -21,7 +21,7 @@ use Rattle.snapshot_file.specs.Snapshots.{shape_of, has_slots}
 use Rattle.version_store.specs.Openings.{plan_held}
 use Rattle.version_store.proofs.Versions.{long_records}
 
--- by whether the form is 2
+-- by whether the form has slots
 slot_by : (b : Bool) (len : ℕ) (bytes : List ℕ) → length bytes ≡ len → All (λ x. x < 2 ^ 8) bytes → cond b (is_slot bytes) true ≡ true →
     cond b (slot_of len (cond b (content_of bytes) bytes)) (cond b (content_of bytes) bytes) ≡ bytes
 slot_by true len bytes e small good = ap (λ (n : ℕ). slot_of n (content_of bytes)) (sym e) ∙ sym (slot_is_filled bytes small good)
@@ -31,7 +31,7 @@ slot_by false len bytes e small good = refl
 slot_again : (p : Plan) (bytes : List ℕ) → length bytes ≡ p.record_len → All (λ x. x < 2 ^ 8) bytes → is_slot_of p bytes ≡ true →
     slot p (content p bytes) ≡ bytes
 unfolding slot content is_slot_of
-slot_again p bytes e small good = slot_by (p.form == 2) p.record_len bytes e small good
+slot_again p bytes e small good = slot_by (is_slotted p.form) p.record_len bytes e small good
 
 maps_back : (p : Plan) (xs : List (List ℕ)) → ((k : ℕ) → k < length xs → slot p (content p (record_at xs k)) ≡ record_at xs k) →
     map (slot p) (map (content p) xs) ≡ xs
@@ -101,7 +101,7 @@ slot_at p l bytes i good lt =
     All-get_or (λ x. is_slot_of p x ≡ true) (records_in l bytes) i [] (omega (arith, lt, long_records l bytes))
     (AllPass-from_list_all (is_slot_of p) (records_in l bytes) good)
 
--- by whether the form is 2
+-- by whether the form has slots
 content_fits : (b : Bool) (len : ℕ) (bytes : List ℕ) → length bytes ≡ len → cond b (is_slot bytes) true ≡ true →
     let held = cond b (content_of bytes) bytes in
     cond b (nat_le (length held + 2) len) (length held == len) ≡ true
@@ -123,8 +123,8 @@ content_is : (p : Plan) (bytes : List ℕ) → length bytes ≡ p.record_len →
     IsRecordOf p (content p bytes)
 unfolding content is_slot_of fits
 content_is p bytes e small good = record {
-  fits = content_fits (p.form == 2) p.record_len bytes e good;
-  each = content_small (p.form == 2) bytes small;
+  fits = content_fits (is_slotted p.form) p.record_len bytes e good;
+  each = content_small (is_slotted p.form) bytes small;
 }
 
 -- each of those held is a record
@@ -142,13 +142,3 @@ pub held_slots : (h : Header) (records : List ℕ) → has_slots h records ≡ t
     list_all (is_slot_of (plan_held h)) (records_in (shape_of h) records) ≡ true
 unfolding has_slots
 held_slots h records good = all_slots (plan_held h) (records_in (shape_of h) records) ∙ good
-
--- there is no form above 2
-pub low_form : (form len : ℕ) → is_form form len ≡ true → form ≤ 2
-unfolding is_form
-low_form form len e = elim (cases_Bool (form == 1)) [
-  | inl one ↦ omega (arith, eqb-true form 1 one)
-  | inr other ↦
-      let two : ((form == 2) && nat_le 2 len) ≡ true = ap (λ b. b || ((form == 2) && nat_le 2 len)) (sym other) ∙ e in
-      omega (arith, eqb-true form 2 (and_parts (form == 2) (nat_le 2 len) two).0)
-]

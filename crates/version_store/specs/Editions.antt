@@ -7,7 +7,7 @@ use Rattle.digit_pack.specs.Layout.{Shape, IsLayout, records_in, digit_cols}
 use Rattle.pir_schemes.specs.declared.scheme.Scheme.TheVariants.{Simple, Double}
 use Rattle.pir_schemes.specs.declared.plan.Plan.{Plan}
 use Rattle.pir_schemes.specs.Plans.{is_slot_of, records_held, slots, shape_at, digits_at, second_public}
-use Rattle.digit_pack.specs.Slots.{is_form}
+use Rattle.digit_pack.specs.Slots.{is_form, is_slotted}
 use Rattle.pir_schemes.specs.Retrievals.{hint_matrix, server_hint}
 use Rattle.hint_update.specs.Updates.{AreHintsOf}
 
@@ -22,7 +22,7 @@ version_shape e = shape_at e.plan (length e.records)
 
 -- a record before its bytes are given: none, or where all records have one length so many zeros
 abbrev pub blank : Plan → List ℕ
-blank p = if p.form == 2 then [] else replicate p.record_len 0
+blank p = if is_slotted p.form then [] else replicate p.record_len 0
 
 -- records with blanks after them, so many in all
 abbrev pub grown : Plan → ℕ → List (List ℕ) → List (List ℕ)

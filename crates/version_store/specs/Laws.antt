@@ -8,7 +8,8 @@ use Rattle.pir_schemes.specs.declared.plan.Plan.{Plan}
 use Rattle.pir_schemes.specs.Plans.{shape_at, records_held}
 use Rattle.pir_schemes.specs.Retrievals.{hint_matrix}
 use Rattle.snapshot_file.specs.declared.snapshot.Header.{Header}
-use Rattle.snapshot_file.specs.Migrations.{in_slots, AreInSlots}
+use Rattle.snapshot_file.specs.Migrations.{IsPlainForm, in_slots, AreInSlots}
+use Rattle.snapshot_file.specs.Widenings.{IsOrdinaryForm, in_wide}
 use Rattle.snapshot_file.specs.Snapshots.{shape_of}
 use Rattle.version_store.specs.Openings.{IsSound, plan_held}
 use Rattle.version_store.specs.Histories.{StoreState, History, StandsFor, Change, history_after, held_after, records_of, delta_rows}
@@ -24,9 +25,16 @@ UnchangedRowsStay = (p : Plan) (h : History) (since : ℕ) (rows : List ℕ) (re
     → (r : ℕ) → r < digit_rows (shape_at p (length h.current)) → list_any (nat_eq r) rows ≡ false
     → row (hint_matrix Simple p records) r ≡ row (hint_matrix Simple p h.current) r
 
--- a snapshot of form 1 that was moved into slots is one that a store is opened with, and holds the same records
+-- a snapshot of one length that was moved into slots is one that a store is opened with, and holds the same records
 abbrev pub MigratedRecordsStay : Type 0
-MigratedRecordsStay = (h : Header) (records moved : List ℕ) → IsSound h records → h.form ≡ 1 → IsLayout (shape_of (in_slots h)) →
+MigratedRecordsStay = (h : Header) (records moved : List ℕ) → IsSound h records → IsPlainForm h.form → IsLayout (shape_of (in_slots h)) →
     AreInSlots h records moved →
     IsSound (in_slots h) moved
     × (records_held (plan_held (in_slots h)) h.count moved ≡ records_held (plan_held h) h.count records)
+
+-- a wide snapshot made of an ordinary one is one that a store is opened with, and holds the same records
+abbrev pub WidenedRecordsStay : Type 0
+WidenedRecordsStay = (h : Header) (seed records : List ℕ) → IsSound h records → IsOrdinaryForm h.form →
+    IsLayout (shape_of (in_wide h seed)) →
+    IsSound (in_wide h seed) records
+    × (records_held (plan_held (in_wide h seed)) h.count records ≡ records_held (plan_held h) h.count records)

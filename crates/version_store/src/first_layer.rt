@@ -12,7 +12,7 @@ ghost use Rattle.version_store.specs.Editions.{Records, version_shape, MarksChan
 ghost use Rattle.version_store.specs.Openings.{bytes_of_records};
 
 use crate::columns::replace_digits;
-use digit_pack::{DigitStore, Layout, Packed3, digits_of_records, nth_record, pack};
+use digit_pack::{DigitStore, Layout, Wide3, digits_of_records, nth_record, pack};
 use matrix_u32::{Kernel, Matrix};
 use pir_schemes::{Plan, Scheme};
 use seed_expand::expand;
@@ -20,7 +20,7 @@ use std::alloc::{AllocError, Global};
 use std::marker::Model;
 
 /// What keeps the digits: three in a word.
-pub type Digits = Packed3;
+pub type Digits = Wide3;
 
 /// The records of one version, their digit matrix, the first public matrix and the SimplePIR hint. A
 /// contract sees it as `Records`: the hint is always the one that is made from scratch.
@@ -68,10 +68,11 @@ impl FirstLayer {
           records = records_held plan layout.count bytes.items;
         }) }
     {
+        // Called for what it says of the layout: there are few rows and columns.
+        layout.rows();
         let digits: Digits = digits_of_records(alloc, &layout, &bytes)?;
         let dimension = usize::from(plan.dimension);
         let a1 = expand(alloc, &plan.seed, 0, 0, layout.cols(), dimension)?;
-        layout.rows();
         digits.rows();
         let hint = simple_scheme::setup(alloc, kernel, &digits, &a1)?;
         Ok(FirstLayer {
@@ -206,7 +207,7 @@ impl FirstLayer {
 
 // Gives the first public matrix so many rows at least. Only refused memory gives an `Err`, and then it is as it was.
 fn extend_public(alloc: Global, plan: &Plan, a1: &mut Matrix, rows: usize) -> Result<(), AllocError>
-    requires few { rows ≤ 4096 }
+    requires few { rows ≤ 32768 }
     requires dimension { (1 ≤ plan.now.dimension) × (plan.now.dimension ≤ 1024) }
     requires public { a1.old ≡ public_rows plan.now.seed 0 0 a1.old.rows plan.now.dimension }
     ensures public { a1.new ≡ public_rows plan.now.seed 0 0 a1.new.rows plan.now.dimension }

@@ -1,7 +1,7 @@
 //! Laws of versions, over the definitions alone. A caller that calls one of these functions has its law at
 //! hand in its proof; the call costs nothing.
 
-ghost use Rattle.version_store.specs.Laws.{EachRunStands, MigratedRecordsStay, UnchangedRowsStay};
+ghost use Rattle.version_store.specs.Laws.{EachRunStands, MigratedRecordsStay, UnchangedRowsStay, WidenedRecordsStay};
 
 /// A store that stands for a history stands, after any accepted edits, appends and publications, for that
 /// history after them.
@@ -18,4 +18,9 @@ pub fn unchanged_rows_stay()
 /// A snapshot whose records were moved into slots opens a store with the same history.
 pub fn migrated_records_stay()
     ensures { MigratedRecordsStay }
+{}
+
+/// A wide snapshot made of an ordinary one opens a store with the same history.
+pub fn widened_records_stay()
+    ensures { WidenedRecordsStay }
 {}

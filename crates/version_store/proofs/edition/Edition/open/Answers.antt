@@ -1,9 +1,11 @@
-use Rattle.std.proofs.Common.{ap, ◌∙◌, sym, refl, ◌≡◌}
+use Rattle.std.proofs.Common.{ap, ◌∙◌, sym, refl, ◌≡◌, ◌≤◌, arith}
 use Rattle.matrix_u32.specs.Matrix.{WordMatrix, product}
 use Rattle.seed_expand.specs.Words.{public_rows}
 use Rattle.digit_pack.specs.Layout.{digit_rows}
 use Rattle.simple_scheme.specs.Simple.{hint_of}
 use Rattle.double_scheme.specs.Double.{server_hint_of}
+use Rattle.double_scheme.proofs.Sizes.{few_across}
+use Rattle.digit_pack.proofs.Limits.{few_rows}
 use Rattle.pir_schemes.specs.Plans.{digits_at, first_public, second_public}
 use Rattle.version_store.specs.Editions.{Records, version_shape}
 use Rattle.version_store.proofs.DoubleLemmas.{made_of, simple_hint}
@@ -28,3 +30,12 @@ invariant_of-result g c =
       server = server;
       client = c.in_ok-server.ensures.client ∙ ap (λ m. product m a2) server;
     })
+
+pub setup-requires-clause-room : goal.setup-requires-clause-room
+setup-requires-clause-room g c =
+    let e : Records = c.in_ok-layer.layer in
+    let ok = c.layout-layout.ensures.plan in
+    let low : c.hint.result.now.cols ≤ 1024 = omega (arith, c.hint.ensures.cols, ok.high) in
+    let short : c.hint.result.now.rows ≤ 32768 = omega (arith, c.hint.ensures.rows, few_rows (version_shape e) ok.layout) in
+    let six : 6 ≤ c.width.result = omega (arith, c.width.ensures.value, c.width.ensures.layout.width.0) in
+    omega (arith, few_across c.width.result c.hint.result.now.cols c.hint.result.now.rows six low short)

@@ -2,6 +2,7 @@ use Rattle.std.proofs.Common.{arith, ap, ◌∙◌, ◌≡◌, ◌-◌, ◌*◌,
 use Rattle.std.proofs.Math.Nat.{mul-le-mul_right}
 use Rattle.matrix_u32.specs.Matrix.{WordMatrix, widened}
 use Rattle.digit_pack.specs.Layout.{Shape, IsLayout, digit_cols}
+use Rattle.digit_pack.proofs.Limits.{few_bytes}
 use Rattle.pir_schemes.specs.declared.plan.Plan.{Plan}
 use Rattle.pir_schemes.specs.Plans.{shape_at, records_held}
 use Rattle.version_store.specs.Drafts.{grown_to}
@@ -10,6 +11,15 @@ use Rattle.version_store.proofs.Grown.{more_columns}
 use Rattle.version_store.proofs.GrownLayer.{resized, held-grown, layer-grown}
 use Rattle.version_store.proofs.Versions.{long_held, shape_again}
 use Rattle.version_store.proofs.first_layer.FirstLayer.grow.Goals as goal
+
+pub overflow_mul-len : goal.overflow_mul-len
+overflow_mul-len c =
+    let ok = rw c.unwrap-layout.ensures at c.layout.ensures.accepted in
+    let few = few_bytes c.unwrap-layout.result ok.1 in
+    let count : c.unwrap-layout.result.count ≡ c.args.count = ap (λ (s : Shape). s.count) ok.0 in
+    let product : c.args.count * c.record_len.result ≡ c.unwrap-layout.result.count * c.unwrap-layout.result.record_len =
+    ap (λ k. k * c.record_len.result) (sym count) ∙ ap (λ k. c.unwrap-layout.result.count * k) c.record_len.ensures.value in
+    rw product (omega (arith, few))
 
 pub overflow_sub-len : goal.overflow_sub-len
 overflow_sub-len c =

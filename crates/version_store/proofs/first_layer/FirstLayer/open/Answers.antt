@@ -5,9 +5,13 @@ use Rattle.matrix_u32.specs.Matrix.{product}
 use Rattle.simple_scheme.specs.Simple.{hint_of}
 use Rattle.pir_schemes.specs.declared.plan.Plan.{Plan}
 use Rattle.pir_schemes.specs.Plans.{digits_at, records_held, first_public}
+use Rattle.digit_pack.proofs.Limits.{wide_room}
 use Rattle.version_store.proofs.Slotted.{slots_again}
 use Rattle.version_store.proofs.Versions.{digits_again, hint_again}
 use Rattle.version_store.proofs.first_layer.FirstLayer.open.Goals as goal
+
+pub digits_of_records-requires-clause-room : goal.digits_of_records-requires-clause-room
+digits_of_records-requires-clause-room g c = wide_room c.args.layout c.rows.ensures.layout
 
 pub invariant_of-result : goal.invariant_of-result
 unfolding hint_of

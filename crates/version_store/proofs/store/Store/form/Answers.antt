@@ -1,6 +1,6 @@
 use Rattle.std.proofs.Common.{ap, arith}
 use Rattle.pir_schemes.specs.declared.plan.Plan.{Plan}
-use Rattle.version_store.proofs.Slotted.{low_form}
+use Rattle.digit_pack.proofs.FormLemmas.{low_form}
 use Rattle.version_store.proofs.store.Store.form.Goals as goal
 
 pub overflow_cast-result : goal.overflow_cast-result
