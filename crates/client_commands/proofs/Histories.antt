@@ -5,7 +5,7 @@ use Rattle.std.specs.List.{AllByRecursion}
 use Rattle.client_core.specs.declared.state.ClientState.{ClientState}
 use Rattle.client_core.specs.Calls.{Hello, Sync, Ask, Edit, Append, Publish}
 use Rattle.client_core.specs.Laws.{Happening, Accepted, TurnedDown, Lacking, Taken, Failing, after, numbers_at}
-use Rattle.client_commands.specs.Runs.{Run, run_of, World, world_of, Step, Begins, Happens, TakesUp, Ends, Replaces, run_after, run_holding, run_ended, with_changed, runs_after, world_after, Retrieval, asked_by, asked_at, retrievals, drawn_at, draws, HaveOneSeed, MeetByDraws, OnlyEqualDrawsMeet, without_replacements, FoldersChangeNothing}
+use Rattle.client_commands.specs.Runs.{Run, run_of, World, world_of, Step, Begins, Speaks, Happens, TakesUp, Ends, Replaces, run_after, run_holding, run_speaking, run_ended, with_changed, runs_after, world_after, Retrieval, asked_by, asked_at, retrievals, drawn_at, draws, HaveOneSeed, MeetByDraws, OnlyEqualDrawsMeet, without_replacements, FoldersChangeNothing}
 use Rattle.client_commands.proofs.Seeds.{GoesOn, same_client, goes_on}
 
 -- ---- lists
@@ -57,6 +57,7 @@ run_goes_on h x = by x.ended
 
 runs_go_on : (runs : List Run) (s : Step) → GoOn runs (runs_after runs s)
 runs_go_on runs (Begins draw) i x e = (x, get_before runs (run_of draw ∷ []) i x e, same_client x.client)
+runs_go_on runs (Speaks i wide) j x e = change_goes_on runs i (run_speaking wide) (λ y. record { seed = refl; number = omega arith }) j x e
 runs_go_on runs (Happens i h) j x e = change_goes_on runs i (run_after h) (run_goes_on h) j x e
 runs_go_on runs (TakesUp i hint) j x e = change_goes_on runs i (run_holding hint) (λ y. record { seed = refl; number = omega arith }) j x e
 runs_go_on runs (Ends i) j x e = change_goes_on runs i run_ended (λ y. same_client y.client) j x e
@@ -84,6 +85,7 @@ no_more (s ∷ ss) = ap (λ (rest : List (List ℕ)). s ∷ rest) (no_more ss)
 -- the seeds of the runs after a step are those before it, and what it draws
 seeds_after : (runs : List Run) (s : Step) → map seed_of (runs_after runs s) ≡ map seed_of runs ++ drawn_at s
 seeds_after runs (Begins draw) = begun_seeds runs draw
+seeds_after runs (Speaks i wide) = change_keeps_seeds runs i (run_speaking wide) (λ x. refl) ∙ no_more (map seed_of runs)
 seeds_after runs (Happens i h) = change_keeps_seeds runs i (run_after h) (λ x. (run_goes_on h x).seed) ∙ no_more (map seed_of runs)
 seeds_after runs (TakesUp i hint) = change_keeps_seeds runs i (run_holding hint) (λ x. refl) ∙ no_more (map seed_of runs)
 seeds_after runs (Ends i) = change_keeps_seeds runs i run_ended (λ x. refl) ∙ no_more (map seed_of runs)
@@ -168,6 +170,7 @@ happening_at_most w i Failing = inl (quiet i Failing (λ c. refl) (slice_get w.r
 at_most : (w : World) (s : Step) → AsksOneAtMost w s
 at_most w (Happens i h) = happening_at_most w i h
 at_most w (Begins draw) = inl refl
+at_most w (Speaks i wide) = inl refl
 at_most w (TakesUp i hint) = inl refl
 at_most w (Ends i) = inl refl
 at_most w (Replaces folder) = inl refl
@@ -280,6 +283,7 @@ unmoved [] folder other runs = refl
 unmoved (Begins draw ∷ ss) folder other runs = unmoved ss folder other (runs_after runs (Begins draw))
 unmoved (Happens i h ∷ ss) folder other runs =
     ap (λ (qs : List Retrieval). asked_by i h (slice_get runs i) ++ qs) (unmoved ss folder other (runs_after runs (Happens i h)))
+unmoved (Speaks i wide ∷ ss) folder other runs = unmoved ss folder other (runs_after runs (Speaks i wide))
 unmoved (TakesUp i hint ∷ ss) folder other runs = unmoved ss folder other (runs_after runs (TakesUp i hint))
 unmoved (Ends i ∷ ss) folder other runs = unmoved ss folder other (runs_after runs (Ends i))
 unmoved (Replaces found ∷ ss) folder other runs = unmoved ss found other runs

@@ -10,7 +10,6 @@ use Rattle.frame_codec.specs.declared.frame.Frame.TheVariants as frame
 use Rattle.pir_schemes.specs.declared.scheme.Scheme.{Scheme}
 use Rattle.pir_schemes.specs.declared.scheme.Scheme.TheVariants.{Simple, Double}
 use Rattle.pir_schemes.specs.Schemes.{scheme_byte}
-use Rattle.pir_schemes.specs.Plans.{client_profile}
 use Rattle.client_core.specs.declared.state.ClientState.{ClientState}
 use Rattle.client_core.specs.declared.state.Hint.{Hint}
 use Rattle.client_core.specs.declared.state.Event.{Event}
@@ -84,8 +83,8 @@ by_parts s old none =
 -- ---- a retrieval
 
 -- what was sent begins with these frames
-abbrev pub BeginsWith : Scheme → List ℕ → Type 0
-BeginsWith s out = (version : ℕ) × (between : List ℕ) × (beyond : List ℕ) × (out ≡ encoding (frame.Hello client_profile (replicate 32 0))
+abbrev pub BeginsWith : Scheme → ℕ → List ℕ → Type 0
+BeginsWith s profile out = (version : ℕ) × (between : List ℕ) × (beyond : List ℕ) × (out ≡ encoding (frame.Hello profile (replicate 32 0))
     ++ (between ++ (encoding (frame.HintAsk (scheme_byte s) version 0) ++ beyond)))
 
 glue : (a b c d e : List ℕ) → (a ++ b) ++ ((c ++ d) ++ e) ≡ a ++ (b ++ (c ++ (d ++ e)))
@@ -93,13 +92,13 @@ glue a b c d e = append_assoc a b ((c ++ d) ++ e) ∙ ap (λ (x : List ℕ). a +
 
 synced : (s : Scheme) (old mid : Client) (greeting event : Event) (read1 out1 read2 out2 rest : List ℕ) (left1 left2 : Option (List ℕ)) (new : Client)
     → old.state.hint ≡ None → Exchanges old (Hello (replicate 32 0)) (Ok greeting) read1 out1 left1 mid → Exchanges mid (Sync s) (Ok event) read2 out2 left2 new
-    → BeginsWith s (out1 ++ (out2 ++ rest))
+    → BeginsWith s old.state.profile (out1 ++ (out2 ++ rest))
 synced s old mid greeting event read1 out1 read2 out2 rest left1 left2 new bare x y =
     let a = exchanged_bytes old (Hello (replicate 32 0)) greeting read1 out1 left1 mid x in
     let b = exchanged_bytes mid (Sync s) event read2 out2 left2 new y in
     let none : mid.state.hint ≡ None = greeted (replicate 32 0) old greeting read1 out1 left1 mid bare x (alive mid.state y.accepted.may) in
     let second : List ℕ = encoding (frame.HintAsk (scheme_byte s) (known_version mid.state.known) 0) in
-    let first : List ℕ = encoding (frame.Hello client_profile (replicate 32 0)) in
+    let first : List ℕ = encoding (frame.Hello old.state.profile (replicate 32 0)) in
     let asks : out2 ≡ second ++ b.0 = b.1 ∙ ap (λ (f : Frame). encoding f ++ b.0) (by_parts s mid.state none) in (
       known_version mid.state.known,
       a.0,
@@ -109,21 +108,21 @@ synced s old mid greeting event read1 out1 read2 out2 rest left1 left2 new bare 
 
 -- a retrieval that came to an event has sent the greeting, and after it the ask for the first part of the scheme's hint
 retrieval_sends : (least : ℕ) (s : Scheme) (index : ℕ) (old : Client) (event : Event) (read out : List ℕ) (left : Option (List ℕ)) (new : Client)
-    → old.state.hint ≡ None → Transacts old (retrieval least s index) (Ok event) read out left new → BeginsWith s out
+    → old.state.hint ≡ None → Transacts old (retrieval least s index) (Ok event) read out left new → BeginsWith s old.state.profile out
 unfolding Transacts
 retrieval_sends least s index old event read out left new bare (inl h) = absurd cc
 retrieval_sends least s index old event read out left new bare (inr h) = looked h.10
   where
     asked : (mid : Client) (out2 : List ℕ) → mid ≡ h.0 → out ≡ h.3 ++ out2
-        → (r : List ℕ) → Transacts mid (Calls (Sync s) ∷ (Calls (Ask index) ∷ [])) (Ok event) r out2 left new → BeginsWith s out
+        → (r : List ℕ) → Transacts mid (Calls (Sync s) ∷ (Calls (Ask index) ∷ [])) (Ok event) r out2 left new → BeginsWith s old.state.profile out
     asked mid out2 same whole r (inl k) = absurd cc
     asked mid out2 same whole r (inr k) =
         let x : Exchanges old (Hello (replicate 32 0)) (Ok h.9.0) h.1 h.3 h.5 mid =
         subst (λ (c : Client). Exchanges old (Hello (replicate 32 0)) (Ok h.9.0) h.1 h.3 h.5 c) (sym same) h.9.1 in
         let begins = synced s old mid h.9.0 k.9.0 h.1 h.3 k.1 k.3 k.4 h.5 k.5 k.0 bare x k.9.1 in
-        subst (BeginsWith s) (sym (whole ∙ ap (λ (o : List ℕ). h.3 ++ o) k.8)) begins
+        subst (BeginsWith s old.state.profile) (sym (whole ∙ ap (λ (o : List ℕ). h.3 ++ o) k.8)) begins
 
-    looked : Transacts h.0 (Judges least ∷ (Calls (Sync s) ∷ (Calls (Ask index) ∷ []))) (Ok event) h.2 h.4 left new → BeginsWith s out
+    looked : Transacts h.0 (Judges least ∷ (Calls (Sync s) ∷ (Calls (Ask index) ∷ []))) (Ok event) h.2 h.4 left new → BeginsWith s old.state.profile out
     looked (inl j) = absurd cc
     looked (inr j) =
         asked j.0 j.4 j.9.1.2 (h.8 ∙ ap (λ (o : List ℕ). h.3 ++ o) (j.8 ∙ ap (λ (o : List ℕ). o ++ j.4) j.9.1.1)) j.2 j.10
@@ -132,7 +131,7 @@ retrieval_sends least s index old event read out left new bare (inr h) = looked 
 pub retrieval_has_sent : (least : ℕ) (s : Scheme) (index : ℕ) (old : Client) (event : Event) (read out : List ℕ) (left held held2 : Option (List ℕ))
     (new : Client)
     → old.state.hint ≡ None → Appends held held2 out → Transacts old (retrieval least s index) (Ok event) read out left new
-    → (version : ℕ) × SendsCommand held held2 (frame.Hello client_profile (replicate 32 0)) (frame.HintAsk (scheme_byte s) version 0)
+    → (version : ℕ) × SendsCommand held held2 (frame.Hello old.state.profile (replicate 32 0)) (frame.HintAsk (scheme_byte s) version 0)
 retrieval_has_sent least s index old event read out left held held2 new bare went t =
     let b = retrieval_sends least s index old event read out left new bare t in (b.0, (b.1, b.2, subst (Appends held held2) b.3 went))
 

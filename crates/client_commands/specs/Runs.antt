@@ -2,6 +2,7 @@
 -- from 0. It reads neither from its folder, so no crash of a run, no copy and no restoration of the folder brings a seed or a number back.
 use Rattle.std.specs.Prelude.{◌≡◌, ◌≢◌, ◌+◌, ℕ, zero, suc, List, [], ◌∷◌, ◌++◌, map, Bool, true, false, Option, Some, None, is_some, slice_get, if◌then◌else◌}
 use Rattle.std.specs.List.{AllByRecursion}
+use Rattle.pir_schemes.specs.Plans.{client_profile}
 use Rattle.client_core.specs.declared.state.ClientState.{ClientState}
 use Rattle.client_core.specs.declared.state.Hint.{Hint}
 use Rattle.client_core.specs.States.{fresh}
@@ -32,11 +33,12 @@ pub record World : Type 0 where
 abbrev pub world_of : List (List ℕ) → World
 world_of folder = record { folder = folder; runs = [] }
 
--- What happens: a run begins with a draw of the random source; to the client of a run, named by its place, something happens, as a call or a
--- reply; the client takes up a hint, whatever it is, or drops its own; a run ends, by itself or by a crash; other files stand in the folder, as a
+-- What happens: a run begins with a draw of the random source; its client, named by the run's place, greets wide stores or ordinary ones from then
+-- on; something happens to it, as a call or a reply; it takes up a hint, whatever it is, or drops its own; a run ends, by itself or by a crash; other files stand in the folder, as a
 -- run keeps a hint there, or as the folder is copied from elsewhere, restored or damaged.
 pub data Step : Type 0 where
   Begins : (draw : List ℕ) → Step
+  Speaks : (run : ℕ) (wide : Bool) → Step
   Happens : (run : ℕ) (happening : Happening) → Step
   TakesUp : (run : ℕ) (hint : Option Hint) → Step
   Ends : (run : ℕ) → Step
@@ -49,6 +51,10 @@ run_after happening run = if run.ended then run else record run { client = after
 -- a run whose client holds this hint
 abbrev pub run_holding : Option Hint → Run → Run
 run_holding hint run = record run { client = record run.client { hint = hint } }
+
+-- a run whose client greets wide stores, or ordinary ones
+abbrev pub run_speaking : Bool → Run → Run
+run_speaking wide run = record run { client = record run.client { profile = client_profile wide } }
 
 -- a run that has ended
 abbrev pub run_ended : Run → Run
@@ -63,6 +69,7 @@ with_changed (run ∷ runs) (suc i) change = run ∷ with_changed runs i change
 -- the runs after a step. None of them depends on the folder
 abbrev pub runs_after : List Run → Step → List Run
 runs_after runs (Begins draw) = runs ++ (run_of draw ∷ [])
+runs_after runs (Speaks i wide) = with_changed runs i (run_speaking wide)
 runs_after runs (Happens i happening) = with_changed runs i (run_after happening)
 runs_after runs (TakesUp i hint) = with_changed runs i (run_holding hint)
 runs_after runs (Ends i) = with_changed runs i run_ended

@@ -3,7 +3,6 @@
 ghost use Rattle.std.specs.Prelude.{◌≡◌, ◌≤◌, ◌+◌, ◌⊎◌, List, ℕ, length, replicate, IfOk, IfErr, OnOk, None};
 ghost use Rattle.std.specs.Io.KnownBytes.{Appends, Consumes};
 ghost use Rattle.pir_schemes.specs.Schemes.{scheme_byte};
-ghost use Rattle.pir_schemes.specs.Plans.{client_profile};
 ghost use Rattle.frame_codec.specs.declared.frame.Frame.TheVariants as frame;
 ghost use Rattle.client_commands.specs.Transcripts.{
   Transacts,
@@ -68,7 +67,7 @@ pub fn get<K: Kernel, R: Read, W: Write>(
     ensures record { IfOk result (λ r. r.index ≡ index) }
     ensures sends { OnOk result ((version : ℕ) ×
         SendsCommand (W.contents writer.old) (W.contents writer.new)
-        (frame.Hello client_profile (replicate 32 0))
+        (frame.Hello client.old.state.profile (replicate 32 0))
         (frame.HintAsk (scheme_byte scheme) version 0)) }
     ensures spends { IfOk result (λ _. client.new.state.number ≡ client.old.state.number + 1) }
     ensures spends_no_more { IfErr result

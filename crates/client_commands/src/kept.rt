@@ -1,10 +1,10 @@
 //! The calls of a client that keeps its hint from one run to the next, each on its own.
 
-ghost use Rattle.std.specs.Prelude.{◌≡◌, ◌≤◌, ◌+◌, ◌⊎◌, List, ℕ, Ok, None, replicate, IfOk, IfSome, false};
+ghost use Rattle.std.specs.Prelude.{◌≡◌, ◌↔◌, ◌≤◌, ◌+◌, ◌⊎◌, List, ℕ, Ok, Err, None, replicate, IfOk, IfSome, IsTrue, false};
 ghost use Rattle.std.specs.Io.KnownBytes.{Appends, Consumes};
 ghost use Rattle.client_core.specs.Calls.{Hello, Sync, Want};
 ghost use Rattle.client_commands.specs.Transcripts.{ComesTo, IsRecordAsked};
-ghost use Rattle.client_commands.specs.Kept.{AsksWithRows, MakesNoSync};
+ghost use Rattle.client_commands.specs.Kept.{AsksWithRows, GreetsEither, MakesNoSync};
 ghost use Rattle.client_commands.specs.Runs.{number_after_ask};
 
 use crate::commands::READER;
@@ -39,6 +39,40 @@ pub fn greet<K: Kernel, R: Read, W: Write>(
 {
     let sent = client.hello(READER);
     exchange(alloc, client, sent, reader, writer)
+}
+
+/// Asks to be let in as a reader of an ordinary store, and, if the server refuses that for its profile (3), as one of a wide
+/// store. What is read and written is that of these one or two calls. It spends no number.
+///
+/// # Errors
+///
+/// As those of [`greet`], of the last call that was made.
+pub fn greet_either<K: Kernel, R: Read, W: Write>(
+    alloc: Global,
+    client: &mut ClientCore<K>,
+    reader: &mut R,
+    writer: &mut W,
+) -> Result<Event, CommandError>
+    ensures transcript { (read : List ℕ) × (out : List ℕ)
+        × Consumes (R.remaining reader.old) (R.remaining reader.new) read
+        × Appends (W.contents writer.old) (W.contents writer.new) out
+        × GreetsEither client.old result read out (R.remaining reader.new) client.new }
+    ensures number { client.new.state.number ≡ client.old.state.number }
+{
+    client.speak(false);
+    let greeted = greet(alloc, client, reader, writer);
+    if !is_another_profile(&greeted) {
+        return greeted;
+    }
+    client.speak(true);
+    greet(alloc, client, reader, writer)
+}
+
+// Whether a server refused a greeting for its profile.
+fn is_another_profile(greeted: &Result<Event, CommandError>) -> bool
+    ensures { IsTrue result ↔ (greeted.now ≡ Err (CommandError.Refused 3)) }
+{
+    matches!(greeted, Err(CommandError::Refused(3)))
 }
 
 /// Moves the hint to the server's version: by delta, or by its parts. What is read and written is that of this call. It

@@ -16,4 +16,4 @@ pub mod laws;
 pub use commands::{Retrieved, append, get, publish, put};
 pub use connection::check_dimension;
 pub use fault::CommandError;
-pub use kept::{ask, ask_with_rows, greet, sync};
+pub use kept::{ask, ask_with_rows, greet, greet_either, sync};

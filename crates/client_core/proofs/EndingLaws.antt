@@ -45,7 +45,7 @@ if_reacts call false x y p q = q
 welcome_reacts : (call : Call) (c : ClientState) (plan : Plan) (count version : ℕ) →
     ReactsTo call (takes_welcome call c plan count version)
 welcome_reacts Idle c plan count version = tt
-welcome_reacts (Hello key) c plan count version = if_reacts (Hello key) (is_accepted_welcome plan count version) _ _ (λ _. tt) tt
+welcome_reacts (Hello key) c plan count version = if_reacts (Hello key) (is_accepted_welcome c.profile plan count version) _ _ (λ _. tt) tt
 welcome_reacts (Sync s v p) c plan count version = tt
 welcome_reacts (Delta since) c plan count version = tt
 welcome_reacts (Ask i x v m) c plan count version = tt

@@ -13,7 +13,7 @@ use Rattle.pir_schemes.specs.Schemes.{scheme_byte}
 use Rattle.pir_schemes.specs.Parts.{part_len}
 use Rattle.pir_schemes.specs.declared.plan.Plan.{Plan}
 use Rattle.digit_pack.specs.Slots.{is_form}
-use Rattle.pir_schemes.specs.Plans.{shape_at}
+use Rattle.pir_schemes.specs.Plans.{accepts_profile, shape_at}
 use Rattle.pir_schemes.specs.Retrievals.{hint_rows, hint_len}
 use Rattle.client_core.specs.declared.state.ClientState.{ClientState}
 use Rattle.client_core.specs.declared.state.ServerInfo.{ServerInfo}
@@ -51,21 +51,22 @@ no_hint (Some j) hint key parts k a b = absurd a
 reported : ℕ → Plan → ℕ → ServerInfo
 reported version plan count = record { version = version; count = count; plan = plan }
 
-welcome_known : (plan : Plan) (count version : ℕ) → is_accepted_welcome plan count version ≡ true → IsKnown (reported version plan count)
+welcome_known : (profile : ℕ) (plan : Plan) (count version : ℕ) → is_accepted_welcome profile plan count version ≡ true → IsKnown (reported version plan count)
 unfolding reported
-welcome_known plan count version h =
-    let a = and_parts (is_form plan.form plan.record_len) (is_layout (shape_at plan count) && ((nat_le 1 plan.dimension && nat_le plan.dimension 1024) && nat_lt 0 version)) h in
+welcome_known profile plan count version h =
+    let asked = and_parts (accepts_profile plan profile) _ h in
+    let a = and_parts (is_form plan.form plan.record_len) (is_layout (shape_at plan count) && ((nat_le 1 plan.dimension && nat_le plan.dimension 1024) && nat_lt 0 version)) asked.1 in
     let b = and_parts (is_layout (shape_at plan count)) ((nat_le 1 plan.dimension && nat_le plan.dimension 1024) && nat_lt 0 version) a.1 in
     let d = and_parts (nat_le 1 plan.dimension && nat_le plan.dimension 1024) (nat_lt 0 version) b.1 in
     let e = and_parts (nat_le 1 plan.dimension) (nat_le plan.dimension 1024) d.0 in
     record { form = a.0; layout = layout_means (shape_at plan count) b.0; low = leb-true 1 plan.dimension e.0; high = leb-true plan.dimension 1024 e.1 }
 
 welcomed_keeps : (c : ClientState) (key : List ℕ) (plan : Plan) (count version : ℕ) → IsState c → CallFits (Hello key) c.known c.parts
-    → is_accepted_welcome plan count version ≡ true → Keeps c (record c { known = Some (reported version plan count); call = Idle })
+    → is_accepted_welcome c.profile plan count version ≡ true → Keeps c (record c { known = Some (reported version plan count); call = Idle })
 welcomed_keeps c key plan count version s fits is = record {
   good = record {
     number = s.number;
-    known = welcome_known plan count version is;
+    known = welcome_known c.profile plan count version is;
     hint = no_hint c.known c.hint key c.parts (reported version plan count) fits s.hint;
     call = tt;
     delta = tt;
@@ -78,7 +79,7 @@ welcome_keeps : (call : Call) (c : ClientState) (plan : Plan) (count version : �
 unfolding reported
 welcome_keeps Idle c plan count version s fits = faulty_keeps c s
 welcome_keeps (Hello key) c plan count version s fits =
-    if_keeps c (is_accepted_welcome plan count version)
+    if_keeps c (is_accepted_welcome c.profile plan count version)
     (ended (record c { known = Some (reported version plan count) }) (Welcomed version))
     (faulty c BadWelcome)
     (welcomed_keeps c key plan count version s fits)

@@ -96,7 +96,7 @@ either false x y v w p q = q
 welcome_reacts : (k : Call) (c : ClientState) (plan : Plan) (count version : ℕ) →
     reacted (takes_welcome k c plan count version) ≡ after_welcome (awaited k) (outline c) plan count version
 welcome_reacts call.Idle c plan count version = refl
-welcome_reacts (call.Hello key) c plan count version = either (is_accepted_welcome plan count version) _ _ _ _ refl refl
+welcome_reacts (call.Hello key) c plan count version = either (is_accepted_welcome c.profile plan count version) _ _ _ _ refl refl
 welcome_reacts (call.Sync s v p) c plan count version = refl
 welcome_reacts (call.Delta since) c plan count version = refl
 welcome_reacts (call.Ask i s v m) c plan count version = refl

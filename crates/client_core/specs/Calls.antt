@@ -5,7 +5,6 @@ use Rattle.frame_codec.specs.declared.frame.Frame.TheVariants as frame
 use Rattle.frame_codec.specs.Frames.{IsFrame, encoding}
 use Rattle.pir_schemes.specs.declared.scheme.Scheme.{Scheme}
 use Rattle.pir_schemes.specs.Schemes.{scheme_byte}
-use Rattle.pir_schemes.specs.Plans.{client_profile}
 use Rattle.pir_schemes.specs.Retrievals.{query_words}
 use Rattle.client_core.specs.declared.state.ClientState.{ClientState}
 use Rattle.client_core.specs.declared.state.ServerInfo.{ServerInfo}
@@ -73,7 +72,7 @@ call_words (Some k) scheme seed number i = query_words scheme (shape_known k) k.
 -- the frame of the outstanding call. An idle client has none, and any stands here
 abbrev pub call_frame : ClientState → Call → Frame
 call_frame c call.Idle = frame.Bye
-call_frame c (call.Hello key) = frame.Hello client_profile key
+call_frame c (call.Hello key) = frame.Hello c.profile key
 call_frame c (call.Sync scheme version part) = frame.HintAsk (scheme_byte scheme) version part
 call_frame c (call.Delta since) = frame.DeltaAsk since
 call_frame c (call.Ask i scheme version number) = frame.Query (scheme_byte scheme) version (call_words c.known scheme c.seed number i)

@@ -11,7 +11,7 @@ use Rattle.pir_schemes.specs.Schemes.{scheme_byte}
 use Rattle.pir_schemes.specs.Parts.{part_len}
 use Rattle.pir_schemes.specs.declared.plan.Plan.{Plan}
 use Rattle.digit_pack.specs.Slots.{is_form}
-use Rattle.pir_schemes.specs.Plans.{shape_at, record_of}
+use Rattle.pir_schemes.specs.Plans.{accepts_profile, shape_at, record_of}
 use Rattle.pir_schemes.specs.Retrievals.{hint_rows, hint_len, answer_count, reading}
 use Rattle.client_core.specs.declared.state.ClientState.{ClientState}
 use Rattle.client_core.specs.declared.state.ServerInfo.{ServerInfo}
@@ -52,15 +52,16 @@ plan_given profile width record_len groups dimension seed = record {
   seed = seed;
 }
 
--- a Welcome that a client accepts: a form that there is, a layout and a dimension within the limits, a version
-abbrev pub is_accepted_welcome : Plan → ℕ → ℕ → Bool
-is_accepted_welcome p count version =
-    is_form p.form p.record_len && (is_layout (shape_at p count) && ((nat_le 1 p.dimension && nat_le p.dimension 1024) && nat_lt 0 version))
+-- a Welcome that a client of a profile accepts: a plan that it may have asked for, a form that there is, a layout and a dimension
+-- within the limits, a version
+abbrev pub is_accepted_welcome : ℕ → Plan → ℕ → ℕ → Bool
+is_accepted_welcome profile p count version =
+    accepts_profile p profile && (is_form p.form p.record_len && (is_layout (shape_at p count) && ((nat_le 1 p.dimension && nat_le p.dimension 1024) && nat_lt 0 version)))
 
 -- what it names is known from then on
 abbrev pub welcomed : ClientState → Plan → ℕ → ℕ → Taken
 welcomed c p count version =
-    if is_accepted_welcome p count version
+    if is_accepted_welcome c.profile p count version
     then ended (record c { known = Some (record { version = version; count = count; plan = p }) }) (Welcomed version)
     else faulty c BadWelcome
 

@@ -11,7 +11,7 @@ use Rattle.client_core.specs.declared.state.Hint.{Hint}
 use Rattle.client_core.specs.declared.state.CallFault.{CallFault}
 use Rattle.client_core.specs.declared.state.Call.TheVariants as call
 use Rattle.client_core.specs.declared.resuming.SavedClient.{SavedClient}
-use Rattle.client_core.specs.States.{IsState, shape_known, fresh, is_ready}
+use Rattle.client_core.specs.States.{IsState, shape_known, fresh_in, is_ready}
 use Rattle.client_core.specs.Calls.{Ask, refusal, change_refusal, state_after_call, call_frame, Hello}
 use Rattle.client_core.specs.Replies.{takes_welcome, is_accepted_welcome}
 use Rattle.client_core.specs.Feeding.{Course, takes_all}
@@ -61,8 +61,8 @@ IsResumed old saved (Ok false) new = (change_refusal old ≡ None) × Drops old 
 IsResumed old saved (Err fault) new = (change_refusal old ≡ Some fault) × (new ≡ old)
 
 -- a new client of a seed and a number, let in by a server of this plan with this version
-abbrev pub let_in : List ℕ → ℕ → List ℕ → ServerInfo → ClientState
-let_in seed number key now = (takes_welcome (call.Hello key) (state_after_call (Hello key) (fresh seed number)) now.plan now.count now.version).state
+abbrev pub let_in : ℕ → List ℕ → ℕ → List ℕ → ServerInfo → ClientState
+let_in profile seed number key now = (takes_welcome (call.Hello key) (state_after_call (Hello key) (fresh_in profile seed number)) now.plan now.count now.version).state
 
 -- A new client of the same seed and number, let in by what the server has become, goes on as the client that was saved, with all
 -- that this one knew and held but for what the server reports now; and asks at once where the hint is of this version.
@@ -75,15 +75,15 @@ pub record IsTheSaved (c : ClientState) (now : ServerInfo) (hint : Hint) (result
 abbrev pub ResumedIsTheSaved : Type 0
 ResumedIsTheSaved = (c new : ClientState) (key : List ℕ) (then now : ServerInfo) (h : Hint) (result : Result Bool CallFault) →
     IsState c → c.known ≡ Some then → c.hint ≡ Some h → HasBecome then now → h.version ≤ now.version →
-    is_accepted_welcome now.plan now.count now.version ≡ true →
-    IsResumed (let_in c.seed c.number key now) (saved_of c) result new → IsTheSaved c now h result new
+    is_accepted_welcome c.profile now.plan now.count now.version ≡ true →
+    IsResumed (let_in c.profile c.seed c.number key now) (saved_of c) result new → IsTheSaved c now h result new
 
 -- a hint of another plan is dropped: the client let in is as it was, and holds none
 abbrev pub AnotherPlanDropsTheHint : Type 0
-AnotherPlanDropsTheHint = (saved : SavedClient) (new : ClientState) (seed key : List ℕ) (number : ℕ) (then now : ServerInfo) (result : Result Bool CallFault) →
-    saved.known ≡ Some then → then.plan ≢ now.plan → is_accepted_welcome now.plan now.count now.version ≡ true →
-    IsResumed (let_in seed number key now) saved result new →
-    (result ≡ Ok false) × (new ≡ let_in seed number key now) × (new.hint ≡ None)
+AnotherPlanDropsTheHint = (saved : SavedClient) (new : ClientState) (profile : ℕ) (seed key : List ℕ) (number : ℕ) (then now : ServerInfo) (result : Result Bool CallFault) →
+    saved.known ≡ Some then → then.plan ≢ now.plan → is_accepted_welcome profile now.plan now.count now.version ≡ true →
+    IsResumed (let_in profile seed number key now) saved result new →
+    (result ≡ Ok false) × (new ≡ let_in profile seed number key now) × (new.hint ≡ None)
 
 -- what came of dropping a client's hint: it holds none; refused as a sync is, it is as it was
 abbrev pub IsDropped : ClientState → Result (Unit {0}) CallFault → ClientState → Type 0

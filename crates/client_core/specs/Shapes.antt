@@ -148,6 +148,7 @@ hint_name (Some h) = Some (record { scheme = h.scheme; version = h.version })
 
 -- all of a client but for its seed and what its indices and words are: `words` of an unfinished hint have come
 pub record Outline : Type 0 where
+  pub profile : ℕ
   pub number : ℕ
   pub known : Option ServerInfo
   pub hint : Option HintName
@@ -157,7 +158,7 @@ pub record Outline : Type 0 where
 
 -- a client's outline
 abbrev pub outline : ClientState → Outline
-outline c = record { number = c.number; known = c.known; hint = hint_name c.hint; words = length c.parts; call = awaited c.call; failed = c.failed }
+outline c = record { profile = c.profile; number = c.number; known = c.known; hint = hint_name c.hint; words = length c.parts; call = awaited c.call; failed = c.failed }
 
 -- ---- calls
 
@@ -223,7 +224,7 @@ ends x = record { outline = record x { call = NoReply }; sends = [] }
 -- a Welcome answers hello alone
 abbrev pub after_welcome : Awaited → Outline → Plan → ℕ → ℕ → Reacted
 after_welcome AWelcome x p count version =
-    if is_accepted_welcome p count version
+    if is_accepted_welcome x.profile p count version
     then ends (record x { known = Some (record { version = version; count = count; plan = p }) }) else fails x
 after_welcome _ x p count version = fails x
 

@@ -4,7 +4,7 @@ use Rattle.digit_pack.specs.Layout.{Shape}
 unfoldable pub use Rattle.digit_pack.specs.Layout.{is_layout}
 use Rattle.pir_schemes.specs.declared.scheme.Scheme.{Scheme}
 use Rattle.pir_schemes.specs.declared.scheme.Scheme.TheVariants.{Simple, Double}
-use Rattle.pir_schemes.specs.Plans.{IsPlan, shape_at}
+use Rattle.pir_schemes.specs.Plans.{IsPlan, shape_at, client_profile}
 use Rattle.pir_schemes.specs.Retrievals.{hint_rows, hint_len}
 use Rattle.client_core.specs.declared.state.ClientState.{ClientState}
 use Rattle.client_core.specs.declared.state.ServerInfo.{ServerInfo}
@@ -48,9 +48,14 @@ abbrev pub delta_base : Scheme → Option Hint → Option ℕ
 delta_base Simple (Some h) = simple_version h.scheme h.version
 delta_base _ hint = None
 
--- a client that holds nothing yet
+-- a client of a profile that holds nothing yet
+abbrev pub fresh_in : ℕ → List ℕ → ℕ → ClientState
+fresh_in profile seed number =
+    record { profile = profile; seed = seed; number = number; known = None; hint = None; parts = []; call = Idle; failed = false }
+
+-- a client of ordinary stores that holds nothing yet
 abbrev pub fresh : List ℕ → ℕ → ClientState
-fresh seed number = record { seed = seed; number = number; known = None; hint = None; parts = []; call = Idle; failed = false }
+fresh seed number = fresh_in (client_profile false) seed number
 
 -- the shape of the last version known
 abbrev pub shape_known : ServerInfo → Shape

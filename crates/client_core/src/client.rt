@@ -1,12 +1,13 @@
 //! The client.
 
-ghost use Rattle.std.specs.Prelude.{◌≡◌, ◌≤◌, ◌<◌, ◌^◌, [], List, ℕ, None, Some, IfOk, IfErr, MatchOption, MatchResult, length, max};
+ghost use Rattle.std.specs.Prelude.{◌≡◌, ◌≤◌, ◌<◌, ◌^◌, [], List, ℕ, true, None, Some, IfOk, IfErr, MatchOption, MatchResult, length, max};
 ghost use Rattle.frame_codec.specs.Frames.{encoding};
 ghost use Rattle.frame_codec.specs.declared.frame.Frame.{Frame};
 ghost use Rattle.pir_schemes.specs.Schemes.{scheme_byte};
+ghost use Rattle.pir_schemes.specs.Plans.{client_profile};
 ghost use Rattle.pir_schemes.specs.Retrievals.{query_words};
 ghost use Rattle.client_core.specs.declared.state.ServerInfo.{ServerInfo};
-ghost use Rattle.client_core.specs.States.{fresh, scheme_held, shape_known};
+ghost use Rattle.client_core.specs.States.{fresh, fresh_in, scheme_held, shape_known};
 ghost use Rattle.client_core.specs.Calls.{Want, Accepts, Refuses};
 ghost use Rattle.client_core.specs.Feeding.{Client, FeedsClient};
 ghost use Rattle.client_core.specs.Resuming.{IsDropped, IsResumed, saved_of};
@@ -21,7 +22,7 @@ use crate::state::{Call, CallFault, ClientFault, ClientState, Event, Hint, Serve
 use crate::taking::take_replies;
 use frame_codec::{Bytes, Bytes32, Frame, Reader};
 use matrix_u32::Kernel;
-use pir_schemes::{CLIENT_PROFILE, Scheme};
+use pir_schemes::{Scheme, client_profile};
 use std::alloc::Global;
 use std::marker::Model;
 
@@ -55,17 +56,52 @@ impl<K: Kernel> Model for ClientCore<K> {
 }
 
 impl<K: Kernel> ClientCore<K> {
-    /// A client whose secrets and noise come from `seed`, and whose first retrieval has number
+    /// A client of ordinary stores, whose secrets and noise come from `seed`, and whose first retrieval has number
     /// `first_number`, at most 2^62. The numbers below it are left alone. It takes no memory.
     pub fn new(alloc: Global, kernel: K, seed: [u8; 32], first_number: u64) -> ClientCore<K>
         requires { first_number ≤ 2 ^ 62 }
         ensures { result ≡ record { state = fresh seed first_number; reader = Some [] } }
+    {
+        ClientCore::of_profile(alloc, kernel, client_profile(false), seed, first_number)
+    }
+
+    /// The same client, of wide stores: each kind refuses the other's greeting, and a client the other's Welcome.
+    pub fn wide(alloc: Global, kernel: K, seed: [u8; 32], first_number: u64) -> ClientCore<K>
+        requires { first_number ≤ 2 ^ 62 }
+        ensures { result ≡
+            record { state = fresh_in (client_profile true) seed first_number; reader = Some [] } }
+    {
+        ClientCore::of_profile(alloc, kernel, client_profile(true), seed, first_number)
+    }
+
+    /// Whether the next greeting is one of wide stores or of ordinary ones: a client that a store refused for its profile
+    /// greets it again, in the same session, with the other. Nothing else changes, and no number is spent.
+    pub fn speak(&mut self, wide: bool)
+        ensures state { self.new.state ≡
+            record self.old.state { profile = client_profile wide } }
+        ensures reader { self.new.reader ≡ self.old.reader }
+    {
+        self.state.profile = client_profile(wide);
+    }
+
+    // A client that greets in this profile.
+    fn of_profile(
+        alloc: Global,
+        kernel: K,
+        profile: u16,
+        seed: [u8; 32],
+        first_number: u64,
+    ) -> ClientCore<K>
+        requires { first_number ≤ 2 ^ 62 }
+        ensures { result ≡
+            record { state = fresh_in profile seed first_number; reader = Some [] } }
     {
         ClientCore {
             alloc,
             kernel,
             reader: Reader::new(alloc),
             state: ClientState {
+                profile,
                 seed,
                 number: first_number,
                 known: None,
@@ -178,7 +214,7 @@ impl<K: Kernel> ClientCore<K> {
     {
         may_hello(&self.state)?;
         let frame = Frame::Hello {
-            profile: CLIENT_PROFILE,
+            profile: self.state.profile,
             key: Bytes32::copied(&key),
         };
         let bytes = encoded(self.alloc, &frame)?;

@@ -63,7 +63,10 @@ pub(crate) fn take_welcome(
         Call::Hello { .. } => {}
         _ => return fails(state, ClientFault::BadReply),
     }
-    if !plan.has_form() || !plan.has_layout(count as usize) {
+    if !plan.accepts_profile(state.profile)
+        || !plan.has_form()
+        || !plan.has_layout(count as usize)
+    {
         return fails(state, ClientFault::BadWelcome);
     }
     if plan.dimension < 1 || plan.dimension > 1024 || version == 0 {

@@ -90,6 +90,8 @@ pub enum Call {
 /// All that a client holds but for the bytes of an unfinished frame.
 #[derive(Drop)]
 pub struct ClientState {
+    /// The profile of its greeting: 130 if the store is to be a wide one, else 2.
+    pub profile: u16,
     pub seed: [u8; 32],
     pub number: u64,
     pub known: Option<ServerInfo>,

@@ -5,9 +5,10 @@
 //! overwrite it.
 #![tactic(auto)]
 
-ghost use Rattle.std.specs.Prelude.{◌≡◌, ◌≤◌, ◌^◌, [], None, Some, OnOk, OnErr, length};
+ghost use Rattle.std.specs.Prelude.{◌≡◌, ◌≤◌, ◌^◌, [], true, None, Some, OnOk, OnErr, length};
 ghost use Rattle.std.specs.Slice.{IsItemAt};
-ghost use Rattle.client_core.specs.States.{fresh};
+ghost use Rattle.pir_schemes.specs.Plans.{client_profile};
+ghost use Rattle.client_core.specs.States.{fresh, fresh_in};
 ghost use Rattle.client_core.specs.Calls.{Want};
 ghost use Rattle.hint_file.specs.Files.{plan_bytes};
 ghost use Rattle.client_session.specs.Sessions.{Answers, Feeds, Resumes, hint_file_of, store_of, record_of, rest};
@@ -74,6 +75,21 @@ impl ClientSession {
     {
         ClientSession {
             core: ClientCore::new(alloc, Lanes, seed, first_number),
+            waiting: Vec::new(alloc),
+            events: Vec::new(alloc),
+        }
+    }
+
+    /// The same client, of wide stores, as [`ClientCore::wide`] makes it.
+    pub fn wide(alloc: Global, seed: [u8; 32], first_number: u64) -> ClientSession
+        requires { first_number ≤ 2 ^ 62 }
+        ensures core { result.core ≡
+            record { state = fresh_in (client_profile true) seed first_number; reader = Some [] } }
+        ensures waiting { result.waiting.items ≡ [] }
+        ensures events { result.events.items ≡ [] }
+    {
+        ClientSession {
+            core: ClientCore::wide(alloc, Lanes, seed, first_number),
             waiting: Vec::new(alloc),
             events: Vec::new(alloc),
         }

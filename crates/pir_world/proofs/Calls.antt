@@ -127,6 +127,7 @@ module _ (x : Setting) (h : History) (seed : List ℕ) (l : Link) (g : GoodHisto
       let d = then_none (is_idle l.client.call) _ _ b.1 in
       record {
         seed_is = i.seed_is;
+        profile_is = i.profile_is;
         alive = i.alive;
         unclosed = i.unclosed;
         known = i.known;
@@ -141,6 +142,7 @@ module _ (x : Setting) (h : History) (seed : List ℕ) (l : Link) (g : GoodHisto
       LinkInvariant x h seed (link_begun base scheme l)
   sync_begins None scheme is known idle = record {
     seed_is = i.seed_is;
+    profile_is = i.profile_is;
     alive = i.alive;
     unclosed = i.unclosed;
     known = i.known;
@@ -154,6 +156,7 @@ module _ (x : Setting) (h : History) (seed : List ℕ) (l : Link) (g : GoodHisto
       let b = base_is scheme l.client.hint since is in
       record {
         seed_is = i.seed_is;
+        profile_is = i.profile_is;
         alive = i.alive;
         unclosed = i.unclosed;
         known = i.known;
@@ -180,6 +183,7 @@ module _ (x : Setting) (h : History) (seed : List ℕ) (l : Link) (g : GoodHisto
       let version : known_version l.client.known ≡ r.known.version = ap known_version r.known_is in
       record {
         seed_is = i.seed_is;
+        profile_is = i.profile_is;
         alive = i.alive;
         unclosed = i.unclosed;
         known = i.known;
@@ -208,7 +212,7 @@ pub record ReportedLink (x : Setting) (seeds : List (List ℕ)) (h : History) (k
 module _ (law : RetrievalGivesTheRecord) (x : Setting) (seeds : List (List ℕ)) (k : ℕ) (h : History) (l : Link) (g : GoodHistory x h)
     (i : LinkInvariant x h (seed_of seeds k) l) where
   client_inv : ClientInv x h (seed_of seeds k) l.standing l.client
-  client_inv = record { seed_is = i.seed_is; alive = i.alive; known = i.known; hint = i.hint; call = i.call }
+  client_inv = record { seed_is = i.seed_is; profile_is = i.profile_is; alive = i.alive; known = i.known; hint = i.hint; call = i.call }
 
   -- the link where these replies arrive and this is after them
   abbrev with_replies : List Frame → Wire → Link
@@ -224,6 +228,7 @@ module _ (law : RetrievalGivesTheRecord) (x : Setting) (seeds : List (List ℕ))
   no_reply fs b e d = rw e (record {
     link = record {
       seed_is = i.seed_is;
+      profile_is = i.profile_is;
       alive = i.alive;
       unclosed = i.unclosed;
       known = i.known;
@@ -251,6 +256,7 @@ module _ (law : RetrievalGivesTheRecord) (x : Setting) (seeds : List (List ℕ))
       rw e (record {
         link = record {
           seed_is = t.client.seed_is;
+          profile_is = t.client.profile_is;
           alive = t.client.alive;
           unclosed = i.unclosed;
           known = t.client.known;
@@ -341,10 +347,11 @@ pub served_inv : (short : Bool) (most : ℕ) (x : Setting) (seeds : List (List �
 served_inv short most x seeds k h seed l g i =
     let few = few_frames x h l.standing seed l.client l.client.call l.up.frames l.down.frames i.phase in
     let s = served_link x seeds k h seed l.standing l.client g short l.client.call l.up.frames (arrived l.up most) (beyond l.up most).frames l.down.frames
-    (split_few l.up most few.0) i.unclosed i.seed_is i.known i.hint i.call i.phase in
+    (split_few l.up most few.0) i.unclosed i.seed_is i.profile_is i.known i.hint i.call i.phase in
     record {
       link = record {
         seed_is = i.seed_is;
+        profile_is = i.profile_is;
         alive = i.alive;
         unclosed = s.unclosed;
         known = known_then x h l.standing _ l.client.known s.reader i.known;

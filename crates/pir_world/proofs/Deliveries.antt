@@ -162,7 +162,7 @@ module _ (x : Setting) (seeds : List (List ℕ)) (k : ℕ) (h : History) (l : Li
   still_unclosed : (short : Bool) (fs more : List Frame) → Split l.up.frames fs more → is_closed (serves x short k h session.standing fs).standing ≡ false
   still_unclosed short fs more s =
       rw i.standing_is (served_link x seeds k h (seed_of seeds k) l.standing l.client good short l.client.call l.up.frames fs more l.down.frames s inv.unclosed
-      inv.seed_is inv.known inv.hint inv.call inv.phase).unclosed
+      inv.seed_is inv.profile_is inv.known inv.hint inv.call inv.phase).unclosed
 
   at_ok : (f : Fed x h session (prefix most e.up) (Ok tt) store after [] replies) (frames reported more : List Frame) (middle : Standing) →
       Feeds session.unfinished (prefix most e.up) (Ok tt) frames after.unfinished

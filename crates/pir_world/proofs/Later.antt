@@ -214,6 +214,7 @@ module _ (x : Setting) (h h2 : History) (later : IsLater h h2) where
   pub link_later : (seed : List ℕ) (l : Link) → LinkInvariant x h seed l → LinkInvariant x h2 seed l
   link_later seed l i = record {
     seed_is = i.seed_is;
+    profile_is = i.profile_is;
     alive = i.alive;
     unclosed = i.unclosed;
     known = known_later l.standing l.client.known i.known;

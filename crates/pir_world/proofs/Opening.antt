@@ -1,10 +1,10 @@
 -- A world as it begins, and so every run.
-use Rattle.std.proofs.Common.{◌≡◌, ℕ, zero, suc, ◌-◌, ◌<◌, List, [], ◌∷◌, length, map, Option, Some, refl, sym, ap, subst, ◌∙◌, arith}
-use Rattle.std.specs.Prelude.{slice_get}
+use Rattle.std.proofs.Common.{◌≡◌, ◌==◌, Bool, true, false, cond, ℕ, zero, suc, ◌-◌, ◌<◌, List, [], ◌∷◌, length, map, Option, Some, refl, sym, ap, subst, ◌∙◌, arith}
+use Rattle.std.specs.Prelude.{slice_get, ◌||◌, ◌&&◌}
 use Rattle.std.proofs.lemmas.List.{length-map}
 use Rattle.matrix_u32.proofs.Products.{length-list_of}
-use Rattle.digit_pack.specs.Layout.{records_in}
-use Rattle.pir_schemes.specs.Plans.{content, records_held}
+use Rattle.digit_pack.specs.Layout.{records_in, is_wide}
+use Rattle.pir_schemes.specs.Plans.{content, records_held, client_profile}
 use Rattle.pir_schemes.specs.Laws.{RetrievalGivesTheRecord}
 use Rattle.frame_codec.specs.declared.frame.Frame.{Frame}
 use Rattle.snapshot_file.specs.declared.snapshot.Header.{Header}
@@ -33,10 +33,10 @@ only_one : {X : Type 0} (r s : X) (i : ℕ) → slice_get (r ∷ []) i ≡ Some 
 only_one r s zero e = cc
 only_one r s (suc i) e = absurd cc
 
-link_of : (seeds : List (List ℕ)) (k : ℕ) (l : Link) → slice_get (map fresh_link seeds) k ≡ Some l → fresh_link (seed_of seeds k) ≡ l
-link_of [] k l e = absurd cc
-link_of (s ∷ seeds) zero l e = cc
-link_of (s ∷ seeds) (suc k) l e = link_of seeds k l e
+link_of : (wide : Bool) (seeds : List (List ℕ)) (k : ℕ) (l : Link) → slice_get (map (fresh_link wide) seeds) k ≡ Some l → fresh_link wide (seed_of seeds k) ≡ l
+link_of wide [] k l e = absurd cc
+link_of wide (s ∷ seeds) zero l e = cc
+link_of wide (s ∷ seeds) (suc k) l e = link_of wide seeds k l e
 
 -- the records that a snapshot's bytes hold
 abbrev held : (h : Header) (bytes : List ℕ) → List (List ℕ)
@@ -50,6 +50,12 @@ opening_records h bytes o =
       each = λ i lt. held_is (plan_held h) (shape_of h) bytes refl o.sound.len o.bytes (held_slots h bytes o.sound.slots) i (omega (arith, lt, n));
     }
 
+-- the profile asked for is one that the server accepts
+asked_accepted : (wide one plain : Bool) → cond wide ((client_profile wide == 130) || ((client_profile wide == 129) && plain))
+    ((client_profile wide == 2) || ((client_profile wide == 1) && one)) ≡ true
+asked_accepted true one plain = refl
+asked_accepted false one plain = refl
+
 pub opening_inv : (h : Header) (bytes : List ℕ) (seeds : List (List ℕ)) → IsOpening h bytes → WorldInvariant (setting_in h) seeds (opening h bytes seeds)
 opening_inv h bytes seeds o =
     let all = opening_records h bytes o in
@@ -61,9 +67,9 @@ opening_inv h bytes seeds o =
             (sym (records_at (opening h bytes seeds).history v p.0) ∙ p.1)) all;
         draft = all;
       };
-      links = λ k l e. subst (λ (m : Link). LinkInvariant (setting_in h) (opening h bytes seeds).history (seed_of seeds k) m) (link_of seeds k l e)
-          (record { seed_is = refl; alive = refl; unclosed = refl; known = tt; hint = tt; call = tt; phase = (refl, refl) });
-      logs = λ k l e. subst (λ (m : Link). LogInvariant (setting_in h) (opening h bytes seeds).history (seed_of seeds k) k m []) (link_of seeds k l e)
+      links = λ k l e. subst (λ (m : Link). LinkInvariant (setting_in h) (opening h bytes seeds).history (seed_of seeds k) m) (link_of (is_wide h.form) seeds k l e)
+          (record { seed_is = refl; profile_is = asked_accepted (is_wide h.form) (h.form == 1) (h.form == 129); alive = refl; unclosed = refl; known = tt; hint = tt; call = tt; phase = (refl, refl) });
+      logs = λ k l e. subst (λ (m : Link). LogInvariant (setting_in h) (opening h bytes seeds).history (seed_of seeds k) k m []) (link_of (is_wide h.form) seeds k l e)
           (record {
             number = refl;
             hint = refl;
@@ -90,22 +96,22 @@ headline law h bytes seeds steps last o r =
 fresh_wire : Carries (Some []) [] silent
 fresh_wire = record { unfinished = []; reader_is = refl; bytes = refl; got = refl; each = tt }
 
-fresh_end : (seed : List ℕ) → EndIs (fresh_side seed) new_session (fresh_link seed)
-fresh_end seed = record { client_is = refl; standing_is = refl; up = fresh_wire; down = fresh_wire }
+fresh_end : (wide : Bool) (seed : List ℕ) → EndIs (fresh_side wide seed) new_session (fresh_link wide seed)
+fresh_end wide seed = record { client_is = refl; standing_is = refl; up = fresh_wire; down = fresh_wire }
 
-fresh_matched : (seeds : List (List ℕ)) (k : ℕ) (o : Option Session) → (k < length seeds → o ≡ Some new_session) →
-    Matched (slice_get (map fresh_side seeds) k) o (slice_get (map fresh_link seeds) k)
-fresh_matched [] k o e = tt
-fresh_matched (s ∷ seeds) zero o e = rw (e (omega arith)) (fresh_end s)
-fresh_matched (s ∷ seeds) (suc k) o e = fresh_matched seeds k o (λ lt. e (omega (arith, lt)))
+fresh_matched : (wide : Bool) (seeds : List (List ℕ)) (k : ℕ) (o : Option Session) → (k < length seeds → o ≡ Some new_session) →
+    Matched (slice_get (map (fresh_side wide) seeds) k) o (slice_get (map (fresh_link wide) seeds) k)
+fresh_matched wide [] k o e = tt
+fresh_matched wide (s ∷ seeds) zero o e = rw (e (omega arith)) (fresh_end wide s)
+fresh_matched wide (s ∷ seeds) (suc k) o e = fresh_matched wide seeds k o (λ lt. e (omega (arith, lt)))
 
 pub opening_parts : (h : Header) (bytes : List ℕ) (seeds : List (List ℕ)) (core : Core) (ends : List Side) (os : List Outcome) → core.store ≡ held_of h bytes →
-    StandsFor core.store (opened h.version (held h bytes)) → ends ≡ map fresh_side seeds
+    StandsFor core.store (opened h.version (held h bytes)) → ends ≡ map (fresh_side (is_wide h.form)) seeds
     → ((id : ℕ) → id < length seeds → session_of core.sessions id ≡ Some new_session) → os ≡ [] → IsParts (setting_in h) core ends os (opening h bytes seeds)
 opening_parts h bytes seeds core ends os held stands e at none = record {
   setting_is = ap (λ (s : StoreState). setting_of s) held;
   store_is = stands;
-  ends_are = λ k. rw e (fresh_matched seeds k (session_of core.sessions k) (at k));
+  ends_are = λ k. rw e (fresh_matched (is_wide h.form) seeds k (session_of core.sessions k) (at k));
   outcomes_are = none;
 }
 

@@ -57,12 +57,12 @@ take-next [] i lt = absurd (omega arith)
 take-next (y ∷ ys) zero lt = refl
 take-next (y ∷ ys) (suc i) lt = ap (λ (s : List (List ℕ)). y ∷ s) (take-next ys i (omega arith))
 
-pub ends_more : (seeds : List (List ℕ)) (ends more : List Side) (i : ℕ) (e : Side) → i < length seeds → ends ≡ map fresh_side (take i seeds) →
-    more ≡ ends ++ e ∷ [] → e ≡ fresh_side (slice_index_or seeds i []) → more ≡ map fresh_side (take (i + 1) seeds)
-ends_more seeds ends more i e lt a b d =
+pub ends_more : (wide : Bool) (seeds : List (List ℕ)) (ends more : List Side) (i : ℕ) (e : Side) → i < length seeds → ends ≡ map (fresh_side wide) (take i seeds) →
+    more ≡ ends ++ e ∷ [] → e ≡ fresh_side wide (slice_index_or seeds i []) → more ≡ map (fresh_side wide) (take (i + 1) seeds)
+ends_more wide seeds ends more i e lt a b d =
     let next : suc i ≡ i + 1 = omega arith in
-    b ∙ rw (a, d) (sym (map-append fresh_side (take i seeds) (slice_index_or seeds i [] ∷ [])))
-    ∙ ap (λ (s : List (List ℕ)). map fresh_side s) (take-next seeds i lt) ∙ ap (λ (n : ℕ). map fresh_side (take n seeds)) next
+    b ∙ rw (a, d) (sym (map-append (fresh_side wide) (take i seeds) (slice_index_or seeds i [] ∷ [])))
+    ∙ ap (λ (s : List (List ℕ)). map (fresh_side wide) s) (take-next seeds i lt) ∙ ap (λ (n : ℕ). map (fresh_side wide) (take n seeds)) next
 
 pub sessions_more : (old new : List (ℕ × Session)) (i : ℕ) → ((j : ℕ) → j < i → session_of old j ≡ Some new_session) →
     ((j : ℕ) → i ≤ j → session_of old j ≡ None) → session_of new i ≡ Some new_session

@@ -7,7 +7,7 @@ use Rattle.std.proofs.lemmas.Bool.{cases_Bool, eqb-true, eqb-false, eq-eqb, lt-l
 use Rattle.pir_schemes.specs.declared.scheme.Scheme.{Scheme}
 use Rattle.pir_schemes.specs.declared.scheme.Scheme.TheVariants.{Simple, Double}
 use Rattle.pir_schemes.specs.Schemes.{scheme_byte, scheme_of_byte}
-use Rattle.pir_schemes.specs.Plans.{shape_at, client_profile}
+use Rattle.pir_schemes.specs.Plans.{shape_at, accepts_profile}
 use Rattle.pir_schemes.proofs.Lengths.{length_query}
 use Rattle.frame_codec.specs.declared.frame.Frame.{Frame}
 use Rattle.frame_codec.specs.declared.frame.Frame.TheVariants as frame
@@ -48,10 +48,10 @@ reader_key_is : is_reader_key (replicate 32 0) ≡ true
 unfolding is_reader_key
 reader_key_is = refl
 
-welcomed : (short : Bool) (x : Setting) (h : History) (seed : List ℕ) (st : Standing) →
-    Replied x h seed st (Hello reader_key) (frame.Hello client_profile reader_key) (served_or short x h st (frame.Hello client_profile reader_key))
-welcomed false x h seed st =
-    rw reader_key_is (record {
+welcomed : (short : Bool) (x : Setting) (h : History) (seed : List ℕ) (st : Standing) (profile : ℕ) → accepts_profile x.plan profile ≡ true →
+    Replied x h seed st (Hello reader_key) (frame.Hello profile reader_key) (served_or short x h st (frame.Hello profile reader_key))
+welcomed false x h seed st profile asked =
+    rw (asked, reader_key_is) (record {
       history_is = refl;
       unclosed = refl;
       reader = λ e. refl;
@@ -59,8 +59,8 @@ welcomed false x h seed st =
           (_, refl, (refl, (current_version h, h.current, newest h, refl)));
       right = tt;
     })
-welcomed true x h seed st =
-    rw reader_key_is (record {
+welcomed true x h seed st profile asked =
+    rw (asked, reader_key_is) (record {
       history_is = refl;
       unclosed = refl;
       reader = λ e. refl;
@@ -314,43 +314,43 @@ module _ (x : Setting) (seeds : List (List ℕ)) (k : ℕ) (h : History) (seed :
       (there.0, there.1, w)
 
   -- the outstanding call's frame is served
-  replied : GoodHistory x h → (short : Bool) (call : Call) → (call ≡ Idle → ⊥) → c.seed ≡ seed → KnownIs x h st c.known → HintIs x h c.hint → CallIs x h c call →
+  replied : GoodHistory x h → (short : Bool) (call : Call) → (call ≡ Idle → ⊥) → c.seed ≡ seed → accepts_profile x.plan c.profile ≡ true → KnownIs x h st c.known → HintIs x h c.hint → CallIs x h c call →
       Replied x h seed st call (call_frame c call) (served_or short x h st (call_frame c call))
-  replied g short Idle busy s known hint i = absurd (busy refl)
-  replied g short (Hello key) busy s known hint i = rw i (welcomed short x h seed st)
-  replied g short (Sync scheme v p) busy s known hint i =
+  replied g short Idle busy s asked known hint i = absurd (busy refl)
+  replied g short (Hello key) busy s asked known hint i = rw i (welcomed short x h seed st c.profile asked)
+  replied g short (Sync scheme v p) busy s asked known hint i =
       subst (λ (y : Standing). Replied x h seed y (Sync scheme v p) (frame.HintAsk (scheme_byte scheme) v p)
       (served_or short x h y (frame.HintAsk (scheme_byte scheme) v p)))
       (sym (known_is c.known i.k known i.known_is).0) (replied_sync x h seed scheme v p short c.known c.parts i)
-  replied g short (Delta since) busy s known hint i =
+  replied g short (Delta since) busy s asked known hint i =
       let y = known_is c.known i.k known i.known_is in
       let v = hint_version c.hint i.hint since hint i.hint_is i.version_is in
       subst (λ (z : Standing). Replied x h seed z (Delta since) (frame.DeltaAsk since) (served_or short x h z (frame.DeltaAsk since)))
       (sym y.0) (replied_delta x h g seed since v.0 v.1 short)
-  replied g short (Ask j scheme v n) busy s known hint i =
+  replied g short (Ask j scheme v n) busy s asked known hint i =
       let y = known_is c.known i.k known i.known_is in
       let w = ask_words j scheme v n s known hint i in
       subst (λ (z : Standing). Replied x h seed z (Ask j scheme v n) (frame.Query (scheme_byte scheme) v (call_words c.known scheme c.seed n j))
       (served_or short x h z (frame.Query (scheme_byte scheme) v (call_words c.known scheme c.seed n j))))
       (sym y.0) (replied_ask x h seed j scheme v n w.0 w.1 short (call_words c.known scheme c.seed n j) w.2)
-  replied g short (Edit j bytes) busy s known hint i = absurd i
-  replied g short (Append bytes) busy s known hint i = absurd i
-  replied g short Publish busy s known hint i = absurd i
+  replied g short (Edit j bytes) busy s asked known hint i = absurd i
+  replied g short (Append bytes) busy s asked known hint i = absurd i
+  replied g short Publish busy s asked known hint i = absurd i
 
   -- what the server makes of the frames that come of a link, which are none or all
-  pub served_link : GoodHistory x h → (short : Bool) (call : Call) (up fs up2 down : List Frame) → Split up fs up2 → is_closed st ≡ false → c.seed ≡ seed →
+  pub served_link : GoodHistory x h → (short : Bool) (call : Call) (up fs up2 down : List Frame) → Split up fs up2 → is_closed st ≡ false → c.seed ≡ seed → accepts_profile x.plan c.profile ≡ true →
       KnownIs x h st c.known → HintIs x h c.hint → CallIs x h c call
       → Phase x h st seed c call up down → ServedLink x seeds h seed st c call (serves x short k h st fs) up2 (down ++ (serves x short k h st fs).replies)
-  served_link g short Idle up fs up2 down (inl a) o s known hint i p = nothing_comes short Idle fs up2 down o a.0 (a.1 ∙ p.0, p.1)
-  served_link g short Idle up fs up2 down (inr a) o s known hint i p = nothing_comes short Idle fs up2 down o (a.0 ∙ p.0) (a.1, p.1)
-  served_link g short (Hello key) up fs up2 down a o s known hint i p =
-      served_flight short (Hello key) up fs up2 down a o (replied g short (Hello key) (λ e. (cc)) s known hint i) p p
-  served_link g short (Sync scheme v q) up fs up2 down a o s known hint i p =
-      served_flight short (Sync scheme v q) up fs up2 down a o (replied g short (Sync scheme v q) (λ e. (cc)) s known hint i) p p
-  served_link g short (Delta since) up fs up2 down a o s known hint i p =
-      served_flight short (Delta since) up fs up2 down a o (replied g short (Delta since) (λ e. (cc)) s known hint i) p p
-  served_link g short (Ask j z v n) up fs up2 down a o s known hint i p =
-      served_flight short (Ask j z v n) up fs up2 down a o (replied g short (Ask j z v n) (λ e. (cc)) s known hint i) p p
-  served_link g short (Edit j bytes) up fs up2 down a o s known hint i p = absurd p
-  served_link g short (Append bytes) up fs up2 down a o s known hint i p = absurd p
-  served_link g short Publish up fs up2 down a o s known hint i p = absurd p
+  served_link g short Idle up fs up2 down (inl a) o s asked known hint i p = nothing_comes short Idle fs up2 down o a.0 (a.1 ∙ p.0, p.1)
+  served_link g short Idle up fs up2 down (inr a) o s asked known hint i p = nothing_comes short Idle fs up2 down o (a.0 ∙ p.0) (a.1, p.1)
+  served_link g short (Hello key) up fs up2 down a o s asked known hint i p =
+      served_flight short (Hello key) up fs up2 down a o (replied g short (Hello key) (λ e. (cc)) s asked known hint i) p p
+  served_link g short (Sync scheme v q) up fs up2 down a o s asked known hint i p =
+      served_flight short (Sync scheme v q) up fs up2 down a o (replied g short (Sync scheme v q) (λ e. (cc)) s asked known hint i) p p
+  served_link g short (Delta since) up fs up2 down a o s asked known hint i p =
+      served_flight short (Delta since) up fs up2 down a o (replied g short (Delta since) (λ e. (cc)) s asked known hint i) p p
+  served_link g short (Ask j z v n) up fs up2 down a o s asked known hint i p =
+      served_flight short (Ask j z v n) up fs up2 down a o (replied g short (Ask j z v n) (λ e. (cc)) s asked known hint i) p p
+  served_link g short (Edit j bytes) up fs up2 down a o s asked known hint i p = absurd p
+  served_link g short (Append bytes) up fs up2 down a o s asked known hint i p = absurd p
+  served_link g short Publish up fs up2 down a o s asked known hint i p = absurd p

@@ -131,7 +131,7 @@ call_frame_like c d v w r a e = made v w r e
 
     made : (v w : Want) → IsReaders v → IsWantLike v w
         → IsFrameLike (call_frame (state_after_call v c) (state_after_call v c).call) (call_frame (state_after_call w d) (state_after_call w d).call)
-    made (Hello key) w r e = rw e refl
+    made (Hello key) w r e = rw e (ap (λ (o : Outline). frame.Hello o.profile key) (sym a))
     made (Sync s) w r e =
         rw e (same_frame (call_frame (state_after_call (Sync s) c) (state_after_call (Sync s) c).call)
         (call_frame (state_after_call (Sync s) d) (state_after_call (Sync s) d).call) (begun_frame (delta_base s d.hint) s d
@@ -170,7 +170,7 @@ part_sends (call.Sync s v p) c scheme version part words = asked c.known
 part_sends k c scheme version part words = inl refl
 
 welcome_sends : (k : Call) (c : ClientState) (plan : Plan) (count version : ℕ) → Sends (takes_welcome k c plan count version)
-welcome_sends (call.Hello key) c plan count version = either (is_accepted_welcome plan count version) _ _ (inl refl) (inl refl)
+welcome_sends (call.Hello key) c plan count version = either (is_accepted_welcome c.profile plan count version) _ _ (inl refl) (inl refl)
 welcome_sends k c plan count version = inl refl
 
 answer_sends : (k : Call) (c : ClientState) (scheme version : ℕ) (words : List ℕ) → Sends (takes_answer k c scheme version words)

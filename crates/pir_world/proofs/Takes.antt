@@ -18,7 +18,7 @@ use Rattle.pir_schemes.specs.Schemes.{scheme_byte}
 use Rattle.pir_schemes.specs.Parts.{part_len}
 use Rattle.pir_schemes.specs.declared.plan.Plan.{Plan}
 use Rattle.digit_pack.specs.Slots.{is_form}
-use Rattle.pir_schemes.specs.Plans.{IsPlan, shape_at}
+use Rattle.pir_schemes.specs.Plans.{IsPlan, shape_at, accepts_profile}
 use Rattle.pir_schemes.specs.Retrievals.{hint_rows as rows_of_hint, hint_len, hint_matrix, reading}
 use Rattle.pir_schemes.specs.Laws.{RetrievalGivesTheRecord}
 use Rattle.pir_schemes.proofs.Lengths.{hint_sizes, length-answer}
@@ -57,6 +57,7 @@ one_alike x y e = cc
 -- what is kept of a client
 pub record ClientInv (x : Setting) (h : History) (seed : List ℕ) (st : Standing) (c : ClientState) : Type 0 where
   pub seed_is : c.seed ≡ seed
+  pub profile_is : accepts_profile x.plan c.profile ≡ true
   pub alive : c.failed ≡ false
   pub known : KnownIs x h st c.known
   pub hint : HintIs x h c.hint
@@ -87,12 +88,13 @@ pub record IsTaken (x : Setting) (seeds : List (List ℕ)) (k : ℕ) (h : Histor
 plan_accepted : (p : Plan) (n : ℕ) (l : Shape) → IsPlan p n → l ≡ shape_at p n → is_layout l ≡ true
 plan_accepted p n l ok e = rw e (layout_accepted (shape_at p n) ok.layout)
 
-welcome_good : (p : Plan) (n v : ℕ) → IsPlan p n → 0 < v → is_accepted_welcome p n v ≡ true
-welcome_good p n v ok lt =
+welcome_good : (profile : ℕ) (p : Plan) (n v : ℕ) → accepts_profile p profile ≡ true → IsPlan p n → 0 < v → is_accepted_welcome profile p n v ≡ true
+welcome_good profile p n v asked ok lt =
+    and_from (accepts_profile p profile) _ asked (
     and_from (is_form p.form p.record_len) _ ok.form
     (and_from (is_layout (shape_at p n)) _ (layout_accepted (shape_at p n) ok.layout)
     (and_from (nat_le 1 p.dimension && nat_le p.dimension 1024) (nat_lt 0 v) (and_from _ _ (le-leb 1 p.dimension ok.low) (le-leb p.dimension 1024 ok.high))
-    (lt-ltb 0 v lt)))
+    (lt-ltb 0 v lt))))
 
 matrix_same : (m : WordMatrix) (r c : ℕ) (w : List ℕ) → r ≡ m.rows → c ≡ m.cols → w ≡ m.words → record { rows = r; cols = c; words = w } ≡ m
 matrix_same m r c w a b d = rw (a, b, d) refl
@@ -149,9 +151,10 @@ module _ (law : RetrievalGivesTheRecord) (x : Setting) (seeds : List (List ℕ))
   welcomed : (key : List ℕ) (v : ℕ) (records : List (List ℕ)) → HasVersion h v records → st ≡ Reader →
       IsTaken x seeds k h st c (Hello key) (welcome_frame x v records)
       (takes_welcome (Hello key) c x.plan (length records) v)
-  welcomed key v records p reader = rw (welcome_good x.plan (length records) v (plan_ok v records p) (version_positive x h v records g p)) (record {
+  welcomed key v records p reader = rw (welcome_good c.profile x.plan (length records) v i.profile_is (plan_ok v records p) (version_positive x h v records g p)) (record {
     client = record {
       seed_is = i.seed_is;
+      profile_is = i.profile_is;
       alive = i.alive;
       known = (reader, record { records = records; version_is = p; plan_is = refl; count_is = refl });
       hint = i.hint;
@@ -168,7 +171,7 @@ module _ (law : RetrievalGivesTheRecord) (x : Setting) (seeds : List (List ℕ))
 
   refused_sync : (s : Scheme) (v q code : ℕ) → IsTaken x seeds k h st c (Sync s v q) (frame.Refused code) (takes_refused (Sync s v q) c code)
   refused_sync s v q code = record {
-    client = record { seed_is = i.seed_is; alive = i.alive; known = i.known; hint = i.hint; call = tt };
+    client = record { seed_is = i.seed_is; profile_is = i.profile_is; alive = i.alive; known = i.known; hint = i.hint; call = tt };
     no_fault = refl;
     phase = (refl, refl);
     right = (tt, tt);
@@ -180,7 +183,7 @@ module _ (law : RetrievalGivesTheRecord) (x : Setting) (seeds : List (List ℕ))
 
   refused_delta : (since code : ℕ) → IsTaken x seeds k h st c (Delta since) (frame.Refused code) (takes_refused (Delta since) c code)
   refused_delta since code = record {
-    client = record { seed_is = i.seed_is; alive = i.alive; known = i.known; hint = i.hint; call = tt };
+    client = record { seed_is = i.seed_is; profile_is = i.profile_is; alive = i.alive; known = i.known; hint = i.hint; call = tt };
     no_fault = refl;
     phase = (refl, refl);
     right = (tt, tt);
@@ -193,7 +196,7 @@ module _ (law : RetrievalGivesTheRecord) (x : Setting) (seeds : List (List ℕ))
   refused_ask : (j : ℕ) (s : Scheme) (v n : ℕ) →
       IsTaken x seeds k h st c (Ask j s v n) (refused refusal.Memory) (takes_refused (Ask j s v n) c (code_of refusal.Memory))
   refused_ask j s v n = record {
-    client = record { seed_is = i.seed_is; alive = i.alive; known = i.known; hint = i.hint; call = tt };
+    client = record { seed_is = i.seed_is; profile_is = i.profile_is; alive = i.alive; known = i.known; hint = i.hint; call = tt };
     no_fault = refl;
     phase = (refl, refl);
     right = (inr (inr (refl, refl)), tt);
@@ -235,7 +238,7 @@ module _ (law : RetrievalGivesTheRecord) (x : Setting) (seeds : List (List ℕ))
     stale_sync : (s : Scheme) (v q now : ℕ) (records : List (List ℕ)) → HasVersion h now records → v < now
         → IsTaken x seeds k h st c (Sync s v q) (frame.Stale now (length records)) (takes_stale (Sync s v q) c now (length records))
     stale_sync s v q now records p lt = rw (at, stale_good v now records p lt) (record {
-      client = record { seed_is = i.seed_is; alive = i.alive; known = (known.0, is_reported now records p); hint = i.hint; call = tt };
+      client = record { seed_is = i.seed_is; profile_is = i.profile_is; alive = i.alive; known = (known.0, is_reported now records p); hint = i.hint; call = tt };
       no_fault = refl;
       phase = (refl, refl);
       right = ((records, p), tt);
@@ -248,7 +251,7 @@ module _ (law : RetrievalGivesTheRecord) (x : Setting) (seeds : List (List ℕ))
     stale_ask : (j : ℕ) (s : Scheme) (v n now : ℕ) (records : List (List ℕ)) → HasVersion h now records → v < now
         → IsTaken x seeds k h st c (Ask j s v n) (frame.Stale now (length records)) (takes_stale (Ask j s v n) c now (length records))
     stale_ask j s v n now records p lt = rw (at, stale_good v now records p lt) (record {
-      client = record { seed_is = i.seed_is; alive = i.alive; known = (known.0, is_reported now records p); hint = i.hint; call = tt };
+      client = record { seed_is = i.seed_is; profile_is = i.profile_is; alive = i.alive; known = (known.0, is_reported now records p); hint = i.hint; call = tt };
       no_fault = refl;
       phase = (refl, refl);
       right = (inr (inl (record { now = now; records = records; version_is = p; later = lt; reply_is = refl; event_is = refl })), tt);
@@ -264,6 +267,7 @@ module _ (law : RetrievalGivesTheRecord) (x : Setting) (seeds : List (List ℕ))
     parts_instead since now records p = rw (at, current_good now records p) (record {
       client = record {
         seed_is = i.seed_is;
+        profile_is = i.profile_is;
         alive = i.alive;
         known = (known.0, is_reported now records p);
         hint = tt;
@@ -341,6 +345,7 @@ module _ (law : RetrievalGivesTheRecord) (x : Setting) (seeds : List (List ℕ))
           (frame.Delta since d.now (length d.records) (row_list new.cols (rows_of new d.numbers))) t) (sym moved_is) (record {
             client = record {
               seed_is = i.seed_is;
+              profile_is = i.profile_is;
               alive = i.alive;
               known = (known.0, is_reported d.now d.records d.version_is);
               hint = (d.records, d.version_is, ap (λ (s : Scheme). hint_matrix s x.plan d.records) (sym a.scheme_is));
@@ -397,7 +402,7 @@ module _ (law : RetrievalGivesTheRecord) (x : Setting) (seeds : List (List ℕ))
           let whole : words ≡ hint_words x s r.records = all
           ∙ take_all (65536 * (p + 1)) (hint_words x s r.records) (omega (arith, length-take (65536 * (p + 1)) (hint_words x s r.records), same)) in
           rw t (record {
-            client = record { seed_is = i.seed_is; alive = i.alive; known = i.known; hint = (r.records, r.version_is, made words whole); call = tt };
+            client = record { seed_is = i.seed_is; profile_is = i.profile_is; alive = i.alive; known = i.known; hint = (r.records, r.version_is, made words whole); call = tt };
             no_fault = refl;
             phase = (refl, refl);
             right = ((r.records, r.version_is), tt);
@@ -413,6 +418,7 @@ module _ (law : RetrievalGivesTheRecord) (x : Setting) (seeds : List (List ℕ))
           rw t (record {
             client = record {
               seed_is = i.seed_is;
+              profile_is = i.profile_is;
               alive = i.alive;
               known = i.known;
               hint = i.hint;
@@ -499,7 +505,7 @@ module _ (law : RetrievalGivesTheRecord) (x : Setting) (seeds : List (List ℕ))
 
       answer_came : IsTaken x seeds k h st c (Ask j s v n) (frame.Answer (scheme_byte s) v answer) (takes_answer (Ask j s v n) c (scheme_byte s) v answer)
       answer_came = subst (λ (t : Taken). IsTaken x seeds k h st c (Ask j s v n) (frame.Answer (scheme_byte s) v answer) t) (sym answer_step) (record {
-        client = record { seed_is = i.seed_is; alive = i.alive; known = i.known; hint = i.hint; call = tt };
+        client = record { seed_is = i.seed_is; profile_is = i.profile_is; alive = i.alive; known = i.known; hint = i.hint; call = tt };
         no_fault = refl;
         phase = (refl, refl);
         right = (inl answer_right, tt);

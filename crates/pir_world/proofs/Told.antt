@@ -384,7 +384,7 @@ module _ (x : Setting) (seeds : List (List ℕ)) (h : History) (k : ℕ) (l : Li
   logged_reported law good most i =
       let few = (few_frames x h l.standing (seed_of seeds k) l.client l.client.call l.up.frames l.down.frames i.phase).1 in
       let inv : ClientInv x h (seed_of seeds k) l.standing l.client =
-      record { seed_is = i.seed_is; alive = i.alive; known = i.known; hint = i.hint; call = i.call } in
+      record { seed_is = i.seed_is; profile_is = i.profile_is; alive = i.alive; known = i.known; hint = i.hint; call = i.call } in
       elim few [
         | inl e ↦ let a = none_arrives l.down most e in reported_none (arrived l.down most) (beyond l.down most) a.0 (a.1 ∙ sym e)
         | inr p ↦ elim (one_arrives l.down most p.0 p.1) [

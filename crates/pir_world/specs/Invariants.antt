@@ -8,7 +8,7 @@ use Rattle.pir_schemes.specs.declared.scheme.Scheme.TheVariants.{Simple}
 use Rattle.pir_schemes.specs.Schemes.{scheme_byte}
 use Rattle.pir_schemes.specs.Retrievals.{hint_matrix}
 use Rattle.pir_schemes.specs.declared.plan.Plan.{Plan}
-use Rattle.pir_schemes.specs.Plans.{IsPlan, IsRecordOf, shape_at, profile_of}
+use Rattle.pir_schemes.specs.Plans.{IsPlan, IsRecordOf, shape_at, profile_of, accepts_profile}
 use Rattle.frame_codec.specs.declared.frame.Frame.{Frame}
 use Rattle.frame_codec.specs.declared.frame.Frame.TheVariants as frame
 use Rattle.frame_codec.specs.declared.refusal.Refusal.TheVariants as refusal
@@ -154,6 +154,7 @@ Phase x h st seed c Publish up down = ⊥
 -- a client, its session and what is between them
 pub record LinkInvariant (x : Setting) (h : History) (seed : List ℕ) (l : Link) : Type 0 where
   pub seed_is : l.client.seed ≡ seed
+  pub profile_is : accepts_profile x.plan l.client.profile ≡ true
   pub alive : l.client.failed ≡ false
   pub unclosed : is_closed l.standing ≡ false
   pub known : KnownIs x h l.standing l.client.known

@@ -3,8 +3,8 @@ use Rattle.std.specs.Prelude.{◌≡◌, ◌<◌, ◌+◌, ◌-◌, ◌^◌, ◌
 use Rattle.std.specs.List.{flat_map}
 use Rattle.pir_schemes.specs.declared.scheme.Scheme.{Scheme}
 use Rattle.pir_schemes.specs.Schemes.{scheme_byte}
-use Rattle.digit_pack.specs.Layout.{is_layout}
-use Rattle.pir_schemes.specs.Plans.{fits, records_held, shape_at}
+use Rattle.digit_pack.specs.Layout.{is_layout, is_wide}
+use Rattle.pir_schemes.specs.Plans.{fits, records_held, shape_at, client_profile}
 use Rattle.frame_codec.specs.declared.frame.Frame.{Frame}
 use Rattle.frame_codec.specs.declared.frame.Frame.TheVariants as frame
 use Rattle.frame_codec.specs.declared.refusal.Refusal.TheVariants as refusal
@@ -26,7 +26,7 @@ use Rattle.client_core.specs.declared.state.CallFault.{CallFault}
 use Rattle.client_core.specs.declared.state.Event.{Event}
 use Rattle.client_core.specs.declared.state.Reaction.{Reaction}
 use Rattle.client_core.specs.declared.state.Reaction.TheVariants.{Asks, Reports, Fails}
-use Rattle.client_core.specs.States.{fresh}
+use Rattle.client_core.specs.States.{fresh_in}
 use Rattle.client_core.specs.Calls.{Want, refusal, state_after_call, call_frame}
 use Rattle.client_core.specs.Calls.{Hello as want_hello, Sync as want_sync, Ask as want_ask}
 use Rattle.client_core.specs.Replies.{reaction_to_reply}
@@ -283,9 +283,9 @@ abbrev pub Run : Setting → State → List Step → State → Type 0
 Run x s [] t = t ≡ s
 Run x s (step ∷ steps) t = (mid : State) × Steps x s step mid × Run x mid steps t
 
--- a link as it begins
-abbrev pub fresh_link : List ℕ → Link
-fresh_link seed = record { client = fresh seed 0; standing = Stranger; up = silent; down = silent }
+-- a link as it begins, of a client of wide stores or of ordinary ones
+abbrev pub fresh_link : Bool → List ℕ → Link
+fresh_link wide seed = record { client = fresh_in (client_profile wide) seed 0; standing = Stranger; up = silent; down = silent }
 
 -- what a snapshot fixes for every version
 abbrev pub setting_in : Header → Setting
@@ -293,4 +293,4 @@ setting_in h = record { plan = plan_held h; publisher = h.publisher }
 
 -- one version of some records, with a client for each seed
 abbrev pub opening : Header → List ℕ → List (List ℕ) → State
-opening h records seeds = record { history = opened h.version (records_held (plan_held h) h.count records); links = map fresh_link seeds; log = [] }
+opening h records seeds = record { history = opened h.version (records_held (plan_held h) h.count records); links = map (fresh_link (is_wide h.form)) seeds; log = [] }

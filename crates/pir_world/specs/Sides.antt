@@ -6,10 +6,11 @@ use Rattle.version_store.specs.Histories.{StoreState, History, StandsFor}
 use Rattle.server_core.specs.Serving.{Setting, setting_of}
 use Rattle.server_core.specs.Sessions.{Session, Fed}
 use Rattle.server_core.specs.Cores.{Core, session_of}
+use Rattle.pir_schemes.specs.Plans.{client_profile}
 use Rattle.client_core.specs.declared.state.CallFault.{CallFault}
 use Rattle.client_core.specs.declared.state.ClientFault.{ClientFault}
 use Rattle.client_core.specs.declared.state.Event.{Event}
-use Rattle.client_core.specs.States.{fresh}
+use Rattle.client_core.specs.States.{fresh_in}
 use Rattle.client_core.specs.Calls.{Want, Accepts, refusal}
 use Rattle.client_core.specs.Calls.{Hello as want_hello, Sync as want_sync, Ask as want_ask}
 use Rattle.client_core.specs.Feeding.{Client, FeedsClient}
@@ -26,9 +27,9 @@ pub record Side : Type 0 where
   pub up : List ℕ
   pub down : List ℕ
 
--- a client of a seed that has sent nothing
-abbrev pub fresh_side : List ℕ → Side
-fresh_side seed = record { client = record { state = fresh seed 0; reader = Some [] }; up = []; down = [] }
+-- a client of a seed, of wide stores or of ordinary ones, that has sent nothing
+abbrev pub fresh_side : Bool → List ℕ → Side
+fresh_side wide seed = record { client = record { state = fresh_in (client_profile wide) seed 0; reader = Some [] }; up = []; down = [] }
 
 -- the call that is asked for
 abbrev pub want_of : Request → Want

@@ -42,12 +42,17 @@ impl<K: Kernel> Model for ClientEndpoint<K> {
 }
 
 impl<K: Kernel> ClientEndpoint<K> {
-    /// A client of this seed that has sent nothing.
-    pub fn new(alloc: Global, kernel: K, seed: [u8; 32]) -> ClientEndpoint<K>
-        ensures { result ≡ fresh_side seed }
+    /// A client of this seed that has sent nothing, of a wide store or of an ordinary one.
+    pub fn new(alloc: Global, kernel: K, wide: bool, seed: [u8; 32]) -> ClientEndpoint<K>
+        ensures { result ≡ fresh_side wide seed }
     {
+        let client = if wide {
+            ClientCore::wide(alloc, kernel, seed, 0)
+        } else {
+            ClientCore::new(alloc, kernel, seed, 0)
+        };
         ClientEndpoint {
-            client: ClientCore::new(alloc, kernel, seed, 0),
+            client,
             up: BytesMut::new(alloc),
             down: BytesMut::new(alloc),
         }

@@ -16,6 +16,7 @@ use crate::client_endpoint::ClientEndpoint;
 use crate::laws::{answers_are_fresh, every_run_is_right, indices_change_no_shape};
 use crate::moves::{apply_step, names_client};
 use crate::steps::{Outcome, Step, StepFault};
+use digit_pack::is_wide;
 use matrix_u32::Kernel;
 use server_core::ServerCore;
 use std::alloc::{AllocError, Global};
@@ -77,7 +78,8 @@ impl<K: Kernel> World<K> {
             return Err(OpenError::Memory);
         };
         let mut server = ServerCore::new(alloc, store);
-        let Ok(ends) = open_ends(alloc, kernel, &mut server, seeds.as_slice()) else {
+        let wide = is_wide(u16::from(header.form));
+        let Ok(ends) = open_ends(alloc, kernel, wide, &mut server, seeds.as_slice()) else {
             return Err(OpenError::Memory);
         };
         Ok(World {
@@ -189,11 +191,12 @@ fn copy_of(alloc: Global, bytes: &[u8]) -> Result<Vec<u8>, AllocError>
 fn open_ends<K: Kernel>(
     alloc: Global,
     kernel: K,
+    wide: bool,
     server: &mut ServerCore<K>,
     seeds: &[[u8; 32]],
 ) -> Result<Vec<ClientEndpoint<K>>, AllocError>
     requires { (id : ℕ) → session_of server.old.sessions id ≡ None }
-    ensures ends { IfOk result (λ ends. ends.items ≡ map fresh_side seeds.now) }
+    ensures ends { IfOk result (λ ends. ends.items ≡ map (fresh_side wide) seeds.now) }
     ensures opened { OnOk result ((id : ℕ) → id < length seeds.now →
         session_of server.new.sessions id ≡ Some new_session) }
     ensures store { server.new.store ≡ server.old.store }
@@ -204,7 +207,7 @@ fn open_ends<K: Kernel>(
             return Err(AllocError);
         }
         if ends
-            .push(ClientEndpoint::new(alloc, kernel, *seed))
+            .push(ClientEndpoint::new(alloc, kernel, wide, *seed))
             .is_err()
         {
             return Err(AllocError);

@@ -58,8 +58,8 @@ pub use pir_schemes::{Plan, answer_count, hint_len, is_certain, query_count};
 pub use server_core::{FeedError, ServerCore, SessionError, Standing};
 pub use session_engines::{ConverseFault, Ending, ServeFault, converse, serve};
 pub use snapshot_file::{
-    Header, MigrateError, Snapshot, SnapshotFault, WriteFault, migrate, read_snapshot,
-    write_snapshot_bytes,
+    Header, MigrateError, Snapshot, SnapshotFault, WidenError, WriteFault, migrate, read_snapshot,
+    widen, write_snapshot_bytes,
 };
 pub use version_store::{AppendError, EditError, OpenError, PublishError, Store, write_snapshot};
 

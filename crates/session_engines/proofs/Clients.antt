@@ -43,7 +43,7 @@ either c false t u a b = b
 sound_welcome : (call : Call) (c : ClientState) (plan : Plan) (count v : ℕ) → IsSound c (takes_welcome call c plan count v)
 sound_welcome Idle c plan count v = bad c client.BadReply
 sound_welcome (Hello key) c plan count v =
-    either c (is_accepted_welcome plan count v) _ (faulty c client.BadWelcome) (λ _. (refl, refl)) (bad c client.BadWelcome)
+    either c (is_accepted_welcome c.profile plan count v) _ (faulty c client.BadWelcome) (λ _. (refl, refl)) (bad c client.BadWelcome)
 sound_welcome (Sync s w p) c plan count v = bad c client.BadReply
 sound_welcome (Delta since) c plan count v = bad c client.BadReply
 sound_welcome (Ask i s w k) c plan count v = bad c client.BadReply

@@ -8,6 +8,6 @@ loop-id-preserved g c =
     let pushed = c.push.ensures.items in
     let more = sessions_more c.loop-id.server.sessions c.open_session.new.self.sessions c.loop-id.id c.loop-id.invariant.1 c.loop-id.invariant.2 opened
     c.open_session.ensures.others in
-    let ends = ends_more c.args.seeds.now c.loop-id.ends.items c.push.new.self.items c.loop-id.id c.new.result (c.loop-id-test.true) c.loop-id.invariant.0
+    let ends = ends_more c.args.wide c.args.seeds.now c.loop-id.ends.items c.push.new.self.items c.loop-id.id c.new.result (c.loop-id-test.true) c.loop-id.invariant.0
     (pushed ∙ rw c.if-is_err-2.ensures.negation refl) c.new.ensures in
     (ends, more.0, more.1, c.open_session.ensures.store ∙ c.loop-id.invariant.3)

@@ -6,7 +6,7 @@ use Rattle.pir_world.proofs.world.open_ends.Given as goal
 
 abbrev pub invariant-loop-id : goal.invariant-loop-id
 invariant-loop-id g l =
-    (l.ends.items ≡ map fresh_side (take l.id l.seeds))
+    (l.ends.items ≡ map (fresh_side l.wide) (take l.id l.seeds))
     × ((j : ℕ) → j < l.id → session_of l.server.sessions j ≡ Some new_session)
     × ((j : ℕ) → l.id ≤ j → session_of l.server.sessions j ≡ None)
     × (l.server.store ≡ l.fn.server.store)
