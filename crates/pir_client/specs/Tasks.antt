@@ -1,8 +1,8 @@
 -- What a command line asks for.
-use Rattle.std.specs.Prelude.{◌≡◌, ◌<◌, ◌≤◌, ◌^◌, ℕ, List, length, codes, Option, Some, None, MatchOption}
+use Rattle.std.specs.Prelude.{◌≡◌, ◌<◌, ◌≤◌, ◌^◌, ℕ, List, length, codes, Bool, true, false, Option, Some, None, MatchOption}
 use Rattle.std.specs.Str.Parse.{IsNumeral, digits_value}
 use Rattle.clap.specs.declared.parser.matches.Found.{Found}
-use Rattle.clap.specs.Matches.{first_value}
+use Rattle.clap.specs.Matches.{first_value, one_text}
 use Rattle.command_words.specs.declared.secrets.Secret.{Secret}
 use Rattle.command_words.specs.Secrets.{IsSecretOf, IsKey}
 use Rattle.command_words.specs.Values.{bytes_in}
@@ -40,10 +40,16 @@ abbrev pub IsNumberIfGiven : Found → List ℕ → Option ℕ → Type 0
 IsNumberIfGiven found name n =
     MatchOption (first_value found name) (n ≡ None) (λ text. IsNumeral 10 text × (n ≡ Some (digits_value 10 text)))
 
+-- whether a flag was given for a name
+abbrev pub IsFlagGiven : Found → List ℕ → Bool → Type 0
+IsFlagGiven found name flag =
+    (one_text found name ≡ None → flag ≡ false) × (one_text found name ≡ Some (codes "true") → flag ≡ true)
+
 -- the server at the port that was given, with the time limit that was given
 abbrev pub IsServerGiven : Found → Address → Type 0
 IsServerGiven found server =
     IsNumberGiven found (codes "port") server.port × IsNumberIfGiven found (codes "timeout") server.timeout
+    × IsFlagGiven found (codes "wide") server.wide
 
 -- the host that was given, or this machine
 abbrev pub IsHostGiven : Found → Address → Type 0

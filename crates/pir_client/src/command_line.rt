@@ -104,6 +104,16 @@ fn timeout_option<'a>(alloc: Global, help: &'a str) -> Arg<'a> {
 const TIMEOUT_HELP: &str =
     "How many seconds connecting and each whole reply may take, 1 to 86400; any time if not given";
 
+// The flag by which a server is greeted as that of a wide store.
+fn wide_flag<'a>(alloc: Global) -> Result<Arg<'a>, AllocError> {
+    Ok(
+        Arg::new(alloc, "wide")
+            .long("wide")
+            .help("Greets the server of a wide store, which refuses any other greeting with code 3")
+            .action(ArgAction::SetTrue),
+    )
+}
+
 // The flag by which a server of an older version is refused.
 fn no_older_flag<'a>(alloc: Global) -> Result<Arg<'a>, AllocError> {
     Arg::new(alloc, "no-older")
@@ -151,6 +161,7 @@ fn get_command<'a>(alloc: Global) -> Result<Command<'a>, AllocError> {
         )
         .required(false))?
         .arg(no_older_flag(alloc)?)?
+        .arg(wide_flag(alloc)?.conflicts_with("state")?)?
         .arg(option(
             alloc,
             "host",
@@ -180,7 +191,7 @@ fn get_command<'a>(alloc: Global) -> Result<Command<'a>, AllocError> {
 }
 
 const GET_EXAMPLE: &str =
-    "Prints 'retrieved INDEX VERSION HEX', HEX being the record's bytes, or - where it has none.\n\nWith --state DIR each run draws a seed of its own from the system's random source, and keeps none. The folder keeps public hints alone, one for\neach scheme and store, so that a second get need not fetch one; it may be copied, restored or removed at any time. A server of a lower version\nthan was seen before is warned of beside the result, and with --no-older refused: 'fault: Older'.\n\nWith --seed and --number it is you who must never use a number twice with one seed, not even after a get that failed: two such retrievals can\ntell the server what they ask.\n\nSecrets of fewer than 1024 words hide INDEX less: the server chooses their number. --least-dimension 1024 ends a get\nwith 'fault: BadWelcome' if they are fewer, before INDEX is asked for; without it a warning is printed, and with --state fewer than 1024 are refused.\n\nExample: pir_client get --state DIR --port 7000 --scheme simple 1\nExample: pir_client get --port 7000 --seed 1111111111111111111111111111111111111111111111111111111111111111 --number 0 --scheme simple 1\n\nWith --verbose a fault has a second line, 'cause: TEXT', that says what failed and where.";
+    "Prints 'retrieved INDEX VERSION HEX', HEX being the record's bytes, or - where it has none.\n\nWith --state DIR a wide store is known by its greeting; without it --wide says that the store is one. With --state DIR each run draws a seed of its own from the system's random source, and keeps none. The folder keeps public hints alone, one for\neach scheme and store, so that a second get need not fetch one; it may be copied, restored or removed at any time. A server of a lower version\nthan was seen before is warned of beside the result, and with --no-older refused: 'fault: Older'.\n\nWith --seed and --number it is you who must never use a number twice with one seed, not even after a get that failed: two such retrievals can\ntell the server what they ask.\n\nSecrets of fewer than 1024 words hide INDEX less: the server chooses their number. --least-dimension 1024 ends a get\nwith 'fault: BadWelcome' if they are fewer, before INDEX is asked for; without it a warning is printed, and with --state fewer than 1024 are refused.\n\nExample: pir_client get --state DIR --port 7000 --scheme simple 1\nExample: pir_client get --port 7000 --seed 1111111111111111111111111111111111111111111111111111111111111111 --number 0 --scheme simple 1\n\nWith --verbose a fault has a second line, 'cause: TEXT', that says what failed and where.";
 
 // The command `state`.
 fn state_command<'a>(alloc: Global) -> Result<Command<'a>, AllocError> {
@@ -212,6 +223,7 @@ fn put_command<'a>(alloc: Global) -> Result<Command<'a>, AllocError> {
         .about("Replaces a record in the publisher's draft, which no reader sees before publish")
         .after_help(PUT_EXAMPLE)
         .arg(verbose_flag(alloc))?
+        .arg(wide_flag(alloc)?)?
         .arg(timeout_option(alloc, TIMEOUT_HELP))?
         .arg(option(alloc, "port", "P", "The server's port on 127.0.0.1"))?
         .arg(option(
@@ -237,6 +249,7 @@ fn append_command<'a>(alloc: Global) -> Result<Command<'a>, AllocError> {
         .about("Appends a record to the publisher's draft, which no reader sees before publish")
         .after_help(APPEND_EXAMPLE)
         .arg(verbose_flag(alloc))?
+        .arg(wide_flag(alloc)?)?
         .arg(timeout_option(alloc, TIMEOUT_HELP))?
         .arg(option(alloc, "port", "P", "The server's port on 127.0.0.1"))?
         .arg(option(
@@ -261,6 +274,7 @@ fn publish_command<'a>(alloc: Global) -> Result<Command<'a>, AllocError> {
         .about("Makes the publisher's draft the next version")
         .after_help(PUBLISH_EXAMPLE)
         .arg(verbose_flag(alloc))?
+        .arg(wide_flag(alloc)?)?
         .arg(timeout_option(alloc, TIMEOUT_HELP))?
         .arg(option(alloc, "port", "P", "The server's port on 127.0.0.1"))?
         .arg(option(
@@ -400,6 +414,7 @@ fn this_machine_at<'a>(found: &ArgMatches<'a>) -> Result<Address<'a>, BadLine<'a
         host: THIS_MACHINE,
         port,
         timeout,
+        wide: found.get_flag("wide"),
     })
 }
 

@@ -122,6 +122,7 @@ fn get_record(
 {
     let server = Server::connect(rt, address)?;
     let mut client = ClientCore::new(rt.alloc(), Lanes, seed, number);
+    client.speak(address.wide);
     let got = get(
         rt.alloc(),
         &mut client,
@@ -154,7 +155,7 @@ fn put_record(
     requires { length bytes.now ≤ 65535 }
 {
     let server = Server::connect(rt, address)?;
-    let mut client = publisher(rt);
+    let mut client = publisher(rt, address.wide);
     let version = put(
         rt.alloc(),
         &mut client,
@@ -178,7 +179,7 @@ fn append_record(
     requires { length bytes.now ≤ 65535 }
 {
     let server = Server::connect(rt, address)?;
-    let mut client = publisher(rt);
+    let mut client = publisher(rt, address.wide);
     let version = append(
         rt.alloc(),
         &mut client,
@@ -194,14 +195,16 @@ fn append_record(
 // Publishes the draft, and prints the new version.
 fn publish_draft(rt: &HostRuntime, address: &Address<'_>, key: [u8; 32]) -> Result<(), Failed> {
     let server = Server::connect(rt, address)?;
-    let mut client = publisher(rt);
+    let mut client = publisher(rt, address.wide);
     let version = publish(rt.alloc(), &mut client, &mut &server, &mut &server, key).map_err(
         |fault| server.failed(address, failure_of(fault)),
     )?;
     printed(rt, println!(rt; "published {version}"))
 }
 
-// A client that asks for no record, so that any seed serves.
-fn publisher(rt: &HostRuntime) -> ClientCore<Lanes> {
-    ClientCore::new(rt.alloc(), Lanes, [0; 32], 0)
+// A client that asks for no record, so that any seed serves, and that greets a wide store or an ordinary one.
+fn publisher(rt: &HostRuntime, wide: bool) -> ClientCore<Lanes> {
+    let mut client = ClientCore::new(rt.alloc(), Lanes, [0; 32], 0);
+    client.speak(wide);
+    client
 }

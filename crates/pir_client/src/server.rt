@@ -8,7 +8,7 @@ use std::io::{ErrorKind, Read, Write};
 use std::net::{TcpStream, ToSocketAddrs};
 use std::time::{Duration, Instant};
 
-/// Where a server is, and how long it may take.
+/// Where a server is, how long it may take, and of which kind its store is.
 #[derive(Clone, Copy)]
 pub struct Address<'a> {
     /// The name or the number of its host.
@@ -17,6 +17,8 @@ pub struct Address<'a> {
     pub port: u16,
     /// How many seconds connecting may take, and each whole reply. Without it they may take any time.
     pub timeout: Option<u64>,
+    /// Whether it is greeted as the server of a wide store.
+    pub wide: bool,
 }
 
 /// A connection to a server. A call that is sent after a reply begins a new deadline, which is that of its whole reply: a server

@@ -9,7 +9,9 @@ use crate::failures::failure_of;
 use crate::server::{Address, Server};
 use crate::warnings::{Older, Warnings};
 use crate::watching::Watched;
-use client_commands::{CommandError, Retrieved, ask, ask_with_rows, check_dimension, greet, sync};
+use client_commands::{
+    CommandError, Retrieved, ask, ask_with_rows, check_dimension, greet_either, sync,
+};
 use client_state::{Folder, KeptFile};
 use command_words::{Failed, Failure};
 use hint_file::{HintError, PartSpan, parts_for};
@@ -68,10 +70,9 @@ impl<'a> Session<'a> {
     ) -> Result<Session<'a>, Failed> {
         let server = Server::connect(rt, address)?;
         let mut client = ClientCore::new(rt.alloc(), Lanes, seed, 0);
-        greet(rt.alloc(), &mut client, &mut &server, &mut &server).map_err(|fault| server.failed(
-            address,
-            failure_of(fault),
-        ))?;
+        greet_either(rt.alloc(), &mut client, &mut &server, &mut &server).map_err(
+            |fault| server.failed(address, failure_of(fault)),
+        )?;
         check_dimension(&client, least).map_err(|fault| server.failed(address, failure_of(fault)))?;
         let mut session = Session {
             rt,

@@ -1,14 +1,14 @@
 -- Snapshots that are made of records.
-use Rattle.std.specs.Prelude.{ℕ}
+use Rattle.std.specs.Prelude.{ℕ, ◌+◌, ◌%◌, if◌then◌else◌}
 use Rattle.sha2.specs.Sha256.{sha256}
 use Rattle.snapshot_file.specs.declared.snapshot.Header.{Header}
 use Rattle.pir_server.specs.declared.command_line.Making.{Making}
 use Rattle.pir_server.specs.declared.making.Keys.{Keys}
 
--- the fields of version 1 of so many records: secrets of 1024 words, and the digest of the publisher's key
+-- the fields of version 1 of so many records: the form, or the wide one of it; secrets of 1024 words; and the digest of the publisher's key
 abbrev pub header_made : Making → Keys → ℕ → Header
 header_made making keys count = record {
-  form = making.form;
+  form = if making.wide then (making.form + 128) % 256 else making.form;
   width = making.width;
   record_len = making.record_len;
   groups = making.groups;

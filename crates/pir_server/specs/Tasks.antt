@@ -1,12 +1,13 @@
 -- What a command line asks for.
-use Rattle.std.specs.Prelude.{◌≡◌, ℕ, List, codes, Some, MatchOption}
+use Rattle.std.specs.Prelude.{◌≡◌, ◌+◌, ℕ, List, codes, Bool, true, false, None, Some, MatchOption}
 use Rattle.std.specs.Str.Parse.{IsNumeral, digits_value}
 use Rattle.clap.specs.declared.parser.matches.Found.{Found}
-use Rattle.clap.specs.Matches.{first_value}
+use Rattle.clap.specs.Matches.{first_value, one_text}
 use Rattle.command_words.specs.declared.secrets.Secret.{Secret}
 use Rattle.command_words.specs.Secrets.{IsSecretOf}
 use Rattle.pir_server.specs.declared.command_line.Making.{Making}
 use Rattle.pir_server.specs.declared.command_line.Migrating.{Migrating}
+use Rattle.pir_server.specs.declared.command_line.Widening.{Widening}
 use Rattle.pir_server.specs.declared.command_line.Rekeying.{Rekeying}
 use Rattle.pir_server.specs.declared.command_line.Serving.{Serving}
 use Rattle.pir_server.specs.declared.run_line.Running.{Running}
@@ -24,10 +25,16 @@ IsNumberOr usual found name n =
 abbrev pub IsSecretGiven : Found → List ℕ → Secret → Type 0
 IsSecretGiven found name secret = MatchOption (first_value found name) ⊥ (λ text. IsSecretOf text secret)
 
+-- whether a flag was given for a name
+abbrev pub IsFlagGiven : Found → List ℕ → Bool → Type 0
+IsFlagGiven found name flag =
+    (one_text found name ≡ None → flag ≡ false) × (one_text found name ≡ Some (codes "true") → flag ≡ true)
+
 -- a new store, as the options of `make` ask for it, but whether it must be new
 abbrev pub ReadsMake : Found → Making → Type 0
 ReadsMake found making =
     (first_value found (codes "out") ≡ Some making.out.now) × IsNumberOr 1 found (codes "form") making.form
+    × IsFlagGiven found (codes "wide") making.wide
     × IsNumberGiven found (codes "width") making.width × IsNumberGiven found (codes "record") making.record_len
     × IsNumberGiven found (codes "groups") making.groups × IsSecretGiven found (codes "seed") making.seed
     × IsSecretGiven found (codes "key") making.key
@@ -36,6 +43,12 @@ ReadsMake found making =
 abbrev pub ReadsMigrate : Found → Migrating → Type 0
 ReadsMigrate found migrating =
     (first_value found (codes "file") ≡ Some migrating.file.now) × (first_value found (codes "out") ≡ Some migrating.out.now)
+
+-- a wide store of a file's records, as those of `widen` do
+abbrev pub ReadsWiden : Found → Widening → Type 0
+ReadsWiden found widening =
+    (first_value found (codes "file") ≡ Some widening.file.now) × (first_value found (codes "out") ≡ Some widening.out.now)
+    × IsSecretGiven found (codes "seed") widening.seed
 
 -- another publisher's key, as those of `rekey` do
 abbrev pub ReadsRekey : Found → Rekeying → Type 0

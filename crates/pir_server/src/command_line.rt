@@ -2,7 +2,7 @@
 
 ghost use Rattle.std.specs.Prelude.{IfOk, codes};
 ghost use Rattle.clap.specs.Matches.{found_of};
-ghost use Rattle.pir_server.specs.Tasks.{IsNumberOr, ReadsMake, ReadsMigrate, ReadsRekey, ReadsServe};
+ghost use Rattle.pir_server.specs.Tasks.{IsNumberOr, ReadsMake, ReadsMigrate, ReadsRekey, ReadsServe, ReadsWiden};
 
 use crate::run_line::{Running, run_command, running_of};
 use clap::{Arg, ArgAction, ArgMatches, Command};
@@ -42,6 +42,8 @@ pub struct Making<'a> {
     pub new: bool,
     /// 1 for records of one length, 2 for records of their own lengths in slots.
     pub form: u8,
+    /// Whether the store is a wide one.
+    pub wide: bool,
     /// How many bits a digit has.
     pub width: u8,
     /// How many bytes a record has, or its slot.
@@ -74,6 +76,17 @@ pub struct Migrating<'a> {
     pub out: &'a str,
 }
 
+/// Of which file a wide one is to be made.
+#[derive(Clone, Copy)]
+pub struct Widening<'a> {
+    /// The snapshot file of form 1 or 2.
+    pub file: &'a str,
+    /// The file that is written.
+    pub out: &'a str,
+    /// The key of the new store's public matrix.
+    pub seed: Secret<'a>,
+}
+
 /// Whose publisher's key is to be changed.
 #[derive(Clone, Copy)]
 pub struct Rekeying<'a> {
@@ -90,6 +103,8 @@ pub enum Task<'a> {
     Make(Making<'a>),
     /// A snapshot file of the same records in slots.
     Migrate(Migrating<'a>),
+    /// A snapshot file of the same records in a wide store.
+    Widen(Widening<'a>),
     /// A snapshot file whose publisher gets another key.
     Rekey(Rekeying<'a>),
     /// What the snapshot file of this name holds.
@@ -131,11 +146,19 @@ fn make_command<'a>(alloc: Global) -> Result<Command<'a>, AllocError> {
             "1 (also if not given): records of R bytes, one after the other; 2: of up to R - 2 bytes, a line of hex each, or -",
         )
         .required(false))?
+        .arg(
+            Arg::new(alloc, "wide")
+                .long("wide")
+                .help(
+                    "Makes a wide store, of up to 32768 rows and columns, which clients greet as one",
+                )
+                .action(ArgAction::SetTrue),
+        )?
         .arg(option(
             alloc,
             "width",
             "W",
-            "How many bits a digit has, 6 to 10: more make it faster and leave less room for noise",
+            "How many bits a digit has, 6 to 10, or to 9 in a wide store: more make it faster and leave less room for noise",
         ))?
         .arg(option(
             alloc,
@@ -147,7 +170,7 @@ fn make_command<'a>(alloc: Global) -> Result<Command<'a>, AllocError> {
             alloc,
             "groups",
             "G",
-            "How many records stand in one column, so that the digit matrix has G * ceil(8 R / W) rows (at most 4096)",
+            "How many records stand in one column, so that the digit matrix has G * ceil(8 R / W) rows (at most 4096, or 32768)",
         ))?
         .arg(option(
             alloc,
@@ -185,6 +208,32 @@ fn migrate_command<'a>(alloc: Global) -> Result<Command<'a>, AllocError> {
 
 const MIGRATE_EXAMPLE: &str =
     "Prints 'migrated COUNT VERSION'. A slot has two bytes more than the record had: its length. Version, seed and the\npublisher's key stay; hints of the old file are of no use with the new one.\n\nExample: pir_server migrate --file two.pir --out slots.pir\n\nWith --verbose a fault has a second line, 'cause: TEXT', that says what failed and where.";
+
+// The command `widen`.
+fn widen_command<'a>(alloc: Global) -> Result<Command<'a>, AllocError> {
+    Command::new(alloc, "widen")
+        .about(
+            "Makes a snapshot file of the same records in a wide store, which can grow beyond an ordinary one",
+        )
+        .after_help(WIDEN_EXAMPLE)
+        .arg(verbose_flag(alloc))?
+        .arg(option(
+            alloc,
+            "file",
+            "FILE",
+            "The snapshot file of form 1 or 2; it stays as it is, unless --out names it",
+        ))?
+        .arg(option(alloc, "out", "FILE", "The snapshot file to write"))?
+        .arg(option(
+            alloc,
+            "seed",
+            "HEX",
+            "The public seed of the new store's matrices: 32 bytes as 64 hex digits that no other store has, or @FILE",
+        ))
+}
+
+const WIDEN_EXAMPLE: &str =
+    "Prints 'widened COUNT VERSION'. Form 1 becomes 129, and 2 becomes 130. Version and the publisher's key stay; hints of the old file are of\nno use with the new one.\n\nExample: pir_server widen --file two.pir --out wide.pir --seed $(openssl rand -hex 32)\n\nWith --verbose a fault has a second line, 'cause: TEXT', that says what failed and where.";
 
 // The command `rekey`.
 fn rekey_command<'a>(alloc: Global) -> Result<Command<'a>, AllocError> {
@@ -274,6 +323,7 @@ fn whole_command<'a>(alloc: Global) -> Result<Command<'a>, AllocError> {
         .after_help(EXIT_STATUSES)
         .subcommand(make_command(alloc)?)?
         .subcommand(migrate_command(alloc)?)?
+        .subcommand(widen_command(alloc)?)?
         .subcommand(rekey_command(alloc)?)?
         .subcommand(show_command(alloc)?)?
         .subcommand(serve_command(alloc)?)?
@@ -285,7 +335,7 @@ fn whole_command<'a>(alloc: Global) -> Result<Command<'a>, AllocError> {
 const VERSION: &str = "0.2.0";
 
 const EXIT_STATUSES: &str =
-    "Without a command: once.\n\nA value @FILE of --seed or --key is read from that file; one on the command line itself stands in the list of\nprocesses, for other users of this machine to see.\n\nExit status: 0 done, 2 a bad command line, 3 a fault, 4 out of memory.\n\nA fault is one line on standard error, 'fault: NAME':\n  File           a file can't be opened or made, or is none, as a folder or a pipe\n  Read, Write    reading or writing failed\n  BadRecords     the input of make is not whole records, or lines that are none, or too many bytes\n  BadLayout      no store has these sizes\n  NotSnapshot, Short, BadDigest, TrailingBytes, BadSlot   a file that is no whole snapshot\n  NotFormOne     the records that migrate is to move stand in slots already\n  TooWide        no store has records of two bytes more\n  Locked         another process serves or replaces the file\n  Exists         something stands where make --new is to make a file\n  Connect        the port can't be listened on\n  BadInput       the input of once can't be served; its last reply is Refused 1\n  TurnsUsedUp    more reads than a session has\n  Memory         memory was refused (status 4)\n\nWith --verbose a second line 'cause: TEXT' says what failed and where.";
+    "Without a command: once.\n\nA value @FILE of --seed or --key is read from that file; one on the command line itself stands in the list of\nprocesses, for other users of this machine to see.\n\nExit status: 0 done, 2 a bad command line, 3 a fault, 4 out of memory.\n\nA fault is one line on standard error, 'fault: NAME':\n  File           a file can't be opened or made, or is none, as a folder or a pipe\n  Read, Write    reading or writing failed\n  BadRecords     the input of make is not whole records, or lines that are none, or too many bytes\n  BadLayout      no store has these sizes\n  NotSnapshot, Short, BadDigest, TrailingBytes, BadSlot   a file that is no whole snapshot\n  NotFormOne     the records that migrate is to move stand in slots already\n  TooWide        no store has records of two bytes more\n  NotOrdinary    the store that widen is to move is a wide one already\n  BadWidth       its digits have 10 bits, and in a wide store at most 9\n  Locked         another process serves or replaces the file\n  Exists         something stands where make --new is to make a file\n  Connect        the port can't be listened on\n  BadInput       the input of once can't be served; its last reply is Refused 1\n  TurnsUsedUp    more reads than a session has\n  Memory         memory was refused (status 4)\n\nWith --verbose a second line 'cause: TEXT' says what failed and where.";
 
 // What the words of `make` ask for.
 fn making_of<'a>(found: &ArgMatches<'a>) -> Result<Making<'a>, BadLine<'a>>
@@ -295,6 +345,7 @@ fn making_of<'a>(found: &ArgMatches<'a>) -> Result<Making<'a>, BadLine<'a>>
         out: text_at(found, "out", OUT_TAKES)?,
         new: found.get_flag("new"),
         form: form_of(found)?,
+        wide: found.get_flag("wide"),
         width: number_at(found, "width", u64::from(u8::MAX), WIDTH_TAKES)? as u8,
         record_len: number_at(found, "record", u64::from(u16::MAX), RECORD_TAKES)? as u16,
         groups: number_at(found, "groups", u64::from(u16::MAX), GROUPS_TAKES)? as u16,
@@ -323,6 +374,17 @@ fn migrating_of<'a>(found: &ArgMatches<'a>) -> Result<Migrating<'a>, BadLine<'a>
     Ok(Migrating {
         file: text_at(found, "file", FILE_TAKES)?,
         out: text_at(found, "out", OUT_TAKES)?,
+    })
+}
+
+// What the words of `widen` ask for.
+fn widening_of<'a>(found: &ArgMatches<'a>) -> Result<Widening<'a>, BadLine<'a>>
+    ensures { IfOk result (ReadsWiden (found_of found.now)) }
+{
+    Ok(Widening {
+        file: text_at(found, "file", FILE_TAKES)?,
+        out: text_at(found, "out", OUT_TAKES)?,
+        seed: seed_at(found, "seed", SEED_TAKES)?,
     })
 }
 
@@ -360,6 +422,9 @@ pub fn task_of<'a>(alloc: Global, words: &'a [String]) -> Result<Asked<'a>, BadL
     }
     if let Some(found) = matches.subcommand_matches("migrate") {
         return Ok(asked_for(found, Task::Migrate(migrating_of(found)?)));
+    }
+    if let Some(found) = matches.subcommand_matches("widen") {
+        return Ok(asked_for(found, Task::Widen(widening_of(found)?)));
     }
     if let Some(found) = matches.subcommand_matches("rekey") {
         return Ok(asked_for(found, Task::Rekey(rekeying_of(found)?)));

@@ -1,8 +1,8 @@
 //! The commands, and how each ends.
 
 use crate::causes::failed_at;
-use crate::command_line::{Making, Migrating, Task, task_of};
-use crate::files::{OwnFile, RecordsOf, moved_of, write_file};
+use crate::command_line::{Making, Migrating, SEED_TAKES, Task, Widening, task_of};
+use crate::files::{OwnFile, RecordsOf, moved_of, widened_of, write_file};
 use crate::making::make;
 use crate::rekeying::rekey;
 use crate::running::run_file;
@@ -10,7 +10,7 @@ use crate::serving::serve_file;
 use crate::showing::show;
 use command_words::{Failed, Failure, open_standard_descriptors, printed, program_words};
 use service_loop::say_line;
-use session_core::{OnceFault, once};
+use session_core::{OnceFault, Snapshot, once};
 use std::io;
 
 /// The most reads that `once` makes.
@@ -56,6 +56,7 @@ fn done(rt: &HostRuntime, task: Task<'_>) -> Result<(), Failed> {
     match task {
         Task::Make(making) => make_file(rt, &making),
         Task::Migrate(migrating) => migrate_file(rt, &migrating),
+        Task::Widen(widening) => widen_file(rt, &widening),
         Task::Rekey(rekeying) => rekey(rt, &rekeying),
         Task::Show(file) => show(rt, file),
         Task::Serve(serving) => serve_file(rt, &serving),
@@ -80,17 +81,49 @@ fn migrate_file(rt: &HostRuntime, migrating: &Migrating<'_>) -> Result<(), Faile
         Ok(moved) => moved,
         Err(failure) => return Err(failed_at(rt, migrating.file, failure)),
     };
-    let header = moved.header();
-    let content = RecordsOf {
-        header: &header,
-        bytes: &moved.records,
-    };
-    if let Err(failure) = write_file(rt, &mut out, &content) {
+    if let Err(failure) = write_whole(rt, &mut out, &moved) {
         return Err(failed_at(rt, migrating.out, failure));
     }
-    let count = header.count;
-    let version = header.version;
+    let count = moved.count;
+    let version = moved.version;
     printed(rt, println!(rt; "migrated {count} {version}"))
+}
+
+// Puts the records of a snapshot file into a wide store, and tells how many there are and their version.
+fn widen_file(rt: &HostRuntime, widening: &Widening<'_>) -> Result<(), Failed> {
+    let seed = widening
+        .seed
+        .seed(rt, SEED_TAKES)
+        .map_err(|failure| widening.seed.failed(rt, failure))?;
+    let mut out = match OwnFile::to_write(rt, widening.out) {
+        Ok(out) => out,
+        Err(failure) => return Err(failed_at(rt, widening.out, failure)),
+    };
+    let wide = match widened_of(rt, widening.file, seed) {
+        Ok(wide) => wide,
+        Err(failure) => return Err(failed_at(rt, widening.file, failure)),
+    };
+    if let Err(failure) = write_whole(rt, &mut out, &wide) {
+        return Err(failed_at(rt, widening.out, failure));
+    }
+    let count = wide.count;
+    let version = wide.version;
+    printed(rt, println!(rt; "widened {count} {version}"))
+}
+
+// Writes a snapshot to its file.
+fn write_whole(
+    rt: &HostRuntime,
+    out: &mut OwnFile<'_>,
+    snapshot: &Snapshot,
+) -> Result<(), Failure> {
+    let header = snapshot.header();
+    let content = RecordsOf {
+        header: &header,
+        bytes: &snapshot.records,
+    };
+    write_file(rt, out, &content)?;
+    Ok(())
 }
 
 // Serves one database over standard input and output.

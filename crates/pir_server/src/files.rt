@@ -4,18 +4,18 @@ ghost use Rattle.std.specs.Prelude.{◌≡◌, ◌≤◌, IfOk};
 ghost use Rattle.snapshot_file.specs.Snapshots.{IsSnapshot, header_of, snapshot_bytes};
 ghost use Rattle.snapshot_file.specs.declared.snapshot.Snapshot.{Snapshot};
 ghost use Rattle.version_store.specs.Openings.{snapshot_of};
-ghost use Rattle.pir_server.specs.Moves.{HasRecordsOf};
+ghost use Rattle.pir_server.specs.Moves.{HasRecordsOf, IsWideOf};
 
 use crate::file_version::{
     FileVersion, VersionFault, Versioned, read_version, replace_version, write_version,
 };
-use crate::moving::moved_from;
+use crate::moving::{moved_from, widened_from};
 use command_words::Failure;
 use safe_files::{
     Content, ContentFault, FileLock, LockFault, Place, ReplaceFault, SteadyFile, open_file,
 };
 use session_core::{
-    Header, Lanes, MigrateError, OpenError, Snapshot, SnapshotFault, Store, WriteFault,
+    Header, Lanes, MigrateError, OpenError, Snapshot, SnapshotFault, Store, WidenError, WriteFault,
     read_snapshot, write_snapshot, write_snapshot_bytes,
 };
 use std::alloc::Global;
@@ -205,6 +205,21 @@ pub fn moved_of(rt: &HostRuntime, name: &str) -> Result<Snapshot, Failure>
     Ok(moved)
 }
 
+/// The snapshot in a file, with its records in a wide store of this seed.
+///
+/// # Errors
+///
+/// In this order: `File`, the refusals of the snapshot, `NotOrdinary`, `BadWidth`.
+pub fn widened_of(rt: &HostRuntime, name: &str, seed: [u8; 32]) -> Result<Snapshot, Failure>
+    ensures { IfOk result (λ wide. (file : Snapshot) × IsWideOf file seed wide) }
+{
+    let Ok(mut file) = open_file(rt, name) else {
+        return Err(NO_FILE);
+    };
+    let wide = widened_from(rt.alloc(), &mut file, seed)?;
+    Ok(wide)
+}
+
 /// Writes a snapshot to a file that is made, or replaces it, and answers the version that it has then: the file is whole at any
 /// moment, the old one or the new one. What is no file, as a terminal, is written to as it is.
 ///
@@ -280,6 +295,14 @@ pub fn snapshot_failure(fault: SnapshotFault) -> Failure {
 pub fn migrate_failure(fault: MigrateError) -> Failure {
     match fault {
         MigrateError::Memory => Failure::Memory,
+        fault => Failure::Fault(fault.name()),
+    }
+}
+
+/// The failure that a refused wide store is.
+pub fn widen_failure(fault: WidenError) -> Failure {
+    match fault {
+        WidenError::Memory => Failure::Memory,
         fault => Failure::Fault(fault.name()),
     }
 }

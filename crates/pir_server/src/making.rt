@@ -9,7 +9,7 @@ use crate::command_line::{KEY_TAKES, Making, SEED_TAKES};
 use crate::files::{OwnFile, RecordsOf, write_file};
 use command_words::{Failed, Failure, bytes_from_hex};
 use connection_io::{piece_buffer, read_piece};
-use digit_pack::write_slot;
+use digit_pack::{LayoutError, is_wide, write_slot};
 use safe_files::Place;
 use session_core::{Header, Layout};
 use sha2::{Digest, Sha256};
@@ -184,10 +184,23 @@ fn no_whole_records(alloc: Global, header: &Header, bytes: usize) -> Failed {
 // How sizes that no store has fail: the limit that they break.
 fn bad_layout(alloc: Global, header: &Header) -> Failed {
     let cause = match header.layout() {
+        Err(limit) if is_wide(u16::from(header.form)) => format!(in alloc; "{}", wide_limit(limit)),
         Err(limit) => format!(in alloc; "{limit}"),
         Ok(_) => format!(in alloc; "a slot has 2 to 256 bytes"),
     };
     Failed::by(BAD_LAYOUT, cause)
+}
+
+// The limit of a wide store.
+fn wide_limit(limit: LayoutError) -> &'static str {
+    match limit {
+        LayoutError::BadWidth => "a digit of a wide store has 6 to 9 bits",
+        LayoutError::BadRecord => "a record has 1 to 256 bytes",
+        LayoutError::BadGroups => {
+            "a column of a wide store holds at least one record and at most 32768 digits, and a query at most 4128768 words for them"
+        }
+        LayoutError::BadCount => "a wide store has 1 to 32768 columns of records",
+    }
 }
 
 // How many lines there are. The last one may lack its line feed.
@@ -250,7 +263,11 @@ fn header_of(making: &Making<'_>, keys: &Keys, count: usize) -> Header
     ensures { result ≡ header_made making.now keys.now count }
 {
     Header {
-        form: making.form,
+        form: if making.wide {
+            making.form.wrapping_add(128)
+        } else {
+            making.form
+        },
         width: making.width,
         record_len: making.record_len,
         groups: making.groups,

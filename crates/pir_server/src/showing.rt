@@ -5,7 +5,7 @@ ghost use Rattle.std.specs.Prelude.{◌≤◌};
 use crate::causes::failed_at;
 use crate::files::snapshot_of;
 use command_words::{Failed, Failure, printed};
-use digit_pack::read_slot;
+use digit_pack::{is_slotted, read_slot};
 use session_core::{Layout, Scheme, Snapshot, answer_count, hint_len, is_certain, query_count};
 use std::alloc::{AllocError, Global};
 
@@ -61,7 +61,7 @@ fn description(alloc: Global, snapshot: &Snapshot, layout: &Layout) -> Result<St
 fn records_line(alloc: Global, snapshot: &Snapshot, layout: &Layout) -> Result<String, AllocError> {
     let count = layout.count();
     let len = layout.record_len();
-    if snapshot.form != 2 {
+    if !is_slotted(u16::from(snapshot.form)) {
         return format!(in alloc; "records {count} of {len} bytes\n");
     }
     let most = len.saturating_sub(2);

@@ -123,6 +123,8 @@ line_of_words (name ∷ a ∷ b ∷ []) = line_of_two name a b
 line_of_words (name ∷ a ∷ b ∷ c ∷ d ∷ []) =
     if bytes_eq name (codes "world") then option_map line.World (sizes_in 1 a b c d)
     else if bytes_eq name (codes "world2") then option_map line.World (sizes_in 2 a b c d)
+    else if bytes_eq name (codes "wide") then option_map line.World (sizes_in 129 a b c d)
+    else if bytes_eq name (codes "wide2") then option_map line.World (sizes_in 130 a b c d)
     else None
 line_of_words _ = None
 

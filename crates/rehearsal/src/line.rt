@@ -16,7 +16,8 @@ use std::str;
 /// The sizes of a world.
 #[derive(Clone, Copy, Debug, PartialEq, Eq)]
 pub struct HeaderSizes {
-    /// 1 where all records have one length, 2 where each has its own and stands in a slot.
+    /// 1 if all records have one length, 2 if each has its own and stands in a slot; 129 and 130 likewise, with a wide
+    /// digit matrix.
     pub form: u8,
     /// How many bits a digit has.
     pub width: u8,
@@ -158,6 +159,12 @@ fn read_sizes(
     }
     if name == "world2" {
         return sizes_of(2, width, record_len, groups, dimension).map(Line::World);
+    }
+    if name == "wide" {
+        return sizes_of(129, width, record_len, groups, dimension).map(Line::World);
+    }
+    if name == "wide2" {
+        return sizes_of(130, width, record_len, groups, dimension).map(Line::World);
     }
     None
 }

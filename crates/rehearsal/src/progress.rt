@@ -12,7 +12,7 @@ use crate::line::{HeaderSizes, Line};
 use crate::outcome::outcome_line;
 use crate::stop::Stop;
 use connection_io::write_out;
-use digit_pack::fill_slot;
+use digit_pack::{fill_slot, is_slotted};
 use frame_codec::Bytes;
 use lane_kernels::Lanes;
 use pir_schemes::Plan;
@@ -251,7 +251,7 @@ fn keep_record(plan: &Plan, records: &mut Vec<u8>, bytes: &[u8]) -> Result<(), A
     if plan.record_len > LONGEST_RECORD {
         return Ok(());
     }
-    if plan.form == 2 {
+    if is_slotted(plan.form) {
         let start = records.len();
         records.resize(start + usize::from(plan.record_len), 0)?;
         fill_slot(bytes, &mut records[start..]);
