@@ -4,24 +4,50 @@
  * Neither side knows a connection: bytes go in by `feed`, in any pieces, and the bytes to send are taken out. Every call
  * ends, and each answers what its contract in crates/vulandrai_c says.
  *
- * Handles. A vul_client and a vul_server are memory of the caller's, all zero before `open` and after `close`. A handle is
- * not copied; one thread at a time uses it, and it may move from thread to thread. `open` frees what the handle held.
+ * Handles. A vul_client and a vul_server are memory of the caller's, all zero before `open` and after `close`: begin with
+ * `vul_client client = VUL_CLIENT_INIT;`. A handle is not copied. `open` frees what the handle held.
+ *
+ * Threads. One thread at a time uses a handle, and it may move from thread to thread. Who shares one puts a lock round each
+ * call, and round a length that is asked for with the bytes that are then taken. Different handles share nothing.
+ *
+ * Fork. A fork copies handles. A client's copy would spend the same numbers under the same seed, and show what is asked: the
+ * child neither calls nor closes it. A server's copy may go on in the child if the process had one thread at the fork. No call
+ * is made from a signal's handler.
  *
  * Codes. 0 is done. Whatever other code a call answers, the handle is as it was before, unless the code's line below says
  * otherwise. The first that applies is answered: VUL_NULL, what is wrong with an argument by itself (VUL_BAD_NUMBER,
  * VUL_BAD_SCHEME, a record too long for any frame), VUL_CLOSED, VUL_UNTAKEN, and then what the client or the server says.
  *
  * Pointers. A null pointer with a length that is not 0 is VUL_NULL, and with length 0 it is no bytes. All other pointers
- * point to what their types say, and lengths are those of the memory: nothing can check that.
+ * point to what their types say, and lengths are those of the memory: nothing can check that. No other thread writes there
+ * during the call.
  *
  * Bytes. Sizes are in bytes; keys, seeds and digests have 32. What is copied out has exactly the length that the call
- * before it gave, else it is VUL_BAD_LENGTH and nothing is taken.
+ * before it gave, else it is VUL_BAD_LENGTH and nothing is taken. A record has at most 256 bytes, a frame 16 MiB and 5,
+ * a hint's file 129 MiB, a snapshot 21 MiB.
+ *
+ * Time. No call waits for anything or takes a lock, but some compute for long. With the largest store, 262,144 records of 80
+ * bytes, at most about this on a core of 2.5 GHz (docs/MEASUREMENTS.md): `vul_server_open` 8 s; `vul_server_snapshot` 0.4 s;
+ * `vul_server_publish`, or a frame that publishes, 1 ms for each row of digits that changed; a frame that asks, 4 ms by
+ * SimplePIR and 0.3 s by DoublePIR; `vul_client_ask` 30 ms and 0.12 s, `vul_client_feed` of an answer 0.1 ms and 70 ms;
+ * `vul_client_save` and `vul_client_resume` 0.3 s for a hint of 16 MiB. All others take less than 3 ms, besides copying what
+ * is taken. Whether a call takes as long for each index is not said.
+ *
+ * Secrets. `vul_client_close` gives memory back, and does not overwrite it.
  */
 #ifndef VULANDRAI_H
 #define VULANDRAI_H
 
 #include <stddef.h>
 #include <stdint.h>
+
+/* The version of this header; `vul_version` has the library's. The shared library is libvulandrai.so.1 as long as programs
+ * that were compiled with an earlier header run with it. */
+#define VUL_VERSION "0.2.0"
+
+/* A handle that is closed. */
+#define VUL_CLIENT_INIT {0, NULL}
+#define VUL_SERVER_INIT {0, NULL}
 
 #ifdef __cplusplus
 extern "C" {
@@ -69,6 +95,12 @@ enum {
     VUL_OTHER_HINT = 81    /* its hint is of another store or of a later version than the server's: sync instead */
 };
 
+/* The library's version, as "0.2.0". Never freed. */
+const char *vul_version(void);
+
+/* What a code means, in a few words of English. Never null, never freed, and the same for each thread. */
+const char *vul_strerror(uint32_t code);
+
 /* Schemes. */
 enum { VUL_SIMPLE = 0, VUL_DOUBLE = 1 };
 
@@ -103,8 +135,8 @@ typedef struct {
 typedef struct {
     uint64_t version;
     uint32_t count;      /* how many records */
-    uint32_t form;       /* 1: all of record_len bytes; 2: each of at most record_len - 2 */
-    uint32_t record_len; /* bytes of a record, in form 2 of its slot */
+    uint32_t form;       /* 1, 129: all of record_len bytes; 2, 130: each of at most record_len - 2 */
+    uint32_t record_len; /* bytes of a record, in forms 2 and 130 of its slot */
     uint32_t dimension;  /* words of a secret: fewer than 1024 hide the index less */
 } vul_known;
 
@@ -113,6 +145,10 @@ typedef struct {
  * nothing is left to be used twice. Whoever gives one seed to several clients keeps its numbers, and begins where
  * `vul_client_number` left off. VUL_BAD_NUMBER, VUL_MEMORY. */
 uint32_t vul_client_open(vul_client *client, const uint8_t seed[32], uint64_t first_number);
+
+/* The same, for a client of wide stores (forms 129 and 130). A store of the other kind refuses a client's hello with
+ * code 3; then open the handle anew with the other call, with the same seed and number. */
+uint32_t vul_client_open_wide(vul_client *client, const uint8_t seed[32], uint64_t first_number);
 
 /* Frees the client, if the handle holds one. */
 void vul_client_close(vul_client *client);

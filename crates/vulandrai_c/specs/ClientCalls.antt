@@ -4,7 +4,8 @@ use Rattle.pir_schemes.specs.Schemes.{scheme_byte}
 use Rattle.client_core.specs.declared.state.Event.{Event}
 use Rattle.client_core.specs.declared.state.Event.TheVariants as event
 use Rattle.client_core.specs.declared.state.ServerInfo.{ServerInfo}
-use Rattle.client_core.specs.States.{fresh}
+use Rattle.pir_schemes.specs.Plans.{client_profile}
+use Rattle.client_core.specs.States.{fresh_in}
 use Rattle.client_core.specs.Calls.{Want}
 use Rattle.hint_file.specs.Files.{plan_bytes}
 use Rattle.client_session.specs.declared.ClientSession.{ClientSession}
@@ -17,15 +18,15 @@ use Rattle.vulandrai_c.specs.ClientCodes.{session_code, feed_code, resume_code}
 use Rattle.vulandrai_c.specs.declared.reported.ReportedEvent.{ReportedEvent}
 use Rattle.vulandrai_c.specs.declared.reported.ReportedServer.{ReportedServer}
 
--- a client that was just made, with nothing waiting
-abbrev pub IsFresh : Option ClientSession → List ℕ → ℕ → Type 0
-IsFresh None seed number = ⊥
-IsFresh (Some s) seed number = (s.core ≡ record { state = fresh seed number; reader = Some [] }) × (s.waiting.items ≡ []) × (s.events.items ≡ [])
+-- a client of wide stores or of ordinary ones that was just made, with nothing waiting
+abbrev pub IsFresh : Bool → Option ClientSession → List ℕ → ℕ → Type 0
+IsFresh wide None seed number = ⊥
+IsFresh wide (Some s) seed number = (s.core ≡ record { state = fresh_in (client_profile wide) seed number; reader = Some [] }) × (s.waiting.items ≡ []) × (s.events.items ≡ [])
 
 -- what opening did: there is a fresh client; or the number is too large (33), or there is no memory (5), and the handle is as before
-abbrev pub Opens : Option ClientSession → List ℕ → ℕ → Option ClientSession → ℕ → Type 0
-Opens old seed number new code =
-    ((code ≡ 0) × IsFresh new seed number) ⊎ ((code ≡ 33) × (2 ^ 62 < number) × (new ≡ old)) ⊎ ((code ≡ 5) × (new ≡ old))
+abbrev pub Opens : Bool → Option ClientSession → List ℕ → ℕ → Option ClientSession → ℕ → Type 0
+Opens wide old seed number new code =
+    ((code ≡ 0) × IsFresh wide new seed number) ⊎ ((code ≡ 33) × (2 ^ 62 < number) × (new ≡ old)) ⊎ ((code ≡ 5) × (new ≡ old))
 
 -- what a call of the client did, and the code of its answer
 pub record Calls (old : ClientSession) (want : Want) (new : ClientSession) (code : ℕ) : Type 0 where

@@ -1,6 +1,6 @@
 //! A client for programs in C.
 
-ghost use Rattle.std.specs.Prelude.{◌≡◌, ◌≤◌, ◌<◌, None, length};
+ghost use Rattle.std.specs.Prelude.{◌≡◌, false, true, ◌≤◌, ◌<◌, None, length};
 ghost use Rattle.client_core.specs.Calls.{Want};
 ghost use Rattle.pir_schemes.specs.declared.scheme.Scheme.TheVariants.{Simple, Double};
 ghost use Rattle.vulandrai_c.specs.Handles.{CallsOn};
@@ -29,12 +29,34 @@ pub extern "C" fn vul_client_open(
     seed: &[u8; 32],
     first_number: u64,
 ) -> u32
-    ensures { Opens client.old.held.session seed.now first_number client.new.held.session result }
+    ensures { Opens false client.old.held.session seed.now first_number
+        client.new.held.session result }
 {
     if first_number > NUMBER_LIMIT {
         return BAD_NUMBER;
     }
     let Ok(session) = Box::new(alloc, ClientSession::new(alloc, *seed, first_number)) else {
+        return MEMORY;
+    };
+    *client = ClientHandle::of(session);
+    OK
+}
+
+/// The same, for a client of wide stores: each kind of store refuses the other kind's client with code 3.
+#[unsafe(no_mangle)]
+pub extern "C" fn vul_client_open_wide(
+    client: &mut ClientHandle,
+    alloc: Global,
+    seed: &[u8; 32],
+    first_number: u64,
+) -> u32
+    ensures { Opens true client.old.held.session seed.now first_number
+        client.new.held.session result }
+{
+    if first_number > NUMBER_LIMIT {
+        return BAD_NUMBER;
+    }
+    let Ok(session) = Box::new(alloc, ClientSession::wide(alloc, *seed, first_number)) else {
         return MEMORY;
     };
     *client = ClientHandle::of(session);
