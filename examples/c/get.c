@@ -5,7 +5,9 @@
  * the record in hex digits. SEED is 64 hex digits, the client's secret; NUMBER is the first retrieval number to spend, and no
  * number is ever spent twice under one seed: the last line, 'next NUMBER', says where to go on.
  *
- * Build it with scripts/build_c's folder: cc examples/c/get.c -I out/c -L out/c -lvulandrai
+ * Build it once the library is installed (scripts/install), or with PKG_CONFIG_PATH=out/c, scripts/build_c's folder:
+ *
+ *     cc examples/c/get.c $(pkg-config --cflags --libs vulandrai) -o get
  */
 #define _POSIX_C_SOURCE 200112L
 #include "vulandrai.h"
@@ -30,8 +32,10 @@ static void stop(const char *what, uint32_t code)
 
 static void wanted(const char *what, uint32_t code)
 {
-    if (code != VUL_OK)
-        stop(what, code);
+    if (code == VUL_OK)
+        return;
+    fprintf(stderr, "fault: %s: %s\n", what, vul_strerror(code));
+    exit(1);
 }
 
 static int connected(const char *host, const char *port)
@@ -168,7 +172,7 @@ int main(int count, char **words)
     uint32_t scheme = strcmp(words[5], "double") == 0 ? VUL_DOUBLE : VUL_SIMPLE;
     int fd = connected(words[1], words[2]);
 
-    vul_client client = {0};
+    vul_client client = VUL_CLIENT_INIT;
     wanted("open", vul_client_open(&client, seed, strtoull(words[4], NULL, 10)));
     wanted("hello", vul_client_hello(&client, reader));
     ends_as(&client, fd, VUL_WELCOMED, "hello");

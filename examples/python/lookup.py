@@ -13,7 +13,7 @@ import hashlib
 import os
 import subprocess
 import sys
-from typing import Dict
+from typing import Dict, List
 
 from vulandrai import Client
 
@@ -45,7 +45,7 @@ def unpacked(whole: bytes) -> Entries:
 
 
 def make(file: str, key: str, buckets: int, room: int) -> None:
-    kept = [{} for _ in range(buckets)]
+    kept: List[Entries] = [{} for _ in range(buckets)]
     for line in sys.stdin:
         name, value = line.rstrip("\n").split(" ", 1)
         kept[bucket_of(name, buckets)][name] = value
@@ -79,5 +79,7 @@ if __name__ == "__main__":
     command, *words = sys.argv[1:]
     if command == "make":
         make(words[0], words[1], int(words[2]), int(words[3]))
+    elif command == "get":
+        get(*words)
     else:
-        {"get": get, "put": put}[command](*words)
+        put(*words)

@@ -1,45 +1,31 @@
-//! usage: get HOST:PORT SEED NUMBER INDEX ..
+//! usage: get HOST:PORT INDEX ..
 //!
-//! Gets records from `pir_server serve` by SimplePIR without the server learning which, and prints a line 'INDEX VERSION
-//! RECORD' for each, the record in hex digits. SEED is 64 hex digits, the client's secret; NUMBER is the first retrieval
-//! number to spend, and no number is ever spent twice under one seed: the last line, 'next NUMBER', says where to go on.
+//! Gets records from a `pir_server` by SimplePIR without the server learning which, and prints a line 'INDEX VERSION RECORD'
+//! for each, the record in hex digits. Its secret seed is of the system's random source, and is kept nowhere.
 //!
-//! Build it with scripts/build_c's folder: rustc -O examples/rust/get.rs -L native=out/c -l static=vulandrai
-
-use std::ffi::c_void;
+//! With the library installed (scripts/install): rustc --edition 2021 -O get.rs $(pkg-config --libs vulandrai) -o get
+use std::ffi::{c_char, c_void, CStr};
 use std::io::{Read, Write};
 use std::net::TcpStream;
 
-/// The two words behind a client of include/vulandrai.h.
+/// The two words behind a client of vulandrai.h.
 #[repr(C)]
-struct Handle {
-    full: u64,
-    at: *mut c_void,
-}
+struct Handle(u64, *mut c_void);
 
-/// What a call of the client ended with: the kinds and fields are the header's.
+/// The header's vul_event: kind, detail, index, reserved; version, record_len.
 #[repr(C)]
-#[derive(Default)]
-struct Event {
-    kind: u32,
-    detail: u32,
-    index: u32,
-    reserved: u32,
-    version: u64,
-    record_len: u64,
-}
+struct Event([u32; 4], [u64; 2]);
 
+/// The header's vul_known, of whose last word the upper half is the dimension: x86-64 has the lower half first.
+type Known = [u64; 3];
 const SYNCED: u32 = 2;
 const RETRIEVED: u32 = 3;
-const STALE: u32 = 5;
-
-/// How often a hint or an answer may be stale before the server is given up: it may publish again and again, or lie.
-const STALE_ANSWERS: usize = 3;
-
 unsafe extern "C" {
+    fn vul_strerror(code: u32) -> *const c_char;
     fn vul_client_open(client: *mut Handle, seed: *const u8, first_number: u64) -> u32;
     fn vul_client_close(client: *mut Handle);
     fn vul_client_hello(client: *mut Handle, key: *const u8) -> u32;
+    fn vul_client_known(client: *mut Handle, known: *mut Known) -> u32;
     fn vul_client_sync(client: *mut Handle, scheme: u32) -> u32;
     fn vul_client_ask(client: *mut Handle, index: u32) -> u32;
     fn vul_client_feed(client: *mut Handle, piece: *const u8, len: usize) -> u32;
@@ -47,115 +33,67 @@ unsafe extern "C" {
     fn vul_client_take(client: *mut Handle, out: *mut u8, len: usize) -> u32;
     fn vul_client_event(client: *mut Handle, event: *mut Event) -> u32;
     fn vul_client_next(client: *mut Handle, record: *mut u8, len: usize) -> u32;
-    fn vul_client_number(client: *mut Handle, number: *mut u64) -> u32;
 }
 
 type Outcome<T> = Result<T, Box<dyn std::error::Error>>;
 
-/// The code of a call, as an error where it isn't done.
-fn done(what: &str, code: u32) -> Outcome<()> {
-    if code == 0 { Ok(()) } else { Err(format!("{what} {code}").into()) }
+/// The code of a call, as an error with its text unless it is done.
+fn done(code: u32) -> Outcome<()> {
+    let text = unsafe { CStr::from_ptr(vul_strerror(code)) }.to_str()?;
+    (code == 0).then_some(()).ok_or(text.into())
 }
 
-/// A client over a connection. The handle is owned here, and no pointer to it is kept.
-struct Client {
-    handle: Handle,
-    stream: TcpStream,
-}
-
-impl Client {
-    fn new(stream: TcpStream, seed: &[u8; 32], first_number: u64) -> Outcome<Client> {
-        let mut client = Client { handle: Handle { full: 0, at: std::ptr::null_mut() }, stream };
-        done("open", unsafe { vul_client_open(&mut client.handle, seed.as_ptr(), first_number) })?;
-        done("hello", unsafe { vul_client_hello(&mut client.handle, [0; 32].as_ptr()) })?;
-        client.ended()?;
-        Ok(client)
-    }
-
-    /// Carries bytes to and fro until the outstanding call ends; gives its event, and the record where there is one.
-    fn ended(&mut self) -> Outcome<(Event, Vec<u8>)> {
-        let mut piece = vec![0; 65_536];
-        loop {
-            let mut waiting = vec![0; unsafe { vul_client_waiting(&mut self.handle) }];
-            done("take", unsafe { vul_client_take(&mut self.handle, waiting.as_mut_ptr(), waiting.len()) })?;
-            self.stream.write_all(&waiting)?;
-            let mut event = Event::default();
-            done("event", unsafe { vul_client_event(&mut self.handle, &mut event) })?;
-            if event.kind != 0 {
-                let mut record = vec![0; event.record_len as usize];
-                done("next", unsafe { vul_client_next(&mut self.handle, record.as_mut_ptr(), record.len()) })?;
-                return Ok((event, record));
-            }
-            let count = self.stream.read(&mut piece)?;
-            if count == 0 {
-                return Err("the server ended".into());
-            }
-            done("feed", unsafe { vul_client_feed(&mut self.handle, piece.as_ptr(), count) })?;
+/// Carries bytes to and fro until the call with this code ends; gives the event's kind and version, and its record.
+fn ended(at: &mut Handle, stream: &mut TcpStream, code: u32) -> Outcome<(u32, u64, Vec<u8>)> {
+    let (mut piece, mut event) = (vec![0; 65_536], Event([0; 4], [0; 2]));
+    done(code)?;
+    loop {
+        let mut waiting = vec![0; unsafe { vul_client_waiting(at) }];
+        done(unsafe { vul_client_take(at, waiting.as_mut_ptr(), waiting.len()) })?;
+        stream.write_all(&waiting)?;
+        done(unsafe { vul_client_event(at, &mut event) })?;
+        if event.0[0] != 0 {
+            let mut record = vec![0; event.1[1] as usize];
+            done(unsafe { vul_client_next(at, record.as_mut_ptr(), record.len()) })?;
+            return Ok((event.0[0], event.1[0], record));
+        }
+        match stream.read(&mut piece)? {
+            0 => return Err("the server ended".into()),
+            count => done(unsafe { vul_client_feed(at, piece.as_ptr(), count) })?,
         }
     }
-
-    /// Gets the hint of the current version, which may change meanwhile.
-    fn sync(&mut self) -> Outcome<()> {
-        for _ in 0..STALE_ANSWERS {
-            done("sync", unsafe { vul_client_sync(&mut self.handle, 0) })?;
-            match self.ended()?.0 {
-                Event { kind: SYNCED, .. } => return Ok(()),
-                Event { kind: STALE, .. } => {}
-                other => return Err(format!("no hint: {}", other.detail).into()),
-            }
-        }
-        Err("the hint is stale again and again".into())
-    }
-
-    /// A record and its version.
-    fn get(&mut self, index: u32) -> Outcome<(u64, Vec<u8>)> {
-        for _ in 0..=STALE_ANSWERS {
-            done("ask", unsafe { vul_client_ask(&mut self.handle, index) })?;
-            match self.ended()? {
-                (Event { kind: RETRIEVED, version, .. }, record) => return Ok((version, record)),
-                (Event { kind: STALE, .. }, _) => self.sync()?,
-                (other, _) => return Err(format!("no record: {}", other.kind).into()),
-            }
-        }
-        Err("the answer is stale again and again".into())
-    }
-
-    fn next_number(&mut self) -> Outcome<u64> {
-        let mut number = 0;
-        done("number", unsafe { vul_client_number(&mut self.handle, &mut number) })?;
-        Ok(number)
-    }
 }
 
-impl Drop for Client {
-    fn drop(&mut self) {
-        unsafe { vul_client_close(&mut self.handle) }
+/// A record and its version. The hint is fetched first, or moved to the current version; a publication may come between.
+fn get(at: &mut Handle, stream: &mut TcpStream, index: u32) -> Outcome<(u64, Vec<u8>)> {
+    for _ in 0..3 {
+        let code = unsafe { vul_client_sync(at, 0) };
+        if ended(at, stream, code)?.0 == SYNCED {
+            let code = unsafe { vul_client_ask(at, index) };
+            if let (RETRIEVED, version, record) = ended(at, stream, code)? {
+                return Ok((version, record));
+            }
+        }
     }
-}
-
-fn seed_of(digits: &str) -> Outcome<[u8; 32]> {
-    let mut seed = [0; 32];
-    if digits.len() != 64 || !digits.bytes().all(|digit| digit.is_ascii_hexdigit()) {
-        return Err("SEED is 64 hex digits".into());
-    }
-    for (i, byte) in seed.iter_mut().enumerate() {
-        *byte = u8::from_str_radix(&digits[2 * i..2 * i + 2], 16)?;
-    }
-    Ok(seed)
+    Err("no record: the server refuses, or names a newer version again and again".into())
 }
 
 fn main() -> Outcome<()> {
     let words: Vec<String> = std::env::args().skip(1).collect();
-    let [server, seed, number, indices @ ..] = words.as_slice() else {
-        return Err("usage: get HOST:PORT SEED NUMBER INDEX ..".into());
-    };
-    let mut client = Client::new(TcpStream::connect(server)?, &seed_of(seed)?, number.parse()?)?;
-    client.sync()?;
-    for index in indices {
-        let (version, record) = client.get(index.parse()?)?;
-        let digits: String = record.iter().map(|byte| format!("{byte:02x}")).collect();
-        println!("{index} {version} {digits}");
+    let mut stream = TcpStream::connect(words.first().ok_or("usage: get HOST:PORT INDEX ..")?)?;
+    let (mut at, mut seed, mut known) = (Handle(0, std::ptr::null_mut()), [0; 32], Known::default());
+    std::fs::File::open("/dev/urandom")?.read_exact(&mut seed)?;
+    done(unsafe { vul_client_open(&mut at, seed.as_ptr(), 0) })?;
+    let code = unsafe { vul_client_hello(&mut at, [0; 32].as_ptr()) };
+    ended(&mut at, &mut stream, code)?;
+    done(unsafe { vul_client_known(&mut at, &mut known) })?;
+    if known[2] >> 32 < 1024 {
+        return Err("the server refuses, or its secrets hide the index less".into());
     }
-    println!("next {}", client.next_number()?);
+    for index in &words[1..] {
+        let (version, record) = get(&mut at, &mut stream, index.parse()?)?;
+        println!("{index} {version} {}", record.iter().map(|byte| format!("{byte:02x}")).collect::<String>());
+    }
+    unsafe { vul_client_close(&mut at) };
     Ok(())
 }

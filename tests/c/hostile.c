@@ -178,7 +178,7 @@ static uint32_t ends(vul_server *server, vul_client *client)
 /* A right session after all that. */
 static void is_served(vul_server *server)
 {
-    vul_client client = {0};
+    vul_client client = VUL_CLIENT_INIT;
     uint8_t seed[32] = {1}, reader[32] = {0};
     IS_ONE_OF(vul_server_session_open(server, SESSION), VUL_OK);
     IS_ONE_OF(vul_client_open(&client, seed, 0), VUL_OK);
@@ -198,11 +198,11 @@ int main(int count, char **words)
         return 2;
     size_t size;
     uint8_t *file = read_file(words[1], &size);
-    vul_server server = {0};
+    vul_server server = VUL_SERVER_INIT;
     IS_ONE_OF(vul_server_open(&server, file, size), VUL_OK);
     long streams = atol(words[2]);
     for (long i = 0; i < streams; i++) {
-        vul_client client = {0};
+        vul_client client = VUL_CLIENT_INIT;
         uint8_t seed[32] = {2};
         IS_ONE_OF(vul_client_open(&client, seed, (uint64_t)i * 100), VUL_OK);
         stream(&server, &client, 1000 + (uint64_t)i);

@@ -17,7 +17,7 @@ int main(int count, char **words)
     read_seed(words[2], key);
     uint32_t scheme = strcmp(words[3], "double") == 0 ? VUL_DOUBLE : VUL_SIMPLE;
     int fd = connected("127.0.0.1", words[1]);
-    vul_client client = {0};
+    vul_client client = VUL_CLIENT_INIT;
     wanted("open", vul_client_open(&client, seed, 0));
     wanted("hello", vul_client_hello(&client, key));
     ends_as(&client, fd, VUL_WELCOMED, "hello");

@@ -108,8 +108,8 @@ static int publishes(vul_server *server)
 
 static int session(const uint8_t *file, size_t size)
 {
-    vul_server server = {0};
-    vul_client client = {0};
+    vul_server server = VUL_SERVER_INIT;
+    vul_client client = VUL_CLIENT_INIT;
     vul_event event;
     uint8_t seed[32] = {3}, reader[32] = {0};
     int whole = done(vul_server_open(&server, file, size)) && done(vul_server_session_open(&server, SESSION)) &&

@@ -69,8 +69,8 @@ static void gets(vul_server *server, vul_client *client, size_t most, uint32_t i
 /* What every call says to a closed handle. */
 static void is_closed(void)
 {
-    vul_client client = {0};
-    vul_server server = {0};
+    vul_client client = VUL_CLIENT_INIT;
+    vul_server server = VUL_SERVER_INIT;
     uint8_t key[32] = {0}, byte[1] = {0};
     vul_event event;
     vul_known known;
@@ -203,7 +203,7 @@ static void retrieves(vul_server *server, vul_client *client, const uint8_t *zer
 /* The publisher's session, by a client of its own. */
 static void publishes(vul_server *server, const uint8_t key[32], size_t len)
 {
-    vul_client client = {0};
+    vul_client client = VUL_CLIENT_INIT;
     vul_event event;
     uint64_t version;
     uint8_t seed[32], *bytes = room(70000);
@@ -268,8 +268,8 @@ static void appends_none(vul_server *server, vul_client *client, const uint8_t *
  * and then both are got in a scheme. */
 static void grows(const uint8_t *file, size_t size, const uint8_t key[32], size_t len, uint32_t scheme)
 {
-    vul_server server = {0};
-    vul_client client = {0};
+    vul_server server = VUL_SERVER_INIT;
+    vul_client client = VUL_CLIENT_INIT;
     vul_event event;
     vul_known known;
     uint8_t *third = room(70000), *fourth = room(len);
@@ -338,7 +338,7 @@ static void asks_parts(uint8_t stream[LONG])
  * stream fed whole. */
 static void is_fed_by_frames(const uint8_t *file, size_t size)
 {
-    vul_server server = {0};
+    vul_server server = VUL_SERVER_INIT;
     uint8_t stream[LONG], *whole = room(1 << 20), *parts = room(1 << 20);
     size_t taken = 9, at, len, got;
     asks_parts(stream);
@@ -410,7 +410,7 @@ static void has_plan(vul_client *client, size_t len, const uint8_t *saved)
 /* A client of another seed goes on with the hint that one has saved, and gets a record without a sync. */
 static void goes_on(const uint8_t *file, size_t size, const uint8_t key[32], const uint8_t *zeroth, size_t len, uint32_t scheme)
 {
-    vul_server server = {0};
+    vul_server server = VUL_SERVER_INIT;
     vul_client first = {0}, other = {0};
     uint8_t seed[32];
     memset(seed, 0x55, sizeof seed);
@@ -452,8 +452,8 @@ static void goes_on(const uint8_t *file, size_t size, const uint8_t key[32], con
 /* A hint of a later version than the server's is none to go on with. */
 static void is_another(const uint8_t *file, size_t size, const uint8_t key[32], size_t len)
 {
-    vul_server server = {0};
-    vul_client client = {0};
+    vul_server server = VUL_SERVER_INIT;
+    vul_client client = VUL_CLIENT_INIT;
     uint8_t *edited = room(len);
     memset(edited, 9, len);
     greeted(&server, &client, file, size, key);
@@ -481,8 +481,8 @@ static void is_another(const uint8_t *file, size_t size, const uint8_t key[32], 
 static void is_full(const uint8_t *file, size_t size, const uint8_t key[32])
 {
     static const uint8_t bytes[2] = {5, 5};
-    vul_server server = {0};
-    vul_client client = {0};
+    vul_server server = VUL_SERVER_INIT;
+    vul_client client = VUL_CLIENT_INIT;
     greeted(&server, &client, file, size, key);
     SAME(vul_server_append(&server, bytes, 1), VUL_FULL);
     SAME(vul_server_append(&server, bytes, 2), VUL_BAD_RECORD_LENGTH);
@@ -506,7 +506,7 @@ int main(int count, char **words)
 
     is_closed();
     vul_server server = {0}, again = {0};
-    vul_client client = {0};
+    vul_client client = VUL_CLIENT_INIT;
     uint32_t open = 9;
     uint64_t number, version;
     vul_known known;
