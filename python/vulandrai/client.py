@@ -1,23 +1,20 @@
 """A client over a socket, whose calls wait for their ends."""
 import contextlib
-import enum
 import os
 import socket
 import threading
-import warnings
-from ctypes import byref, c_uint64
-from typing import Iterator, NamedTuple, Optional, Tuple, Union
+from typing import Any, Callable, Iterator, Optional
 
 from . import faults
-from ._library import PLAN, Event, KnownServer, Side, bytes_of, within
-from .hints import Hints, version_of
+from ._buffers import Bytes
+from ._session import READER, Folder, Known, Record, Scheme, Session, Step, Steps, T
 
-READER = bytes(32)
-SYNCED, RETRIEVED, UNREADABLE, STALE, REFUSED = 2, 3, 4, 5, 7
 PIECE = 1 << 16
+# How many connections are tried where each leads to a server of an older version.
+CONNECTIONS = 3
 
-# How often a hint or an answer may be stale before the server is given up: it may publish again and again, or lie.
-STALE_ANSWERS = 3
+# Told how many bytes of a hint have come, and of how many, or None where only the rows that changed are sent.
+Progress = Callable[[int, Optional[int]], object]
 
 
 @contextlib.contextmanager
@@ -27,32 +24,6 @@ def _timely() -> Iterator[None]:
         yield
     except socket.timeout as fault:
         raise TimeoutError(*fault.args) from None
-
-
-class Scheme(enum.IntEnum):
-    """How records are retrieved."""
-
-    SIMPLE = 0
-    DOUBLE = 1
-
-
-class Record(NamedTuple):
-    """A record as it was in a version."""
-
-    index: int
-    version: int
-    bytes: bytes
-
-
-class Known(NamedTuple):
-    """What the server reported of its store: the version, how many records it has, their form, how many bytes a record has, or
-    in form 2 its slot, and how many words a secret has."""
-
-    version: int
-    count: int
-    form: int
-    record_len: int
-    dimension: int
 
 
 class Client:
@@ -66,9 +37,13 @@ class Client:
     for the next time, the same as that of `pir_client get --state`. `key` is the publisher's, for who edits. A server whose dimension is
     below `least_dimension` raises `LowDimension`. Connecting, and each piece that is waited for, may take `timeout` seconds.
 
+    A server whose version is lower than one that was seen before of its store, by what is kept in `hints`, is warned of
+    (`faults.OlderVersion`); with `no_older` it raises `Older`, after three connections. `progress` is called with two numbers while
+    a hint is fetched: how many bytes have come, and of how many, or None where only the rows that changed are sent.
+
     Threads may share a client: each call has the connection to itself until it ends. A client that is used in another process than the
-    one that made it raises `Forked`. A call that fails before its end, by a timeout or any other exception, closes the client; what the
-    server refuses does not.
+    one that made it raises `Forked`, and none can be pickled or copied. A call that fails before its end, by a timeout or any other
+    exception, closes the client; what the server refuses does not.
     """
 
     def __init__(
@@ -76,33 +51,34 @@ class Client:
         host: str,
         port: int,
         *,
-        hints: Optional[Union[str, "os.PathLike[str]"]] = None,
+        hints: Optional[Folder] = None,
         seed: Optional[bytes] = None,
         number: int = 0,
-        key: bytes = READER,
+        key: Bytes = READER,
         scheme: Scheme = Scheme.SIMPLE,
         least_dimension: int = 1024,
         timeout: Optional[float] = None,
+        no_older: bool = False,
+        progress: Optional[Progress] = None,
     ) -> None:
-        if seed is None and number != 0:
-            raise ValueError("a number is that of a seed of your own")
-        seed, key = os.urandom(32) if seed is None else bytes_of(seed), bytes_of(key)
-        if len(seed) != 32 or len(key) != 32:
-            raise ValueError("a seed has 32 bytes, and so has a key")
-        self._client, self._scheme, self._is_synced, self._has_looked = Side("client"), Scheme(scheme), False, False
-        self._turn, self._process, self._socket = threading.RLock(), os.getpid(), None
-        self._hints = None if hints is None else Hints(hints)
-        try:
-            self._client.call("open", seed, within(number, 64, faults.BadNumber))
-            with _timely():
-                self._socket = socket.create_connection((host, port), timeout)
-            self._client.call("hello", key)
-            self._ended()
-            if self.known.dimension < least_dimension:
-                raise faults.LowDimension(faults.LowDimension.__doc__)
-        except BaseException:
+        if no_older and hints is None:
+            raise ValueError("what was seen before is known from `hints` alone")
+        self._turn, self._process, self._progress = threading.RLock(), os.getpid(), progress
+        self._socket: Optional[socket.socket] = None
+        for _ in range(CONNECTIONS):
+            self._session = Session(seed, number, key, scheme, hints)
+            try:
+                with _timely():
+                    self._socket = socket.create_connection((host, port), timeout)
+                self._ended(self._session.greet(least_dimension))
+            except BaseException:
+                self.close()
+                raise
+            if not no_older or self._session.older is None:
+                self._session.warn_of_older()
+                return
             self.close()
-            raise
+        raise faults.Older()
 
     def sync(self) -> int:
         """Fetches the hint of the current version, and gives its number. `get` does so if it has to.
@@ -110,14 +86,7 @@ class Client:
         A server that publishes meanwhile again and again raises `Stale`.
         """
         with self._exclusive():
-            for _ in range(STALE_ANSWERS):
-                self._client.call("sync", self._scheme)
-                event, _ = self._ended()
-                if event.kind == SYNCED:
-                    self._is_synced = True
-                    self._keep_hint()
-                    return event.version
-            raise faults.Stale(faults.Stale.__doc__)
+            return self._ended(self._session.sync())
 
     def get(self, index: int) -> bytes:
         """The bytes of a record in the current version."""
@@ -126,54 +95,34 @@ class Client:
     def retrieve(self, index: int) -> Record:
         """A record in the current version, with its number."""
         with self._exclusive():
-            wanted = within(index, 32, faults.BadIndex)
-            self._hold_hint()
-            for _ in range(1 + STALE_ANSWERS):
-                self._client.call("ask", wanted)
-                event, record = self._ended()
-                if event.kind == RETRIEVED:
-                    self._compare(wanted, event)
-                    return Record(event.index, event.version, record)
-                if event.kind == UNREADABLE:
-                    raise faults.Unreadable(faults.Unreadable.__doc__)
-                self.sync()
-            raise faults.Stale(faults.Stale.__doc__)
+            return self._ended(self._session.retrieve(index))
 
-    def edit(self, index: int, record: bytes) -> None:
+    def edit(self, index: int, record: Bytes) -> None:
         """Replaces a record of the server's draft; the client speaks for the publisher."""
-        record = bytes_of(record)
         with self._exclusive():
-            self._client.call("edit", within(index, 32, faults.NoSuchRecord), record, len(record))
-            self._ended()
+            self._ended(self._session.edit(index, record))
 
-    def append(self, record: bytes) -> None:
+    def append(self, record: Bytes) -> None:
         """Puts a record after those of the server's draft; the client speaks for the publisher."""
-        record = bytes_of(record)
         with self._exclusive():
-            self._client.call("append", record, len(record))
-            self._ended()
+            self._ended(self._session.append(record))
 
     def publish(self) -> int:
         """Publishes the server's draft, and gives the new version."""
         with self._exclusive():
-            self._client.call("publish")
-            return self._ended()[0].version
+            return self._ended(self._session.publish())
 
     @property
     def known(self) -> Known:
         """What the server reported of its store."""
         with self._exclusive():
-            known = KnownServer()
-            self._client.call("known", byref(known))
-            return Known(known.version, known.count, known.form, known.record_len, known.dimension)
+            return self._session.known()
 
     @property
     def next_number(self) -> int:
         """The number of the next retrieval."""
         with self._exclusive():
-            number = c_uint64()
-            self._client.call("number", byref(number))
-            return number.value
+            return self._session.next_number()
 
     def close(self) -> None:
         """Ends the connection, and frees the client. Every later call raises `Closed`. In a process that was forked it lets go of that
@@ -181,86 +130,51 @@ class Client:
         if self._socket is not None:
             self._socket.close()
         if os.getpid() == self._process:
-            self._client.close()
+            self._session.client.close()
 
     @contextlib.contextmanager
     def _exclusive(self) -> Iterator[None]:
         """The connection for this thread alone."""
         if os.getpid() != self._process:
-            raise faults.Forked(faults.Forked.__doc__)
+            raise faults.Forked()
         with self._turn:
             yield
 
-    def _hold_hint(self) -> None:
-        """Sees to it that a hint of the current version is held: the one kept, or as a sync moves or brings it."""
-        if not self._has_looked:
-            self._has_looked = True
-            self._take_up()
-        if not self._is_synced:
-            self.sync()
-
-    def _take_up(self) -> None:
-        """Takes up the hint that is kept for the store, if there is one. A damaged one is dropped."""
-        if self._hints is None:
-            return
-        scheme, plan = self._scheme.name.lower(), self._client.taken("plan", PLAN)
-        file = self._hints.read(scheme, plan)
-        if file is None:
-            return
+    def _ended(self, steps: Steps[T]) -> T:
+        """What a call returns, once its bytes have gone to and fro. What goes wrong meanwhile is raised in the call, which closes the client."""
         try:
-            self._client.call("resume", file, len(file))
-        except faults.BadHint:
-            self._hints.drop(scheme, plan)
-        except faults.OtherHint:
-            pass
-        else:
-            self._is_synced = version_of(file) == self.known.version
+            step = next(steps)
+            while True:
+                try:
+                    piece = self._exchanged(step)
+                except BaseException as fault:
+                    step = steps.throw(fault)
+                else:
+                    step = steps.send(piece)
+        except StopIteration as end:
+            value: T = end.value
+            return value
+        finally:
+            if self._socket is not None and self._session.client.is_closed():
+                self._socket.close()
 
-    def _keep_hint(self) -> None:
-        """Keeps the hint held. That it can't be kept is warned of, since nothing else depends on it."""
-        if self._hints is None:
-            return
-        file = self._client.taken("save", self._client.count("hint_len"))
-        try:
-            self._hints.keep(self._scheme.name.lower(), self._client.taken("plan", PLAN), file)
-        except OSError as fault:
-            warnings.warn(f"the hint can't be kept: {fault}")
-
-    def _compare(self, wanted: int, event: Event) -> None:
-        """An answer is that of the record asked for. The client has compared it already."""
-        if event.index != wanted:
-            self.close()
-            raise faults.BadReply(faults.BadReply.__doc__)
-
-    def _ended(self) -> Tuple[Event, bytes]:
-        """The event with which the outstanding call ends, and its record; a refusal is raised."""
-        try:
-            with _timely():
-                event, record = self._conversation()
-        except BaseException:
-            # Nobody knows how far the server is, so nothing more can be said over this connection.
-            self.close()
-            raise
-        if event.kind == REFUSED:
-            raise faults.Refused(event.detail)
-        return event, record
-
-    def _conversation(self) -> Tuple[Event, bytes]:
-        event = Event()
-        while True:
-            waiting = self._client.count("waiting")
-            if waiting:
-                self._socket.sendall(self._client.taken("take", waiting))
-            self._client.call("event", byref(event))
-            if event.kind:
-                return event, self._client.taken("next", event.record_len)
-            piece = self._socket.recv(PIECE)
-            if not piece:
-                raise faults.Ended(faults.Ended.__doc__)
-            self._client.call("feed", piece, len(piece))
+    def _exchanged(self, step: Step) -> bytes:
+        if step.progress is not None and self._progress is not None:
+            self._progress(*step.progress)
+        if not step.awaits:
+            return b""
+        if self._socket is None:
+            raise faults.Closed()
+        with _timely():
+            if step.sent:
+                self._socket.sendall(step.sent)
+            return self._socket.recv(PIECE)
 
     def __enter__(self) -> "Client":
         return self
 
     def __exit__(self, *_: object) -> None:
         self.close()
+
+    def __reduce__(self) -> Any:
+        raise TypeError("a client can't be pickled or copied: two that go on with one seed would show what they ask")

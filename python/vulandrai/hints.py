@@ -6,16 +6,46 @@ import hashlib
 import os
 import re
 import stat
-from typing import Optional, Union
+from typing import List, NamedTuple, Optional, Union
 
-# Where numbers stand in a file, as docs/FORMATS.md has them: the version that the server had reported last, and the hint's.
-REPORTED, OWN = slice(53, 61), slice(62, 70)
+# Where fields stand in a file, as docs/FORMATS.md has them: the store's plan with its dimension, the records and the version that the server
+# had reported last, the scheme, the hint's version, rows and columns, and the digests of its parts.
+PLAN, DIMENSION, RECORDS, REPORTED, SCHEME, OWN = slice(8, 49), slice(15, 17), slice(49, 53), slice(53, 61), 61, slice(62, 70)
+ROWS, COLUMNS, PARTS = slice(70, 78), slice(78, 86), 86
+MAGIC, DIGEST, PART_WORDS, MOST_WORDS = b"PIRHINT3", 32, 1 << 16, 1 << 25
+SCHEMES = ("simple", "double")
 MOST_BYTES = 1 << 28
+# So long is the longest head.
+MOST_HEAD = PARTS + DIGEST * (MOST_WORDS // PART_WORDS + 1)
+FILE = re.compile(r"(simple|double)-[0-9a-f]{64}\.hint")
 
 
-def version_of(file: bytes) -> int:
+class Head(NamedTuple):
+    """What the file of a hint says of itself."""
+
+    scheme: str
+    version: int
+    plan: bytes
+    reported: int
+    records: int
+    dimension: int
+
+
+def version_of(file: Union[bytes, bytearray]) -> int:
     """The version of the hint in a file."""
-    return int.from_bytes(file[OWN], "little")
+    return _number(file[OWN])
+
+
+def head_of(file: bytes) -> Optional[Head]:
+    """The head of a file, if it is whole."""
+    if len(file) < PARTS or not file.startswith(MAGIC) or file[SCHEME] >= len(SCHEMES):
+        return None
+    words = _number(file[ROWS]) * _number(file[COLUMNS])
+    end = PARTS + DIGEST * ((words + PART_WORDS - 1) // PART_WORDS)
+    if words > MOST_WORDS or hashlib.sha256(file[:end]).digest() != file[end : end + DIGEST]:
+        return None
+    scheme, plan = SCHEMES[file[SCHEME]], bytes(file[PLAN])
+    return Head(scheme, version_of(file), plan, _number(file[REPORTED]), _number(file[RECORDS]), _number(file[DIMENSION]))
 
 
 class Hints:
@@ -29,6 +59,18 @@ class Hints:
         """The file of a scheme's hint for the store of this plan, if there is one."""
         return self._read(self._name(scheme, plan), MOST_BYTES)
 
+    def version_seen(self, plan: bytes) -> int:
+        """The highest version that a server of this store was seen to have, beside a hint of either scheme; 0 where none was."""
+        files = (self._read(self._name(scheme, plan), MOST_HEAD) for scheme in SCHEMES)
+        heads = (head_of(file) for file in files if file is not None)
+        return max((head.reported for head in heads if head is not None and head.plan == plan), default=0)
+
+    def heads(self) -> List[Optional[Head]]:
+        """The heads of all files, in the order of their names; None for one that is damaged."""
+        names = sorted(name for name in os.listdir(self._path) if FILE.fullmatch(name))
+        files = (self._read(f"{self._path}/{name}", MOST_HEAD) for name in names)
+        return [None if file is None else head_of(file) for file in files]
+
     def drop(self, scheme: str, plan: bytes) -> None:
         """Removes a file, if there is one."""
         try:
@@ -36,7 +78,7 @@ class Hints:
         except FileNotFoundError:
             pass
 
-    def keep(self, scheme: str, plan: bytes, file: bytes) -> None:
+    def keep(self, scheme: str, plan: bytes, file: Union[bytes, bytearray]) -> None:
         """Keeps a file in place of the one before, whole, unless that one is of a later version. Nothing is kept while another
         process keeps one of this name."""
         name = self._name(scheme, plan)
@@ -69,7 +111,7 @@ class Hints:
             if left.fullmatch(other):
                 os.remove(f"{self._path}/{other}")
 
-    def _replace(self, name: str, data: bytes) -> None:
+    def _replace(self, name: str, data: Union[bytes, bytearray]) -> None:
         beside = f"{name}.new-{os.urandom(8).hex()}"
         try:
             with open(os.open(beside, os.O_WRONLY | os.O_CREAT | os.O_EXCL, 0o600), "wb") as file:
@@ -88,5 +130,5 @@ class Hints:
             os.close(folder)
 
 
-def _number(data: bytes) -> int:
+def _number(data: Union[bytes, bytearray]) -> int:
     return int.from_bytes(data, "little")
