@@ -10,15 +10,16 @@ import tempfile
 
 from client import CallRefused, Client
 from formats import (
-    APPEND, BYE, DOUBLE, EDIT, FORMS, HELLO, LAST_FORM, LOAD, PUBLISH, QUERY, SIMPLE, WELCOME, Layout, answer_count, frame,
-    hint_count, is_layout, query_count, snapshot_bytes, snapshot_fault,
+    APPEND, BYE, DOUBLE, EDIT, HELLO, LOAD, PUBLISH, QUERY, SIMPLE, WELCOME, Layout, answer_count, client_profile, fields_at, frame,
+    header_of, hint_count, is_layout, is_slotted, is_wide, magic_of, query_count, snapshot_bytes, snapshot_fault,
 )  # fmt: skip
-from script import rehearse
+from script import WORLDS, rehearse
 from server import Session, Store, once
 from streams import KEY, damaged, near, pieces, random_ask, random_edit, random_frame, random_store
 
 SECONDS = 60
 READER = bytes(32)
+WIDE_SEED = bytes([0x33]) * 32
 
 
 def compared(wanted, got):
@@ -43,7 +44,7 @@ class Streams:
     def stream(self, chance, store):
         session = Session(store)
         key = chance.choice((READER, KEY, KEY))
-        data = frame(HELLO, chance.choice((store.layout.form, LAST_FORM)), key) if chance.random() < 0.85 else b""
+        data = frame(HELLO, chance.choice((store.layout.form, client_profile(is_wide(store.layout.form)))), key) if chance.random() < 0.85 else b""
         session.feed(data)
         for _ in range(chance.randint(0, 6)):
             more = random_frame(chance, store)
@@ -94,13 +95,15 @@ class Orders(Streams):
     name = "orders"
 
     def all_cases(self):
-        for layout in (Layout(8, 1, 1, 2), Layout(8, 3, 1, 2, 2)):
+        for layout in (Layout(8, 1, 1, 2), Layout(8, 3, 1, 2, 2), Layout(8, 1, 1, 2, 129), Layout(8, 3, 1, 2, 130)):
             yield from self.cases(Store(layout, 1, 1, bytes(32), hashlib.sha256(KEY).digest(), [b"\x0a", b"\xc8"]))
 
     def cases(self, store):
         form, asked = store.layout.form, range(query_count(DOUBLE, store.layout))
+        last, other = client_profile(is_wide(form)), client_profile(not is_wide(form))
         frames = [
-            frame(HELLO, form, READER), frame(HELLO, 2, KEY), frame(HELLO, form - 1, READER), frame(HELLO, 2, bytes([2]) * 32),
+            frame(HELLO, form, READER), frame(HELLO, last, KEY), frame(HELLO, form - 1, READER), frame(HELLO, last, bytes([2]) * 32),
+            frame(HELLO, other, KEY),
             frame(3, SIMPLE, 1, 0), frame(3, DOUBLE, 2, 0), frame(4, 1), frame(4, 9), frame(QUERY, SIMPLE, 1, rest=[1, 2]),
             frame(QUERY, DOUBLE, 2, rest=asked), frame(QUERY, SIMPLE, 1, rest=[1]), frame(EDIT, 0, rest=b"\5"), frame(EDIT, 2, rest=b"\5"),
             frame(PUBLISH), frame(BYE), frame(APPEND, rest=b"\5"), frame(LOAD, 1, 1, 8, rest=b"ab"), frame(0x87, 1),
@@ -113,11 +116,10 @@ class Orders(Streams):
 
 def store_of(data):
     """The store of a snapshot."""
-    width, record_len, groups = data[8], int.from_bytes(data[9:11], "little"), int.from_bytes(data[11:13], "little")
-    count, n, version = (int.from_bytes(data[a:b], "little") for a, b in ((13, 17), (17, 19), (19, 27)))
-    layout = Layout(width, record_len, groups, count, FORMS[data[:8]])
-    records = [layout.content(data[91 + i * record_len : 91 + (i + 1) * record_len]) for i in range(count)]
-    return Store(layout, n, version, data[27:59], data[59:91], records)
+    form, width, record_len, groups, count, n, version, at = header_of(data)
+    layout, first = Layout(width, record_len, groups, count, form), at + 64
+    records = [layout.content(data[first + i * record_len : first + (i + 1) * record_len]) for i in range(count)]
+    return Store(layout, n, version, data[at : at + 32], data[at + 32 : first], records)
 
 
 def spoken(port, parts, closes):
@@ -179,9 +181,10 @@ class Replies:
         index = chance.randrange(store.layout.count) if chance.random() < 0.9 else near(chance, store.layout.count, (1 << 32) - 1)
         command = chance.choice(("get", "get", "get", "put", "append", "publish"))
         scheme = chance.choice(("simple", "double"))
+        wide = is_wide(store.layout.form) if chance.random() < 0.9 else chance.random() < 0.5
         case = {
             "command": command, "scheme": scheme, "index": index, "number": chance.choice((0, 1, (1 << 62) - 1)),
-            "record": chance.choice((b"de", b"")), "parts": [],
+            "record": chance.choice((b"de", b"")), "wide": wide, "parts": [],
         }  # fmt: skip
         session, conversation = Session(store), Conversation(case)
         for sent in conversation:
@@ -194,7 +197,7 @@ class Replies:
     def replies(self, chance, store, right):
         """The pieces that come for a frame of the client."""
         if right[4] == WELCOME and chance.random() < 0.1:
-            return [of_other_form(right)]
+            return [of_other_form(chance, right)]
         if chance.random() < 0.75:
             return [right]
         kind = chance.randrange(5)
@@ -223,7 +226,7 @@ class Replies:
             "put": ["--key", "01" * 32, str(case["index"]), case["record"].hex() or "-"],
             "append": ["--key", "01" * 32, case["record"].hex() or "-"],
             "publish": ["--key", "01" * 32],
-        }[case["command"]]
+        }[case["command"]] + ["--wide"] * case["wide"]
         conversation = Conversation(case)
         steps = list(conversation)
         with socket.create_server(("127.0.0.1", 0)) as listener:
@@ -242,9 +245,10 @@ class Replies:
         return fault or compared(conversation.end, (said.decode(), told.decode(), asking.returncode))
 
 
-def of_other_form(welcome):
-    """A Welcome that tells of the other form: the records of a store of form 1 are mostly no slots."""
-    return welcome[:5] + bytes([3 - welcome[5]]) + welcome[6:]
+def of_other_form(chance, welcome):
+    """A Welcome that names another form: the records of a store of one length are mostly no slots."""
+    form = chance.choice([form for form in (1, 2, 129, 130, 128, 131) if form != welcome[5]])
+    return welcome[:5] + bytes([form]) + welcome[6:]
 
 
 def altered(chance, right):
@@ -291,7 +295,8 @@ class Conversation:
 
     def __iter__(self):
         case = self.case
-        client = Client(bytes([0x11]) * 32 if case["command"] == "get" else bytes(32), case["number"] if case["command"] == "get" else 0)
+        seed, number = (bytes([0x11]) * 32, case["number"]) if case["command"] == "get" else (bytes(32), 0)
+        client = Client(seed, number, case["wide"])
         try:
             key = READER if case["command"] == "get" else KEY
             yield from self.exchange(client, client.hello, key)
@@ -346,7 +351,7 @@ class Scripts:
         store = random_store(chance, READER)
         layout = store.layout
         sizes = [near(chance, value, 300) if chance.random() < 0.1 else value for value in (layout.width, layout.record_len, layout.groups, store.n)]
-        world = "world" if layout.form == 1 else "world2"
+        world = next(name for name, form in WORLDS.items() if form == layout.form)
         lines = [" ".join(map(str, [world, *sizes])), f"seed {store.seed.hex()}"]
         lines += [f"record {record.hex() or '-'}" for record in store.draft]
         clients = chance.randint(1, 3)
@@ -386,31 +391,32 @@ class Scripts:
 
 
 class Snapshots:
-    """Snapshot files, whole and damaged, as `pir_server show` prints them and `pir_server migrate` moves them to form 2."""
+    """Snapshot files, whole and damaged, as `pir_server show` prints them, `pir_server migrate` moves their records into slots, and
+    `pir_server widen` into a wide store."""
 
     name = "snapshots"
 
     def case(self, chance):
         publisher = hashlib.sha256(KEY).digest()
-        data = file_of(random_store(chance, publisher, last=True) if chance.random() < 0.8 else wide_store(chance, publisher))
+        data = file_of(random_store(chance, publisher, last=True) if chance.random() < 0.8 else large_store(chance, publisher))
         kind = chance.randrange(8)
         if kind == 0:
-            at = chance.randrange(27)
+            at = chance.randrange(fields_at(data) + 19)
             data = data[:at] + bytes([chance.randrange(256)]) + data[at + 1 :]
         elif kind == 1:
             data = damaged(chance, data)
         elif kind == 2:
             data = data[: chance.randrange(len(data))]
         elif kind == 3:
-            at = chance.randrange(91, len(data) - 32)
+            at = chance.randrange(fields_at(data) + 83, len(data) - 32)
             data = data[:at] + bytes([near(chance, data[at] ^ 1, 255)]) + data[at + 1 :]
         elif kind == 4:
-            data = (b"PIRSNAP2" if FORMS[data[:8]] == 1 else b"PIRSNAP1") + data[8:]
+            data = magic_of(chance.choice((1, 2, 129, 130, 1, 131))) + data[fields_at(data) :]
         if kind in (0, 3, 4) and chance.random() < 0.7:
             data = data[:-32] + hashlib.sha256(data[:-32]).digest()
         if chance.random() < 0.1:
             data += b"\0"
-        return {"command": chance.choice(("show", "migrate")), "parts": [data]}
+        return {"command": chance.choice(("show", "migrate", "widen")), "parts": [data]}
 
     def difference(self, case, programs):
         data = b"".join(case["parts"])
@@ -418,13 +424,14 @@ class Snapshots:
             path, out = os.path.join(room, "store"), os.path.join(room, "out")
             with open(path, "wb") as file:
                 file.write(data)
-            words = [case["command"], "--file", path, *(["--out", out] if case["command"] == "migrate" else [])]
+            words = [case["command"], "--file", path, *(["--out", out] if case["command"] != "show" else [])]
+            words += ["--seed", WIDE_SEED.hex()] if case["command"] == "widen" else []
             done = subprocess.run([programs[0], *words], capture_output=True, text=True, timeout=SECONDS)
             left = None
             if os.path.exists(out):
                 with open(out, "rb") as file:
                     left = file.read()
-        wanted = self.migrated(data) if case["command"] == "migrate" else self.shown(data)
+        wanted = {"show": self.shown, "migrate": self.migrated, "widen": self.widened}[case["command"]](data)
         return compared(wanted, (done.stdout, done.stderr, done.returncode, left))
 
     def shown(self, data):
@@ -437,28 +444,55 @@ class Snapshots:
         if fault:
             return "", f"fault: {fault}\n", 3, None
         store = store_of(data)
-        return f"migrated {store.layout.count} {store.version()}\n", "", 0, file_of(of_form_two(store))
+        return f"migrated {store.layout.count} {store.version()}\n", "", 0, file_of(in_slots(store))
+
+    def widened(self, data):
+        fault = snapshot_fault(data) or widen_fault(store_of(data).layout)
+        if fault:
+            return "", f"fault: {fault}\n", 3, None
+        store = store_of(data)
+        return f"widened {store.layout.count} {store.version()}\n", "", 0, file_of(made_wide(store))
 
 
-def wide_store(chance, publisher):
-    """A store of form 1 with records of which some have no room for a length beside them."""
-    widest = ((8, 254, 1), (8, 255, 1), (8, 256, 1), (8, 62, 64), (8, 63, 64), (8, 64, 64), (10, 3, 1000), (10, 4, 1000))
-    width, record_len, groups = chance.choice(widest)
+def large_store(chance, publisher):
+    """A store of records of one length of which some have no room for a length beside them, or of more rows than an ordinary one
+    has."""
+    longest = (
+        (8, 254, 1, 1), (8, 255, 1, 1), (8, 256, 1, 1), (8, 62, 64, 1), (8, 63, 64, 1), (8, 64, 64, 1), (10, 3, 1000, 1), (10, 4, 1000, 1),
+        (8, 254, 63, 129), (8, 255, 63, 129), (8, 256, 63, 129), (8, 252, 64, 129), (8, 1, 32_768, 129), (8, 1, 10_922, 129),
+        (8, 1, 10_923, 129), (9, 2, 5000, 129),
+    )  # fmt: skip
+    width, record_len, groups, form = chance.choice(longest)
     records = [chance.randbytes(record_len) for _ in range(chance.randint(1, 3))]
-    return Store(Layout(width, record_len, groups, len(records)), 1, 1, bytes(32), publisher, records)
+    return Store(Layout(width, record_len, groups, len(records), form), 1, 1, bytes(32), publisher, records)
 
 
 def migrate_fault(layout):
-    """The name of the fault with which the records of a layout are not moved to form 2, or None."""
-    if layout.form != 1:
+    """The name of the fault with which the records of a layout are not moved into slots, or None."""
+    if is_slotted(layout.form):
         return "NotFormOne"
-    return None if is_layout(layout.width, layout.record_len + 2, layout.groups, layout.count) else "TooWide"
+    return None if is_layout(layout.width, layout.record_len + 2, layout.groups, layout.count, layout.form) else "TooWide"
 
 
-def of_form_two(store):
+def in_slots(store):
     """The same records in slots."""
-    layout = Layout(store.layout.width, store.layout.record_len + 2, store.layout.groups, store.layout.count, 2)
+    old = store.layout
+    layout = Layout(old.width, old.record_len + 2, old.groups, old.count, old.form + 1)
     return Store(layout, store.n, store.first, store.seed, store.publisher, store.versions[0])
+
+
+def widen_fault(layout):
+    """The name of the fault with which the records of a layout are not put into a wide store, or None."""
+    if is_wide(layout.form):
+        return "NotOrdinary"
+    return "BadWidth" if layout.width > 9 else None
+
+
+def made_wide(store):
+    """The same records in a wide store, which has a public seed of its own."""
+    old = store.layout
+    layout = Layout(old.width, old.record_len, old.groups, old.count, old.form + 128)
+    return Store(layout, store.n, store.first, WIDE_SEED, store.publisher, store.versions[0])
 
 
 def is_certain(layout, terms):
@@ -470,7 +504,7 @@ def description(store):
     """The lines that `show` prints."""
     layout, n = store.layout, store.n
     lengths = f"{layout.record_len} bytes"
-    if layout.form == 2:
+    if is_slotted(layout.form):
         lengths = f"at most {layout.record_len - 2} bytes, the longest of {max(map(len, store.draft))}"
     yield from (f"version {store.version()}", f"form {layout.form}", f"records {layout.count} of {lengths}")
     yield from (f"width {layout.width}", f"groups {layout.groups}", f"digits {layout.rows} rows {layout.cols} columns", f"dimension {n}")

@@ -1,7 +1,8 @@
 """A client's side of a session by docs/FORMATS.md: its calls, what it takes as a reply, and what comes of it."""
 from formats import (
-    ANSWER, APPEND, DELTA, DELTA_ASK, DONE, EDIT, HELLO, HINT_ASK, HINT_PART, LAST_FORM, MOST_DELTA_ROWS, NO_DELTA, PUBLISH, QUERY, REFUSED,
-    SIMPLE, STALE, WELCOME, Layout, Reader, answer_count, frame, is_form, is_layout, part_count, query_of, read_answer,
+    ANSWER, APPEND, DELTA, DELTA_ASK, DONE, EDIT, HELLO, HINT_ASK, HINT_PART, MOST_DELTA_ROWS, NO_DELTA, PUBLISH, QUERY, REFUSED,
+    SIMPLE, STALE, WELCOME, Layout, Reader, accepts, answer_count, client_profile, frame, is_form, is_layout, part_count, query_of,
+    read_answer,
 )  # fmt: skip
 
 NUMBERS = 1 << 62
@@ -21,10 +22,12 @@ class CallRefused(Exception):
 
 
 class Client:
-    """Calls give bytes to send or raise CallRefused; `feed` gives bytes to send, events as lines, and a fault's name or None."""
+    """A client of wide stores, or of ordinary ones. Calls give bytes to send or raise CallRefused; `feed` gives bytes to send, events
+    as lines, and a fault's name or None."""
 
-    def __init__(self, seed, number=0):
+    def __init__(self, seed, number=0, wide=False):
         self.seed, self.number, self.reader = seed, number, Reader()
+        self.profile = client_profile(wide)
         self.failed, self.layout, self.call = False, None, None
         self.scheme, self.hint, self.hint_version, self.parts = None, None, None, []
 
@@ -46,7 +49,7 @@ class Client:
             raise CallRefused("AlreadyWelcome")
         self.free()
         self.call = ("hello",)
-        return frame(HELLO, LAST_FORM, key)
+        return frame(HELLO, self.profile, key)
 
     def sync(self, scheme):
         self.begin(True)
@@ -126,7 +129,9 @@ class Client:
         if kind != WELCOME:
             raise BadReply
         form, width, record_len, groups, count, version, n, seed = fields
-        if not is_form(form, record_len) or not is_layout(width, record_len, groups, count) or not 1 <= n <= 1024 or version == 0:
+        if not accepts(form, self.profile) or not is_form(form, record_len) or not is_layout(width, record_len, groups, count, form):
+            raise BadWelcome
+        if not 1 <= n <= 1024 or version == 0:
             raise BadWelcome
         self.layout = Layout(width, record_len, groups, count, form)
         self.version, self.n, self.public_seed = version, n, seed
@@ -135,7 +140,7 @@ class Client:
     def renewed(self, version, count):
         """The version and the count last known, from a reply that names them."""
         old = self.layout
-        if version == 0 or not is_layout(old.width, old.record_len, old.groups, count):
+        if version == 0 or not is_layout(old.width, old.record_len, old.groups, count, old.form):
             raise BadReply
         self.version, self.layout = version, old.with_count(count)
 

@@ -8,11 +8,13 @@ import struct
 
 WORD = 1 << 32
 PART_WORDS = 65_536
+# The most words that a query has for the digits of its record.
+MOST_PART_WORDS = 4_128_768
 MOST_PAYLOAD = 16_777_216
 MOST_DELTA_ROWS = 1024
 SIMPLE, DOUBLE = 0, 1
-# The highest form that there is, which is the profile of a client that knows all of them.
-LAST_FORM = 2
+# The highest forms that there are, which are the profiles of a client that knows all ordinary ones, or all wide ones.
+LAST_FORM, LAST_WIDE_FORM = 2, 130
 LIMITS = [
     2043, 6079, 9970, 13630, 16990, 20001, 22633, 24879, 26749, 28269, 29474, 30407, 31111, 31630,
     32003, 32265, 32445, 32565, 32643, 32693, 32724, 32743, 32754, 32760, 32764, 32766, 32767,
@@ -94,19 +96,40 @@ def content_of(slot):
     return record if len(slot) >= 2 and slot_of(record, len(slot)) == slot else None
 
 
+def is_wide(form):
+    """Whether the digit matrix of a form may have more rows and columns."""
+    return form > 128
+
+
+def is_slotted(form):
+    """Whether each record of a form has a length of its own, and stands in a slot."""
+    return form in (2, 130)
+
+
 def is_form(form, record_len):
     """Whether there is a form of this number whose places may have so many bytes: a slot has two for the length."""
-    return form == 1 or form == 2 and record_len >= 2
+    return form in (1, 129) or is_slotted(form) and record_len >= 2
+
+
+def client_profile(wide):
+    """The profile in which a client of wide stores, or of ordinary ones, greets."""
+    return LAST_WIDE_FORM if wide else LAST_FORM
+
+
+def accepts(form, profile):
+    """Whether a store of a form and a client of a profile speak with each other: they are of one kind, and the client knows slots
+    if there are any."""
+    return form <= profile <= client_profile(is_wide(form))
 
 
 def fits(form, record_len, record):
     """Whether a place of so many bytes takes a record."""
-    return len(record) == record_len if form == 1 else len(record) + 2 <= record_len
+    return len(record) + 2 <= record_len if is_slotted(form) else len(record) == record_len
 
 
 class Layout:
     """Where the digits of records stand, and the form of the bytes that they are the digits of: the records themselves in
-    form 1, slots of R bytes in form 2."""
+    forms 1 and 129, slots of R bytes in forms 2 and 130."""
 
     def __init__(self, width, record_len, groups, count, form=1):
         self.width, self.record_len, self.groups, self.count, self.form = width, record_len, groups, count, form
@@ -124,11 +147,11 @@ class Layout:
 
     def stored(self, record):
         """The bytes that stand for a record."""
-        return record if self.form == 1 else slot_of(record, self.record_len)
+        return slot_of(record, self.record_len) if is_slotted(self.form) else record
 
     def content(self, stored):
         """The record that bytes stand for; None where they stand for none."""
-        return stored if self.form == 1 else content_of(stored)
+        return content_of(stored) if is_slotted(self.form) else stored
 
     def matrix(self, records):
         matrix = [[0] * self.cols for _ in range(self.rows)]
@@ -151,10 +174,13 @@ class Layout:
         return (word + self.delta // 2) % WORD // self.delta
 
 
-def is_layout(width, record_len, groups, count):
-    if not (6 <= width <= 10 and 1 <= record_len <= 256 and groups >= 1):
+def is_layout(width, record_len, groups, count, form=1):
+    most_bits, side = (9, 32_768) if is_wide(form) else (10, 4096)
+    if not (6 <= width <= most_bits and 1 <= record_len <= 256 and groups >= 1):
         return False
-    return groups * -(-8 * record_len // width) <= 4096 and count >= 1 and -(-count // groups) <= 4096
+    digits = -(-8 * record_len // width)
+    rows = groups * digits
+    return rows <= side and digits * rows <= MOST_PART_WORDS and count >= 1 and -(-count // groups) <= side
 
 
 def decomposed(layout, matrix):
@@ -351,14 +377,31 @@ class Reader:
 
 # ---- snapshots
 
-# The form of the records in a snapshot that begins so.
-FORMS = {b"PIRSNAP1": 1, b"PIRSNAP2": 2}
+# The forms that a snapshot may have that begins so. A wide one says in its next byte which it has.
+FORMS = {b"PIRSNAP1": (1,), b"PIRSNAP2": (2,), b"PIRWIDE1": (129, 130)}
+
+
+def magic_of(form):
+    """What a snapshot of a form begins with, up to w."""
+    return b"PIRWIDE1" + bytes([form]) if is_wide(form) else f"PIRSNAP{form}".encode()
+
+
+def fields_at(data):
+    """Where a snapshot's fields begin: at w."""
+    return 9 if data[:8] == b"PIRWIDE1" else 8
+
+
+def header_of(data):
+    """A snapshot's form, w, R, g, count, n and version, and where its seed begins."""
+    start = fields_at(data)
+    form = data[8] if start == 9 else FORMS[data[:8]][0]
+    return (form, *struct.unpack("<BHHIHQ", data[start : start + 19]), start + 19)
 
 
 def snapshot_bytes(layout, n, version, seed, publisher, records):
     sizes = (layout.width, layout.record_len, layout.groups, layout.count, n, version)
     stored = b"".join(layout.stored(record) for record in records)
-    body = f"PIRSNAP{layout.form}".encode() + struct.pack("<BHHIHQ", *sizes) + seed + publisher + stored
+    body = magic_of(layout.form) + struct.pack("<BHHIHQ", *sizes) + seed + publisher + stored
     return body + hashlib.sha256(body).digest()
 
 
@@ -366,12 +409,15 @@ def snapshot_fault(data):
     """The name of the fault with which a snapshot is refused, or None."""
     if data[:8] not in FORMS:
         return "Short" if len(data) < 8 else "NotSnapshot"
-    if len(data) < 91:
+    first = fields_at(data) + 83
+    if len(data) < first:
         return "Short"
-    form, (width, record_len, groups, count, n, version) = FORMS[data[:8]], struct.unpack("<BHHIHQ", data[8:27])
-    if not is_form(form, record_len) or not is_layout(width, record_len, groups, count) or not 1 <= n <= 1024 or version == 0:
+    form, width, record_len, groups, count, n, version, _ = header_of(data)
+    if form not in FORMS[data[:8]] or not is_form(form, record_len) or not is_layout(width, record_len, groups, count, form):
         return "BadLayout"
-    end = 91 + count * record_len
+    if not 1 <= n <= 1024 or version == 0:
+        return "BadLayout"
+    end = first + count * record_len
     if len(data) < end + 32:
         return "Short"
     if hashlib.sha256(data[:end]).digest() != data[end : end + 32]:
@@ -379,5 +425,5 @@ def snapshot_fault(data):
     if len(data) > end + 32:
         return "TrailingBytes"
     layout = Layout(width, record_len, groups, count, form)
-    stored = (data[at : at + record_len] for at in range(91, end, record_len))
+    stored = (data[at : at + record_len] for at in range(first, end, record_len))
     return "BadSlot" if any(layout.content(place) is None for place in stored) else None

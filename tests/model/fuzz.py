@@ -4,8 +4,8 @@
 usage: fuzz.py [--seconds N] [--seed S] [--jobs J] [--streams N] [--area NAME] [SERVER CLIENT]
 
 Areas: streams to the sessions of a served store, every order of three frames of every kind there, one database over one
-stream, replies to the client's commands, scripts of a world, and snapshot files as they are shown and migrated; stores and
-worlds are of both forms. All follows from the seed. It runs for N seconds (60 if not given), or until N streams were sent. A
+stream, replies to the client's commands, scripts of a world, and snapshot files as they are shown, migrated and made wide; stores and
+worlds are of all four forms. All follows from the seed. It runs for N seconds (60 if not given), or until N streams were sent. A
 case that differs is made smaller, and printed with its seed. It ends with 'N passed, M failed'; a stream counts as one case.
 """
 import argparse

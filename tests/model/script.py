@@ -2,7 +2,7 @@
 import re
 
 from client import CallRefused, Client
-from formats import DOUBLE, SIMPLE, Layout, fits, is_layout
+from formats import DOUBLE, SIMPLE, Layout, fits, is_layout, is_wide
 from server import Session, Store
 
 MOST_SCRIPT = 1_048_576
@@ -60,17 +60,19 @@ STEPS = {
 }  # fmt: skip
 
 
+# The form of a world by the name of its first line.
+WORLDS = {"world": 1, "world2": 2, "wide": 129, "wide2": 130}
 # How many words follow the name of a line of the header.
-HEADER = {"world": 4, "world2": 4, "seed": 1, "record": 1, "client": 1}
+HEADER = {**dict.fromkeys(WORLDS, 4), "seed": 1, "record": 1, "client": 1}
 
 
 class World:
     def __init__(self, form, sizes, seed, records, clients):
         width, record_len, groups, n = sizes
-        if not is_layout(width, record_len, groups, len(records)) or not 1 <= n <= 1024:
+        if not is_layout(width, record_len, groups, len(records), form) or not 1 <= n <= 1024:
             raise RefusedWorld("BadLayout")
         self.store = Store(Layout(width, record_len, groups, len(records), form), n, 1, seed, bytes(32), records)
-        self.links = [[Client(seed), Session(self.store), b"", b""] for seed in clients]
+        self.links = [[Client(seed, wide=is_wide(form)), Session(self.store), b"", b""] for seed in clients]
 
     def step(self, name, words):
         """The lines that come of a step."""
@@ -133,17 +135,17 @@ class Script:
             return self.world.step(name, words)
         if name not in HEADER or self.world or len(words) != HEADER[name]:
             raise BadLine
-        getattr(self, f"take_{name}")(*words)
+        if name in WORLDS:
+            self.take_world(WORLDS[name], words)
+        else:
+            getattr(self, f"take_{name}")(*words)
         return []
 
-    def take_world(self, *words, form=1):
+    def take_world(self, form, words):
         if self.sizes:
             raise BadLine
         self.form = form
         self.sizes = [number(word, bits) for word, bits in zip(words, (8, 16, 16, 16))]
-
-    def take_world2(self, *words):
-        self.take_world(*words, form=2)
 
     def take_seed(self, word):
         if not self.sizes or self.seed:

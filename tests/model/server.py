@@ -2,9 +2,9 @@
 import hashlib
 
 from formats import (
-    ANSWER, APPEND, BYE, DELTA, DELTA_ASK, DONE, DOUBLE, EDIT, HELLO, HINT_ASK, HINT_PART, LAST_FORM, LOAD, MOST_DELTA_ROWS, NO_DELTA,
-    PART_WORDS, PUBLISH, QUERY, REFUSED, SIMPLE, STALE, WELCOME, Hints, Layout, Reader, delta_rows, frame, is_layout, part_count,
-    query_count,
+    ANSWER, APPEND, BYE, DELTA, DELTA_ASK, DONE, DOUBLE, EDIT, HELLO, HINT_ASK, HINT_PART, LOAD, MOST_DELTA_ROWS, NO_DELTA,
+    PART_WORDS, PUBLISH, QUERY, REFUSED, SIMPLE, STALE, WELCOME, Hints, Layout, Reader, accepts, delta_rows, frame, is_layout,
+    part_count, query_count,
 )  # fmt: skip
 
 LAST_VERSION = (1 << 64) - 1
@@ -42,7 +42,7 @@ class Store:
         layout = self.layout
         if not layout.fits(data):
             return "BadLength"
-        if not is_layout(layout.width, layout.record_len, layout.groups, len(self.draft) + 1):
+        if not is_layout(layout.width, layout.record_len, layout.groups, len(self.draft) + 1, layout.form):
             return "Full"
         self.draft.append(data)
         self.edited = True
@@ -105,7 +105,7 @@ class Session:
 
     def hello(self, profile, key):
         layout = self.store.layout
-        if not layout.form <= profile <= LAST_FORM:
+        if not accepts(layout.form, profile):
             return self.refused(3)
         if key == bytes(32):
             self.standing = "reader"

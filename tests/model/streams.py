@@ -1,7 +1,7 @@
 """Random frames, and damage done to them."""
 from formats import (
     ANSWER, APPEND, BYE, DELTA, DELTA_ASK, DONE, DOUBLE, EDIT, HELLO, HINT_ASK, HINT_PART, KINDS, LOAD, NO_DELTA, PUBLISH, QUERY,
-    REFUSED, SIMPLE, STALE, WELCOME, Layout, frame, query_count,
+    REFUSED, SIMPLE, STALE, WELCOME, Layout, client_profile, frame, is_slotted, is_wide, query_count,
 )  # fmt: skip
 from server import Store
 
@@ -12,8 +12,9 @@ U32, U64 = (1 << 32) - 1, (1 << 64) - 1
 
 def random_store(chance, publisher, last=False):
     """A small store. With `last` its version may be one of the last."""
-    form, width = chance.choice((1, 2)), chance.choice((6, 7, 8, 8, 9, 10))
-    record_len = chance.choice((1, 1, 2, 3) if form == 1 else (2, 3, 3, 4, 5))
+    form = chance.choice((1, 1, 2, 2, 129, 130))
+    width = chance.choice((6, 7, 8, 8, 9, 9 if is_wide(form) else 10))
+    record_len = chance.choice((2, 3, 3, 4, 5) if is_slotted(form) else (1, 1, 2, 3))
     groups, count, n = chance.randint(1, 3), chance.randint(1, 7), chance.choice((1, 1, 2, 3))
     layout = Layout(width, record_len, groups, count, form)
     records = [random_record(chance, layout) for _ in range(count)]
@@ -23,7 +24,7 @@ def random_store(chance, publisher, last=False):
 
 def random_record(chance, layout):
     """A record that fits."""
-    return chance.randbytes(layout.record_len if layout.form == 1 else chance.randint(0, layout.record_len - 2))
+    return chance.randbytes(chance.randint(0, layout.record_len - 2) if is_slotted(layout.form) else layout.record_len)
 
 
 def random_edit(chance, layout):
@@ -52,7 +53,8 @@ def random_ask(chance, store):
     kind = chance.choice((HELLO, HINT_ASK, HINT_ASK, DELTA_ASK, DELTA_ASK, QUERY, QUERY, QUERY, *changes, BYE))
     if kind == HELLO:
         key = chance.choice((bytes(32), bytes(32), KEY, bytes([2]) * 32))
-        return frame(HELLO, near(chance, chance.choice((1, 2, 2)), 65_535), key)
+        profile = client_profile(is_wide(layout.form)) if chance.random() < 0.5 else chance.choice((1, 2, 129, 130))
+        return frame(HELLO, near(chance, profile, 65_535), key)
     if kind == HINT_ASK:
         return frame(kind, scheme, version, near(chance, 0, U32))
     if kind == DELTA_ASK:

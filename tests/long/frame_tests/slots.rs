@@ -34,13 +34,13 @@ fn read(alloc: Global, mut file: &[u8]) -> Result<Snapshot, Fail> {
 }
 
 // The snapshot of a file, with its records moved into slots.
-fn moved(alloc: Global, mut file: &[u8]) -> Result<Result<Snapshot, MigrateError>, Fail> {
+pub(crate) fn moved(alloc: Global, mut file: &[u8]) -> Result<Result<Snapshot, MigrateError>, Fail> {
     let snapshot = read_snapshot(alloc, &mut file)?;
     Ok(migrate(alloc, &snapshot))
 }
 
 // A file of these records, be they slots or not.
-fn file_of(alloc: Global, header: &Header, records: &[u8]) -> Result<Vec<u8>, Fail> {
+pub(crate) fn file_of(alloc: Global, header: &Header, records: &[u8]) -> Result<Vec<u8>, Fail> {
     let mut bytes = Vec::new(alloc);
     write_snapshot_bytes(alloc, header, records, &mut bytes)?;
     Ok(bytes)
@@ -158,7 +158,7 @@ fn each_error_has_its_text_and_its_name(rt: HostRuntime) -> Result<(), Fail> {
     for (fault, text, name) in [
         (
             MigrateError::NotFormOne,
-            "the records are not of form 1",
+            "the records are not of form 1 or 129",
             "NotFormOne",
         ),
         (

@@ -60,7 +60,7 @@ pub(crate) fn fault(alloc: Global, bytes: &[u8]) -> Option<SnapshotFault> {
 }
 
 // The fault of an input that fails after its bytes.
-fn fault_failing(alloc: Global, bytes: &[u8]) -> Option<SnapshotFault> {
+pub(crate) fn fault_failing(alloc: Global, bytes: &[u8]) -> Option<SnapshotFault> {
     read_snapshot(
         alloc,
         &mut Input {

@@ -97,4 +97,5 @@ fn the_laws_can_be_called() {
     laws::each_run_stands();
     laws::unchanged_rows_stay();
     laws::migrated_records_stay();
+    laws::widened_records_stay();
 }
