@@ -1,5 +1,6 @@
 pub mod DigitSums
 pub mod Records
+pub mod HeldRecords
 pub mod WindowLemmas
 pub mod Unpacking
 pub mod Changes

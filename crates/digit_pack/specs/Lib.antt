@@ -1,5 +1,6 @@
 pub mod Digits
 pub mod Layout
+pub mod Held
 pub mod Columns
 pub mod Laws
 pub mod Packed

@@ -1,6 +1,7 @@
 //! Laws of digits and layouts, over the definitions alone. A caller that calls one of these functions has
 //! its law at hand in its proof; the call costs nothing.
 
+ghost use Rattle.digit_pack.specs.Held.{DigitsHoldTheirRecords};
 ghost use Rattle.digit_pack.specs.Laws.{
   SplitJoins,
   DecomposedRecomposes,
@@ -75,4 +76,9 @@ pub fn digits_are_small()
 /// and there alone.
 pub fn slots_are_those_filled()
     ensures { SlotsAreThoseFilled }
+{}
+
+/// A digit matrix holds the records that it was made of: they are read out of it as they were, bytes of a record's length each.
+pub fn digits_hold_their_records()
+    ensures { DigitsHoldTheirRecords }
 {}

@@ -11,6 +11,7 @@
 
 mod filling;
 mod forms;
+mod holding;
 pub mod laws;
 mod layout;
 mod packed3;
@@ -21,6 +22,7 @@ mod widening;
 
 pub use filling::{digits_of_records, nth_record, write_digits, write_record};
 pub use forms::{is_form, is_slotted, is_wide};
+pub use holding::copy_record;
 pub use layout::{
     BadDigits, Layout, LayoutError, MAX_COLS, MAX_PART_WORDS, MAX_RECORD_LEN, MAX_ROWS, WIDE_SIDE,
     pack, unpack,

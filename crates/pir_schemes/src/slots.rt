@@ -1,13 +1,16 @@
 //! How a plan's records stand in the bytes that are made digits.
 
-ghost use Rattle.std.specs.Prelude.{◌≡◌, ◌*◌, ◌<◌, length, true, slice_set};
+ghost use Rattle.std.specs.Prelude.{◌≡◌, ◌*◌, ◌<◌, ◌≤◌, length, take, true, slice_set};
 ghost use Rattle.std.specs.List.{list_all};
 ghost use Rattle.digit_pack.specs.Layout.{records_in};
 ghost use Rattle.digit_pack.specs.Slots.{is_form};
 ghost use Rattle.pir_schemes.specs.Plans.{fits, slot, content, is_slot_of};
 
 use crate::plan::Plan;
-use digit_pack::{Layout, are_slots, is_form, is_slotted, slot_record, write_record, write_slot};
+use digit_pack::{
+    Layout, are_slots, fill_slot, is_form, is_slotted, read_slot, slot_record, write_record,
+    write_slot,
+};
 
 impl Plan {
     /// Whether there is such a form, for records of so many bytes: 1 and 129; 2 and 130 if a record has two bytes at
@@ -57,6 +60,21 @@ impl Plan {
         }
     }
 
+    /// Writes the bytes that a record has in the digits into `out`, whatever it held. It takes no memory.
+    #[tactic(auto, unfolding(crate::specs::Plans::fits, crate::specs::Plans::slot))]
+    pub fn fill(&self, bytes: &[u8], out: &mut [u8])
+        requires fits { fits self.now bytes.now ≡ true }
+        requires room { length out.old ≡ self.now.record_len }
+        requires short { self.now.record_len ≤ 256 }
+        ensures { out.new ≡ slot self.now bytes.now }
+    {
+        if is_slotted(self.form) {
+            fill_slot(bytes, out);
+        } else {
+            out.copy_from_slice(bytes);
+        }
+    }
+
     /// Writes another record over record i, of records that stand one after another in `bytes`, and changes no other. It
     /// takes no memory.
     #[tactic(auto, unfolding(crate::specs::Plans::fits, crate::specs::Plans::slot))]
@@ -73,5 +91,23 @@ impl Plan {
         } else {
             write_record(layout, bytes, i, written);
         }
+    }
+
+    /// Moves the record that has these bytes in the digits to their beginning, and answers how many bytes it has. What follows it is not
+    /// said. It takes no memory.
+    #[tactic(auto, unfolding(crate::specs::Plans::content, crate::specs::Plans::is_slot_of))]
+    pub fn move_content(&self, bytes: &mut [u8]) -> usize
+        requires { is_slot_of self.now bytes.old ≡ true }
+        ensures record { take result bytes.new ≡ content self.now bytes.old }
+        ensures len { result ≡ length (content self.now bytes.old) }
+        ensures room { length bytes.new ≡ length bytes.old }
+    {
+        if !is_slotted(self.form) {
+            return bytes.len();
+        }
+        // A record fills these bytes: no refusal is left.
+        let len = read_slot(bytes).unwrap();
+        bytes.copy_within(2..2 + len, 0);
+        len
     }
 }

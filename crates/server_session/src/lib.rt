@@ -176,7 +176,7 @@ impl ServerSession {
             + form_len(store.form())
             + key_len(store.seed())
             + key_len(store.publisher())
-            + store.bytes().len()
+            + store.bytes_len()
             + DIGEST_LEN
     }
 

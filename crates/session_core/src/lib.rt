@@ -59,7 +59,7 @@ pub use server_core::{FeedError, ServerCore, SessionError, Standing};
 pub use session_engines::{ConverseFault, Ending, ServeFault, converse, serve};
 pub use snapshot_file::{
     Header, MigrateError, Snapshot, SnapshotFault, WidenError, WriteFault, migrate, read_snapshot,
-    widen, write_snapshot_bytes,
+    read_snapshot_and_digest, snapshot_digest, widen, write_snapshot_bytes,
 };
 pub use version_store::{AppendError, EditError, OpenError, PublishError, Store, write_snapshot};
 

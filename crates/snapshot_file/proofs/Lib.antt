@@ -5,3 +5,4 @@ pub mod Writings
 pub mod Unique
 pub mod Stages
 pub mod Migrating
+pub mod Pieces

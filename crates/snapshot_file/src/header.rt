@@ -2,7 +2,7 @@
 
 ghost use Rattle.std.specs.Prelude.{◌≡◌, ◌⊎◌, ◌≤◌, ◌++◌, length, take, IfOk, IfSome, IfNone};
 ghost use Rattle.sha2.specs.Sha256.{sha256};
-ghost use Rattle.snapshot_file.specs.Snapshots.{magic, form_bytes, header_bytes, IsForm, IsMagic, IsHeader};
+ghost use Rattle.snapshot_file.specs.Snapshots.{magic, form_bytes, hashed_bytes, header_bytes, IsForm, IsMagic, IsHeader};
 
 use crate::snapshot::Header;
 use byteorder::{ByteOrder, LittleEndian};
@@ -111,4 +111,17 @@ pub fn digest_of(header: &[u8], records: &[u8]) -> [u8; DIGEST_LEN]
     hasher.update(header);
     hasher.update(records);
     hasher.finalize()
+}
+
+/// The digest of a snapshot: the SHA-256 (FIPS 180-4) of its header and the bytes of its records. Only refused memory gives an
+/// `Err`.
+pub fn snapshot_digest(
+    alloc: Global,
+    header: &Header,
+    records: &[u8],
+) -> Result<[u8; DIGEST_LEN], AllocError>
+    ensures { IfOk result (λ digest. digest ≡ sha256 (hashed_bytes header.now records.now)) }
+{
+    let prefix = header_bytes(alloc, header)?;
+    Ok(digest_of(&prefix, records))
 }

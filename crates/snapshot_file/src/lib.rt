@@ -12,11 +12,14 @@ pub mod laws;
 mod migration;
 mod reading;
 mod snapshot;
+mod streaming;
 mod widening;
 mod writing;
 
+pub use header::snapshot_digest;
 pub use migration::{MigrateError, migrate};
-pub use reading::read_snapshot;
+pub use reading::{read_snapshot, read_snapshot_and_digest};
 pub use snapshot::{Header, MAX_DIMENSION, Snapshot, SnapshotFault, WriteFault};
+pub use streaming::{RecordSource, write_snapshot_from};
 pub use widening::{WidenError, widen};
 pub use writing::write_snapshot_bytes;

@@ -239,13 +239,14 @@ fn read_body<R: Read>(
     alloc: Global,
     reader: &mut R,
     header: &Header,
-) -> Result<Vec<u8>, SnapshotFault>
+) -> Result<(Vec<u8>, [u8; DIGEST_LEN]), SnapshotFault>
     requires header { IsHeader header.now }
     requires accepted { IsAccepted header.now }
-    ensures ok { IfOk result (λ records. IsFile header.now records.items
+    ensures ok { IfOk result (λ body. IsFile header.now body.0.items
         × Consumes (R.remaining reader.old) (R.remaining reader.new)
-        (records.items ++ sha256 (hashed_bytes header.now records.items))
+        (body.0.items ++ sha256 (hashed_bytes header.now body.0.items))
         × IsAtEnd (R.remaining reader.new)) }
+    ensures digest { IfOk result (λ body. body.1 ≡ sha256 (hashed_bytes header.now body.0.items)) }
     ensures err { IfErr result (λ fault. (read : List ℕ) ×
         Consumes (R.remaining reader.old) (R.remaining reader.new) read
         × StopsReadingAt fault (header_bytes header.now ++ read) (R.remaining reader.new)) }
@@ -258,7 +259,7 @@ fn read_body<R: Read>(
         return Err(SnapshotFault::BadDigest);
     }
     read_end(reader)?;
-    Ok(records)
+    Ok((records, digest))
 }
 
 /// Reads a snapshot, which must be the whole input. Each fault is answered with the first byte that makes
@@ -279,10 +280,38 @@ pub fn read_snapshot<R: Read>(alloc: Global, reader: &mut R) -> Result<Snapshot,
         Consumes (R.remaining reader.old) (R.remaining reader.new) read
         × StopsReadingAt fault read (R.remaining reader.new)) }
 {
+    let (snapshot, _digest) = read_snapshot_and_digest(alloc, reader)?;
+    Ok(snapshot)
+}
+
+/// Reads a snapshot as [`read_snapshot`] does, and answers with it its digest: the SHA-256 (FIPS 180-4) of its header and its
+/// records.
+///
+/// # Errors
+///
+/// Those of [`read_snapshot`], when it has them.
+pub fn read_snapshot_and_digest<R: Read>(
+    alloc: Global,
+    reader: &mut R,
+) -> Result<(Snapshot, [u8; DIGEST_LEN]), SnapshotFault>
+    ensures accepted { IfOk result (λ s. IsSnapshot (header_of s.0) s.0.records.items) }
+    ensures digest { IfOk result (λ s. s.1 ≡
+        sha256 (hashed_bytes (header_of s.0) s.0.records.items)) }
+    ensures input { IfOk result (λ s. IfSome (R.remaining reader.old) (λ bytes. bytes ≡
+        snapshot_bytes (header_of s.0) s.0.records.items)) }
+    ensures refused { IfErr result (λ fault. IfSome (R.remaining reader.old)
+        (λ bytes. MayRefuse fault bytes)) }
+    ensures taken { IfOk result (λ s. Consumes (R.remaining reader.old) (R.remaining reader.new)
+        (snapshot_bytes (header_of s.0) s.0.records.items)
+        × IsAtEnd (R.remaining reader.new)) }
+    ensures stops { IfErr result (λ fault. (read : List ℕ) ×
+        Consumes (R.remaining reader.old) (R.remaining reader.new) read
+        × StopsReadingAt fault read (R.remaining reader.new)) }
+{
     let header = read_header(reader)?;
-    let records = read_body(alloc, reader, &header)?;
+    let (records, digest) = read_body(alloc, reader, &header)?;
     if !header.has_slots(&records) {
         return Err(SnapshotFault::BadSlot);
     }
-    Ok(header.with_records(records))
+    Ok((header.with_records(records), digest))
 }

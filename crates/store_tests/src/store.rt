@@ -2,6 +2,7 @@
 
 mod refused_memory;
 
+use digit_pack::is_wide;
 use lane_kernels::Lanes;
 use matrix_u32::{Kernel, Plain};
 use std::alloc::Global;
@@ -41,7 +42,11 @@ fn version<K: Kernel>(store: &Store<K>) -> u64 {
     store.version()
 }
 
+// The bytes of the records; none of a wide store's, which are in its digits alone.
 fn bytes<K: Kernel>(store: &Store<K>) -> &[u8] {
+    if is_wide(u16::from(store.form())) {
+        return &[];
+    }
     store.bytes()
 }
 

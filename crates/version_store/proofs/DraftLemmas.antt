@@ -18,7 +18,7 @@ use Rattle.version_store.specs.Editions.{Records}
 use Rattle.version_store.specs.Drafts.{Changes, change_at, bytes_or, draft_of, is_some_change, FitRecords}
 use Rattle.digit_pack.proofs.RecordLemmas.{set-list_of}
 
-same_key : (k i : ℕ) → k ≡ i → is_at (nat_cmp k) i ≡ true
+pub same_key : (k i : ℕ) → k ≡ i → is_at (nat_cmp k) i ≡ true
 same_key k i e = grind (arith, nat_tests)
 
 other_key : (k i : ℕ) → i ≢ k → is_at (nat_cmp k) i ≡ false
@@ -85,7 +85,7 @@ fit-updated e m n k w u new old i =
       | inr apart ↦ subst (fit i) (sym (updated_elsewhere m n k i w u apart)) (old i)
     ]
 
-some_of_change : (changes : Changes) (k : ℕ) (v : Vec ℕ Global) → change_at changes k ≡ Some v → is_some_change changes ≡ true
+pub some_of_change : (changes : Changes) (k : ℕ) (v : Vec ℕ Global) → change_at changes k ≡ Some v → is_some_change changes ≡ true
 some_of_change [] k v e = let no : change_at [] k ≡ Some v = e in cc
 some_of_change (c ∷ cs) k v e = refl
 

@@ -1,12 +1,12 @@
 -- Records with blanks after them: their bytes, their digits and their hints.
 use Rattle.std.proofs.Common.{◌≡◌, ◌∙◌, ℕ, zero, suc, ◌+◌, ◌-◌, ◌*◌, ◌/◌, ◌%◌, ◌^◌, ◌<◌, ◌≤◌, ◌==◌, List, [], ◌∷◌, ◌++◌, Bool, true, false, cond, length, take, drop, map, get_or, replicate, if◌then◌else◌, refl, sym, ap, arith, inl, inr}
-use Rattle.std.specs.Prelude.{Option, Some, None, MatchOption, nat_eq, nat_le, ◌&&◌, ◌||◌, not, max}
+use Rattle.std.specs.Prelude.{Option, Some, None, MatchOption, nat_eq, nat_le, not, max}
 use Rattle.std.specs.Cmp.Lexicographic.{pointwise}
 use Rattle.std.specs.declared.vec.Vec.{Vec}
 use Rattle.std.specs.declared.alloc.Global.{Global}
 use Rattle.std.specs.BTreeMap.{BTreeMap, Updates}
 use Rattle.std.specs.Ordering.{nat_cmp}
-use Rattle.std.proofs.lemmas.Bool.{cases_lt, cases_Bool, and_parts, eqb-true, eq-eqb, leb-true, le-leb}
+use Rattle.std.proofs.lemmas.Bool.{cases_lt, eq-eqb, le-leb}
 use Rattle.std.proofs.lemmas.Nat.{row_fits, le-div}
 use Rattle.std.proofs.lemmas.List.{append-nil, length-append, length-replicate, replicate-append-replicate, length-drop, length-map, get_or_append_left, get_or-append_right, get_or-replicate, get_or_past, take-append-le, take-replicate, drop-append-le, drop-replicate, map-append}
 use Rattle.std.proofs.Math.Nat.{mul-le-mul_left, div-mul-le_self}

@@ -1,4 +1,5 @@
 pub mod DraftLemmas
+pub mod DraftPlaces
 pub mod LoggedRows
 pub mod HistoryLemmas
 pub mod RecordBytes
@@ -14,6 +15,7 @@ pub mod DoubleLemmas
 pub mod BroughtForward
 pub mod NamedRows
 pub mod Slotted
+pub mod KeptBytes
 pub mod Migrated
 pub mod Grown
 pub mod GrownLayer

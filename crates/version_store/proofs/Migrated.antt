@@ -1,7 +1,7 @@
 -- Records that were moved into slots, or into a wide store.
-use Rattle.std.proofs.Common.{◌≡◌, Bool, ◌∙◌, ◌≤◌, ◌<◌, ◌+◌, ◌^◌, ◌==◌, ℕ, suc, List, [], ◌∷◌, true, false, ◌||◌, cond, length, map, refl, sym, ap, arith}
+use Rattle.std.proofs.Common.{◌≡◌, Bool, ◌∙◌, ◌≤◌, ◌<◌, ◌+◌, ◌^◌, ℕ, suc, List, [], ◌∷◌, true, cond, length, map, refl, sym, ap, arith}
 use Rattle.std.specs.List.{list_all}
-use Rattle.std.proofs.lemmas.Bool.{and_from, le-leb}
+use Rattle.std.proofs.lemmas.Bool.{and_from}
 use Rattle.digit_pack.specs.Layout.{record_at, records_in}
 use Rattle.digit_pack.specs.Slots.{is_slot, slot_of, content_of}
 use Rattle.digit_pack.proofs.FormLemmas.{plain_is, next_is_slotted, next_is_form, wide_is_slotted, wide_is_form}

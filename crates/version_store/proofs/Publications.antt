@@ -15,6 +15,7 @@ use Rattle.version_store.specs.Deltas.{changed_rows}
 use Rattle.version_store.specs.Drafts.{Changes, FitRecords, grown_to, IsHeld}
 use Rattle.version_store.specs.Editions.{Records, version_shape, MarksChanges, is_marked, marked_rows}
 use Rattle.version_store.proofs.ChangedRows.{marked_is_changed, changed_below}
+use Rattle.version_store.proofs.DraftPlaces.{appended-none}
 use Rattle.version_store.proofs.Grown.{digits-grown, more_columns, changed-wide}
 
 -- the rows that were marked, and then pushed, are those that the new records change
@@ -61,5 +62,6 @@ held_after_publication old new draft n log log2 rows changes is many layout are 
       more = omega (arith, long);
       layout = subst (λ (q : Plan). IsLayout (shape_at q n)) (sym (ap (λ (x : Records). x.plan) is)) layout;
       fit = fit;
+      appended = appended-none new n changes (omega (arith, long));
       rows = subst (λ n. All (λ (rows : List ℕ). All (λ r. r < n) rows) log2.lists) (sym high) all;
     }

@@ -1,9 +1,9 @@
 -- Records, and the bytes that they have in the digits.
-use Rattle.std.proofs.Common.{◌≡◌, ◌∙◌, ℕ, suc, ◌+◌, ◌*◌, ◌^◌, ◌<◌, ◌≤◌, ◌==◌, List, [], ◌∷◌, All, Bool, true, false, cond, length, take, drop, map, slice_set, refl, sym, ap, arith, inl, inr}
-use Rattle.std.specs.Prelude.{nat_le, nat_eq, ◌&&◌, ◌||◌}
+use Rattle.std.proofs.Common.{◌≡◌, ◌∙◌, ℕ, suc, ◌+◌, ◌*◌, ◌^◌, ◌<◌, ◌≤◌, ◌==◌, List, [], ◌∷◌, All, Bool, true, false, cond, length, take, drop, map, slice_set, refl, sym, ap, arith}
+use Rattle.std.specs.Prelude.{nat_le, nat_eq}
 use Rattle.std.specs.Int.{w16, from_le_bytes}
 use Rattle.std.specs.List.{list_all}
-use Rattle.std.proofs.lemmas.Bool.{cases_Bool, and_parts, eqb-true, eq-eqb, leb-true, le-leb}
+use Rattle.std.proofs.lemmas.Bool.{and_parts, eq-eqb, leb-true, le-leb}
 use Rattle.std.proofs.lemmas.Nat.{row_fits}
 use Rattle.std.proofs.lemmas.List.{length-take-le, length-drop, map-set, get_or-map}
 use Rattle.std.proofs.lemmas.List.Elements.{All-drop, All-get_or, All-set, All-take}
@@ -45,7 +45,7 @@ module _ (p : Plan) (l : Shape) (bytes : List ℕ) (sizes : shape_at p l.count �
       ap length (at-list_of_any l.count (λ i. take l.record_len (drop (i * l.record_len) bytes)) k [] lt)
       ∙ length-take-le l.record_len (drop (k * l.record_len) bytes) (omega (arith, room, count, length-drop (k * l.record_len) bytes))
 
-  record_small : All (λ x. x < 2 ^ 8) bytes → (k : ℕ) → k < l.count → All (λ x. x < 2 ^ 8) (record_at (records_in l bytes) k)
+  pub record_small : All (λ x. x < 2 ^ 8) bytes → (k : ℕ) → k < l.count → All (λ x. x < 2 ^ 8) (record_at (records_in l bytes) k)
   record_small small k lt =
       rw (at-list_of_any l.count (λ i. take l.record_len (drop (i * l.record_len) bytes)) k [] lt)
       (All-take (λ x. x < 2 ^ 8) l.record_len (drop (k * l.record_len) bytes) (All-drop (λ x. x < 2 ^ 8) (k * l.record_len) bytes small))

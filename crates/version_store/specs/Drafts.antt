@@ -41,10 +41,15 @@ is_some_change (c ∷ cs) = true
 abbrev pub grown_to : ℕ → Records → Records
 grown_to count e = record e { records = grown e.plan count e.records }
 
--- the draft has as many records as the version or more, within every limit; the changes fit them, and only rows that
--- there are were logged
+-- every record after those of the version has a change
+abbrev pub HasAppended : Records → ℕ → Changes → Type 0
+HasAppended e count changes = (i : ℕ) → length e.records ≤ i → i < count → change_at changes i ≡ None → ⊥
+
+-- the draft has as many records as the version or more, within every limit; the changes fit them, each record after those of
+-- the version has one, and only rows that there are were logged
 pub record IsHeld (e : Records) (count : ℕ) (changes : Changes) (log : List (List ℕ)) : Type 0 where
   pub more : length e.records ≤ count
   pub layout : IsLayout (shape_at e.plan count)
   pub fit : FitRecords (grown_to count e) changes
+  pub appended : HasAppended e count changes
   pub rows : All (λ (rows : List ℕ). All (λ r. r < digit_rows (version_shape e)) rows) log

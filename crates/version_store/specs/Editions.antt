@@ -1,9 +1,10 @@
 -- The records of one version, and what is made from them.
-use Rattle.std.specs.Prelude.{◌≡◌, ℕ, ◌-◌, ◌*◌, ◌<◌, ◌≤◌, ◌==◌, ◌++◌, if◌then◌else◌, List, [], length, replicate, filter, Bool, true, false, slice_index_or}
-use Rattle.std.specs.List.{range_with_len, list_all}
+use Rattle.std.specs.Prelude.{◌≡◌, ℕ, ◌-◌, ◌*◌, ◌^◌, ◌<◌, ◌≤◌, All, ◌++◌, if◌then◌else◌, List, [], length, replicate, filter, Bool, true, false, slice_index_or}
+use Rattle.std.specs.List.{range_with_len, list_all, flat_map}
 use Rattle.matrix_u32.specs.Matrix.{WordMatrix, IsWhole, row, product}
 use Rattle.seed_expand.specs.Words.{public_rows}
-use Rattle.digit_pack.specs.Layout.{Shape, IsLayout, records_in, digit_cols}
+use Rattle.digit_pack.specs.Layout.{Shape, IsLayout, is_wide, records_in, digit_cols}
+use Rattle.digit_pack.specs.Held.{records_in_digits}
 use Rattle.pir_schemes.specs.declared.scheme.Scheme.TheVariants.{Simple, Double}
 use Rattle.pir_schemes.specs.declared.plan.Plan.{Plan}
 use Rattle.pir_schemes.specs.Plans.{is_slot_of, records_held, slots, shape_at, digits_at, second_public}
@@ -43,6 +44,16 @@ pub record IsMade (p : Plan) (l : Shape) (bytes : List ℕ) (a1 digits hint : Wo
   pub enough : digit_cols l ≤ a1.rows
   pub digits_are : digits ≡ digits_at p (records_held p l.count bytes)
   pub hint_is : hint ≡ hint_matrix Simple p (records_held p l.count bytes)
+
+-- the bytes of records in digits, one after another: an ordinary store keeps them, and a wide one has them in its digit matrix alone
+unfoldable pub bytes_held : Plan → Shape → List ℕ → WordMatrix → List ℕ
+bytes_held p l kept digits = if is_wide p.form then flat_map (λ bytes. bytes) (records_in_digits l digits) else kept
+
+-- the bytes that a layer keeps, none in a wide form, with what is made from the records that it holds
+pub record IsLayer (p : Plan) (l : Shape) (kept : List ℕ) (a1 digits hint : WordMatrix) : Type 0 where
+  pub none : is_wide p.form ≡ true → kept ≡ []
+  pub small : All (λ b. b < 2 ^ 8) (bytes_held p l kept digits)
+  pub made : IsMade p l (bytes_held p l kept digits) a1 digits hint
 
 -- a version's second public matrix, and both hints of DoublePIR that are made from its records
 pub record IsMadeTwice (e : Records) (a2 server client : WordMatrix) : Type 0 where

@@ -2,6 +2,7 @@ pub mod Editions
 pub mod Drafts
 pub mod Deltas
 pub mod Histories
+pub mod DraftChanges
 pub mod Openings
 pub mod Rooms
 pub mod Laws

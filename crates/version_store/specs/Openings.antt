@@ -3,7 +3,8 @@ use Rattle.std.specs.Prelude.{◌≡◌, ◌≤◌, ℕ, List, [], length, true,
 use Rattle.digit_pack.specs.Layout.{IsLayout}
 use Rattle.snapshot_file.specs.declared.snapshot.Header.{Header}
 use Rattle.std.specs.List.{flat_map}
-use Rattle.snapshot_file.specs.Snapshots.{shape_of, records_len, has_slots, snapshot_bytes}
+use Rattle.snapshot_file.specs.Snapshots.{shape_of, records_len, has_slots, hashed_bytes, snapshot_bytes, IsSnapshot}
+use Rattle.sha2.specs.Sha256.{sha256}
 use Rattle.digit_pack.specs.Slots.{is_form}
 use Rattle.version_store.specs.declared.opening.OpenError.{OpenError}
 use Rattle.version_store.specs.declared.opening.OpenError.TheVariants.{BadLayout, BadVersion, BadRecords, Memory}
@@ -46,6 +47,12 @@ held_of h records = record {
   publisher = h.publisher;
   log = [];
 }
+
+-- a store as it is opened with a snapshot of this header and these records, and the snapshot's digest
+pub record IsRead (h : Header) (records : List ℕ) (s : StoreState) (digest : List ℕ) : Type 0 where
+  pub snapshot : IsSnapshot h records
+  pub held : s ≡ held_of h records
+  pub named : digest ≡ sha256 (hashed_bytes h records)
 
 -- the fields of a snapshot of what a store holds
 abbrev pub header_of_held : StoreState → Header

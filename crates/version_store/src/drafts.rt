@@ -1,9 +1,9 @@
 //! Changes that wait for their publication.
 
-ghost use Rattle.std.specs.Prelude.{◌≡◌, [], length};
+ghost use Rattle.std.specs.Prelude.{ℕ, ◌≡◌, ◌<◌, ◌≤◌, [], length, None, IfSome, IfNone, IsSomeAnd};
 ghost use Rattle.digit_pack.specs.Layout.{digit_rows, digits_per_record};
 ghost use Rattle.pir_schemes.specs.Plans.{digits_at};
-ghost use Rattle.version_store.specs.Drafts.{draft_of, FitRecords};
+ghost use Rattle.version_store.specs.Drafts.{change_at, draft_of, FitRecords};
 ghost use Rattle.version_store.specs.Editions.{Records, version_shape, MarksChanges};
 
 use crate::first_layer::FirstLayer;
@@ -34,4 +34,17 @@ pub fn apply_changes<K: Kernel>(
     while let Some((i, bytes)) = changes.pop_first() {
         layer.replace(kernel, i, &bytes, scratch, marks);
     }
+}
+
+/// The first change at or after a place.
+pub fn first_change(changes: &Changes, from: usize) -> Option<(usize, &[u8])>
+    ensures at { IfSome result (λ it. from ≤ it.0) }
+    ensures some { IfSome result (λ it. IsSomeAnd (change_at changes.now.entries it.0)
+        (λ v. it.1.now ≡ v.items)) }
+    ensures between { IfSome result (λ it. (k : ℕ) → from ≤ k → k < it.0 →
+        change_at changes.now.entries k ≡ None) }
+    ensures none { IfNone result ((k : ℕ) → from ≤ k → change_at changes.now.entries k ≡ None) }
+{
+    let (place, bytes) = changes.range(from..).next()?;
+    Some((*place, bytes))
 }

@@ -1,9 +1,9 @@
 //! One version's records, with everything that is made from them.
 
-ghost use Rattle.std.specs.Prelude.{◌≡◌, [], ◌*◌, ◌<◌, ◌≤◌, IfOk, OnOk, OnErr, true, length};
+ghost use Rattle.std.specs.Prelude.{◌≡◌, [], ◌*◌, ◌<◌, ◌≤◌, IfOk, OnOk, OnErr, true, false, length};
 ghost use Rattle.std.specs.List.{list_all};
 ghost use Rattle.digit_pack.specs.Slots.{is_form};
-ghost use Rattle.digit_pack.specs.Layout.{IsLayout, digit_rows, digit_cols, digits_per_record, record_at, records_in};
+ghost use Rattle.digit_pack.specs.Layout.{IsLayout, is_wide, digit_rows, digit_cols, digits_per_record, record_at, records_in};
 ghost use Rattle.digit_pack.specs.Packed.{packed};
 ghost use Rattle.pir_schemes.specs.Plans.{IsPlan, is_slot_of, records_held, shape_at, slots, digits_at};
 ghost use Rattle.pir_schemes.specs.Retrievals.{hint_matrix, server_hint, query_count, answer_words};
@@ -100,16 +100,25 @@ impl<K: Kernel> Edition<K> {
         self.layer.plan()
     }
 
-    /// The bytes of record i.
+    /// The bytes of record i, in an ordinary form.
     pub fn record(&self, i: usize) -> &[u8]
-        requires { i < length self.now.records }
+        requires index { i < length self.now.records }
+        requires ordinary { is_wide self.now.plan.form ≡ false }
         ensures { result.now ≡ record_at self.now.records i }
     {
         self.layer.record(i)
     }
 
-    /// The bytes that all records have in the digits, record 0 first.
+    /// The records, with what SimplePIR makes from them.
+    pub fn layer(&self) -> &FirstLayer
+        ensures { result.now ≡ self.now }
+    {
+        &self.layer
+    }
+
+    /// The bytes that all records have in the digits, record 0 first, in an ordinary form.
     pub fn bytes(&self) -> &[u8]
+        requires { is_wide self.now.plan.form ≡ false }
         ensures { result.now ≡ bytes_of_records (slots self.now.plan self.now.records) }
     {
         self.layer.bytes()

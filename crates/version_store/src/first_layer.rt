@@ -1,10 +1,10 @@
 //! The records of one version, with what SimplePIR makes from them.
 
-ghost use Rattle.std.specs.Prelude.{◌≡◌, ◌*◌, ◌<◌, ◌≤◌, IfOk, OnOk, OnErr, true, length, slice_set};
+ghost use Rattle.std.specs.Prelude.{◌≡◌, ◌-◌, ◌*◌, ◌^◌, ◌++◌, ◌<◌, ◌≤◌, [], IfOk, OnOk, OnErr, true, false, length, take, drop, replicate, slice_set, vec_capacity};
 ghost use Rattle.std.specs.List.{list_all};
 ghost use Rattle.digit_pack.specs.Slots.{is_form};
-ghost use Rattle.digit_pack.specs.Layout.{IsLayout, digit_rows, digit_cols, digits_per_record, record_at, records_in};
-ghost use Rattle.pir_schemes.specs.Plans.{IsPlan, fits, is_slot_of, records_held, shape_at, slots, digits_at};
+ghost use Rattle.digit_pack.specs.Layout.{IsLayout, is_wide, digit_rows, digit_cols, digits_per_record, record_at, records_in};
+ghost use Rattle.pir_schemes.specs.Plans.{IsPlan, fits, is_slot_of, records_held, shape_at, content, slots, digits_at};
 ghost use Rattle.pir_schemes.specs.Retrievals.{hint_matrix, answer_words};
 ghost use Rattle.seed_expand.specs.Words.{public_rows};
 ghost use Rattle.version_store.specs.Drafts.{grown_to};
@@ -12,10 +12,14 @@ ghost use Rattle.version_store.specs.Editions.{Records, version_shape, MarksChan
 ghost use Rattle.version_store.specs.Openings.{bytes_of_records};
 
 use crate::columns::replace_digits;
-use digit_pack::{DigitStore, Layout, Wide3, digits_of_records, nth_record, pack};
+use digit_pack::{
+    DigitStore, Layout, MAX_RECORD_LEN, Wide3, copy_record, digits_of_records, is_wide, nth_record,
+    pack, write_record,
+};
 use matrix_u32::{Kernel, Matrix};
 use pir_schemes::{Plan, Scheme};
 use seed_expand::expand;
+use snapshot_file::RecordSource;
 use std::alloc::{AllocError, Global};
 use std::marker::Model;
 
@@ -23,7 +27,8 @@ use std::marker::Model;
 pub type Digits = Wide3;
 
 /// The records of one version, their digit matrix, the first public matrix and the SimplePIR hint. A
-/// contract sees it as `Records`: the hint is always the one that is made from scratch.
+/// contract sees it as `Records`: the hint is always the one that is made from scratch. The bytes of the records are kept beside their
+/// digits in an ordinary form, and read out of them in a wide one.
 #[derive(Drop)]
 pub struct FirstLayer {
     plan: Plan,
@@ -31,21 +36,35 @@ pub struct FirstLayer {
     a1: Matrix,
     digits: Digits,
     hint: Matrix,
-    bytes: Vec<u8>,
+    kept: Vec<u8>,
 }
 
 impl Model for FirstLayer {
     ghost use Rattle.pir_schemes.specs.Plans.{records_held};
-    ghost use Rattle.version_store.specs.Editions.{Records, IsMade};
+    ghost use Rattle.version_store.specs.Editions.{Records, IsLayer, bytes_held};
 
     ghost Value = { Records };
 
     ghost view = { λ e. record {
       plan = e.plan;
-      records = records_held e.plan e.layout.count e.bytes.items;
+      records = records_held e.plan e.layout.count
+          (bytes_held e.plan e.layout e.kept.items e.digits);
     } };
 
-    ghost invariant = { λ e. IsMade e.plan e.layout e.bytes.items e.a1 e.digits e.hint };
+    ghost invariant = { λ e. IsLayer e.plan e.layout e.kept.items e.a1 e.digits e.hint };
+}
+
+impl RecordSource for FirstLayer {
+    ghost bytes = { λ e. bytes_of_records (slots e.plan e.records) };
+
+    ghost record_len = { λ e. e.plan.record_len };
+
+    fn copy_record(&self, i: usize, out: &mut [u8]) {
+        // Called for what they say of the bytes: there is a record i.
+        self.bytes_len();
+        self.layout();
+        self.copy_slot(i, out);
+    }
 }
 
 impl FirstLayer {
@@ -71,6 +90,7 @@ impl FirstLayer {
         // Called for what it says of the layout: there are few rows and columns.
         layout.rows();
         let digits: Digits = digits_of_records(alloc, &layout, &bytes)?;
+        let kept = bytes_to_keep(alloc, plan.form, bytes);
         let dimension = usize::from(plan.dimension);
         let a1 = expand(alloc, &plan.seed, 0, 0, layout.cols(), dimension)?;
         digits.rows();
@@ -81,7 +101,7 @@ impl FirstLayer {
             a1,
             digits,
             hint,
-            bytes,
+            kept,
         })
     }
 
@@ -100,19 +120,47 @@ impl FirstLayer {
         &self.plan
     }
 
-    /// The bytes of record i.
+    /// The bytes of record i, in an ordinary form.
     pub fn record(&self, i: usize) -> &[u8]
-        requires { i < length self.now.records }
+        requires index { i < length self.now.records }
+        requires ordinary { is_wide self.now.plan.form ≡ false }
         ensures { result.now ≡ record_at self.now.records i }
     {
-        self.plan.content(nth_record(&self.layout, &self.bytes, i))
+        self.plan.content(nth_record(&self.layout, &self.kept, i))
     }
 
-    /// The bytes that all records have in the digits, record 0 first.
+    /// The bytes that all records have in the digits, record 0 first, in an ordinary form.
     pub fn bytes(&self) -> &[u8]
+        requires { is_wide self.now.plan.form ≡ false }
         ensures { result.now ≡ bytes_of_records (slots self.now.plan self.now.records) }
     {
-        &self.bytes
+        &self.kept
+    }
+
+    /// How many bytes all records have in the digits.
+    pub fn bytes_len(&self) -> usize
+        ensures value { result ≡ length (bytes_of_records (slots self.now.plan self.now.records)) }
+        ensures each { result ≡ length self.now.records * self.now.plan.record_len }
+        ensures few { result ≤ 2 ^ 38 }
+    {
+        self.layout.count() * self.layout.record_len()
+    }
+
+    /// Writes the bytes that record i has in the digits into `out`, whatever it held: in forms of slots those of its slot. It takes no
+    /// memory.
+    pub fn copy_slot(&self, i: usize, out: &mut [u8])
+        requires index { i < length self.now.records }
+        requires room { length out.old ≡ self.now.plan.record_len }
+        ensures place { out.new ≡ take self.now.plan.record_len (drop (i * self.now.plan.record_len)
+            (bytes_of_records (slots self.now.plan self.now.records))) }
+        ensures slot { is_slot_of self.now.plan out.new ≡ true }
+        ensures content { content self.now.plan out.new ≡ record_at self.now.records i }
+    {
+        if is_wide(self.plan.form) {
+            copy_record(&self.layout, &self.digits, i, out);
+        } else {
+            out.copy_from_slice(nth_record(&self.layout, &self.kept, i));
+        }
     }
 
     /// The digits.
@@ -151,15 +199,14 @@ impl FirstLayer {
         ensures refused { OnErr result (self.new ≡ self.old) }
     {
         let layout = self.plan.layout(count).unwrap();
-        let len = count * layout.record_len();
-        self.bytes.reserve_exact(len - self.bytes.len())?;
+        reserve_kept(self.plan.form, &layout, &mut self.kept)?;
         extend_public(alloc, &self.plan, &mut self.a1, layout.cols())?;
         self.digits.rows();
         let Ok(()) = self.digits.grow(layout.cols()) else {
             return Err(AllocError);
         };
         // The room is there: nothing is refused from here on.
-        self.bytes.resize(len, 0).unwrap();
+        grow_kept(self.plan.form, &layout, &mut self.kept);
         self.layout = layout;
         Ok(())
     }
@@ -186,12 +233,11 @@ impl FirstLayer {
             (digits_at self.new.plan self.new.records) marks.old marks.new }
     {
         let (first, col) = self.layout.place(i);
-        self.plan.write(&self.layout, &mut self.bytes, i, bytes);
-        pack(
-            &self.layout,
-            nth_record(&self.layout, &self.bytes, i),
-            scratch,
-        );
+        let mut room = slot_room();
+        let slot = &mut room[..self.layout.record_len()];
+        self.plan.fill(bytes, slot);
+        keep_record(self.plan.form, &self.layout, &mut self.kept, i, slot);
+        pack(&self.layout, slot, scratch);
         replace_digits(
             kernel,
             &mut self.digits,
@@ -202,6 +248,68 @@ impl FirstLayer {
             scratch,
             marks,
         );
+    }
+}
+
+// Room for the bytes that a record has in the digits. They are not said, which keeps them out of the proofs.
+fn slot_room() -> [u8; MAX_RECORD_LEN] {
+    [0; MAX_RECORD_LEN]
+}
+
+// The bytes of records that are kept beside their digits: all in an ordinary form, and none in a wide one.
+fn bytes_to_keep(alloc: Global, form: u16, bytes: Vec<u8>) -> Vec<u8>
+    ensures ordinary { is_wide form ≡ false → result.items ≡ bytes.items }
+    ensures wide { is_wide form ≡ true → result.items ≡ [] }
+{
+    if is_wide(form) {
+        return Vec::new(alloc);
+    }
+    bytes
+}
+
+// Writes other bytes over those of record i, where the bytes of records are kept.
+fn keep_record(form: u16, layout: &Layout, kept: &mut [u8], i: usize, slot: &[u8])
+    requires count { is_wide form ≡ false →
+        length kept.old ≡ layout.now.count * layout.now.record_len }
+    requires index { i < layout.now.count }
+    requires len { length slot.now ≡ layout.now.record_len }
+    ensures written { is_wide form ≡ false → records_in layout.now kept.new
+        ≡ slice_set (records_in layout.now kept.old) i slot.now }
+    ensures same { is_wide form ≡ true → kept.new ≡ kept.old }
+{
+    if !is_wide(form) {
+        write_record(layout, kept, i, slot);
+    }
+}
+
+// Takes memory for the bytes of a layout's records, where they are kept. Only refused memory gives an `Err`.
+fn reserve_kept(form: u16, layout: &Layout, kept: &mut Vec<u8>) -> Result<(), AllocError>
+    requires fewer { is_wide form ≡ false →
+        length kept.old.items ≤ layout.now.count * layout.now.record_len }
+    ensures same { kept.new.items ≡ kept.old.items }
+    ensures room { OnOk result (is_wide form ≡ false →
+        layout.now.count * layout.now.record_len ≤ vec_capacity kept.new) }
+{
+    if is_wide(form) {
+        return Ok(());
+    }
+    kept.reserve_exact(layout.count() * layout.record_len() - kept.len())?;
+    Ok(())
+}
+
+// Puts zeros after the bytes that are kept, where they are, up to those of a layout's records.
+fn grow_kept(form: u16, layout: &Layout, kept: &mut Vec<u8>)
+    requires fewer { is_wide form ≡ false →
+        length kept.old.items ≤ layout.now.count * layout.now.record_len }
+    requires room { is_wide form ≡ false →
+        layout.now.count * layout.now.record_len ≤ vec_capacity kept.old }
+    ensures grown { is_wide form ≡ false → kept.new.items ≡ kept.old.items
+        ++ replicate (layout.now.count * layout.now.record_len - length kept.old.items) 0 }
+    ensures same { is_wide form ≡ true → kept.new.items ≡ kept.old.items }
+{
+    if !is_wide(form) {
+        kept.resize(layout.count() * layout.record_len(), 0)
+            .unwrap();
     }
 }
 

@@ -15,9 +15,10 @@ mod rows;
 mod store;
 
 pub use answer_room::AnswerRoom;
-pub use opening::OpenError;
+pub use opening::{OpenError, plan_in};
 pub use pir_schemes::{Plan, Scheme};
 pub use snapshot_file::{
     Header, MigrateError, Snapshot, SnapshotFault, WriteFault, migrate, read_snapshot,
+    read_snapshot_and_digest, snapshot_digest,
 };
 pub use store::{AppendError, EditError, PublishError, Store, write_snapshot};

@@ -56,7 +56,7 @@ impl From<AllocError> for OpenError {
 }
 
 /// What a snapshot says of every version of its records.
-pub(crate) fn plan_in(snapshot: &Snapshot) -> Plan
+pub fn plan_in(snapshot: &Snapshot) -> Plan
     ensures { result ≡ plan_held (header_of snapshot.now) }
 {
     Plan {

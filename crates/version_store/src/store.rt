@@ -1,8 +1,8 @@
 //! The store: the current version, a draft, and their publication.
 
-ghost use Rattle.std.specs.Prelude.{All, ℕ, ◌≡◌, ◌≢◌, ◌+◌, ◌*◌, ◌^◌, ◌<◌, ◌≤◌, ◌↔◌, length, true, false, OnOk, OnErr, IfErr, IfOk, IfSome, IsNone, option_map, take, slice_set, IsErrOf, IsTrue, vec_capacity, []};
+ghost use Rattle.std.specs.Prelude.{All, ℕ, List, ◌≡◌, ◌≢◌, ◌+◌, ◌*◌, ◌^◌, ◌<◌, ◌≤◌, ◌↔◌, length, true, false, OnOk, OnErr, IfErr, IfOk, IfSome, IfNone, IsNone, IsSome, option_map, take, slice_set, IsErrOf, IsTrue, vec_capacity, []};
 ghost use Rattle.matrix_u32.specs.Matrix.{row};
-ghost use Rattle.digit_pack.specs.Layout.{digits_per_record, digit_rows, is_layout, record_at, records_in};
+ghost use Rattle.digit_pack.specs.Layout.{is_wide, digits_per_record, digit_rows, is_layout, record_at, records_in};
 ghost use Rattle.digit_pack.specs.Packed.{packed};
 ghost use Rattle.pir_schemes.specs.Plans.{IsPlan, fits, records_held, shape_at, slots, digits_at};
 ghost use Rattle.digit_pack.specs.Slots.{is_form};
@@ -10,27 +10,33 @@ ghost use Rattle.pir_schemes.specs.Parts.{part_of};
 ghost use Rattle.pir_schemes.specs.Retrievals.{hint_matrix, server_hint, query_count, answer_words};
 ghost use Rattle.hint_update.specs.Logs.{ReachesBack, lists_since, AreRowsOf};
 ghost use Rattle.version_store.specs.Editions.{version_shape};
-ghost use Rattle.snapshot_file.specs.Snapshots.{header_of, shape_of};
-ghost use Rattle.version_store.specs.Openings.{IsSound, IsOpenFault, held_of, plan_held, header_of_held, bytes_of_records, snapshot_of};
+ghost use Rattle.snapshot_file.specs.Snapshots.{header_of, shape_of, snapshot_bytes};
+ghost use Rattle.version_store.specs.Openings.{IsSound, IsOpenFault, IsRead, held_of, plan_held, header_of_held, bytes_of_records, snapshot_of};
 ghost use Rattle.version_store.specs.Rooms.{scheme_answered, IsAnswerRoom};
-ghost use Rattle.std.specs.Io.KnownBytes.{Appends};
+ghost use Rattle.std.specs.Io.KnownBytes.{Appends, Consumes, IsAtEnd};
+ghost use Rattle.snapshot_file.specs.declared.snapshot.Header.{Header};
+ghost use Rattle.snapshot_file.specs.Verdicts.{MayRefuse, StopsReadingAt};
 ghost use Rattle.version_store.specs.Histories.{StoreState, History, StandsFor, opened, after_edit, after_append, published, held_edited, held_appended, held_published, delta_rows, kept_log};
+ghost use Rattle.version_store.specs.DraftChanges.{IsNextChange, HasNoChange};
 ghost use Rattle.version_store.specs.Names.{append_fault_name, edit_fault_name, publish_fault_name};
 
 use crate::answer_room::AnswerRoom;
-use crate::drafts::Changes;
+use crate::drafts::{Changes, first_change};
 use crate::edition::Edition;
 use crate::opening::{OpenError, plan_in, sizes_of};
 use crate::row_marks::{marks_for, push_marked};
 use crate::rows::FollowRoom;
-use digit_pack::Layout;
+use digit_pack::{Layout, is_wide};
 use hint_update::DeltaLog;
 use matrix_u32::Kernel;
 use pir_schemes::{Plan, Scheme, part_words};
-use snapshot_file::{Header, Snapshot, WriteFault, write_snapshot_bytes};
+use snapshot_file::{
+    Header, Snapshot, SnapshotFault, WriteFault, read_snapshot_and_digest, write_snapshot_bytes,
+    write_snapshot_from,
+};
 use std::alloc::{AllocError, Global};
 use std::collections::BTreeMap;
-use std::io::Write;
+use std::io::{Read, Write};
 use std::marker::Model;
 use thiserror::Error;
 
@@ -221,6 +227,36 @@ impl<K: Kernel> Store<K> {
         })
     }
 
+    /// The store of the snapshot that a reader has, which must be the whole input, and the snapshot's digest, by which a log of
+    /// publications names it. The store keeps the allocator.
+    ///
+    /// # Errors
+    ///
+    /// Those of `read_snapshot`, each with the byte that makes it; nothing else keeps a snapshot that was read from being opened but
+    /// `Memory`.
+    pub fn open_from<R: Read>(
+        alloc: Global,
+        kernel: K,
+        reader: &mut R,
+    ) -> Result<(Store<K>, [u8; 32]), SnapshotFault>
+        ensures read { IfOk result (λ s. (h : Header) × (records : List ℕ) × IsRead h records s.0 s.1
+            × Consumes (R.remaining reader.old) (R.remaining reader.new) (snapshot_bytes h records)
+            × IsAtEnd (R.remaining reader.new)) }
+        ensures history { IfOk result
+            (λ s. StandsFor s.0 (opened s.0.version s.0.edition.records)) }
+        ensures refused { IfErr result (λ fault. IfSome (R.remaining reader.old)
+            (λ bytes. MayRefuse fault bytes)) }
+        ensures stops { IfErr result (λ fault. (read : List ℕ) ×
+            Consumes (R.remaining reader.old) (R.remaining reader.new) read
+            × StopsReadingAt fault read (R.remaining reader.new)) }
+    {
+        let (snapshot, digest) = read_snapshot_and_digest(alloc, reader)?;
+        match Store::open(alloc, kernel, snapshot) {
+            Ok(store) => Ok((store, digest)),
+            Err(_) => Err(SnapshotFault::Memory),
+        }
+    }
+
     /// The fields of a snapshot of the current version, but its records.
     pub fn header(&self) -> Header
         ensures { result ≡ header_of_held self.now }
@@ -239,13 +275,23 @@ impl<K: Kernel> Store<K> {
         }
     }
 
-    /// The bytes that all records of the current version have in the digits, record 0 first: in form 2 those of their
-    /// slots.
+    /// The bytes that all records of the current version of an ordinary store have in the digits, record 0 first: in form 2 those of their
+    /// slots. A wide store keeps no bytes beside its digits; [`Store::copy_record`] reads a record of either kind.
     pub fn bytes(&self) -> &[u8]
+        requires { is_wide self.now.edition.plan.form ≡ false }
         ensures { result.now ≡
             bytes_of_records (slots self.now.edition.plan self.now.edition.records) }
     {
         self.edition.bytes()
+    }
+
+    /// How many bytes all records of the current version have in the digits: in forms of slots those of their slots.
+    pub fn bytes_len(&self) -> usize
+        ensures value { result ≡
+            length (bytes_of_records (slots self.now.edition.plan self.now.edition.records)) }
+        ensures few { result ≤ 2 ^ 38 }
+    {
+        self.edition.layer().bytes_len()
     }
 
     /// The number of the current version.
@@ -304,12 +350,26 @@ impl<K: Kernel> Store<K> {
         &self.publisher
     }
 
-    /// The bytes of record i in the current version.
+    /// The bytes of record i in the current version of an ordinary store.
     pub fn bytes_of(&self, i: usize) -> &[u8]
-        requires { i < length self.now.edition.records }
+        requires index { i < length self.now.edition.records }
+        requires ordinary { is_wide self.now.edition.plan.form ≡ false }
         ensures { result.now ≡ record_at self.now.edition.records i }
     {
         self.edition.record(i)
+    }
+
+    /// Writes the bytes of record i in the current version to the beginning of `out`, and answers how many they are: in forms of slots
+    /// fewer than `out` has, and after them anything may follow. It takes no memory.
+    pub fn copy_record(&self, i: usize, out: &mut [u8]) -> usize
+        requires index { i < length self.now.edition.records }
+        requires room { length out.old ≡ self.now.edition.plan.record_len }
+        ensures record { take result out.new ≡ record_at self.now.edition.records i }
+        ensures len { result ≡ length (record_at self.now.edition.records i) }
+    {
+        let layer = self.edition.layer();
+        layer.copy_slot(i, out);
+        layer.plan().move_content(out)
     }
 
     /// How many words a query of a scheme has.
@@ -515,6 +575,24 @@ impl<K: Kernel> Store<K> {
         self.edition.plan().fits(bytes)
     }
 
+    /// The first change of the draft at or after a place: the place of a record, and the bytes that it has from the next
+    /// publication on. A place at or past the count of the current version is an append. `None` when there is no such change;
+    /// from place 0 on there is one exactly when an edit or an append was accepted since the last publication.
+    pub fn draft_change(&self, from: usize) -> Option<(usize, &[u8])>
+        ensures some { IfSome result (λ it. IsNextChange self.now from it.0 it.1.now) }
+        ensures none { IfNone result (HasNoChange self.now from) }
+        ensures first { from ≡ 0 → (IsSome result ↔ (self.now.marked ≡ true)) }
+    {
+        first_change(&self.changes, from)
+    }
+
+    /// Whether an edit or an append was accepted since the last publication: so there is something to publish.
+    pub fn is_marked(&self) -> bool
+        ensures { result ≡ self.now.marked }
+    {
+        !self.changes.is_empty()
+    }
+
     /// Makes the draft the current version, and answers its number.
     ///
     /// `NothingToPublish` exactly when no edit and no append was accepted since the last publication; else
@@ -553,7 +631,8 @@ impl<K: Kernel> Store<K> {
     }
 }
 
-/// Writes the snapshot of the current version; edits that were not published are not in it.
+/// Writes the snapshot of the current version; edits that were not published are not in it. The records of a wide store are read out of
+/// their digits, as many at a time as 64 KiB have; no other memory is taken but the header's.
 ///
 /// After `Write`, where a write failed or took no byte, a part of it went out, and not the whole; `Memory`
 /// comes before the first byte.
@@ -568,7 +647,14 @@ pub fn write_snapshot<K: Kernel, W: Write>(
         × Appends (W.contents writer.old) (W.contents writer.new) (take n (snapshot_of store.now))
         × (fault ≡ WriteFault.Memory → n ≡ 0)) }
 {
-    write_snapshot_bytes(alloc, &store.header(), store.bytes(), writer)
+    let header = store.header();
+    if !is_wide(u16::from(header.form)) {
+        return write_snapshot_bytes(alloc, &header, store.bytes(), writer);
+    }
+    let layer = store.edition.layer();
+    // Called for what it says of the bytes.
+    layer.bytes_len();
+    write_snapshot_from(alloc, &header, layer, writer)
 }
 
 // Room for the digits of a record.

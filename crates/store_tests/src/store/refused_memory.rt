@@ -96,7 +96,9 @@ fn publishes_the_edits<K: Kernel>(
 ) {
     for i in [1, 6, 3] {
         assert!(rt; i < made.layout().count());
-        edits(rt, kept, first, i, made.bytes_of(i));
+        if !is_wide(u16::from(made.form())) {
+            edits(rt, kept, first, i, made.bytes_of(i));
+        }
     }
     if let Err(fault) = publish(kept) {
         assert_eq!(rt; fault, PublishError::Memory);
@@ -244,14 +246,16 @@ fn grows_later<K: Kernel>(
 fn a_refused_growth_is_made_later(rt: HostRuntime) -> Result<(), Fail> {
     let appended: [&[u8]; 2] = [&[10, 11, 12], &[255, 0, 128]];
     grows_later(&rt, Plain, 1, &ALIKE, appended)?;
-    grows_later(&rt, Lanes, 1, &ALIKE, appended)
+    grows_later(&rt, Lanes, 1, &ALIKE, appended)?;
+    grows_later(&rt, Lanes, 129, &ALIKE, appended)
 }
 
 #[test]
 fn a_refused_growth_of_slots_is_made_later(rt: HostRuntime) -> Result<(), Fail> {
     let appended: [&[u8]; 2] = [&[7], &[128]];
     grows_later(&rt, Plain, 2, &SLOTS, appended)?;
-    grows_later(&rt, Lanes, 2, &SLOTS, appended)
+    grows_later(&rt, Lanes, 2, &SLOTS, appended)?;
+    grows_later(&rt, Lanes, 130, &SLOTS, appended)
 }
 
 // A file of the store, so that none has to be written here.

@@ -23,8 +23,8 @@ returns c =
     let is = c.store-store.ensures in
     let seed : length s.edition.plan.seed ≡ 32 = ap (λ (t : StoreState). length t.edition.plan.seed) (sym is) ∙ ap length (sym c.seed.ensures) ∙ c.key_len.ensures.len in
     let publisher : length s.publisher ≡ 32 = ap (λ (t : StoreState). length t.publisher) (sym is) ∙ ap length (sym c.publisher.ensures) ∙ c.key_len-2.ensures.len in
-    let bytes : length c.bytes.result.now ≡ length (bytes_of_records (slots s.edition.plan s.edition.records)) =
-    ap length c.bytes.ensures ∙ ap (λ (t : StoreState). length (bytes_of_records (slots t.edition.plan t.edition.records))) is in
+    let bytes : c.bytes_len.result ≡ length (bytes_of_records (slots s.edition.plan s.edition.records)) =
+    c.bytes_len.ensures.value ∙ ap (λ (t : StoreState). length (bytes_of_records (slots t.edition.plan t.edition.records))) is in
     let form : c.form_len.result ≡ length (form_bytes s.edition.plan.form) =
     c.form_len.ensures.value ∙ ap (λ (f : ℕ). length (form_bytes f)) (c.form.ensures.value ∙ ap (λ (t : StoreState). t.edition.plan.form) is) in
     omega (arith, form, file_len (header_of_held s) (bytes_of_records (slots s.edition.plan s.edition.records)), c.key_len.ensures.count, c.key_len-2.ensures.count)

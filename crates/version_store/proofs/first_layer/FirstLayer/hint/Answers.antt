@@ -7,8 +7,8 @@ use Rattle.version_store.proofs.first_layer.FirstLayer.hint.Goals as goal
 
 pub returns-clause-rows : goal.returns-clause-rows
 unfolding hint_matrix hint_of
-returns-clause-rows c = ap (λ m. m.rows) c.self.invariant.hint_is ∙ ap (λ e. digit_rows (version_shape e)) c.self.view_is
+returns-clause-rows c = ap (λ m. m.rows) c.self.invariant.made.hint_is ∙ ap (λ e. digit_rows (version_shape e)) c.self.view_is
 
 pub returns-clause-cols : goal.returns-clause-cols
 unfolding hint_matrix hint_of
-returns-clause-cols c = ap (λ m. m.cols) c.self.invariant.hint_is ∙ ap (λ e. e.plan.dimension) c.self.view_is
+returns-clause-cols c = ap (λ m. m.cols) c.self.invariant.made.hint_is ∙ ap (λ e. e.plan.dimension) c.self.view_is

@@ -1,4 +1,4 @@
-use Rattle.std.proofs.Common.{arith, ap, ◌∙◌, sym, ◌≡◌, ◌<◌, ◌^◌, All, ℕ, List}
+use Rattle.std.proofs.Common.{arith, ap, ◌∙◌, sym, subst, ◌≡◌, ◌<◌, ◌^◌, All, ℕ, List}
 use Rattle.seed_expand.specs.Words.{public_rows}
 use Rattle.digit_pack.specs.Layout.{digit_cols, digit_matrix, records_in}
 use Rattle.matrix_u32.specs.Matrix.{product}
@@ -6,16 +6,21 @@ use Rattle.simple_scheme.specs.Simple.{hint_of}
 use Rattle.pir_schemes.specs.declared.plan.Plan.{Plan}
 use Rattle.pir_schemes.specs.Plans.{digits_at, records_held, first_public}
 use Rattle.digit_pack.proofs.Limits.{wide_room}
+use Rattle.version_store.specs.Editions.{Records, IsMade, bytes_held}
+use Rattle.version_store.proofs.KeptBytes.{held_made}
 use Rattle.version_store.proofs.Slotted.{slots_again}
 use Rattle.version_store.proofs.Versions.{digits_again, hint_again}
+use Rattle.version_store.proofs.first_layer.FirstLayer.open.Given.{Over}
+use Rattle.version_store.proofs.first_layer.FirstLayer.open.Goals.{In_ok-hint}
 use Rattle.version_store.proofs.first_layer.FirstLayer.open.Goals as goal
 
 pub digits_of_records-requires-clause-room : goal.digits_of_records-requires-clause-room
 digits_of_records-requires-clause-room g c = wide_room c.args.layout c.rows.ensures.layout
 
-pub invariant_of-result : goal.invariant_of-result
+-- what is made, of the bytes that were given
+made_of : (g : Over) (c : In_ok-hint g) → IsMade c.args.plan c.args.layout c.args.bytes.items c.in_ok-a1.a1 c.in_ok-digits.digits c.in_ok-hint.hint
 unfolding hint_of
-invariant_of-result g c =
+made_of g c =
     let p : Plan = c.args.plan in
     let bytes : List ℕ = c.args.bytes.items in
     let public : c.in_ok-a1.a1 ≡ first_public c.args.layout p.dimension p.seed =
@@ -43,3 +48,25 @@ invariant_of-result g c =
           ∙ ap (product (digits_at p (records_held p c.args.layout.count bytes))) public
           ∙ sym (hint_again p c.args.layout bytes c.requires.sizes);
     }
+
+-- these bytes are held
+held_is : (g : Over) (c : In_ok-hint g) →
+    bytes_held c.args.plan c.args.layout c.bytes_to_keep-kept.result.items c.in_ok-digits.digits ≡ c.args.bytes.items
+held_is g c =
+    let small : All (λ x. x < 2 ^ 8) c.args.bytes.items = search in
+    held_made c.args.plan c.args.layout c.args.bytes.items c.in_ok-a1.a1 c.in_ok-digits.digits c.in_ok-hint.hint (made_of g c) small
+    c.bytes_to_keep-kept.result.items c.bytes_to_keep-kept.ensures.ordinary
+
+pub invariant_of-result : goal.invariant_of-result
+invariant_of-result g c = record {
+  none = c.bytes_to_keep-kept.ensures.wide;
+  small =
+      let small : All (λ x. x < 2 ^ 8) c.args.bytes.items = search in
+      subst (All (λ x. x < 2 ^ 8)) (sym (held_is g c)) small;
+  made = subst (λ (b : List ℕ). IsMade c.args.plan c.args.layout b c.in_ok-a1.a1 c.in_ok-digits.digits c.in_ok-hint.hint) (sym (held_is g c)) (made_of g c);
+}
+
+pub returns : goal.returns
+returns g c =
+    let with : List ℕ → Records = λ b. record { plan = c.args.plan; records = records_held c.args.plan c.args.layout.count b } in
+    ap with (held_is g c)

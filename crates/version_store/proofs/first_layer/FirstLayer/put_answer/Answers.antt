@@ -10,5 +10,5 @@ pub returns : goal.returns
 unfolding answer_words simple_answer
 returns g c =
     c.mul_vec.ensures
-    ∙ ap (λ (d : WordMatrix). times_vector d c.args.words.now) c.self.invariant.digits_are
+    ∙ ap (λ (d : WordMatrix). times_vector d c.args.words.now) c.self.invariant.made.digits_are
     ∙ ap (λ (e : Records). times_vector (digits_at e.plan e.records) c.args.words.now) c.self.view_is

@@ -7,6 +7,7 @@ use Rattle.version_store.specs.Drafts.{draft_of, is_some_change, grown_to}
 use Rattle.version_store.specs.Editions.{Records}
 use Rattle.version_store.specs.Histories.{StoreState}
 use Rattle.version_store.proofs.DraftLemmas.{some_after_insert, fit-updated}
+use Rattle.version_store.proofs.DraftPlaces.{appended-updated}
 use Rattle.version_store.proofs.Grown.{length-draft, length-grown, draft-appended, fit-appended}
 use Rattle.version_store.proofs.HistoryLemmas.{append_stands}
 use Rattle.version_store.proofs.store.Store.append.Goals as goal
@@ -45,5 +46,7 @@ invariant_of-self g c =
       layout = layout_means (shape_at e.plan (n + 1)) room;
       fit = fit-updated (grown_to (n + 1) e) c.self.inside.changes c.insert.new.self n (Some c.in_ok-copy.copy) c.in-Ok.ensures.updates
           (omega (arith, long), fit) (fit-appended e n c.self.inside.changes.entries c.self.invariant.more c.self.invariant.fit);
+      appended = appended-updated e n (n + 1) c.self.inside.changes c.insert.new.self n c.in_ok-copy.copy c.in-Ok.ensures.updates
+          (λ i lt apart. omega (arith, lt, apart)) c.self.invariant.appended;
       rows = c.self.invariant.rows;
     }

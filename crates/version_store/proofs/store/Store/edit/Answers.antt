@@ -5,6 +5,7 @@ use Rattle.version_store.specs.Drafts.{draft_of, is_some_change, grown_to}
 use Rattle.version_store.specs.Editions.{Records}
 use Rattle.version_store.specs.Histories.{StoreState}
 use Rattle.version_store.proofs.DraftLemmas.{draft-inserted, some_after_insert, fit-updated}
+use Rattle.version_store.proofs.DraftPlaces.{appended-updated}
 use Rattle.version_store.proofs.Grown.{length-draft, length-grown}
 use Rattle.version_store.proofs.HistoryLemmas.{edit_stands}
 use Rattle.version_store.proofs.store.Store.edit.Goals as goal
@@ -49,5 +50,7 @@ invariant_of-self g c =
       layout = c.self.invariant.layout;
       fit = fit-updated e c.self.inside.changes c.insert.new.self c.args.i (Some c.in_ok-copy.copy) c.in-Ok.ensures.updates (inside, fit)
           c.self.invariant.fit;
+      appended = appended-updated held n n c.self.inside.changes c.insert.new.self c.args.i c.in_ok-copy.copy c.in-Ok.ensures.updates (λ i lt apart. lt)
+          c.self.invariant.appended;
       rows = c.self.invariant.rows;
     }

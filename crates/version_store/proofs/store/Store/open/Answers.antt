@@ -16,6 +16,7 @@ use Rattle.version_store.proofs.Grown.{grown-same}
 use Rattle.version_store.proofs.Slotted.{held_slots}
 use Rattle.version_store.proofs.Versions.{long_held}
 use Rattle.version_store.proofs.DraftLemmas.{draft-none}
+use Rattle.version_store.proofs.DraftPlaces.{appended-none}
 use Rattle.version_store.proofs.HistoryLemmas.{open_stands}
 use Rattle.version_store.proofs.store.Store.open.Goals as goal
 
@@ -34,6 +35,7 @@ invariant_of-result g c =
       more = omega (arith, many, c.count-count.ensures.value);
       layout = subst IsLayout sizes c.in_ok-layout.ensures.sizes.1;
       fit = λ i. rw c.new-2.ensures.empty tt;
+      appended = appended-none c.in_ok-edition.edition c.count-count.result c.new-2.result.entries (omega (arith, many, c.count-count.ensures.value));
       rows = subst below (sym c.in_ok-log.ensures) (All-nil (λ (rows : List ℕ). All (λ r. r < n) rows));
     }
 

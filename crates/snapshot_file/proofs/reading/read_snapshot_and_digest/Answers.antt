@@ -6,7 +6,7 @@ use Rattle.std.proofs.KnownBytes.{Consumes-trans}
 use Rattle.snapshot_file.specs.Verdicts.{MayRefuse}
 use Rattle.snapshot_file.specs.Snapshots.{header_bytes, hashed_bytes, snapshot_bytes, has_slots}
 use Rattle.snapshot_file.proofs.Readings.{answers_fault}
-use Rattle.snapshot_file.proofs.reading.read_snapshot.Goals as goal
+use Rattle.snapshot_file.proofs.reading.read_snapshot_and_digest.Goals as goal
 
 pub returns-in_err-header-clause-refused : goal.returns-in_err-header-clause-refused
 returns-in_err-header-clause-refused g c =
