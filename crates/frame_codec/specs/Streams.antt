@@ -2,6 +2,7 @@
 use Rattle.std.specs.Prelude.{◌≡◌, ◌<◌, ◌≤◌, ◌+◌, ◌==◌, ℕ, List, [], ◌∷◌, ◌++◌, length, slice_index, take, option_to_list, Option, Some, None, IfSome, IfNone, Result, Ok, Err, ◌||◌, Bool, true, false}
 use Rattle.std.specs.List.{flat_map, AllByRecursion}
 use Rattle.frame_codec.specs.declared.frame.Frame.{Frame}
+use Rattle.frame_codec.specs.declared.frame.Frame.TheVariants.{Publish}
 use Rattle.frame_codec.specs.declared.reader.ReadFault.{ReadFault}
 use Rattle.frame_codec.specs.declared.reader.Taken.{Taken}
 use Rattle.frame_codec.specs.declared.reader.ReadFault.TheVariants.{TooLong, UnknownKind, BadPayload, Memory, Failed}
@@ -91,6 +92,11 @@ FeedsFrame old piece (Err fault) new = Feeds old piece (Err fault) [] new
 abbrev pub unfinished_size : Option (List ℕ) → ℕ
 unfinished_size None = 0
 unfinished_size (Some bytes) = length bytes
+
+-- What a reader keeps of an unfinished frame, and then a piece, begin with the frame Publish. A reader that has stopped keeps nothing.
+abbrev pub HasPublishNext : Option (List ℕ) → List ℕ → Type 0
+HasPublishNext None piece = ⊥
+HasPublishNext (Some kept) piece = (more : List ℕ) × (kept ++ piece ≡ encoding Publish ++ more)
 
 -- Pieces fed to a reader one after another, each without a fault: the frames that they gave, and the rest that the reader keeps.
 abbrev pub FeedsAll : List ℕ → List (List ℕ) → List Frame → List ℕ → Type 0

@@ -1,9 +1,9 @@
 //! The frames at the beginning of bytes.
 
-ghost use Rattle.std.specs.Prelude.{◌≡◌, ◌<◌, ◌≤◌, ℕ, List, ◌++◌, IfOk, OnOk, IfErr, IfSome, IfNone, length, take};
+ghost use Rattle.std.specs.Prelude.{◌≡◌, ◌<◌, ◌≤◌, ◌↔◌, IsTrue, Some, ℕ, List, ◌++◌, IfOk, OnOk, IfErr, IfSome, IfNone, length, take};
 ghost use Rattle.frame_codec.specs.declared.frame.Frame.{Frame};
 ghost use Rattle.frame_codec.specs.Frames.{IsFrame, encoding};
-ghost use Rattle.frame_codec.specs.Streams.{HasBadLength, HasFault, HasFrame, IsPartial, IsReadable, StopsAt, is_kind};
+ghost use Rattle.frame_codec.specs.Streams.{HasBadLength, HasFault, HasFrame, HasPublishNext, IsPartial, IsReadable, StopsAt, is_kind};
 
 use crate::frame::Frame;
 use crate::numbers::u32_at;
@@ -16,6 +16,9 @@ const PAYLOAD_LIMIT: usize = 16_777_216;
 
 /// The bytes before a payload: its length and the kind.
 pub const HEADER_LEN: usize = 5;
+
+/// The frame Publish: no payload, and its kind.
+const PUBLISH: [u8; HEADER_LEN] = [0, 0, 0, 0, 7];
 
 fn is_known_kind(kind: u8) -> bool
     ensures { result ≡ is_kind kind }
@@ -60,6 +63,14 @@ pub fn split_frame_len(first: &[u8], rest: &[u8]) -> Result<usize, ReadFault>
         return Err(ReadFault::BadPayload);
     }
     Ok(size)
+}
+
+/// Whether bytes that stand in two places, one after the other, begin with the frame Publish. This takes no memory.
+pub fn begins_with_publish(first: &[u8], rest: &[u8]) -> bool
+    ensures { IsTrue result ↔ HasPublishNext (Some first.now) rest.now }
+{
+    let (header, len) = header_of(first, rest);
+    len == HEADER_LEN && header == PUBLISH
 }
 
 /// The first bytes of two slices, one after the other: as many as a header has, or all. The second number

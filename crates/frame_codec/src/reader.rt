@@ -3,10 +3,10 @@
 ghost use Rattle.std.specs.Prelude.{◌≡◌, ◌≤◌, ◌↔◌, ◌-◌, IsTrue, ℕ, List, [], ◌∷◌, ◌++◌, length, take, drop, None, Some, IfOk, IfErr, IfSome, IfNone, OnOk, OnErr, vec_capacity};
 ghost use Rattle.frame_codec.specs.declared.frame.Frame.{Frame};
 ghost use Rattle.frame_codec.specs.Frames.{IsFrame, encoding};
-ghost use Rattle.frame_codec.specs.Streams.{Feeds, FeedsFrame, TakesFrame, IsPartial, StopsAt, unfinished_size};
+ghost use Rattle.frame_codec.specs.Streams.{Feeds, FeedsFrame, TakesFrame, HasPublishNext, IsPartial, StopsAt, unfinished_size};
 
 use crate::frame::Frame;
-use crate::prefix::{frame_at, split_frame_len};
+use crate::prefix::{begins_with_publish, frame_at, split_frame_len};
 use std::alloc::{AllocError, AllocFailed, Global};
 use std::marker::Model;
 use thiserror::Error;
@@ -104,6 +104,14 @@ impl Reader {
         ensures { result ≡ unfinished_size self.now }
     {
         if self.failed { 0 } else { self.pending.len() }
+    }
+
+    /// Whether what it keeps of an unfinished frame, and then a piece, begin with the frame Publish: so that feeding
+    /// the piece gives this frame first. This takes no memory, and changes nothing.
+    pub fn publishes_next(&self, piece: &[u8]) -> bool
+        ensures { IsTrue result ↔ HasPublishNext self.now piece.now }
+    {
+        !self.failed && begins_with_publish(&self.pending, piece)
     }
 
     /// Takes the next piece of the stream, and adds each frame that is whole now to `out`.

@@ -3,6 +3,8 @@ pub mod AnswerSizes
 pub mod Courses
 pub mod Hints
 pub mod Pieces
+pub mod Publications
+pub mod Foreseen
 pub mod Firsts
 pub mod Runs
 pub mod Alike

@@ -7,7 +7,7 @@ use Rattle.std.specs.declared.alloc.AllocError.{AllocError}
 use Rattle.frame_codec.specs.Streams.{unfinished_size}
 use Rattle.version_store.specs.Histories.{StoreState, History}
 use Rattle.server_core.specs.Serving.{Setting, is_closed}
-use Rattle.server_core.specs.Sessions.{Session, Fed, FedFirst, IsFirstUnread}
+use Rattle.server_core.specs.Sessions.{Session, Fed, FedFirst, IsFirstUnread, WouldPublish}
 use Rattle.server_core.specs.declared.server.FeedError.{FeedError}
 use Rattle.server_core.specs.declared.server.FeedError.TheVariants.{NoSession, Memory}
 
@@ -29,6 +29,15 @@ is_open (Some s) = not (is_closed s.standing)
 abbrev pub unfinished_in : Option Session → ℕ
 unfinished_in None = 0
 unfinished_in (Some s) = unfinished_size s.unfinished
+
+-- the next frame of a session's stream is a publication that is made unless memory is refused; none where there is no session
+abbrev pub WouldPublishIn : Option Session → List ℕ → StoreState → Type 0
+WouldPublishIn None piece store = ⊥
+WouldPublishIn (Some s) piece store = WouldPublish s piece store
+
+-- A piece of the stream of this number's session makes its next frame a publication, which is made unless memory is refused.
+abbrev pub PublishesNext : Core → ℕ → List ℕ → Type 0
+PublishesNext core id piece = WouldPublishIn (session_of core.sessions id) piece core.store
 
 -- memory was refused to the reading of the first frame of a session's piece
 abbrev pub IsFirstUnreadBy : Option Session → List ℕ → Option Session → Type 0

@@ -1,19 +1,21 @@
 -- Laws of sessions.
-use Rattle.std.specs.Prelude.{◌≡◌, ◌≢◌, ◌⊎◌, ◌≤◌, ℕ, List, [], ◌∷◌, ◌++◌, length, take, false, Option, Result, Ok, Err}
+use Rattle.std.specs.Prelude.{◌≡◌, ◌≢◌, ◌⊎◌, ◌≤◌, ◌+◌, ℕ, List, [], ◌∷◌, ◌++◌, length, take, false, Option, Result, Ok, Err}
 use Rattle.std.specs.declared.alloc.AllocError.{AllocError}
 use Rattle.pir_schemes.specs.declared.scheme.Scheme.{Scheme}
 use Rattle.pir_schemes.specs.Retrievals.{answer_words}
 use Rattle.frame_codec.specs.declared.frame.Frame.{Frame}
-use Rattle.frame_codec.specs.declared.frame.Frame.TheVariants.{Query, Answer}
-use Rattle.frame_codec.specs.Frames.{kind_of, payload_of}
+use Rattle.frame_codec.specs.declared.frame.Frame.TheVariants.{Query, Answer, Done}
+use Rattle.frame_codec.specs.declared.refusal.Refusal.TheVariants as refusal
+use Rattle.frame_codec.specs.Refusals.{refused}
+use Rattle.frame_codec.specs.Frames.{encoding, kind_of, payload_of}
 use Rattle.frame_codec.specs.declared.reader.ReadFault.{ReadFault}
 use Rattle.frame_codec.specs.declared.reader.ReadFault.TheVariants.{Memory}
 use Rattle.frame_codec.specs.Streams.{Feeds}
-use Rattle.version_store.specs.Histories.{StoreState, History, current_version}
+use Rattle.version_store.specs.Histories.{StoreState, History, StandsFor, current_version}
 use Rattle.server_core.specs.declared.standing.Standing.{Standing}
 use Rattle.server_core.specs.Courses.{course_of_piece, lacks_memory, FeedsWithMemory, WasShortOfMemory}
 use Rattle.server_core.specs.Serving.{Setting, is_closed, outcome_of_frame, replies_with, words_answered}
-use Rattle.server_core.specs.Sessions.{Session, FeedsSession, FeedsFirst, Fed}
+use Rattle.server_core.specs.Sessions.{Session, FeedsSession, FeedsFirst, Fed, FedFirst, WouldPublish}
 
 -- Sessions that nobody can tell apart: the same standing and the same unfinished bytes, of which a closed session reads no more.
 abbrev pub IsAlike : Session → Session → Type 0
@@ -121,3 +123,11 @@ RepliesHoldNoLength = (x : Setting) (h g : History) (st : Standing) (scheme vers
 abbrev pub AnswersHaveTheirLayoutsLength : Type 0
 AnswersHaveTheirLayoutsLength = (x : Setting) (h : History) (scheme : Scheme) (words : List ℕ) →
     length (answer_words scheme x.plan h.current words) ≡ words_answered x scheme h.current
+
+-- A publication that was foreseen is made and told, or memory is refused to it, and the version stays.
+abbrev pub ForeseenArePublished : Type 0
+ForeseenArePublished = (x : Setting) (h : History) (s : Session) (piece : List ℕ) (store : StoreState) (count : ℕ) (after : StoreState) (new : Session)
+    (out written : List ℕ)
+    → StandsFor store h → WouldPublish s piece store → FedFirst x h s piece (Ok count) after new out written
+    → ((after.version ≡ store.version + 1) × (written ≡ out ++ encoding (Done (store.version + 1))))
+    ⊎ ((after.version ≡ store.version) × (written ≡ out ++ encoding (refused refusal.Memory)))

@@ -105,6 +105,17 @@ abbrev pub is_publisher : Standing → Bool
 is_publisher Publisher = true
 is_publisher _ = false
 
+-- A publication that a session of this standing asks for is made, unless memory is refused: the session is the publisher's, there is
+-- something to publish, and a number is left for one more version.
+pub record MayPublish (standing : Standing) (store : StoreState) : Type 0 where
+  pub publisher : is_publisher standing ≡ true
+  pub marked : store.marked ≡ true
+  pub below : store.version + 1 < 2 ^ 64
+
+-- between two versions one publication was made, which was asked for and could be, or none
+abbrev pub PublishesIf : Type 0 → ℕ → ℕ → Type 0
+PublishesIf asked before after = (after ≡ before) ⊎ (asked × (after ≡ before + 1))
+
 -- whether a session is closed
 abbrev pub is_closed : Standing → Bool
 is_closed Closed = true

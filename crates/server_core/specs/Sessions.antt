@@ -10,10 +10,10 @@ use Rattle.frame_codec.specs.declared.reader.ReadFault.{ReadFault}
 use Rattle.frame_codec.specs.declared.reader.ReadFault.TheVariants.{TooLong, UnknownKind, BadPayload, Memory, Failed}
 use Rattle.frame_codec.specs.Frames.{IsFrame, encoding}
 use Rattle.frame_codec.specs.declared.reader.Taken.{Taken}
-use Rattle.frame_codec.specs.Streams.{Feeds, FeedsFrame}
+use Rattle.frame_codec.specs.Streams.{Feeds, FeedsFrame, HasPublishNext}
 use Rattle.server_core.specs.declared.standing.Standing.{Standing}
 use Rattle.server_core.specs.declared.standing.Standing.TheVariants.{Stranger, Closed}
-use Rattle.server_core.specs.Serving.{Setting, setting_of, ServesAll, ServedAll, is_closed}
+use Rattle.server_core.specs.Serving.{Setting, setting_of, ServesAll, ServedAll, MayPublish, is_closed}
 
 -- who the session speaks for, and the bytes of its unfinished frame, which are None once its stream has failed
 pub record Session : Type 0 where
@@ -151,6 +151,11 @@ bytes_used piece (Err fault) = length piece
 abbrev pub reading_end : Result Taken ReadFault → Result (Unit {0}) ReadFault
 reading_end (Ok taken) = Ok tt
 reading_end (Err fault) = Err fault
+
+-- The next frame of a session's stream, which a piece completes, is a publication that is made unless memory is refused.
+pub record WouldPublish (s : Session) (piece : List ℕ) (store : StoreState) : Type 0 where
+  pub next : HasPublishNext s.unfinished piece
+  pub may : MayPublish s.standing store
 
 -- The first frame that a piece completes is served, or a fault in its place is reported: so many bytes of the piece are used up.
 pub record ServesFrame (x : Setting) (h : History) (old : Session) (piece : List ℕ) (count : ℕ) (h2 : History) (new : Session) (replies : List Frame) : Type 0 where

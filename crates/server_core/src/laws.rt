@@ -5,6 +5,7 @@ ghost use Rattle.frame_codec.specs.declared.frame.Frame.{Frame};
 ghost use Rattle.version_store.specs.Histories.{History};
 ghost use Rattle.server_core.specs.declared.standing.Standing.{Standing};
 ghost use Rattle.server_core.specs.Laws.{
+  ForeseenArePublished,
   PiecesDecide,
   FirstsArePieces,
   StopsArePieces,
@@ -41,6 +42,11 @@ pub fn pieces_decide()
 pub fn firsts_are_pieces()
     ensures served { FirstsArePieces }
     ensures stopped { StopsArePieces }
+{}
+
+/// A publication that was foreseen is made, with Done and the next version, or memory is refused to it.
+pub fn foreseen_are_published()
+    ensures { ForeseenArePublished }
 {}
 
 /// Sessions don't meet: all that a session is answered is decided by its own pieces and by the histories on which they are served,

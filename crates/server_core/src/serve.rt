@@ -5,7 +5,7 @@ ghost use Rattle.frame_codec.specs.Frames.{IsFrame, encoding};
 ghost use Rattle.frame_codec.specs.declared.frame.Frame.TheVariants.{Append, DeltaAsk, Edit, Hello, HintAsk, Publish, Query};
 ghost use Rattle.frame_codec.specs.Refusals.{refused};
 ghost use Rattle.version_store.specs.Histories.{History, StandsFor};
-ghost use Rattle.server_core.specs.Serving.{setting_of, is_publisher_key, is_reader_key, outcome_of_frame, HasRoom, HasOutcome, Serves, ServedAll, BrokenOff, IsFull};
+ghost use Rattle.server_core.specs.Serving.{setting_of, is_publisher_key, is_reader_key, outcome_of_frame, HasRoom, HasOutcome, Serves, ServedAll, BrokenOff, IsFull, MayPublish, PublishesIf};
 
 use crate::replies::{
     SHORT_REPLY, part_of_hint, put_answer, put_delta, put_done, put_no_delta, put_part,
@@ -172,9 +172,10 @@ fn serve_edit<K: Kernel>(
     out: &mut Vec<u8>,
 )
     requires { vec_len out.old + 64 ≤ vec_capacity out.old }
-    ensures { (h : History) → StandsFor store.old h →
+    ensures served { (h : History) → StandsFor store.old h →
         Serves (setting_of store.old) h standing
         (Edit index bytes.now) store.new standing out.old.items out.new.items }
+    ensures version { store.new.version ≡ store.old.version }
 {
     if !standing.is_welcome() {
         put_refused(Refusal::NotWelcome, out);
@@ -200,9 +201,10 @@ fn serve_append<K: Kernel>(
     out: &mut Vec<u8>,
 )
     requires { vec_len out.old + 64 ≤ vec_capacity out.old }
-    ensures { (h : History) → StandsFor store.old h →
+    ensures served { (h : History) → StandsFor store.old h →
         Serves (setting_of store.old) h standing
         (Append bytes.now) store.new standing out.old.items out.new.items }
+    ensures version { store.new.version ≡ store.old.version }
 {
     if !standing.is_welcome() {
         put_refused(Refusal::NotWelcome, out);
@@ -223,9 +225,11 @@ fn serve_append<K: Kernel>(
 /// Publishes the draft.
 fn serve_publish<K: Kernel>(store: &mut Store<K>, standing: Standing, out: &mut Vec<u8>)
     requires { vec_len out.old + 64 ≤ vec_capacity out.old }
-    ensures { (h : History) → StandsFor store.old h →
+    ensures served { (h : History) → StandsFor store.old h →
         Serves (setting_of store.old) h standing Publish store.new standing out.old.items
         out.new.items }
+    ensures version { PublishesIf (MayPublish standing store.old) store.old.version
+        store.new.version }
 {
     if !standing.is_welcome() {
         put_refused(Refusal::NotWelcome, out);
@@ -263,9 +267,11 @@ fn serve_with_room<K: Kernel>(
     out: &mut Vec<u8>,
 ) -> Standing
     requires { vec_len out.old + 64 ≤ vec_capacity out.old }
-    ensures { (h : History) → StandsFor store.old h →
+    ensures served { (h : History) → StandsFor store.old h →
         Serves (setting_of store.old) h standing frame.now store.new result out.old.items
         out.new.items }
+    ensures version { PublishesIf ((frame.now ≡ Publish) × MayPublish standing store.old)
+        store.old.version store.new.version }
 {
     match frame {
         Frame::Hello { profile, key } => serve_hello(store, standing, *profile, key, out),
@@ -320,6 +326,8 @@ pub fn serve_frame<K: Kernel>(
         out.new.items) }
     ensures err { OnErr result ((store.new ≡ store.old) × (out.new.items ≡ out.old.items)) }
     ensures full { OnErr result (IsFull out.new) }
+    ensures version { PublishesIf ((frame.now ≡ Publish) × MayPublish standing store.old)
+        store.old.version store.new.version }
 {
     out.reserve(SHORT_REPLY)?;
     Ok(serve_with_room(alloc, store, standing, frame, out))

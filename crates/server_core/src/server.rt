@@ -1,11 +1,11 @@
 //! Sessions over one store.
 
-ghost use Rattle.std.specs.Prelude.{◌≡◌, ◌≢◌, ◌⊎◌, ◌≤◌, ◌<◌, ◌^◌, ◌+◌, ◌↔◌, ℕ, length, OnOk, OnErr, IfOk, IsSome, Some, None, IsErrOf, is_some, slice_set, true, false};
+ghost use Rattle.std.specs.Prelude.{◌≡◌, ◌≢◌, ◌⊎◌, ◌≤◌, ◌<◌, ◌^◌, ◌+◌, ◌↔◌, ℕ, length, IsTrue, OnOk, OnErr, IfOk, IsSome, Some, None, IsErrOf, is_some, slice_set, true, false};
 ghost use Rattle.digit_pack.specs.Layout.{is_layout};
 ghost use Rattle.pir_schemes.specs.Plans.{fits, shape_at};
 ghost use Rattle.version_store.specs.Histories.{History, StandsFor, after_edit, after_append, published, held_appended, held_published};
-ghost use Rattle.server_core.specs.Cores.{session_of, is_open, FeedsCore, FeedsCoreFirst, IsFirstUnreadBy, OnMemory, OnNoSession, unfinished_in};
-ghost use Rattle.server_core.specs.Serving.{setting_of, IsFull};
+ghost use Rattle.server_core.specs.Cores.{session_of, is_open, PublishesNext, FeedsCore, FeedsCoreFirst, IsFirstUnreadBy, OnMemory, OnNoSession, unfinished_in};
+ghost use Rattle.server_core.specs.Serving.{setting_of, IsFull, PublishesIf};
 ghost use Rattle.server_core.specs.Sessions as sessions;
 
 use crate::session::Session;
@@ -127,6 +127,19 @@ impl<K: Kernel> ServerCore<K> {
         match self.sessions.get(&id) {
             Some(session) => session.unfinished_len(),
             None => 0,
+        }
+    }
+
+    /// Whether a piece of the stream of this number's session makes its next frame a publication that is made unless
+    /// memory is refused: the session is open and the publisher's, the bytes that it keeps and then the piece begin with
+    /// the frame Publish, there is something to publish, and a number is left for one more version. So feeding the piece
+    /// publishes nothing where this is false. It takes no memory.
+    pub fn publishes_next(&self, id: u64, piece: &[u8]) -> bool
+        ensures { IsTrue result ↔ PublishesNext self.now id piece.now }
+    {
+        match self.sessions.get(&id) {
+            Some(session) => session.publishes_next(&self.store, piece),
+            None => false,
         }
     }
 
@@ -253,6 +266,8 @@ impl<K: Kernel> ServerCore<K> {
             (session_of self.old.sessions id) piece.now (session_of self.new.sessions id) }
         ensures unchanged { OnNoSession result ((self.new ≡ self.old) ×
             (out.new.items ≡ out.old.items)) }
+        ensures version { PublishesIf (PublishesNext self.old id piece.now) self.old.store.version
+            self.new.store.version }
         ensures others { (other : ℕ) → other ≢ id →
             session_of self.new.sessions other ≡ session_of self.old.sessions other }
     {

@@ -1,12 +1,13 @@
 //! One session.
 
-ghost use Rattle.std.specs.Prelude.{◌≡◌, ◌≤◌, ◌<◌, ◌⊎◌, ◌++◌, length, ℕ, List, IfOk, IsErr, IsOk, OnErr, OnOk, false};
+ghost use Rattle.std.specs.Prelude.{◌≡◌, ◌≤◌, ◌<◌, ◌⊎◌, ◌↔◌, ◌++◌, length, ℕ, List, [], ◌∷◌, IsTrue, IfOk, IsErr, IsOk, OnErr, OnOk, false};
+ghost use Rattle.frame_codec.specs.declared.frame.Frame.TheVariants.{Publish};
 ghost use Rattle.frame_codec.specs.Streams.{unfinished_size};
 ghost use Rattle.frame_codec.specs.Refusals.{refused};
 ghost use Rattle.frame_codec.specs.Frames.{IsFrame, encoding};
 ghost use Rattle.version_store.specs.Histories.{History, StandsFor};
-ghost use Rattle.server_core.specs.Serving.{setting_of, is_closed, IsFull};
-ghost use Rattle.server_core.specs.Sessions.{new_session, frames_taken, bytes_used, reading_end, HasTaken, Ended, Fed, FedFirst, ServedFrames, ServedOpen, StoppedFrames, IsUnjudged, IsUnread, IsFirstUnread};
+ghost use Rattle.server_core.specs.Serving.{setting_of, is_closed, IsFull, MayPublish, PublishesIf};
+ghost use Rattle.server_core.specs.Sessions.{new_session, frames_taken, bytes_used, reading_end, HasTaken, Ended, Fed, FedFirst, ServedFrames, ServedOpen, StoppedFrames, IsUnjudged, IsUnread, IsFirstUnread, WouldPublish};
 
 use crate::replies::{SHORT_REPLY, put_refused};
 use crate::serve::{serve_frame, serve_frames};
@@ -57,6 +58,17 @@ impl Session {
         ensures { result ≡ unfinished_size self.now.unfinished }
     {
         self.reader.unfinished_len()
+    }
+
+    /// Whether the next frame of the stream, which a piece completes, is a publication that is made unless memory is refused.
+    /// This takes no memory.
+    pub fn publishes_next<K: Kernel>(&self, store: &Store<K>, piece: &[u8]) -> bool
+        ensures { IsTrue result ↔ WouldPublish self.now piece.now store.now }
+    {
+        self.standing.is_publisher()
+            && self.reader.publishes_next(piece)
+            && store.is_marked()
+            && store.version() < u64::MAX
     }
 
     /// Takes the next piece of the stream, and adds the replies to the frames that are whole now. A closed
@@ -113,6 +125,8 @@ impl Session {
             (out.new.items ≡ out.old.items)) }
         ensures full { OnErr result (IsFull out.new ⊎
             IsFirstUnread self.old.unfinished piece.now self.new.unfinished) }
+        ensures version { PublishesIf (WouldPublish self.old piece.now store.old)
+            store.old.version store.new.version }
     {
         if self.standing.is_closed() {
             return Ok(piece.len());
@@ -156,6 +170,8 @@ fn serve_read<K: Kernel>(
     ensures stop { OnErr result (HasTaken read) }
     ensures live { IfOk result (λ after. (is_closed after ≡ false) → IsOk (reading_end read)) }
     ensures full { OnErr result (IsFull out.new ⊎ IsUnjudged (reading_end read)) }
+    ensures version { PublishesIf ((frames_taken read ≡ Publish ∷ []) × MayPublish standing
+        store.old) store.old.version store.new.version }
 {
     match read {
         Ok(taken) => match taken.frame {

@@ -1,11 +1,11 @@
 -- That something is awaited of a connection while something is owed.
 use Rattle.std.proofs.Common.{◌≡◌, ◌<◌, ◌≤◌, ◌-◌, ℕ, List, [], ◌∷◌, ◌++◌, length, drop, Bool, true, false, inl, inr, refl, sym, ap, subst, ◌∙◌, arith}
-use Rattle.std.specs.Prelude.{cond, not, ◌&&◌, ◌||◌, nat_eq, nat_lt}
+use Rattle.std.specs.Prelude.{cond, ◌&&◌, nat_lt}
 use Rattle.std.specs.List.{FoldsTo}
 use Rattle.std.proofs.lemmas.Bool.{lt-ltb, ltb-true, eq-eqb}
 use Rattle.std.proofs.lemmas.List.{length-append, length-drop, nil_from_length}
 use Rattle.std.proofs.lemmas.Bool.{cases_lt}
-use Rattle.service_core.specs.Links.{LinkState, Move, Receives, Ends, Answers, Writes, MovesTo, IsAwaited, LinksAwait, accepted, after_frame, after_write, is_progress}
+use Rattle.service_core.specs.Links.{LinkState, Move, Receives, Ends, Answers, Writes, MovesTo, IsAwaited, LinksAwait, accepted, is_progress}
 
 -- a write leaves all else as it was
 pub write_keeps : (b : Bool) (n now : ℕ) (l : LinkState)

@@ -3,3 +3,4 @@ pub mod Moves
 pub mod Deeds
 pub mod Replies
 pub mod Steps
+pub mod Saving

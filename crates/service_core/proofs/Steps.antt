@@ -1,5 +1,5 @@
 -- A frame that a connection's session was fed.
-use Rattle.std.proofs.Common.{◌≡◌, ◌≤◌, ◌<◌, ◌-◌, ◌++◌, ℕ, List, [], ◌∷◌, length, drop, Some, Ok, Err, Bool, true, false, refl, ap, subst, ◌∙◌, arith}
+use Rattle.std.proofs.Common.{◌≡◌, ◌≤◌, ◌-◌, ◌++◌, ℕ, List, length, drop, Some, Ok, Err, Bool, true, false, ap, subst, ◌∙◌, arith}
 use Rattle.std.specs.Prelude.{cond, not}
 use Rattle.std.specs.List.{flat_map}
 use Rattle.std.proofs.lemmas.List.{length-append}

@@ -1,5 +1,7 @@
 -- What a server does to what lies outside of it, in order: the socket of a connection, and the disk.
 use Rattle.std.specs.Prelude.{ℕ, List, length, take, Result, Ok, Err}
+use Rattle.service_core.specs.declared.outside.AppendFailed.{AppendFailed}
+use Rattle.service_core.specs.declared.outside.AppendFailed.TheVariants.{Undone, Lost}
 use Rattle.service_core.specs.declared.outside.Stop.{Stop}
 use Rattle.service_core.specs.declared.outside.Stop.TheVariants.{Later, Failed}
 
@@ -15,10 +17,16 @@ pub data Call : Type 0 where
   -- a write would have waited
   WriteLater : Call
   WriteFails : Call
-  -- this version was saved
-  Save : (version : ℕ) → Call
-  -- it could not be saved
-  SaveFails : (version : ℕ) → Call
+  -- the publication that makes this version was appended to the log
+  Append : (version : ℕ) → Call
+  -- it could not be appended, and nothing of it is left
+  AppendUndone : (version : ℕ) → Call
+  -- it could not be appended, and a part of it may be left
+  AppendLost : (version : ℕ) → Call
+  -- the publication that would have made this version was appended and not made: nothing of it is left now
+  TakeBack : (version : ℕ) → Call
+  -- it could not be taken back
+  TakeBackFails : (version : ℕ) → Call
 
 -- what a read did, into a buffer that holds these bytes after it
 abbrev pub read_call : Result ℕ Stop → List ℕ → Call
@@ -32,7 +40,13 @@ write_call (Ok n) bytes = Write (take n bytes)
 write_call (Err Later) bytes = WriteLater
 write_call (Err Failed) bytes = WriteFails
 
--- what a save of this version did
-abbrev pub save_call : {E : Type 0} → Result (Unit {0}) E → ℕ → Call
-save_call (Ok done) version = Save version
-save_call (Err e) version = SaveFails version
+-- what an append of this version's publication did
+abbrev pub append_call : Result (Unit {0}) AppendFailed → ℕ → Call
+append_call (Ok done) version = Append version
+append_call (Err Undone) version = AppendUndone version
+append_call (Err Lost) version = AppendLost version
+
+-- what taking this version's publication back did
+abbrev pub take_back_call : {E : Type 0} → Result (Unit {0}) E → ℕ → Call
+take_back_call (Ok done) version = TakeBack version
+take_back_call (Err e) version = TakeBackFails version

@@ -3,3 +3,4 @@ pub mod Sizes
 pub mod Links
 pub mod Runs
 pub mod Turns
+pub mod Saving

@@ -1,5 +1,5 @@
 -- Connections, as their callers see them.
-use Rattle.std.specs.Prelude.{◌≡◌, ◌<◌, ◌≤◌, ◌-◌, ◌++◌, ◌⊎◌, ℕ, List, [], ◌∷◌, length, drop, Bool, true, false, cond, not, ◌&&◌, ◌||◌, nat_eq, nat_lt}
+use Rattle.std.specs.Prelude.{◌≡◌, ◌<◌, ◌≤◌, ◌-◌, ◌++◌, ◌⊎◌, ℕ, List, [], length, drop, Bool, true, false, cond, not, ◌&&◌, ◌||◌, nat_eq, nat_lt}
 use Rattle.std.specs.List.{FoldsTo, flat_map}
 use Rattle.service_core.specs.Sizes.{owed_limit}
 

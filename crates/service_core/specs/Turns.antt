@@ -1,14 +1,14 @@
 -- The turn of a connection.
-use Rattle.std.specs.Prelude.{◌≡◌, ◌≢◌, ◌≤◌, ◌<◌, ◌-◌, ◌⊎◌, ℕ, List, [], length, take, drop, not, Some, None, Result, Ok, Err}
+use Rattle.std.specs.Prelude.{◌≡◌, ◌≢◌, ◌≤◌, ◌<◌, ◌+◌, ◌-◌, ◌⊎◌, ℕ, List, [], length, take, drop, not, Some, None, Result, Ok, Err}
 use Rattle.std.specs.List.{flat_map, AllByRecursion}
 use Rattle.std.specs.declared.alloc.AllocError.{AllocError}
 use Rattle.frame_codec.specs.declared.frame.Frame.{Frame}
 use Rattle.frame_codec.specs.Frames.{IsFrame, encoding}
 use Rattle.version_store.specs.Histories.{History, StandsFor}
-use Rattle.server_core.specs.Cores.{Core, session_of}
+use Rattle.server_core.specs.Cores.{Core, session_of, PublishesNext}
 use Rattle.server_core.specs.Serving.{Setting, setting_of, is_closed}
 use Rattle.server_core.specs.Sessions.{Session, FeedsFirst}
-use Rattle.service_core.specs.Calls.{Call, Read, ReadLater, ReadFails, Write, WriteLater, WriteFails, Save, SaveFails}
+use Rattle.service_core.specs.Calls.{Call, Read, ReadLater, ReadFails, Write, WriteLater, WriteFails, Append, AppendUndone, AppendLost, TakeBack, TakeBackFails}
 use Rattle.service_core.specs.Sizes.{most_owed}
 use Rattle.service_core.specs.Links.{LinkState, MayRead, MayServe, MovesTo, Answers, after_receipt, after_end, after_write, after_frame}
 use Rattle.service_core.specs.Runs.{DoesToCore, Serves, OthersStay}
@@ -58,21 +58,73 @@ ReadsOnce does old a (Err fault.Read) new b = MayRead old × does a ReadFails b 
 ReadsOnce does old a (Err fault.Memory) new b = MayRead old × ((bytes : List ℕ) × does a (Read 65536 bytes) b) × (new ≡ old)
 ReadsOnce does old a (Err _) new b = ⊥
 
--- what is saved after a frame: the version that it published
-abbrev pub SavesNew : {C : Type 0} → (C → Call → C → Type 0) → ℕ → ℕ → C → C → Type 0
-SavesNew does before after a b = ((after ≡ before) × (b ≡ a)) ⊎ ((after ≢ before) × does a (Save after) b)
+-- the frame at hand is served, or memory for it is refused
+abbrev pub FrameGives : ℕ → ℕ → LinkState → Core → Result (Unit {0}) Fault → LinkState → Core → Type 0
+FrameGives id now old before (Ok done) new after = AtEach before id (λ x h s. ServesNext x h s id now old new after)
+FrameGives id now old before (Err fault.Memory) new after = AtEach before id (λ x h s. StopsNext x h s id old new after)
+FrameGives id now old before (Err _) new after = ⊥
 
--- one frame at most, where one may be served, and the version that it published is saved
+-- A frame that publishes nothing is served, or memory for it is refused: no call is made for it.
+pub record ServesPlain {C : Type 0} (id now : ℕ) (old : LinkState) (before : Core) (a : C) (answer : Result (Unit {0}) Fault)
+    (new : LinkState) (after : Core) (b : C) : Type 0 where
+  pub plain : PublishesNext before id old.unserved → ⊥
+  pub gives : FrameGives id now old before answer new after
+  pub version_is : after.store.version ≡ before.store.version
+  pub no_call : b ≡ a
+
+-- A publication that was appended is made or, if memory is refused to it, taken back.
+abbrev pub MakesOrTakesBack : {C : Type 0} → (C → Call → C → Type 0) → ℕ → C → Result (Unit {0}) Fault → ℕ → C → Type 0
+MakesOrTakesBack does before a (Ok done) after b =
+    ((after ≡ before + 1) × (b ≡ a)) ⊎ ((after ≡ before) × does a (TakeBack (before + 1)) b)
+MakesOrTakesBack does before a (Err e) after b = (after ≡ before) × does a (TakeBack (before + 1)) b
+
+-- the frame of a publication that was appended is served, or memory for it is refused
+pub record ServesAppended {C : Type 0} (does : C → Call → C → Type 0) (id now : ℕ) (old : LinkState) (before : Core) (a : C)
+    (answer : Result (Unit {0}) Fault) (new : LinkState) (after : Core) (b : C) : Type 0 where
+  pub gives : FrameGives id now old before answer new after
+  pub ends : MakesOrTakesBack does before.store.version a answer after.store.version b
+
+-- the publication of a frame that was served, or to which memory was refused, was not made, and could not be taken back
+pub record FailsToTakeBack {C : Type 0} (does : C → Call → C → Type 0) (id now : ℕ) (old : LinkState) (before : Core) (a : C)
+    (new : LinkState) (after : Core) (b : C) : Type 0 where
+  pub answer : Result (Unit {0}) Fault
+  pub gives : FrameGives id now old before answer new after
+  pub version_is : after.store.version ≡ before.store.version
+  pub fails : does a (TakeBackFails (before.store.version + 1)) b
+
+-- what comes of a publication that was appended
+abbrev pub EndsAppended : {C : Type 0} → (C → Call → C → Type 0) → ℕ → ℕ → LinkState → Core → C → Result (Unit {0}) Fault → LinkState → Core → C → Type 0
+EndsAppended does id now old before a (Err fault.Save) new after b = FailsToTakeBack does id now old before a new after b
+EndsAppended does id now old before a answer new after b = ServesAppended does id now old before a answer new after b
+
+-- a publication is appended, and only then its frame is served
+pub record Publishes {C : Type 0} (does : C → Call → C → Type 0) (id now : ℕ) (old : LinkState) (before : Core) (a : C)
+    (answer : Result (Unit {0}) Fault) (new : LinkState) (after : Core) (b : C) : Type 0 where
+  pub publishes : PublishesNext before id old.unserved
+  pub appended_by : C
+  pub appends : does a (Append (before.store.version + 1)) appended_by
+  pub ends : EndsAppended does id now old before appended_by answer new after b
+
+-- a publication could not be appended: nothing is served
+pub record FailsToAppend {C : Type 0} (does : C → Call → C → Type 0) (call : ℕ → Call) (id : ℕ) (old : LinkState) (before : Core) (a : C)
+    (new : LinkState) (after : Core) (b : C) : Type 0 where
+  pub publishes : PublishesNext before id old.unserved
+  pub fails : does a (call (before.store.version + 1)) b
+  pub link_is : new ≡ old
+  pub core_is : after ≡ before
+
+-- One frame at most, where one may be served. If it publishes, the publication is appended before: if nothing of that is left, nothing
+-- is served, and if a part of it may be left, or it could not be taken back, nothing may be written any more.
 abbrev pub ServesOnce : {C : Type 0} → (C → Call → C → Type 0) → ℕ → ℕ → LinkState → Core → C → Result (Unit {0}) Fault → LinkState → Core → C → Type 0
 ServesOnce does id now old before a (Ok done) new after b =
     ((MayServe old → ⊥) × (new ≡ old) × (after ≡ before) × (b ≡ a))
-    ⊎ (MayServe old × AtEach before id (λ x h s. ServesNext x h s id now old new after) × SavesNew does before.store.version after.store.version a b)
+    ⊎ (MayServe old × (ServesPlain id now old before a (Ok tt) new after b ⊎ Publishes does id now old before a (Ok tt) new after b))
 ServesOnce does id now old before a (Err fault.Memory) new after b =
-    MayServe old × AtEach before id (λ x h s. StopsNext x h s id old new after) × (b ≡ a)
+    MayServe old × (ServesPlain id now old before a (Err fault.Memory) new after b ⊎ Publishes does id now old before a (Err fault.Memory) new after b)
+ServesOnce does id now old before a (Err fault.Write) new after b = MayServe old × FailsToAppend does AppendUndone id old before a new after b
 ServesOnce does id now old before a (Err fault.Save) new after b =
-    MayServe old × AtEach before id (λ x h s. ServesNext x h s id now old new after) × (after.store.version ≢ before.store.version)
-    × does a (SaveFails after.store.version) b
-ServesOnce does id now old before a (Err _) new after b = ⊥
+    MayServe old × (FailsToAppend does AppendLost id old before a new after b ⊎ Publishes does id now old before a (Err fault.Save) new after b)
+ServesOnce does id now old before a (Err fault.Read) new after b = ⊥
 
 -- one write at most, where something is owed
 abbrev pub WritesOnce : {C : Type 0} → (C → Call → C → Type 0) → ℕ → LinkState → C → Result (Unit {0}) Fault → LinkState → C → Type 0
@@ -88,10 +140,10 @@ pub record TakesTurn {C : Type 0} (does : C → Call → C → Type 0) (id now :
   pub filled : LinkState
   pub answered : LinkState
   pub read_by : C
-  pub saved_by : C
+  pub served_by : C
   pub reads : ReadsOnce does old a (Ok tt) filled read_by
-  pub serves : ServesOnce does id now filled before read_by (Ok tt) answered after saved_by
-  pub writes : WritesOnce does now answered saved_by answer new b
+  pub serves : ServesOnce does id now filled before read_by (Ok tt) answered after served_by
+  pub writes : WritesOnce does now answered served_by answer new b
 
 -- one that the frame at hand stopped
 pub record StopsAtFrame {C : Type 0} (does : C → Call → C → Type 0) (id now : ℕ) (old : LinkState) (before : Core) (a : C) (e : Fault)
@@ -101,11 +153,12 @@ pub record StopsAtFrame {C : Type 0} (does : C → Call → C → Type 0) (id no
   pub reads : ReadsOnce does old a (Ok tt) filled read_by
   pub serves : ServesOnce does id now filled before read_by (Err e) new after b
 
--- A turn of a connection: one read at most, one frame at most, whose version is saved where it published, and one write at most.
+-- A turn of a connection: one read at most, one frame at most, whose publication is appended before it is made, and one write at most.
 abbrev pub IsTurn : {C : Type 0} → (C → Call → C → Type 0) → ℕ → ℕ → LinkState → Core → C → Result (Unit {0}) Fault → LinkState → Core → C → Type 0
 IsTurn does id now old before a (Ok done) new after b = TakesTurn does id now old before a (Ok tt) new after b
 IsTurn does id now old before a (Err fault.Read) new after b = ReadsOnce does old a (Err fault.Read) new b × (after ≡ before)
-IsTurn does id now old before a (Err fault.Write) new after b = TakesTurn does id now old before a (Err fault.Write) new after b
+IsTurn does id now old before a (Err fault.Write) new after b =
+    TakesTurn does id now old before a (Err fault.Write) new after b ⊎ StopsAtFrame does id now old before a fault.Write new after b
 IsTurn does id now old before a (Err fault.Memory) new after b =
     (ReadsOnce does old a (Err fault.Memory) new b × (after ≡ before)) ⊎ StopsAtFrame does id now old before a fault.Memory new after b
 IsTurn does id now old before a (Err fault.Save) new after b = StopsAtFrame does id now old before a fault.Save new after b

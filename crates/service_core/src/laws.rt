@@ -2,6 +2,7 @@
 
 ghost use Rattle.service_core.specs.Links.{LinksAwait, LinksKeep};
 ghost use Rattle.service_core.specs.Runs.{DeedsAreOneRun};
+ghost use Rattle.service_core.specs.Saving.{TurnsSaveBeforeWriting};
 ghost use Rattle.service_core.specs.Turns.{OwedIsBounded, ServedFramesAreDeeds, ServedFramesAreMoves};
 
 /// After any moves of a connection, in any order, what came is what was served and then what is not yet served, and what
@@ -31,3 +32,9 @@ pub fn served_frames_are_moves()
 {
     server_core::laws::firsts_are_pieces();
 }
+
+/// In a turn no byte is written while the version that is served is not the one that is there after a crash: so no write comes
+/// between an append and the publication, or the taking back of it. After the turn it is there, unless none may follow.
+pub fn turns_save_before_writing()
+    ensures { TurnsSaveBeforeWriting }
+{}

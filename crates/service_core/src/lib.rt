@@ -2,8 +2,9 @@
 //! bytes owed and not yet written, and the moment of the last progress; and the turn of a connection.
 //!
 //! A connection is one [`Link`], and a call has no other one at hand: so no connection can change what is kept for
-//! another. A [`turn`] reads once at most, serves one frame at most, saves the version that it published, and writes
-//! once at most. No byte is written while a version is not saved.
+//! another. A [`turn`] reads once at most, serves one frame at most, and writes once at most. A publication is appended to the
+//! log of publications before it is made, and taken back if it is not made then. No byte is written while the version
+//! that is served is not the one that is there after a crash.
 #![tactic(auto)]
 
 pub mod laws;
@@ -13,5 +14,5 @@ mod tail;
 mod turns;
 
 pub use link::{Link, PIECE_LEN};
-pub use outside::{Outside, SaveFailed, Stop};
+pub use outside::{AppendFailed, Outside, SaveFailed, Stop};
 pub use turns::{Fault, turn};

@@ -1,7 +1,8 @@
 //! A connection.
 
 ghost use Rattle.std.specs.Prelude.{◌≡◌, ◌≢◌, ◌≤◌, ◌<◌, ◌+◌, ◌-◌, ◌^◌, ◌↔◌, min, cond, List, ℕ, None, [], length, IsTrue, OnOk, OnErr};
-ghost use Rattle.server_core.specs.Cores.{session_of};
+ghost use Rattle.server_core.specs.Cores.{session_of, PublishesNext};
+ghost use Rattle.server_core.specs.Serving.{PublishesIf};
 ghost use Rattle.service_core.specs.Links.{accepted, after_end, after_receipt, after_write, is_progress, IsDone, MayRead, MayServe};
 ghost use Rattle.service_core.specs.Runs.{OthersStay};
 ghost use Rattle.service_core.specs.Turns.{AtEach, ServesNext, StopsNext};
@@ -141,6 +142,13 @@ impl Link {
         self.ended = true;
     }
 
+    /// Whether the next frame of what was received is a publication, which is made unless memory is refused.
+    pub fn publishes_next<K: Kernel>(&self, core: &ServerCore<K>, id: u64) -> bool
+        ensures { IsTrue result ↔ PublishesNext core.now id self.now.unserved }
+    {
+        core.publishes_next(id, self.unserved.as_slice())
+    }
+
     /// Serves one frame at most of what was received, to the session of a number.
     ///
     /// # Errors
@@ -159,6 +167,8 @@ impl Link {
         ensures stopped { OnErr result (AtEach core.old id (λ x h s.
             StopsNext x h s id self.old self.new core.new)) }
         ensures same { OnErr result (core.new.store ≡ core.old.store) }
+        ensures version { PublishesIf (PublishesNext core.old id self.old.unserved)
+            core.old.store.version core.new.store.version }
         ensures others { OthersStay id core.old core.new }
     {
         let owed = self.owed.len();

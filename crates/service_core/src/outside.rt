@@ -1,7 +1,7 @@
 //! What lies outside of a server: the disk, and the socket of a connection.
 
-ghost use Rattle.std.specs.Prelude.{◌≡◌, ◌≤◌, ◌<◌, ℕ, length, IfOk, OnOk, ⊤};
-ghost use Rattle.service_core.specs.Calls.{Call, read_call, write_call, save_call};
+ghost use Rattle.std.specs.Prelude.{◌≡◌, ◌≤◌, ◌<◌, ◌+◌, ◌^◌, ℕ, length, true, IfOk, IsErrOf, OnOk, ⊤};
+ghost use Rattle.service_core.specs.Calls.{Call, append_call, read_call, take_back_call, write_call};
 
 use matrix_u32::Kernel;
 use thiserror::Error;
@@ -18,23 +18,53 @@ pub enum Stop {
     Failed,
 }
 
-/// A version was not saved.
+/// Why a publication was not appended.
+#[derive(Clone, Copy, Debug, PartialEq, Eq, Error)]
+pub enum AppendFailed {
+    /// Nothing of it is left.
+    #[error("a publication was not written down")]
+    Undone,
+    /// A part of it may be left: nothing may be written any more, on any connection.
+    #[error("a publication was written down in part")]
+    Lost,
+}
+
+/// What is saved is not the version that is served.
 #[derive(Clone, Copy, Debug, PartialEq, Eq, Error)]
 #[error("a version was not saved")]
 pub struct SaveFailed;
 
-/// The disk that versions are saved on, and the socket of a connection.
+/// The disk with the log of publications, and the socket of a connection.
 pub trait Outside<K: Kernel> {
-    /// The version of the last save that succeeded.
+    /// The version that is there after a crash.
     ghost saved: { Self → ℕ };
 
     /// Relates what is outside before a call, what came of the call, and what is outside after it.
     ghost does: { Self → Call → Self → Type 0 } = { λ _ _ _. ⊤ };
 
-    /// Saves the store's current version, so that it is there after a crash.
-    fn save(&mut self, store: &Store<K>) -> Result<(), SaveFailed>
+    /// Appends a publication before it is made: the store's draft, as the next version, is there after a crash.
+    ///
+    /// # Errors
+    ///
+    /// Where it could not be appended: nothing of it is left, or, if that can't be had either, a part may be.
+    fn append(&mut self, store: &Store<K>) -> Result<(), AppendFailed>
+        requires saved { saved self.old ≡ store.now.version }
+        requires draft { store.now.marked ≡ true }
+        requires next { store.now.version + 1 < 2 ^ 64 }
+        ensures ok { OnOk result (saved self.new ≡ store.now.version + 1) }
+        ensures undone { IsErrOf result AppendFailed.Undone → saved self.new ≡ saved self.old }
+        ensures did { does self.old (append_call result (store.now.version + 1)) self.new };
+
+    /// Takes back the publication that was appended and was not made: nothing of it is left, and the version that is
+    /// there after a crash is the store's again.
+    ///
+    /// # Errors
+    ///
+    /// Where that could not be done: nothing may be written any more, on any connection.
+    fn take_back(&mut self, store: &Store<K>) -> Result<(), SaveFailed>
+        requires appended { saved self.old ≡ store.now.version + 1 }
         ensures ok { OnOk result (saved self.new ≡ store.now.version) }
-        ensures did { does self.old (save_call result store.now.version) self.new };
+        ensures did { does self.old (take_back_call result (store.now.version + 1)) self.new };
 
     /// Reads into the start of the buffer, and answers how many bytes came. 0 is the end, where there is room.
     fn read(&mut self, buffer: &mut [u8]) -> Result<usize, Stop>

@@ -1,12 +1,14 @@
 //! The turn of a connection.
 
-ghost use Rattle.std.specs.Prelude.{◌≡◌, ◌≢◌, length, None, Err};
-ghost use Rattle.server_core.specs.Cores.{session_of};
+ghost use Rattle.std.specs.Prelude.{◌≡◌, ◌≢◌, ◌+◌, length, None, Err, OnErr};
+ghost use Rattle.server_core.specs.Cores.{session_of, PublishesNext};
+ghost use Rattle.server_core.specs.Serving.{PublishesIf};
+ghost use Rattle.service_core.specs.Links.{MayServe};
 ghost use Rattle.service_core.specs.Runs.{OthersStay};
-ghost use Rattle.service_core.specs.Turns.{IsTurn, ReadsOnce, ServesOnce, WritesOnce};
+ghost use Rattle.service_core.specs.Turns.{EndsAppended, FrameGives, IsTurn, ReadsOnce, ServesOnce, WritesOnce};
 
 use crate::link::Link;
-use crate::outside::{Outside, Stop};
+use crate::outside::{AppendFailed, Outside, Stop};
 use matrix_u32::Kernel;
 use server_core::ServerCore;
 use thiserror::Error;
@@ -17,13 +19,14 @@ pub enum Fault {
     /// A read failed: the connection is to be closed.
     #[error("a read failed")]
     Read,
-    /// A write failed: the connection is to be closed.
+    /// A write failed, or a publication could not be appended, and nothing of it is left: the connection is to be closed.
     #[error("a write failed")]
     Write,
     /// There was no memory for what came or for a frame: the connection is to be closed.
     #[error("out of memory")]
     Memory,
-    /// What was published could not be saved: nothing may be written any more, on any connection.
+    /// A publication may be there in part, or without having been made: nothing may be written any more, on any
+    /// connection.
     #[error("a version was not saved")]
     Save,
 }
@@ -66,7 +69,53 @@ fn read_once<K: Kernel, O: Outside<K>>(
     }
 }
 
-/// Serves one frame at most, where one may be served, and saves the version that it published.
+/// Serves the frame at hand.
+fn serve_frame<K: Kernel>(
+    link: &mut Link,
+    core: &mut ServerCore<K>,
+    id: u64,
+    now: u64,
+) -> Result<(), Fault>
+    requires may { MayServe link.old }
+    requires there { session_of core.old.sessions id ≢ None }
+    ensures gives { FrameGives id now link.old core.old result link.new core.new }
+    ensures version { PublishesIf (PublishesNext core.old id link.old.unserved)
+        core.old.store.version core.new.store.version }
+    ensures same { OnErr result (core.new.store.version ≡ core.old.store.version) }
+    ensures fault { result ≢ Err Fault.Save }
+    ensures others { OthersStay id core.old core.new }
+{
+    match link.serve_next(core, id, now) {
+        Ok(()) => Ok(()),
+        Err(_) => Err(Fault::Memory),
+    }
+}
+
+/// Serves the frame of a publication that was appended, which is taken back if it is not made.
+fn serve_appended<K: Kernel, O: Outside<K>>(
+    link: &mut Link,
+    core: &mut ServerCore<K>,
+    outside: &mut O,
+    id: u64,
+    now: u64,
+) -> Result<(), Fault>
+    requires may { MayServe link.old }
+    requires appended { O.saved outside.old ≡ core.old.store.version + 1 }
+    requires there { session_of core.old.sessions id ≢ None }
+    ensures ends { EndsAppended O.does id now link.old core.old outside.old result link.new
+        core.new outside.new }
+    ensures saved { result ≢ Err Fault.Save → O.saved outside.new ≡ core.new.store.version }
+    ensures others { OthersStay id core.old core.new }
+{
+    let before = core.store().version();
+    let served = serve_frame(link, core, id, now);
+    if core.store().version() == before && outside.take_back(core.store()).is_err() {
+        return Err(Fault::Save);
+    }
+    served
+}
+
+/// Serves one frame at most, where one may be served. If it publishes, the publication is appended before.
 fn serve_once<K: Kernel, O: Outside<K>>(
     link: &mut Link,
     core: &mut ServerCore<K>,
@@ -84,17 +133,13 @@ fn serve_once<K: Kernel, O: Outside<K>>(
     if !link.may_serve() {
         return Ok(());
     }
-    let before = core.store().version();
-    match link.serve_next(core, id, now) {
-        Ok(()) => {}
-        Err(_) => return Err(Fault::Memory),
+    if !link.publishes_next(core, id) {
+        return serve_frame(link, core, id, now);
     }
-    if core.store().version() == before {
-        return Ok(());
-    }
-    match outside.save(core.store()) {
-        Ok(()) => Ok(()),
-        Err(_) => Err(Fault::Save),
+    match outside.append(core.store()) {
+        Ok(()) => serve_appended(link, core, outside, id, now),
+        Err(AppendFailed::Undone) => Err(Fault::Write),
+        Err(AppendFailed::Lost) => Err(Fault::Save),
     }
 }
 
@@ -123,13 +168,16 @@ fn write_once<K: Kernel, O: Outside<K>>(
 }
 
 /// A turn of a connection, whose session has this number, at a moment in milliseconds: one read at most, one frame at
-/// most, whose version is saved where it published, and one write at most. `buffer` has [`crate::PIECE_LEN`] bytes.
+/// most, and one write at most. If the frame publishes, the publication is appended before, and taken back if it is not
+/// made then, since memory was refused to it. `buffer` has [`crate::PIECE_LEN`] bytes.
 ///
 /// # Errors
 ///
-/// `Read` and `Write` exactly when that call failed, `Memory` where memory was refused for what came or for a frame: the
-/// connection is to be closed. `Save` exactly when a version could not be saved: no turn may follow, on any connection,
-/// since what is owed may say that it was published.
+/// The connection is to be closed at each of these but `Save`. `Read` exactly when a read failed. `Memory` where memory
+/// was refused for what came or for a frame. `Write` exactly when a write failed, or a publication could not be appended
+/// and nothing of it is left: then nothing was served, the draft stays, and the version before goes on being served.
+/// `Save` exactly when a part of a publication that could not be appended may be left, or one that was not made could not
+/// be taken back: no turn may follow, on any connection.
 pub fn turn<K: Kernel, O: Outside<K>>(
     link: &mut Link,
     core: &mut ServerCore<K>,

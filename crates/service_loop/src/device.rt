@@ -1,26 +1,38 @@
 //! The disk, and the socket of one connection.
 
-ghost use Rattle.std.specs.Prelude.{◌≡◌, ℕ, OnOk, OnErr};
+ghost use Rattle.std.specs.Prelude.{◌≡◌, ◌<◌, ◌+◌, ◌^◌, ℕ, IsErrOf, OnOk, true};
 
 use lane_kernels::Lanes;
 use mio::net::TcpStream;
-use service_core::{Outside, SaveFailed, Stop};
+use service_core::{AppendFailed, Outside, SaveFailed, Stop};
 use std::io::{Error, ErrorKind, Read, Write};
 use version_store::Store;
 
-/// What saves versions, so that they are there after a crash.
+/// What writes publications down before they are made, so that they are there after a crash.
 pub trait Saver {
-    /// The version of the last save that succeeded, or the one that was there to begin with.
+    /// The version that is there after a crash.
     ghost saved: { Self → ℕ };
 
-    /// Saves the store's current version.
+    /// Appends a publication before it is made: the store's draft, as the next version, is there after a crash.
     ///
     /// # Errors
     ///
-    /// Where it could not be saved: the old version is there still, or the new one.
-    fn save(&mut self, rt: &HostRuntime, store: &Store<Lanes>) -> Result<(), SaveFailed>
-        ensures ok { OnOk result (saved self.new ≡ store.now.version) }
-        ensures err { OnErr result (saved self.new ≡ saved self.old) };
+    /// Where it could not be appended: nothing of it is left, or, if that can't be had either, a part may be.
+    fn append(&mut self, rt: &HostRuntime, store: &Store<Lanes>) -> Result<(), AppendFailed>
+        requires saved { saved self.old ≡ store.now.version }
+        requires draft { store.now.marked ≡ true }
+        requires next { store.now.version + 1 < 2 ^ 64 }
+        ensures ok { OnOk result (saved self.new ≡ store.now.version + 1) }
+        ensures undone { IsErrOf result AppendFailed.Undone → saved self.new ≡ saved self.old };
+
+    /// Takes back the publication that was appended and was not made: nothing of it is left.
+    ///
+    /// # Errors
+    ///
+    /// Where that could not be done: nothing may be written any more, on any connection.
+    fn take_back(&mut self, rt: &HostRuntime, store: &Store<Lanes>) -> Result<(), SaveFailed>
+        requires appended { saved self.old ≡ store.now.version + 1 }
+        ensures ok { OnOk result (saved self.new ≡ store.now.version) };
 }
 
 /// The disk, and the socket of a connection. A flag is put out when a call would have waited, and set by an event.
@@ -28,7 +40,7 @@ pub trait Saver {
 pub struct Device<'a, S> {
     /// The runtime.
     pub rt: &'a HostRuntime,
-    /// What saves versions.
+    /// What writes publications down.
     pub saver: S,
     /// The connection.
     pub stream: &'a TcpStream,
@@ -41,8 +53,12 @@ pub struct Device<'a, S> {
 impl<S: Saver> Outside<Lanes> for Device<'_, S> {
     ghost saved = { λ d. S.saved d.saver };
 
-    fn save(&mut self, store: &Store<Lanes>) -> Result<(), SaveFailed> {
-        self.saver.save(self.rt, store)
+    fn append(&mut self, store: &Store<Lanes>) -> Result<(), AppendFailed> {
+        self.saver.append(self.rt, store)
+    }
+
+    fn take_back(&mut self, store: &Store<Lanes>) -> Result<(), SaveFailed> {
+        self.saver.take_back(self.rt, store)
     }
 
     fn read(&mut self, buffer: &mut [u8]) -> Result<usize, Stop> {

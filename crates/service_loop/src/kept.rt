@@ -1,4 +1,4 @@
-//! What is served, while its version is saved.
+//! What is served, while its version is there after a crash.
 
 ghost use Rattle.std.specs.Prelude.{◌≡◌, ◌↔◌, IsErrOf, IsSome, OnOk, OnErr};
 ghost use Rattle.server_core.specs.Cores.{session_of};
@@ -8,19 +8,20 @@ use crate::device::Saver;
 use lane_kernels::Lanes;
 use server_core::{ServerCore, SessionError};
 
-/// A server whose current version is saved, and what saves its versions. A turn takes it and gives it back, unless a save
-/// failed: then there is none with which another turn could be made, and nothing is written any more.
+/// A server whose current version is there after a crash, and what writes its publications down. A turn takes it and gives
+/// it back, unless a publication may be there in part or without having been made: then there is none with which another
+/// turn could be made, and nothing is written any more.
 #[derive(Drop)]
 pub struct Kept<S: Saver> {
     /// The server.
     pub core: ServerCore<Lanes>,
-    /// What saves its versions.
+    /// What writes its publications down.
     pub saver: S,
     ghost is_saved: { S.saved saver ≡ core.store.version },
 }
 
 impl<S: Saver> Kept<S> {
-    /// A server whose version was saved by this saver, or was there to begin with.
+    /// A server whose version was written down by this saver, or was there to begin with.
     pub fn opened(core: ServerCore<Lanes>, saver: S) -> Kept<S>
         requires saved { S.saved saver ≡ core.store.version }
         ensures core { result.core ≡ core }

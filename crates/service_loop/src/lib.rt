@@ -15,5 +15,5 @@ mod serving;
 pub use device::Saver;
 pub use lines::say_line;
 pub use report::RunFault;
-pub use service_core::SaveFailed;
+pub use service_core::{AppendFailed, SaveFailed};
 pub use serving::{Limits, run_service};

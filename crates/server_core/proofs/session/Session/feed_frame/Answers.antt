@@ -1,7 +1,10 @@
-use Rattle.std.proofs.Common.{◌∙◌, ap, refl, sym, subst}
+use Rattle.std.proofs.Common.{◌≡◌, [], ◌∷◌, ◌∙◌, ap, refl, sym, subst}
+use Rattle.frame_codec.specs.declared.frame.Frame.TheVariants.{Publish}
 use Rattle.version_store.specs.Histories.{StoreState, StandsFor}
-use Rattle.server_core.specs.Serving.{setting_of}
+use Rattle.server_core.specs.Serving.{setting_of, MayPublish}
+use Rattle.server_core.specs.Sessions.{Session, frames_taken, WouldPublish}
 use Rattle.server_core.proofs.Firsts.{first_well, first_short, used_some}
+use Rattle.server_core.proofs.Publications.{publishes_since, taken_publish}
 use Rattle.server_core.proofs.session.Session.feed_frame.Goals as goal
 
 pub returns-clause-fed : goal.returns-clause-fed
@@ -22,3 +25,14 @@ pub returns-clause-some : goal.returns-clause-some
 returns-clause-some g c lt =
     rw (c.used_of-count.ensures c.args.piece.now refl)
     (used_some c.self.inside.reader c.args.piece.now c.feed_frame-read.result c.feed_frame-read.new.self c.feed_frame-read.ensures lt)
+
+pub returns-clause-version : goal.returns-clause-version
+returns-clause-version g c =
+    let s : Session = record { standing = c.self.inside.standing; unfinished = c.self.inside.reader } in
+    rw (← c.self.view_is) (publishes_since
+    (λ (p : (frames_taken c.feed_frame-read.result ≡ Publish ∷ []) × MayPublish c.self.inside.standing c.args.store.now).
+    let w : WouldPublish s c.args.piece.now c.args.store.now = record {
+      next = taken_publish c.self.inside.reader c.args.piece.now c.feed_frame-read.result c.feed_frame-read.new.self c.feed_frame-read.ensures p.0;
+      may = p.1;
+    } in w)
+    c.args.store.now.version c.serve_read.new.store.version c.serve_read.ensures.version)
