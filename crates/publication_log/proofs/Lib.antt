@@ -8,3 +8,4 @@ pub mod Verdicts
 pub mod Moments
 pub mod Readings
 pub mod Ends
+pub mod Onward

@@ -13,7 +13,7 @@ use Rattle.publication_log.specs.Publications.{Published, IsPublished, body_byte
 use Rattle.publication_log.specs.Entries.{entry, IsTorn, HasNoEntry}
 use Rattle.publication_log.specs.Logs.{log_bytes, end_link, AreNext, Begins, Reads, IsVerdict}
 use Rattle.publication_log.specs.Steps.{Step, Writes, WriteFails, Syncs, SyncFails, Truncates, TruncateFails}
-use Rattle.publication_log.specs.Crashes.{Device, at_rest, truncated, after_step, after_steps, IsTornTail, LeavesOnly, HoldsThroughout, IsReadAs, IsWithOrWithout, MayFollow, HasFailed, appending, cutting, log_of, EachMomentIsWhole, DoneIsKept, RestIsRead, CutIsWhole, RecoveryIsWhole}
+use Rattle.publication_log.specs.Crashes.{Device, at_rest, truncated, after_step, after_steps, IsTornTail, LeavesOnly, HoldsThroughout, IsReadAs, IsWithOrWithout, MayFollow, HasFailed, appending, cutting, log_of, EachMomentIsWhole, DoneIsKept, RestIsRead, CutIsWhole, RecoveryIsWhole, TakenBackIsWhole, TakenBackIsOld}
 use Rattle.publication_log.proofs.Torn.{none_empty, torn_empty, torn_start, torn_prefix}
 use Rattle.publication_log.proofs.Chains.{next_before, next_last}
 use Rattle.publication_log.proofs.Verdicts.{log_push, one_log, verdict_is}
@@ -166,3 +166,36 @@ pub recovery_whole : RecoveryIsWhole
 recovery_whole h ps torn (Ok done) each is = (end_leaves h ps each torn is, (end_gone h ps torn each is, end_without h ps torn each is))
 recovery_whole h ps torn (Err cuts.Truncate) each is = (end_leaves h ps each torn is, end_leaves h ps each torn is)
 recovery_whole h ps torn (Err cuts.Sync) each is = (end_leaves h ps each torn is, (end_gone h ps torn each is, end_gone h ps torn each is))
+
+module _ (h : LogHeader) (ps : List Published) (p : Published) (all : MayFollow h ps p) where
+  abbrev taken : List ℕ
+  taken = entry (end_link h ps) (body_bytes p)
+
+  -- with the publication, all on the device
+  there : LeavesOnly h (IsWithOrWithout ps p) (log_of h (ps ++ p ∷ []))
+  there found verdict left read = inr (rest_leaves h (ps ++ p ∷ []) all found verdict left read)
+
+  pushed : log_of h (ps ++ p ∷ []) ≡ at_rest (log_bytes h ps ++ taken)
+  pushed = ap (λ (x : List ℕ). at_rest x) (log_push h ps p)
+
+  taken_cut : truncated (length (log_bytes h ps)) (log_of h (ps ++ p ∷ [])) ≡ device (log_bytes h ps) [] taken
+  taken_cut = ap (truncated (length (log_bytes h ps))) pushed ∙ cut_end (log_bytes h ps) taken
+
+  taken_gone : LeavesOnly h (IsWithOrWithout ps p) (truncated (length (log_bytes h ps)) (log_of h (ps ++ p ∷ [])))
+  taken_gone = subst (LeavesOnly h (IsWithOrWithout ps p)) (sym taken_cut)
+      (leaves h ps (each h ps p all) (IsWithOrWithout ps p) [] taken (λ verdict read. inl read) (parts h ps p all))
+
+  taken_without : LeavesOnly h (IsWithOrWithout ps p) (after_step (truncated (length (log_bytes h ps)) (log_of h (ps ++ p ∷ []))) Syncs)
+  taken_without = subst (LeavesOnly h (IsWithOrWithout ps p))
+      (sym (ap (λ (d : Device). after_step d Syncs) taken_cut ∙ after_sync (log_bytes h ps) taken)) (before h ps p all)
+
+pub taken_back_whole : TakenBackIsWhole
+taken_back_whole h ps p (Ok done) all = (there h ps p all, (taken_gone h ps p all, taken_without h ps p all))
+taken_back_whole h ps p (Err cuts.Truncate) all = (there h ps p all, there h ps p all)
+taken_back_whole h ps p (Err cuts.Sync) all = (there h ps p all, (taken_gone h ps p all, taken_gone h ps p all))
+
+pub taken_back_old : TakenBackIsOld
+taken_back_old h ps p done =
+    ap (λ (x : List ℕ). after_step (truncated (length (log_bytes h ps)) (at_rest x)) Syncs) (log_push h ps p)
+    ∙ ap (λ (d : Device). after_step d Syncs) (cut_end (log_bytes h ps) (entry (end_link h ps) (body_bytes p)))
+    ∙ after_sync (log_bytes h ps) (entry (end_link h ps) (body_bytes p))

@@ -121,3 +121,13 @@ RecoveryIsWhole = (h : LogHeader) (ps : List Published) (torn : List ℕ) (resul
 abbrev pub RecoveryIsDone : Type 0
 RecoveryIsDone = (h : LogHeader) (ps : List Published) (torn : List ℕ) (done : ⊤) →
     after_steps (at_rest (log_bytes h ps ++ torn)) (cutting h ps (Ok done)) ≡ log_of h ps
+
+-- at each moment of taking a publication back that was appended, a crash leaves the publications from before it, with that one or without
+abbrev pub TakenBackIsWhole : Type 0
+TakenBackIsWhole = (h : LogHeader) (ps : List Published) (p : Published) (result : Result ⊤ CutFault) → MayFollow h ps p →
+    HoldsThroughout (LeavesOnly h (IsWithOrWithout ps p)) (log_of h (ps ++ p ∷ [])) (cutting h ps result)
+
+-- after a publication was taken back the log is at rest without it
+abbrev pub TakenBackIsOld : Type 0
+TakenBackIsOld = (h : LogHeader) (ps : List Published) (p : Published) (done : ⊤) →
+    after_steps (log_of h (ps ++ p ∷ [])) (cutting h ps (Ok done)) ≡ log_of h ps

@@ -8,7 +8,7 @@ use Rattle.publication_log.specs.declared.reading.Found.{Found}
 use Rattle.publication_log.specs.Publications.{Published, IsPublished, HasBodyFault, body_bytes}
 use Rattle.publication_log.specs.Builders.{IsMadeOf}
 use Rattle.publication_log.specs.Entries.{entry, next_link, IsTorn}
-use Rattle.publication_log.specs.Logs.{log_bytes, end_link, AreNext, IsVerdict, IsFound}
+use Rattle.publication_log.specs.Logs.{log_bytes, end_link, AreNext, IsVerdict, IsFound, HasCause}
 use Rattle.publication_log.specs.Crashes.{MayFollow}
 
 -- a prefix of torn bytes is torn
@@ -46,3 +46,9 @@ EndGoesOn = (h : LogHeader) (ps : List Published) (p : Published) (builder : Pub
     IsEndOf h ps link version len → IsMadeOf builder p → builder.version ≡ version + 1 → builder.version < 2 ^ 64 →
     MayFollow h ps p × (entry link builder.body.items ≡ entry (end_link h ps) (body_bytes p))
     × IsEndOf h (ps ++ p ∷ []) (next_link link builder.body.items) builder.version (len + length (entry link builder.body.items))
+
+-- the bytes of a log of publications that follow its snapshot are read as these and no others, to their end, and nothing is wrong with them
+abbrev pub WholeLogIsRead : Type 0
+WholeLogIsRead = (h : LogHeader) (ps : List Published) → AreNext h.version ps →
+    ((qs : List Published) (found : Found) → IsFound h (log_bytes h ps) qs found → (qs ≡ ps) × (found.len ≡ length (log_bytes h ps)))
+    × ((cause : BadLog) → HasCause h cause (log_bytes h ps) → ⊥)

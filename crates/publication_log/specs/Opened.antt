@@ -2,6 +2,9 @@
 use Rattle.std.specs.Prelude.{◌≡◌, ◌+◌, ℕ, List, length, slice_range, false}
 use Rattle.publication_log.specs.declared.header.LogHeader.{LogHeader}
 use Rattle.publication_log.specs.declared.opened.OpenedLog.{OpenedLog}
+use Rattle.publication_log.specs.declared.opened.ReadLog.{ReadLog}
+use Rattle.publication_log.specs.declared.log.Log.{Log}
+use Rattle.publication_log.specs.declared.log.LogEnd.{LogEnd}
 use Rattle.publication_log.specs.declared.reading.Found.{Found}
 use Rattle.publication_log.specs.Publications.{Published}
 use Rattle.publication_log.specs.Entries.{chain_bytes}
@@ -11,15 +14,22 @@ use Rattle.publication_log.specs.Logs.{first_link, bodies_of, end_link, AreNext}
 abbrev pub entries_in : List ℕ → Found → List ℕ
 entries_in bytes found = slice_range bytes found.start found.len
 
--- the entries that are handed out of a log that was opened
-abbrev pub entries_of : OpenedLog → List ℕ
-entries_of opened = entries_in opened.bytes.items opened.found
+-- the entries that are handed out of a log that was read
+abbrev pub entries_of : ReadLog → List ℕ
+entries_of read = entries_in read.bytes.items read.found
 
--- Whatever the file holds: what is handed out are the entries of publications that follow the snapshot's version one after another, and the next one is
--- appended after them.
-pub record IsOpened (h : LogHeader) (ps : List Published) (opened : OpenedLog) : Type 0 where
+-- the end of a log
+abbrev pub end_of : {D : Type 0} → Log D → LogEnd
+end_of log = record { link = log.link; version = log.version; len = log.len }
+
+-- Whatever the file holds: what is handed out are the entries of publications that follow the snapshot's version one after another.
+pub record IsRead (h : LogHeader) (ps : List Published) (read : ReadLog) : Type 0 where
   pub each : AreNext h.version ps
-  pub entries : entries_of opened ≡ chain_bytes (first_link h) (bodies_of ps)
+  pub entries : entries_of read ≡ chain_bytes (first_link h) (bodies_of ps)
+
+-- a log that was read as these publications, after which the next one is appended
+pub record IsOpened (h : LogHeader) (ps : List Published) (opened : OpenedLog) : Type 0 where
+  pub read : IsRead h ps opened.read
   pub link : opened.log.link ≡ end_link h ps
   pub version : opened.log.version ≡ h.version + length ps
   pub untorn : opened.log.is_torn ≡ false

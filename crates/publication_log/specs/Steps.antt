@@ -66,6 +66,11 @@ is_torn_after before (Err appends.Full) = before
 is_torn_after before (Err appends.Write) = true
 is_torn_after before (Err appends.Sync) = true
 
+-- whether a log has a torn end after a cut, if that is known of before
+abbrev pub is_torn_after_cut : {T : Type 0} → Bool → Result T CutFault → Bool
+is_torn_after_cut before (Ok _) = false
+is_torn_after_cut before (Err _) = before
+
 -- the disk of a log that was read: what is after the good bytes was cut off, if anything was
 pub record Recovers {D : Type 0} (does : D → Step → D → Type 0) (good all : ℕ) (old new : D) : Type 0 where
   pub torn : good < all → FoldsTo does old (Truncates good ∷ Syncs ∷ []) new

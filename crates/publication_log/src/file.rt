@@ -1,14 +1,14 @@
 //! A log in a file of the system.
 
-ghost use Rattle.std.specs.Prelude.{IfOk, List};
+ghost use Rattle.std.specs.Prelude.{IfOk, IfSome, List};
 ghost use Rattle.publication_log.specs.Publications.{Published};
-ghost use Rattle.publication_log.specs.Opened.{IsOpened};
+ghost use Rattle.publication_log.specs.Opened.{IsOpened, IsRead};
 
-use crate::header::LogHeader;
+use crate::header::{LOG_MARK, LogHeader};
 use crate::log::{Disk, DiskFailed, Log};
-use crate::opened::OpenedLog;
+use crate::opened::{OpenedLog, ReadLog};
 use crate::reading::{BadLog, ReadFault, read_log};
-use safe_files::{Bytes, ReplaceFault, replace_file};
+use safe_files::{Bytes, ReplaceFault, folder_of, remove_beside, replace_file};
 use std::fs;
 use std::fs::{File, OpenOptions};
 use std::io::{ErrorKind, Read, Write};
@@ -98,7 +98,55 @@ pub fn open_log(rt: &HostRuntime, name: &str, header: &LogHeader) -> Result<Open
     let Ok(log) = Log::recover(LogFile { file }, &found, bytes.len()) else {
         return Err(OpenFault::Cut);
     };
-    Ok(OpenedLog::of(log, bytes, &found))
+    let read = ReadLog::of(bytes, &found);
+    Ok(OpenedLog { log, read })
+}
+
+/// Reads the log of a snapshot, and changes nothing, so that another process may append to it meanwhile: an entry that is not whole
+/// yet is a torn end. `None` if nothing has the name: then no publication follows the snapshot's version.
+///
+/// # Errors
+///
+/// As [`open_log`], but no `Cut`.
+pub fn read_log_file(
+    rt: &HostRuntime,
+    name: &str,
+    header: &LogHeader,
+) -> Result<Option<ReadLog>, OpenFault>
+    ensures { IfOk result (λ it. IfSome it (λ read.
+        (ps : List Published) × IsRead header.now ps read)) }
+{
+    match fs::symlink_metadata(rt, name) {
+        Ok(there) if there.is_file() => {}
+        Err(fault) if fault.kind() == ErrorKind::NotFound => return Ok(None),
+        _ => return Err(OpenFault::File),
+    }
+    let Ok(mut file) = File::open(rt, name) else {
+        return Err(OpenFault::File);
+    };
+    let bytes = bytes_of(rt, &mut file)?;
+    let found = read_log(rt.alloc(), header, &bytes)?;
+    Ok(Some(ReadLog::of(bytes, &found)))
+}
+
+/// Removes the log of this name, if there is one, and sends that to the device. Whoever calls this has the lock of the file whose log
+/// it is.
+///
+/// # Errors
+///
+/// `File` when it can't be removed, or its folder can't be sent to the device.
+pub fn remove_log(rt: &HostRuntime, name: &str) -> Result<(), OpenFault> {
+    match fs::remove_file(rt, name) {
+        Ok(()) => sync_name(rt, name),
+        Err(fault) if fault.kind() == ErrorKind::NotFound => Ok(()),
+        Err(_) => Err(OpenFault::File),
+    }
+}
+
+/// Removes the logs beside a file but the one of this name: those of snapshots that the file had before. Whoever calls this has the
+/// lock of the file.
+pub fn remove_other_logs(rt: &HostRuntime, file: &str, kept: &str) {
+    remove_beside(rt, file, LOG_MARK, kept);
 }
 
 // Makes a log without entries if nothing has the name. What has it must be a file, and no link.
@@ -118,12 +166,7 @@ fn make_missing(rt: &HostRuntime, name: &str, prefix: &[u8]) -> Result<(), OpenF
 
 // Sends the file's name to the device: whoever made the file may have been killed before.
 fn sync_name(rt: &HostRuntime, name: &str) -> Result<(), OpenFault> {
-    let folder = match name.rsplit_once('/') {
-        Some(("", _)) => "/",
-        Some((folder, _)) => folder,
-        None => ".",
-    };
-    let Ok(folder) = File::open(rt, folder) else {
+    let Ok(folder) = File::open(rt, folder_of(name)) else {
         return Err(OpenFault::File);
     };
     match folder.sync_all() {

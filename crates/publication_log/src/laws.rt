@@ -8,6 +8,8 @@ ghost use Rattle.publication_log.specs.Crashes.{
   CutIsOld,
   RecoveryIsWhole,
   RecoveryIsDone,
+  TakenBackIsWhole,
+  TakenBackIsOld,
 };
 ghost use Rattle.publication_log.specs.Laws.{
   TornPrefix,
@@ -16,6 +18,7 @@ ghost use Rattle.publication_log.specs.Laws.{
   RefusedIsNone,
   FoundIsEnd,
   EndGoesOn,
+  WholeLogIsRead,
 };
 
 /// However an append ends, a crash at any moment of it leaves the publications from before it, with the new one or without.
@@ -54,6 +57,16 @@ pub fn recovery_is_done()
     ensures { RecoveryIsDone }
 {}
 
+/// However taking a publication back ends, a crash at any moment of it leaves the publications from before it, with that one or without.
+pub fn taken_back_is_whole()
+    ensures { TakenBackIsWhole }
+{}
+
+/// After a publication was taken back the log is at rest without it.
+pub fn taken_back_is_old()
+    ensures { TakenBackIsOld }
+{}
+
 /// A prefix of torn bytes is torn.
 pub fn torn_prefix()
     ensures { TornPrefix }
@@ -83,4 +96,10 @@ pub fn found_is_end()
 /// publication, and what an append leaves that was done is the end of the log with that publication.
 pub fn end_goes_on()
     ensures { EndGoesOn }
+{}
+
+/// What [`read_log`](crate::read_log) finds in the bytes of a log, as [`relinked`](crate::relinked) makes them, are exactly its
+/// publications.
+pub fn whole_log_is_read()
+    ensures { WholeLogIsRead }
 {}

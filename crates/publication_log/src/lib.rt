@@ -8,7 +8,8 @@
 //! promise and nothing that is proved here.
 //!
 //! A log is opened by [`open_log`], which cuts a torn end off; its publications are read by [`Publications`] and
-//! [`Changes`], one after another. [`PublicationBuilder`] makes the next one, and [`Log::append`] appends it.
+//! [`Changes`], one after another. [`PublicationBuilder`] makes the next one, and [`Log::append`] appends it. [`relinked`] makes
+//! the log of a later snapshot of the last publications.
 #![tactic(auto)]
 
 mod builder;
@@ -20,14 +21,16 @@ pub mod laws;
 mod log;
 mod opened;
 mod reading;
+mod relinking;
 
 pub use builder::{ChangeFault, PublicationBuilder};
 pub use changes::{BodyFault, Change, Changes, Publication};
-pub use file::{LogFile, OpenFault, open_log};
+pub use file::{LogFile, OpenFault, open_log, read_log_file, remove_log, remove_other_logs};
 pub use header::{LogHeader, log_name};
-pub use log::{AppendFault, CutFault, Disk, DiskFailed, Log};
-pub use opened::OpenedLog;
+pub use log::{AppendFault, CutFault, Disk, DiskFailed, Log, LogEnd};
+pub use opened::{OpenedLog, ReadLog};
 pub use reading::{BadLog, Found, Publications, ReadFault, read_log};
+pub use relinking::relinked;
 
 #[cfg(test)]
 mod tests;

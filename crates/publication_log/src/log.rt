@@ -17,7 +17,8 @@ ghost use Rattle.std.specs.Prelude.{
   length,
 };
 ghost use Rattle.publication_log.specs.Entries.{entry, next_link};
-ghost use Rattle.publication_log.specs.Steps.{Step, write_step, sync_step, truncate_step, Appends, Cuts, Recovers, is_torn_after};
+ghost use Rattle.publication_log.specs.Steps.{Step, write_step, sync_step, truncate_step, Appends, Cuts, Recovers, is_torn_after, is_torn_after_cut};
+ghost use Rattle.publication_log.specs.Opened.{end_of};
 
 use crate::builder::PublicationBuilder;
 use crate::entries::{LINK_LEN, entry_of, link_after};
@@ -89,6 +90,17 @@ pub enum CutFault {
     Sync,
 }
 
+/// Where a log ends.
+#[derive(Clone, Copy, Debug, PartialEq, Eq)]
+pub struct LogEnd {
+    /// The link of the last entry, or of the header if there is none.
+    pub link: [u8; LINK_LEN],
+    /// The version of the last publication, or of the snapshot if there is none.
+    pub version: u64,
+    /// How many bytes the header and the whole entries have.
+    pub len: u64,
+}
+
 /// A log to which publications are appended.
 #[derive(Drop)]
 pub struct Log<D: Disk> {
@@ -134,6 +146,17 @@ impl<D: Disk + Drop> Log<D> {
 }
 
 impl<D: Disk> Log<D> {
+    /// Where it ends.
+    pub fn end(&self) -> LogEnd
+        ensures { result ≡ end_of self.now }
+    {
+        LogEnd {
+            link: self.link,
+            version: self.version,
+            len: self.len,
+        }
+    }
+
     /// Appends the publication of the next version: writes its entry, and sends it to the device. `Ok` comes only after both.
     ///
     /// # Errors
@@ -202,5 +225,22 @@ impl<D: Disk> Log<D> {
         };
         self.is_torn = false;
         Ok(())
+    }
+
+    /// Takes back what was appended since the log had this end: cuts it off, and sends the cut to the device.
+    ///
+    /// # Errors
+    ///
+    /// As [`Log::cut`]: the log is torn at that end then.
+    pub fn take_back(&mut self, end: &LogEnd) -> Result<(), CutFault>
+        ensures steps { Cuts D.does end.now.len self.old.disk result self.new.disk }
+        ensures end { end_of self.new ≡ end.now }
+        ensures torn { self.new.is_torn ≡ is_torn_after_cut true result }
+    {
+        self.link = end.link;
+        self.version = end.version;
+        self.len = end.len;
+        self.is_torn = true;
+        self.cut()
     }
 }

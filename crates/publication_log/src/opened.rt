@@ -1,4 +1,4 @@
-//! A log that was opened, with the bytes that were read of it.
+//! A log that was read or opened, with the bytes that were read of it.
 
 ghost use Rattle.std.specs.Prelude.{◌≤◌, vec_len};
 
@@ -6,34 +6,31 @@ use crate::file::LogFile;
 use crate::log::Log;
 use crate::reading::{Found, Publications};
 
-/// A log that was opened, with the bytes that were read of it.
+/// The bytes of a log, and what was found in them.
 #[derive(Drop)]
-pub struct OpenedLog {
-    /// The log, to which may be appended.
-    pub log: Log<LogFile>,
-    /// How many bytes of a torn end were cut off.
-    pub cut: usize,
+pub struct ReadLog {
+    /// How many bytes of a torn end are after its entries.
+    pub torn: usize,
     bytes: Vec<u8>,
     found: Found,
     ghost order: { found.start ≤ found.len },
     ghost within: { found.len ≤ vec_len bytes },
 }
 
-impl OpenedLog {
+impl ReadLog {
     ghost use Rattle.std.specs.Prelude.{◌≡◌, ◌-◌};
     ghost use Rattle.publication_log.specs.Opened.{entries_in, entries_of};
 
-    // The log of these bytes, in which that was found.
-    pub(crate) fn of(log: Log<LogFile>, bytes: Vec<u8>, found: &Found) -> OpenedLog
+    // These bytes, in which that was found.
+    pub(crate) fn of(bytes: Vec<u8>, found: &Found) -> ReadLog
         requires order { found.now.start ≤ found.now.len }
         requires within { found.now.len ≤ vec_len bytes }
-        ensures log { result.log ≡ log }
-        ensures cut { result.cut ≡ vec_len bytes - found.now.len }
+        ensures torn { result.torn ≡ vec_len bytes - found.now.len }
+        ensures found { result.found ≡ found.now }
         ensures entries { entries_of result ≡ entries_in bytes.items found.now }
     {
-        OpenedLog {
-            log,
-            cut: bytes.len() - found.len,
+        ReadLog {
+            torn: bytes.len() - found.len,
             bytes,
             found: *found,
         }
@@ -44,6 +41,34 @@ impl OpenedLog {
         ensures { result.rest.now ≡ entries_of self.now }
     {
         self.found.publications(&self.bytes)
+    }
+
+    /// How many bytes its header and its entries have.
+    pub fn len(&self) -> usize
+        ensures { result ≡ self.now.found.len }
+    {
+        self.found.len
+    }
+}
+
+/// A log that was opened, with what was read of it.
+#[derive(Drop)]
+pub struct OpenedLog {
+    /// The log, to which may be appended. Its torn end was cut off.
+    pub log: Log<LogFile>,
+    /// What was read, before the torn end was cut off.
+    pub read: ReadLog,
+}
+
+impl OpenedLog {
+    ghost use Rattle.std.specs.Prelude.{◌≡◌};
+    ghost use Rattle.publication_log.specs.Opened.{entries_of};
+
+    /// The publications that were found, the oldest first.
+    pub fn publications(&self) -> Publications<'_>
+        ensures { result.rest.now ≡ entries_of self.now.read }
+    {
+        self.read.publications()
     }
 
     /// The log, once its publications were read: their bytes are let go.

@@ -13,6 +13,8 @@ ghost use Rattle.std.specs.Prelude.{
   ℕ,
   List,
   length,
+  take,
+  drop,
   slice_range,
   Err,
   None,
@@ -139,10 +141,41 @@ impl<'a> Publications<'a> {
         let publication = Publication::of_body(frame.body)?;
         Some((publication, Publications { rest: frame.rest }))
     }
+
+    /// How many publications there are.
+    pub fn count(self) -> usize
+        ensures { (link : List ℕ) (version : ℕ) (ps : List Published) → AreNext version ps →
+            self.entry.rest.now ≡ chain_bytes link (bodies_of ps) → result ≡ length ps }
+    {
+        let mut count = 0;
+        let mut rest = self.rest;
+        'entries: while let Some(frame) = frame_at(rest) {
+            count += 1;
+            rest = frame.rest;
+        }
+        count
+    }
+
+    /// The publications after the first `n`: none if there are no more than these.
+    pub fn without_first(self, n: usize) -> Publications<'a>
+        ensures { (link : List ℕ) (version : ℕ) (ps : List Published) → AreNext version ps →
+            self.entry.rest.now ≡ chain_bytes link (bodies_of ps) →
+            result.rest.now ≡
+            chain_bytes (last_link link (bodies_of (take n ps))) (bodies_of (drop n ps)) }
+    {
+        let mut rest = self.rest;
+        for i in 0..n {
+            let Some(frame) = frame_at(rest) else {
+                return Publications { rest };
+            };
+            rest = frame.rest;
+        }
+        Publications { rest }
+    }
 }
 
 // The link before the first entry.
-fn link_of(header: &[u8]) -> [u8; LINK_LEN]
+pub(crate) fn link_of(header: &[u8]) -> [u8; LINK_LEN]
     ensures { result ≡ sha256 header.now }
 {
     let mut hasher = Sha256::new();

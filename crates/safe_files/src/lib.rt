@@ -10,6 +10,7 @@
 //! renamed nor removed, since a lock belongs to a file and not to its name.
 #![tactic(auto)]
 
+mod beside;
 mod content;
 mod disk;
 mod laws;
@@ -18,6 +19,7 @@ mod place;
 mod replacing;
 mod steady;
 
+pub use beside::{MARKED_DIGITS, are_hex_digits, folder_of, remove_beside};
 pub use content::{Bytes, Content, ContentFault};
 pub use disk::{Disk, DiskFailed};
 pub use laws::{done_is_new, each_moment_is_whole, refused_is_old, settled_is_new};

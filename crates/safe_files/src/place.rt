@@ -1,5 +1,6 @@
 //! A file of the system, as a disk on which it is replaced.
 
+use crate::beside::{folder_of, remove_beside};
 use crate::content::Content;
 use crate::disk::{Disk, DiskFailed};
 use crate::locking::{FileLock, LockFault, lock};
@@ -95,7 +96,7 @@ impl<'a> Place<'a> {
         if let Ok(old) = fs::metadata(self.rt, self.name.as_str()) {
             taken.keep_owner_of(&old);
         }
-        self.remove_left();
+        remove_beside(self.rt, self.name.as_str(), ".new-", "");
         if let Some(other) = self.others.get_mut(0) {
             mem::swap(&mut self.beside, other);
         }
@@ -113,24 +114,6 @@ impl<'a> Place<'a> {
     /// As [`open_file`].
     pub fn open(&self) -> io::Result<SteadyFile> {
         open_file(self.rt, self.name.as_str())
-    }
-
-    // Removes the files that killed processes left beside. Whoever has the lock is the only one who makes such.
-    fn remove_left(&self) {
-        let Ok(entries) = fs::read_dir(self.rt, folder_of(self.name.as_str())) else {
-            return;
-        };
-        let name = base_of(self.name.as_str());
-        for entry in entries {
-            let Ok(entry) = entry else {
-                return;
-            };
-            let path = entry.path();
-            if is_left_of(name, base_of(path.as_str())) && is_own_file(self.rt, path.as_str()) {
-                // One that stays takes room, and does no other harm.
-                let _ = fs::remove_file(self.rt, path.as_str());
-            }
-        }
     }
 
     // Keeps a descriptor, where there is one.
@@ -253,45 +236,6 @@ pub(crate) fn real_name(rt: &HostRuntime, name: &str) -> Result<String, AllocErr
 pub(crate) fn keep_owner(file: &File, old: &Metadata) {
     let _ = fchown(file, None, Some(old.gid()));
     let _ = fchown(file, Some(old.uid()), None);
-}
-
-// The folder that a file is in.
-fn folder_of(name: &str) -> &str {
-    match name.rsplit_once('/') {
-        Some(("", _)) => "/",
-        Some((folder, _)) => folder,
-        None => ".",
-    }
-}
-
-// The last part of a file's name, after its folder.
-fn base_of(name: &str) -> &str {
-    match name.rsplit_once('/') {
-        Some((_, base)) => base,
-        None => name,
-    }
-}
-
-// Whether a name is one that the file of another name has beside it while it is replaced.
-fn is_left_of(name: &str, other: &str) -> bool {
-    let Some(rest) = other.strip_prefix(name) else {
-        return false;
-    };
-    let Some(digits) = rest.strip_prefix(".new-") else {
-        return false;
-    };
-    digits.len() == 16
-        && digits
-            .bytes()
-            .all(|byte| matches!(byte, b'0'..=b'9' | b'a'..=b'f'))
-}
-
-// Whether a file stands at a name, and no link to one.
-fn is_own_file(rt: &HostRuntime, name: &str) -> bool {
-    match fs::symlink_metadata(rt, name) {
-        Ok(found) => found.is_file(),
-        Err(_) => false,
-    }
 }
 
 /// Opens a file to read it.

@@ -16,7 +16,7 @@ fn opened(rt: &HostRuntime, name: &str) -> Result<(usize, usize, u64), OpenFault
         publications = rest;
         count = usize::saturating_add(count, 1);
     }
-    Ok((opened.cut, count, opened.log.version))
+    Ok((opened.read.torn, count, opened.log.version))
 }
 
 #[test]
