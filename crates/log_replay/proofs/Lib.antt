@@ -1,0 +1,6 @@
+pub mod ChangeLemmas
+pub mod DraftedChanges
+pub mod ReplayLemmas
+pub mod RecordLemmas
+pub mod LawLemmas
+pub mod EarlierOnes
