@@ -8,6 +8,7 @@ use Rattle.command_words.specs.Secrets.{IsSecretOf}
 use Rattle.pir_server.specs.declared.command_line.Making.{Making}
 use Rattle.pir_server.specs.declared.command_line.Migrating.{Migrating}
 use Rattle.pir_server.specs.declared.command_line.Widening.{Widening}
+use Rattle.pir_server.specs.declared.command_line.BackingUp.{BackingUp}
 use Rattle.pir_server.specs.declared.command_line.Rekeying.{Rekeying}
 use Rattle.pir_server.specs.declared.command_line.Serving.{Serving}
 use Rattle.pir_server.specs.declared.run_line.Running.{Running}
@@ -65,4 +66,9 @@ ReadsServe found serving =
 abbrev pub ReadsRun : Found → Running → Type 0
 ReadsRun found running =
     (first_value found (codes "file") ≡ Some running.file.now) × IsNumberOr 256 found (codes "most") running.most
-    × IsNumberOr 60 found (codes "idle") running.idle × IsNumberOr 256 found (codes "memory") running.memory
+    × IsNumberOr 60 found (codes "idle") running.idle × IsNumberOr 256 found (codes "memory") running.memory × IsNumberOr 64 found (codes "log-limit") running.log_limit
+
+-- a copy of a file's last version, as those of `backup` do
+abbrev pub ReadsBackup : Found → BackingUp → Type 0
+ReadsBackup found backing_up =
+    (first_value found (codes "file") ≡ Some backing_up.file.now) × (first_value found (codes "out") ≡ Some backing_up.out.now)

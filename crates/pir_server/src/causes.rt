@@ -39,6 +39,9 @@ fn cause_of(failure: Failure) -> Option<&'static str> {
         "Short" => Some("the snapshot is cut short"),
         "BadDigest" => Some("the snapshot's digest is wrong"),
         "TrailingBytes" => Some("there are bytes after the snapshot"),
+        "BadLog" => Some(
+            "the log of publications beside it is damaged, or is none of its snapshot",
+        ),
         "BadSlot" => Some("a record of the snapshot is no slot"),
         "NotFormOne" => Some("its records stand in slots already"),
         "TooWide" => Some("no store has records of two bytes more"),

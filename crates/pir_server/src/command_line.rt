@@ -2,7 +2,7 @@
 
 ghost use Rattle.std.specs.Prelude.{IfOk, codes};
 ghost use Rattle.clap.specs.Matches.{found_of};
-ghost use Rattle.pir_server.specs.Tasks.{IsNumberOr, ReadsMake, ReadsMigrate, ReadsRekey, ReadsServe, ReadsWiden};
+ghost use Rattle.pir_server.specs.Tasks.{IsNumberOr, ReadsBackup, ReadsMake, ReadsMigrate, ReadsRekey, ReadsServe, ReadsWiden};
 
 use crate::run_line::{Running, run_command, running_of};
 use clap::{Arg, ArgAction, ArgMatches, Command};
@@ -96,6 +96,15 @@ pub struct Rekeying<'a> {
     pub key: Secret<'a>,
 }
 
+/// Of which file the last version is to be copied.
+#[derive(Clone, Copy)]
+pub struct BackingUp<'a> {
+    /// The snapshot file, with its log.
+    pub file: &'a str,
+    /// The file that is written.
+    pub out: &'a str,
+}
+
 /// What the words ask for.
 #[derive(Clone, Copy)]
 pub enum Task<'a> {
@@ -109,6 +118,10 @@ pub enum Task<'a> {
     Rekey(Rekeying<'a>),
     /// What the snapshot file of this name holds.
     Show(&'a str),
+    /// The snapshot file of this name with a shorter log.
+    Compact(&'a str),
+    /// A snapshot file of another one's last version.
+    BackUp(BackingUp<'a>),
     /// A snapshot file served over connections, one after the other.
     Serve(Serving<'a>),
     /// A snapshot file served over many connections side by side.
@@ -275,6 +288,45 @@ fn show_command<'a>(alloc: Global) -> Result<Command<'a>, AllocError> {
 const SHOW_EXAMPLE: &str =
     "Prints a line each: the version; the form; how many records there are and their length, in form 2 the most that one may\nhave and the longest that one has; the bits of a digit; the records in a\ncolumn; the rows and columns of digits; the words of a secret; for each scheme the bytes of the words of a hint, a query\nand an answer; and for each scheme whether every retrieval is certain to give its record, or depends on the noise drawn.\n\nExample: pir_server show --file two.pir\n\nWith --verbose a fault has a second line, 'cause: TEXT', that says what failed and where.";
 
+// The command `compact`.
+fn compact_command<'a>(alloc: Global) -> Result<Command<'a>, AllocError> {
+    Command::new(alloc, "compact")
+        .about(
+            "Puts all publications of a snapshot file's log into the file, but the last 16, while no server serves it",
+        )
+        .after_help(COMPACT_EXAMPLE)
+        .arg(verbose_flag(alloc))?
+        .arg(option(
+            alloc,
+            "file",
+            "FILE",
+            "The snapshot file, which is replaced, with its log",
+        ))
+}
+
+const COMPACT_EXAMPLE: &str =
+    "Prints 'compacted VERSION N': the version that the file has now, and how many publications its log has after that. Clients notice\nnothing: the deltas of the last 16 versions stay.\n\nExample: pir_server compact --file two.pir\n\nWith --verbose a fault has a second line, 'cause: TEXT', that says what failed and where.";
+
+// The command `backup`.
+fn backup_command<'a>(alloc: Global) -> Result<Command<'a>, AllocError> {
+    Command::new(alloc, "backup")
+        .about(
+            "Copies the last version of a snapshot file and its log into one file, also while a server serves them",
+        )
+        .after_help(BACKUP_EXAMPLE)
+        .arg(verbose_flag(alloc))?
+        .arg(option(
+            alloc,
+            "file",
+            "FILE",
+            "The snapshot file; it stays as it is, and so does its log",
+        ))?
+        .arg(option(alloc, "out", "FILE", "The snapshot file to write"))
+}
+
+const BACKUP_EXAMPLE: &str =
+    "Prints 'backed up COUNT VERSION'. The copy is one file, which needs no log; it is read again after it was written.\n\nExample: pir_server backup --file two.pir --out copy.pir\n\nWith --verbose a fault has a second line, 'cause: TEXT', that says what failed and where.";
+
 // The command `serve`.
 fn serve_command<'a>(alloc: Global) -> Result<Command<'a>, AllocError> {
     Command::new(alloc, "serve")
@@ -326,6 +378,8 @@ fn whole_command<'a>(alloc: Global) -> Result<Command<'a>, AllocError> {
         .subcommand(widen_command(alloc)?)?
         .subcommand(rekey_command(alloc)?)?
         .subcommand(show_command(alloc)?)?
+        .subcommand(compact_command(alloc)?)?
+        .subcommand(backup_command(alloc)?)?
         .subcommand(serve_command(alloc)?)?
         .subcommand(run_command(alloc)?)?
         .subcommand(once_command(alloc))
@@ -335,7 +389,7 @@ fn whole_command<'a>(alloc: Global) -> Result<Command<'a>, AllocError> {
 const VERSION: &str = "0.2.0";
 
 const EXIT_STATUSES: &str =
-    "Without a command: once.\n\nA value @FILE of --seed or --key is read from that file; one on the command line itself stands in the list of\nprocesses, for other users of this machine to see.\n\nExit status: 0 done, 2 a bad command line, 3 a fault, 4 out of memory.\n\nA fault is one line on standard error, 'fault: NAME':\n  File           a file can't be opened or made, or is none, as a folder or a pipe\n  Read, Write    reading or writing failed\n  BadRecords     the input of make is not whole records, or lines that are none, or too many bytes\n  BadLayout      no store has these sizes\n  NotSnapshot, Short, BadDigest, TrailingBytes, BadSlot   a file that is no whole snapshot\n  NotFormOne     the records that migrate is to move stand in slots already\n  TooWide        no store has records of two bytes more\n  NotOrdinary    the store that widen is to move is a wide one already\n  BadWidth       its digits have 10 bits, and in a wide store at most 9\n  Locked         another process serves or replaces the file\n  Exists         something stands where make --new is to make a file\n  Connect        the port can't be listened on\n  BadInput       the input of once can't be served; its last reply is Refused 1\n  TurnsUsedUp    more reads than a session has\n  Memory         memory was refused (status 4)\n\nWith --verbose a second line 'cause: TEXT' says what failed and where.";
+    "Without a command: once.\n\nA value @FILE of --seed or --key is read from that file; one on the command line itself stands in the list of\nprocesses, for other users of this machine to see.\n\nExit status: 0 done, 2 a bad command line, 3 a fault, 4 out of memory.\n\nA fault is one line on standard error, 'fault: NAME':\n  File           a file can't be opened or made, or is none, as a folder or a pipe\n  Read, Write    reading or writing failed\n  BadRecords     the input of make is not whole records, or lines that are none, or too many bytes\n  BadLayout      no store has these sizes\n  NotSnapshot, Short, BadDigest, TrailingBytes, BadSlot   a file that is no whole snapshot\n  BadLog         the log beside the file is damaged, or is none of its snapshot\n  NotFormOne     the records that migrate is to move stand in slots already\n  TooWide        no store has records of two bytes more\n  NotOrdinary    the store that widen is to move is a wide one already\n  BadWidth       its digits have 10 bits, and in a wide store at most 9\n  Locked         another process serves or replaces the file\n  Exists         something stands where make --new is to make a file\n  Connect        the port can't be listened on\n  BadInput       the input of once can't be served; its last reply is Refused 1\n  TurnsUsedUp    more reads than a session has\n  Memory         memory was refused (status 4)\n\nWith --verbose a second line 'cause: TEXT' says what failed and where.";
 
 // What the words of `make` ask for.
 fn making_of<'a>(found: &ArgMatches<'a>) -> Result<Making<'a>, BadLine<'a>>
@@ -388,6 +442,16 @@ fn widening_of<'a>(found: &ArgMatches<'a>) -> Result<Widening<'a>, BadLine<'a>>
     })
 }
 
+// What the words of `backup` ask for.
+fn backing_up_of<'a>(found: &ArgMatches<'a>) -> Result<BackingUp<'a>, BadLine<'a>>
+    ensures { IfOk result (ReadsBackup (found_of found.now)) }
+{
+    Ok(BackingUp {
+        file: text_at(found, "file", FILE_TAKES)?,
+        out: text_at(found, "out", OUT_TAKES)?,
+    })
+}
+
 // What the words of `rekey` ask for.
 fn rekeying_of<'a>(found: &ArgMatches<'a>) -> Result<Rekeying<'a>, BadLine<'a>>
     ensures { IfOk result (ReadsRekey (found_of found.now)) }
@@ -431,6 +495,12 @@ pub fn task_of<'a>(alloc: Global, words: &'a [String]) -> Result<Asked<'a>, BadL
     }
     if let Some(found) = matches.subcommand_matches("show") {
         return Ok(asked_for(found, Task::Show(text_at(found, "file", FILE_TAKES)?)));
+    }
+    if let Some(found) = matches.subcommand_matches("compact") {
+        return Ok(asked_for(found, Task::Compact(text_at(found, "file", FILE_TAKES)?)));
+    }
+    if let Some(found) = matches.subcommand_matches("backup") {
+        return Ok(asked_for(found, Task::BackUp(backing_up_of(found)?)));
     }
     if let Some(found) = matches.subcommand_matches("serve") {
         return Ok(asked_for(found, Task::Serve(serving_of(found)?)));

@@ -1,9 +1,17 @@
 //! The commands, and how each ends.
 
+ghost use Rattle.std.specs.Prelude.{IfOk};
+ghost use Rattle.snapshot_file.specs.declared.snapshot.Snapshot.{Snapshot};
+ghost use Rattle.pir_server.specs.Moves.{HasRecordsOf, IsWideOf};
+
+use crate::backing_up::back_up;
 use crate::causes::failed_at;
 use crate::command_line::{Making, Migrating, SEED_TAKES, Task, Widening, task_of};
-use crate::files::{OwnFile, RecordsOf, moved_of, widened_of, write_file};
+use crate::compacting::compact_file;
+use crate::files::{OwnFile, RecordsOf, write_anew};
 use crate::making::make;
+use crate::moving::{moved, widened};
+use crate::pairs::whole_of;
 use crate::rekeying::rekey;
 use crate::running::run_file;
 use crate::serving::serve_file;
@@ -59,6 +67,8 @@ fn done(rt: &HostRuntime, task: Task<'_>) -> Result<(), Failed> {
         Task::Widen(widening) => widen_file(rt, &widening),
         Task::Rekey(rekeying) => rekey(rt, &rekeying),
         Task::Show(file) => show(rt, file),
+        Task::Compact(file) => compact_file(rt, file),
+        Task::BackUp(backing_up) => back_up(rt, &backing_up),
         Task::Serve(serving) => serve_file(rt, &serving),
         Task::Run(running) => run_file(rt, &running),
         Task::Once => Ok(serve_once(rt)?),
@@ -111,6 +121,24 @@ fn widen_file(rt: &HostRuntime, widening: &Widening<'_>) -> Result<(), Failed> {
     printed(rt, println!(rt; "widened {count} {version}"))
 }
 
+// The last version of a file, with its records moved into slots.
+fn moved_of(rt: &HostRuntime, name: &str) -> Result<Snapshot, Failure>
+    ensures { IfOk result (λ moved. (file : Snapshot) × HasRecordsOf file moved) }
+{
+    let whole = whole_of(rt, name)?;
+    let moved = moved(rt.alloc(), &whole.snapshot)?;
+    Ok(moved)
+}
+
+// The last version of a file, with its records in a wide store of this seed.
+fn widened_of(rt: &HostRuntime, name: &str, seed: [u8; 32]) -> Result<Snapshot, Failure>
+    ensures { IfOk result (λ wide. (file : Snapshot) × IsWideOf file seed wide) }
+{
+    let whole = whole_of(rt, name)?;
+    let wide = widened(rt.alloc(), &whole.snapshot, seed)?;
+    Ok(wide)
+}
+
 // Writes a snapshot to its file.
 fn write_whole(
     rt: &HostRuntime,
@@ -122,7 +150,7 @@ fn write_whole(
         header: &header,
         bytes: &snapshot.records,
     };
-    write_file(rt, out, &content)?;
+    write_anew(rt, out, &content)?;
     Ok(())
 }
 

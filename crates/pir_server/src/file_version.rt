@@ -1,17 +1,29 @@
 //! The version of the snapshot that a file has.
 //!
-//! A [`FileVersion`] is made here alone: where a snapshot was read to its end and its file was sent to the device, where a file was
-//! replaced by one, and where one was written to what is no file. So who has one did that, and a version can't be counted as saved
-//! without it.
+//! A [`FileVersion`] is made here alone: when a snapshot was read to its end and its file was sent to the device, when the publications
+//! of its log were made again, when one more was appended to that log, or taken back, when a file was replaced by a snapshot, and when
+//! one was written to what is no file. So who has one did that, and a version can't be counted as saved without it.
 
-ghost use Rattle.std.specs.Prelude.{◌≡◌, ℕ, [], ◌∷◌, IfOk, OnOk};
+ghost use Rattle.std.specs.Prelude.{◌≡◌, ◌+◌, ℕ, List, [], ◌∷◌, take, IfOk, OnOk, OnErr};
 ghost use Rattle.std.specs.List.{FoldsTo};
 ghost use Rattle.std.specs.Io.KnownBytes.{Appends, Consumes, IsAtEnd};
 ghost use Rattle.safe_files.specs.Steps.{Replaces, Syncs, SyncsFolder};
-ghost use Rattle.snapshot_file.specs.Snapshots.{IsSnapshot, header_of, snapshot_bytes};
+ghost use Rattle.sha2.specs.Sha256.{sha256};
+ghost use Rattle.snapshot_file.specs.Snapshots.{IsSnapshot, hashed_bytes, header_of, snapshot_bytes};
+ghost use Rattle.publication_log.specs.Publications.{Published};
+ghost use Rattle.publication_log.specs.Entries.{entry, chain_bytes};
+ghost use Rattle.publication_log.specs.Logs.{AreNext, bodies_of};
+ghost use Rattle.version_store.specs.Openings.{IsSound};
+ghost use Rattle.log_replay.specs.Replays.{HasNoDraft, replayed_all};
+ghost use Rattle.log_replay.specs.Laws.{AreRecordsReplayedAll};
+ghost use Rattle.publication_log.specs.Steps.{Appends as AppendsEntry, Cuts};
 
+use log_replay::{ReplayFault, replay_all, replay_first};
+use publication_log::{
+    AppendFault, CutFault, Disk as LogDisk, Log, LogEnd, PublicationBuilder, Publications,
+};
 use safe_files::{Content, ContentFault, Disk, ReplaceFault, SettleFault, replace, settle};
-use session_core::{Snapshot, SnapshotFault, read_snapshot};
+use session_core::{Lanes, Snapshot, SnapshotFault, Store, read_snapshot_and_digest};
 use std::alloc::Global;
 use std::io::{Read, Write};
 
@@ -40,6 +52,17 @@ impl FileVersion {
     }
 }
 
+/// A snapshot that was read of a file which is on the device.
+#[derive(Drop)]
+pub struct ReadVersion {
+    /// The snapshot.
+    pub snapshot: Snapshot,
+    /// The digest at its end.
+    pub digest: [u8; 32],
+    /// Its version, which the file has.
+    pub has: FileVersion,
+}
+
 /// Why a snapshot that a file has was not taken.
 #[derive(Clone, Copy, Debug)]
 pub enum VersionFault {
@@ -49,37 +72,149 @@ pub enum VersionFault {
     Settle(SettleFault),
 }
 
-/// Reads a snapshot, which must be the whole file, sends the file and its name to the device, since whoever wrote it may have been
-/// killed before, and answers its version beside it.
+/// Reads a snapshot, which must be the whole file, and sends the file and its name to the device, since whoever wrote it may have been
+/// killed before.
 ///
 /// # Errors
 ///
-/// In this order: those of [`read_snapshot`], those of [`settle`].
+/// In this order: those of [`read_snapshot_and_digest`], those of [`settle`].
 pub fn read_version<F: Read + Write + Drop, D: Disk<File = F>>(
     alloc: Global,
     disk: &mut D,
     file: &mut F,
-) -> Result<(Snapshot, FileVersion), VersionFault>
-    ensures version { IfOk result (λ it. it.1.version ≡ it.0.version) }
-    ensures sound { IfOk result (λ it. IsSnapshot (header_of it.0) it.0.records.items) }
+) -> Result<ReadVersion, VersionFault>
+    ensures version { IfOk result (λ it. it.has.version ≡ it.snapshot.version) }
+    ensures sound { IfOk result (λ it.
+        IsSnapshot (header_of it.snapshot) it.snapshot.records.items) }
+    ensures digest { IfOk result (λ it. it.digest ≡
+        sha256 (hashed_bytes (header_of it.snapshot) it.snapshot.records.items)) }
     ensures taken { IfOk result (λ it. Consumes (F.remaining file.old) (F.remaining file.new)
-        (snapshot_bytes (header_of it.0) it.0.records.items)
+        (snapshot_bytes (header_of it.snapshot) it.snapshot.records.items)
         × IsAtEnd (F.remaining file.new)) }
     ensures settled { OnOk result (FoldsTo D.does disk.old
         (Syncs (F.contents file.new) ∷ SyncsFolder ∷ []) disk.new) }
 {
-    let snapshot = match read_snapshot(alloc, file) {
-        Ok(snapshot) => snapshot,
+    let (snapshot, digest) = match read_snapshot_and_digest(alloc, file) {
+        Ok(both) => both,
         Err(fault) => return Err(VersionFault::Snapshot(fault)),
     };
     match settle(disk, file) {
         Ok(()) => {}
         Err(fault) => return Err(VersionFault::Settle(fault)),
     }
-    let version = FileVersion {
+    let has = FileVersion {
         version: snapshot.version,
     };
-    Ok((snapshot, version))
+    Ok(ReadVersion {
+        snapshot,
+        digest,
+        has,
+    })
+}
+
+/// The snapshot that a file has, after the first `n` publications of its log, made on its records alone. The digest stays that of the
+/// file.
+///
+/// # Errors
+///
+/// Those of [`replay_first`].
+pub fn take_up_version(
+    read: ReadVersion,
+    publications: Publications<'_>,
+    n: usize,
+) -> Result<ReadVersion, ReplayFault>
+    requires sound { IsSound (header_of read.snapshot) read.snapshot.records.items }
+    ensures version { IfOk result (λ it. it.has.version ≡ it.snapshot.version) }
+    ensures sound { IfOk result (λ it.
+        IsSound (header_of it.snapshot) it.snapshot.records.items) }
+    ensures replayed { (link : List ℕ) (version : ℕ) (ps : List Published) → AreNext version ps →
+        publications.entry.rest.now ≡ chain_bytes link (bodies_of ps) → IfOk result
+        (λ it. AreRecordsReplayedAll (header_of read.snapshot) read.snapshot.records.items
+        (take n ps) (header_of it.snapshot) it.snapshot.records.items) }
+{
+    let ReadVersion {
+        mut snapshot,
+        digest,
+        ..
+    } = read;
+    replay_first(&mut snapshot, publications, n)?;
+    let has = FileVersion {
+        version: snapshot.version,
+    };
+    Ok(ReadVersion {
+        snapshot,
+        digest,
+        has,
+    })
+}
+
+/// Makes the publications of a log again, on the store of the snapshot that a file has.
+///
+/// # Errors
+///
+/// Those of [`replay_all`]: the store is of no more use then.
+pub fn replay_version(
+    store: &mut Store<Lanes>,
+    has: FileVersion,
+    publications: Publications<'_>,
+) -> Result<FileVersion, ReplayFault>
+    requires has { has.version ≡ store.old.version }
+    requires draft { HasNoDraft store.old }
+    ensures version { IfOk result (λ it. it.version ≡ store.new.version) }
+    ensures replayed { (link : List ℕ) (version : ℕ) (ps : List Published) → AreNext version ps →
+        publications.entry.rest.now ≡ chain_bytes link (bodies_of ps) →
+        OnOk result (store.new ≡ replayed_all ps store.old) }
+{
+    replay_all(store, publications)?;
+    Ok(FileVersion {
+        version: store.version(),
+    })
+}
+
+/// Appends a publication to the log of a file.
+///
+/// # Errors
+///
+/// Those of [`Log::append`].
+pub fn append_version<D: LogDisk>(
+    alloc: Global,
+    log: &mut Log<D>,
+    publication: &PublicationBuilder,
+) -> Result<FileVersion, AppendFault>
+    requires { publication.now.version ≡ log.old.version + 1 }
+    ensures steps { AppendsEntry D.does (entry log.old.link publication.now.body.items)
+        log.old.disk result log.new.disk }
+    ensures version { IfOk result (λ it. it.version ≡ publication.now.version) }
+    ensures log { OnOk result (log.new.version ≡ publication.now.version) }
+    ensures kept { OnErr result (log.new.version ≡ log.old.version) }
+{
+    match log.append(alloc, publication) {
+        Ok(()) => Ok(FileVersion {
+            version: publication.version,
+        }),
+        Err(fault) => Err(fault),
+    }
+}
+
+/// Takes back what was appended to the log of a file since it had this end.
+///
+/// # Errors
+///
+/// Those of [`Log::take_back`].
+pub fn take_back_version<D: LogDisk>(
+    log: &mut Log<D>,
+    end: &LogEnd,
+) -> Result<FileVersion, CutFault>
+    ensures steps { Cuts D.does end.now.len log.old.disk result log.new.disk }
+    ensures version { IfOk result (λ it. it.version ≡ end.now.version) }
+    ensures log { log.new.version ≡ end.now.version }
+{
+    match log.take_back(end) {
+        Ok(()) => Ok(FileVersion {
+            version: end.version,
+        }),
+        Err(fault) => Err(fault),
+    }
 }
 
 /// Replaces a file by a snapshot, or makes it.

@@ -1,22 +1,30 @@
 //! Snapshot files.
 
-ghost use Rattle.std.specs.Prelude.{◌≡◌, ◌≤◌, IfOk};
-ghost use Rattle.snapshot_file.specs.Snapshots.{IsSnapshot, header_of, snapshot_bytes};
-ghost use Rattle.snapshot_file.specs.declared.snapshot.Snapshot.{Snapshot};
-ghost use Rattle.version_store.specs.Openings.{snapshot_of};
-ghost use Rattle.pir_server.specs.Moves.{HasRecordsOf, IsWideOf};
+ghost use Rattle.std.specs.Prelude.{◌≡◌, ℕ, List, IfOk};
+ghost use Rattle.snapshot_file.specs.Snapshots.{header_of, snapshot_bytes};
+ghost use Rattle.version_store.specs.Openings.{IsSound, held_of, snapshot_of};
+ghost use Rattle.publication_log.specs.Publications.{Published};
+ghost use Rattle.publication_log.specs.Entries.{chain_bytes};
+ghost use Rattle.publication_log.specs.Logs.{AreNext, bodies_of};
+ghost use Rattle.log_replay.specs.Replays.{replayed_all};
 
 use crate::file_version::{
-    FileVersion, VersionFault, Versioned, read_version, replace_version, write_version,
+    FileVersion, ReadVersion, VersionFault, Versioned, read_version, replace_version,
+    replay_version, take_up_version, write_version,
 };
-use crate::moving::{moved_from, widened_from};
+use crate::last_bytes::LastBytes;
+use crate::logs::{OwnLog, log_failure, replay_failure};
+use crate::pairs::opens_a_store;
 use command_words::Failure;
+use log_replay::earlier_count;
+use log_replay::laws::last_sixteen_suffice;
+use publication_log::{Publications, log_name, remove_log, remove_other_logs};
 use safe_files::{
     Content, ContentFault, FileLock, LockFault, Place, ReplaceFault, SteadyFile, open_file,
 };
 use session_core::{
     Header, Lanes, MigrateError, OpenError, Snapshot, SnapshotFault, Store, WidenError, WriteFault,
-    read_snapshot, write_snapshot, write_snapshot_bytes,
+    read_snapshot_and_digest, write_snapshot, write_snapshot_bytes,
 };
 use std::alloc::Global;
 use std::fs;
@@ -75,7 +83,7 @@ impl Versioned for RecordsOf<'_> {
 }
 
 /// The failure of a file that can't be opened or made.
-const NO_FILE: Failure = Failure::Fault("File");
+pub const NO_FILE: Failure = Failure::Fault("File");
 
 /// The failure of a file that can't be written.
 const NOT_WRITTEN: Failure = Failure::Fault("Write");
@@ -124,6 +132,11 @@ impl<'a> OwnFile<'a> {
         }
     }
 
+    /// Whether it is a file, or will be one: what is none, as a terminal, is written to as it is.
+    pub fn is_file(&self) -> bool {
+        self.lock.is_some()
+    }
+
     /// Whether anything stands at the name.
     pub fn is_taken(&self) -> bool {
         self.place.is_taken()
@@ -135,89 +148,157 @@ impl<'a> OwnFile<'a> {
     }
 }
 
-/// The store of a snapshot file, and the version that the file has: the store's. The file is on the device then.
-///
-/// # Errors
-///
-/// In this order: `File`, the refusals of the snapshot, `Write` where the file or its name can't be sent to the device, the
-/// refusals of the store.
-pub fn store_of(
-    rt: &HostRuntime,
-    file: &mut OwnFile<'_>,
-) -> Result<(Store<Lanes>, FileVersion), Failure>
-    ensures { IfOk result (λ it. it.1.version ≡ it.0.version) }
-{
-    let (snapshot, version) = kept_version(rt, file)?;
-    match Store::open(rt.alloc(), Lanes, snapshot) {
-        Ok(store) => Ok((store, version)),
-        Err(fault) => Err(open_failure(fault)),
+/// A snapshot that a file has, and the log beside it.
+#[derive(Drop)]
+pub struct KeptFile {
+    /// The snapshot.
+    pub read: ReadVersion,
+    /// Its log.
+    pub own: OwnLog,
+}
+
+impl KeptFile {
+    /// A snapshot with its digest, the version that the file has, and its log.
+    pub fn of(snapshot: Snapshot, digest: [u8; 32], has: FileVersion, own: OwnLog) -> KeptFile
+        ensures snapshot { result.read.snapshot ≡ snapshot }
+        ensures version { result.read.has ≡ has }
+    {
+        KeptFile {
+            read: ReadVersion {
+                snapshot,
+                digest,
+                has,
+            },
+            own,
+        }
     }
 }
 
-/// The snapshot in a file.
+/// The snapshot that a file has. The file is on the device then.
 ///
 /// # Errors
 ///
-/// In this order: `File`, the refusals of the snapshot.
-pub fn snapshot_of(rt: &HostRuntime, name: &str) -> Result<Snapshot, Failure>
-    ensures sound { IfOk result (λ s. IsSnapshot (header_of s) s.records.items) }
-    ensures dimension { IfOk result (λ s. s.dimension ≤ 1024) }
-{
-    let Ok(mut file) = open_file(rt, name) else {
-        return Err(NO_FILE);
-    };
-    match read_snapshot(rt.alloc(), &mut file) {
-        Ok(snapshot) => Ok(snapshot),
-        Err(fault) => Err(snapshot_failure(fault)),
-    }
-}
-
-// The snapshot that a file has, and its version. The file is on the device then.
-fn kept_version(
-    rt: &HostRuntime,
-    file: &mut OwnFile<'_>,
-) -> Result<(Snapshot, FileVersion), Failure>
-    ensures sound { IfOk result (λ it. IsSnapshot (header_of it.0) it.0.records.items) }
-    ensures version { IfOk result (λ it. it.1.version ≡ it.0.version) }
+/// In this order: `File`, the refusals of the snapshot, `Write` where the file or its name can't be sent to the device; `Memory`.
+pub fn kept_file(rt: &HostRuntime, file: &mut OwnFile<'_>) -> Result<KeptFile, Failure>
+    ensures sound { IfOk result (λ it.
+        IsSound (header_of it.read.snapshot) it.read.snapshot.records.items) }
+    ensures version { IfOk result (λ it. it.read.has.version ≡ it.read.snapshot.version) }
 {
     let Ok(mut opened) = file.place.open() else {
         return Err(NO_FILE);
     };
-    match read_version(rt.alloc(), &mut file.place, &mut opened) {
-        Ok(both) => Ok(both),
-        Err(VersionFault::Snapshot(fault)) => Err(snapshot_failure(fault)),
-        Err(VersionFault::Settle(_)) => Err(NOT_WRITTEN),
+    let read = match read_version(rt.alloc(), &mut file.place, &mut opened) {
+        Ok(read) => read,
+        Err(VersionFault::Snapshot(fault)) => return Err(snapshot_failure(fault)),
+        Err(VersionFault::Settle(_)) => return Err(NOT_WRITTEN),
+    };
+    opens_a_store(&read.snapshot);
+    let header = read.snapshot.header();
+    let own = OwnLog::of(rt.alloc(), file.name(), &header, read.digest)?;
+    Ok(KeptFile { read, own })
+}
+
+/// The store of a snapshot that a file has, after the publications of its log, and the version that both have: the store's. All but the
+/// last 16 publications are made on the records alone, before any hint is: the store is the same.
+///
+/// # Errors
+///
+/// In this order: `BadLog` where one of the first publications can't follow, the refusals of the store, `BadLog` where one of the
+/// last can't; `Memory`.
+pub fn store_after(
+    rt: &HostRuntime,
+    read: ReadVersion,
+    publications: Publications<'_>,
+) -> Result<(Store<Lanes>, FileVersion), Failure>
+    requires { IsSound (header_of read.snapshot) read.snapshot.records.items }
+    ensures version { IfOk result (λ it. it.1.version ≡ it.0.version) }
+    ensures replayed { (link : List ℕ) (version : ℕ) (ps : List Published) → AreNext version ps →
+        publications.entry.rest.now ≡ chain_bytes link (bodies_of ps) →
+        IfOk result (λ it. it.0 ≡ replayed_all ps
+        (held_of (header_of read.snapshot) read.snapshot.records.items)) }
+{
+    last_sixteen_suffice();
+    let earlier = earlier_count(publications);
+    let taken = match take_up_version(read, publications, earlier) {
+        Ok(taken) => taken,
+        Err(fault) => return Err(replay_failure(fault)),
+    };
+    open_and_replay(rt, taken, publications.without_first(earlier))
+}
+
+// The store of a snapshot after publications, and the version of both.
+fn open_and_replay(
+    rt: &HostRuntime,
+    read: ReadVersion,
+    publications: Publications<'_>,
+) -> Result<(Store<Lanes>, FileVersion), Failure>
+    requires { read.has.version ≡ read.snapshot.version }
+    ensures version { IfOk result (λ it. it.1.version ≡ it.0.version) }
+    ensures replayed { (link : List ℕ) (version : ℕ) (ps : List Published) → AreNext version ps →
+        publications.entry.rest.now ≡ chain_bytes link (bodies_of ps) →
+        IfOk result (λ it. it.0 ≡ replayed_all ps
+        (held_of (header_of read.snapshot) read.snapshot.records.items)) }
+{
+    let ReadVersion { snapshot, has, .. } = read;
+    let mut store = match Store::open(rt.alloc(), Lanes, snapshot) {
+        Ok(store) => store,
+        Err(fault) => return Err(open_failure(fault)),
+    };
+    match replay_version(&mut store, has, publications) {
+        Ok(has) => Ok((store, has)),
+        Err(fault) => Err(replay_failure(fault)),
     }
 }
 
-/// The snapshot in a file, with its records moved into slots.
+/// The snapshot in a file, and the digest at its end.
 ///
 /// # Errors
 ///
-/// In this order: `File`, the refusals of the snapshot, `NotFormOne`, `TooWide`.
-pub fn moved_of(rt: &HostRuntime, name: &str) -> Result<Snapshot, Failure>
-    ensures { IfOk result (λ moved. (file : Snapshot) × HasRecordsOf file moved) }
-{
+/// In this order: `File`, the refusals of the snapshot.
+pub fn snapshot_in(rt: &HostRuntime, name: &str) -> Result<(Snapshot, [u8; 32]), Failure> {
     let Ok(mut file) = open_file(rt, name) else {
         return Err(NO_FILE);
     };
-    let moved = moved_from(rt.alloc(), &mut file)?;
-    Ok(moved)
+    match read_snapshot_and_digest(rt.alloc(), &mut file) {
+        Ok(both) => Ok(both),
+        Err(fault) => Err(snapshot_failure(fault)),
+    }
 }
 
-/// The snapshot in a file, with its records in a wide store of this seed.
+/// Writes a snapshot that no log follows in the place of a file, or makes it, and answers the version that it has then. A log that
+/// belongs to this very snapshot is removed before, since it would be taken for its own, and those of other snapshots after.
 ///
 /// # Errors
 ///
-/// In this order: `File`, the refusals of the snapshot, `NotOrdinary`, `BadWidth`.
-pub fn widened_of(rt: &HostRuntime, name: &str, seed: [u8; 32]) -> Result<Snapshot, Failure>
-    ensures { IfOk result (λ wide. (file : Snapshot) × IsWideOf file seed wide) }
+/// As [`write_file`], and `File` where that log can't be removed.
+pub fn write_anew<C: Versioned>(
+    rt: &HostRuntime,
+    file: &mut OwnFile<'_>,
+    content: &C,
+) -> Result<FileVersion, Failure>
+    ensures { IfOk result (λ it. it.version ≡ C.version content.now) }
 {
-    let Ok(mut file) = open_file(rt, name) else {
-        return Err(NO_FILE);
-    };
-    let wide = widened_from(rt.alloc(), &mut file, seed)?;
-    Ok(wide)
+    if !file.is_file() {
+        return write_file(rt, file, content);
+    }
+    let digest = digest_of(rt.alloc(), content)?;
+    let log = log_name(rt.alloc(), file.name(), &digest)?;
+    match remove_log(rt, log.as_str()) {
+        Ok(()) => {}
+        Err(fault) => return Err(log_failure(fault)),
+    }
+    let has = write_file(rt, file, content)?;
+    remove_other_logs(rt, file.name(), "");
+    Ok(has)
+}
+
+// The digest at a snapshot's end.
+fn digest_of<C: Content>(alloc: Global, content: &C) -> Result<[u8; 32], Failure> {
+    let mut writer = LastBytes::new();
+    match content.write_to(alloc, &mut writer) {
+        Ok(()) => Ok(writer.bytes()),
+        Err(fault) => Err(content_failure(fault)),
+    }
 }
 
 /// Writes a snapshot to a file that is made, or replaces it, and answers the version that it has then: the file is whole at any
@@ -257,8 +338,7 @@ fn write_in_place<C: Versioned>(
     let mut file = SteadyFile::new(file);
     let version = match write_version(rt.alloc(), &mut file, content) {
         Ok(version) => version,
-        Err(ContentFault::Write) => return Err(NOT_WRITTEN),
-        Err(ContentFault::Memory) => return Err(Failure::Memory),
+        Err(fault) => return Err(content_failure(fault)),
     };
     match file.sync() {
         Ok(()) => Ok(version),
@@ -266,8 +346,16 @@ fn write_in_place<C: Versioned>(
     }
 }
 
-// The failure that a file which was not replaced is.
-fn replace_failure(fault: ReplaceFault) -> Failure {
+// The failure that a content which was not written is.
+fn content_failure(fault: ContentFault) -> Failure {
+    match fault {
+        ContentFault::Write => NOT_WRITTEN,
+        ContentFault::Memory => Failure::Memory,
+    }
+}
+
+/// The failure that a file which was not replaced is.
+pub fn replace_failure(fault: ReplaceFault) -> Failure {
     match fault {
         ReplaceFault::Make | ReplaceFault::Rename => NO_FILE,
         ReplaceFault::Write | ReplaceFault::Sync | ReplaceFault::SyncFolder => NOT_WRITTEN,

@@ -6,7 +6,7 @@ ghost use Rattle.pir_server.specs.Makings.{header_made};
 
 use crate::causes::failed_at;
 use crate::command_line::{KEY_TAKES, Making, SEED_TAKES};
-use crate::files::{OwnFile, RecordsOf, write_file};
+use crate::files::{OwnFile, RecordsOf, write_anew};
 use command_words::{Failed, Failure, bytes_from_hex};
 use connection_io::{piece_buffer, read_piece};
 use digit_pack::{LayoutError, is_wide, write_slot};
@@ -20,8 +20,8 @@ use std::str;
 /// The most record bytes: as many as there are words in the largest matrix.
 const MAX_RECORD_BYTES: usize = 33_554_432;
 
-/// The most bytes of lines. Those of a record are fewer than twice those of its slot.
-const MAX_LINE_BYTES: usize = 2 * MAX_RECORD_BYTES;
+/// The most record bytes of a wide store: 2^30 digits of 9 bits.
+const MAX_WIDE_RECORD_BYTES: usize = 1_207_959_552;
 
 /// How many words a secret of a new store has.
 const DIMENSION: u16 = 1024;
@@ -77,7 +77,7 @@ pub fn make(rt: &HostRuntime, making: &Making<'_>) -> Result<u32, Failed> {
 
 // Makes a store of form 1. The input is the bytes of its records.
 fn make_of_bytes(rt: &HostRuntime, making: &Making<'_>, keys: &Keys) -> Result<u32, Failed> {
-    let records = read_input(rt.alloc(), &mut rt.reader(), MAX_RECORD_BYTES)?;
+    let records = read_input(rt.alloc(), &mut rt.reader(), most_bytes(making.wide))?;
     let header = header_of(making, keys, whole_records(making, records.len()));
     if !header.is_accepted() {
         return Err(bad_layout(rt.alloc(), &header));
@@ -88,9 +88,20 @@ fn make_of_bytes(rt: &HostRuntime, making: &Making<'_>, keys: &Keys) -> Result<u
     write_made(rt, making, &header, &records)
 }
 
+// The most bytes that the records of a store have. Lines of hex have fewer than twice those of their slots.
+fn most_bytes(wide: bool) -> usize
+    ensures { result ≤ 1207959552 }
+{
+    if wide {
+        MAX_WIDE_RECORD_BYTES
+    } else {
+        MAX_RECORD_BYTES
+    }
+}
+
 // Makes a store of form 2. The input has a line for each record.
 fn make_of_lines(rt: &HostRuntime, making: &Making<'_>, keys: &Keys) -> Result<u32, Failed> {
-    let input = read_input(rt.alloc(), &mut rt.reader(), MAX_LINE_BYTES)?;
+    let input = read_input(rt.alloc(), &mut rt.reader(), 2 * most_bytes(making.wide))?;
     let header = header_of(making, keys, lines_in(&input));
     if !header.is_accepted() {
         return Err(bad_layout(rt.alloc(), &header));
@@ -123,7 +134,7 @@ fn write_out_file(
     if making.new && file.is_taken() {
         return Err(EXISTS);
     }
-    write_file(rt, &mut file, &RecordsOf { header, bytes })?;
+    write_anew(rt, &mut file, &RecordsOf { header, bytes })?;
     Ok(())
 }
 
@@ -228,7 +239,7 @@ fn whole_records(making: &Making<'_>, bytes: usize) -> usize
 
 // All bytes of a reader, where they are at most so many.
 fn read_input<R: Read>(alloc: Global, reader: &mut R, most: usize) -> Result<Vec<u8>, Failed>
-    requires { most ≤ 67108864 }
+    requires { most ≤ 2415919104 }
     ensures all { IfOk result (λ bytes. Consumes (R.remaining reader.old)
         (R.remaining reader.new) bytes.items × IsAtEnd (R.remaining reader.new)) }
     ensures few { IfOk result (λ bytes. length bytes.items ≤ most) }
@@ -259,7 +270,7 @@ fn too_much(alloc: Global, most: usize) -> Failed {
 
 // The header of version 1 of so many records.
 fn header_of(making: &Making<'_>, keys: &Keys, count: usize) -> Header
-    requires { count ≤ 67108865 }
+    requires { count ≤ 2415919105 }
     ensures { result ≡ header_made making.now keys.now count }
 {
     Header {

@@ -5,7 +5,8 @@ ghost use Rattle.sha2.specs.Sha256.{sha256};
 
 use crate::causes::failed_at;
 use crate::command_line::{KEY_TAKES, Rekeying};
-use crate::files::{OwnFile, RecordsOf, snapshot_of, write_file};
+use crate::files::{OwnFile, RecordsOf, write_anew};
+use crate::pairs::whole_of;
 use command_words::{Failed, Failure, printed};
 use session_core::Header;
 use sha2::{Digest, Sha256};
@@ -16,7 +17,7 @@ use sha2::{Digest, Sha256};
 /// # Errors
 ///
 /// In this order: those of the key's file (`File`, `Value`), `File` where there is no file, `Locked` where another process has
-/// it, those of its snapshot, and those of the new file (`File`, `Write`). `Memory` where there was none.
+/// it, those of its snapshot and its log (`BadLog`), and those of the new file (`File`, `Write`). `Memory` where there was none.
 pub fn rekey(rt: &HostRuntime, rekeying: &Rekeying<'_>) -> Result<(), Failed> {
     let key = match rekeying.key.key(rt, KEY_TAKES) {
         Ok(key) => key,
@@ -34,13 +35,13 @@ pub fn rekey(rt: &HostRuntime, rekeying: &Rekeying<'_>) -> Result<(), Failed> {
 // Replaces a snapshot file by the same with another publisher's key, and answers its header.
 fn rekey_file(rt: &HostRuntime, name: &str, key: &[u8; 32]) -> Result<Header, Failure> {
     let mut file = OwnFile::to_read(rt, name)?;
-    let snapshot = snapshot_of(rt, file.name())?;
+    let snapshot = whole_of(rt, file.name())?.snapshot;
     let header = rekeyed(snapshot.header(), key);
     let content = RecordsOf {
         header: &header,
         bytes: &snapshot.records,
     };
-    write_file(rt, &mut file, &content)?;
+    write_anew(rt, &mut file, &content)?;
     Ok(header)
 }
 

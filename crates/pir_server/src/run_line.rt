@@ -19,6 +19,11 @@ const IDLE_TAKES: &str = "--idle takes a number of seconds from 1 to 86400";
 
 const MEMORY_TAKES: &str = "--memory takes a number of MiB from 1 to 1048576";
 
+const LOG_LIMIT_TAKES: &str = "--log-limit takes a number of MiB from 1 to 1048576";
+
+/// How many MiB the log may have when a server starts, before it is made shorter, if `--log-limit` is not given.
+const LOG_LIMIT: u64 = 64;
+
 /// How many connections there may be at once where `--most` is not given.
 const MOST: u64 = 256;
 
@@ -42,6 +47,8 @@ pub struct Running<'a> {
     pub idle: u64,
     /// How many MiB the unfinished frames of all connections, and the replies owed to them, may have together: 1 to 1048576.
     pub memory: u64,
+    /// How many MiB the log may have at the start before it is made shorter: 1 to 1048576.
+    pub log_limit: u64,
     /// Whether the faults of connections are left out on standard error.
     pub quiet: bool,
 }
@@ -56,7 +63,7 @@ pub fn run_command<'a>(alloc: Global) -> Result<Command<'a>, AllocError> {
             alloc,
             "file",
             "FILE",
-            "The snapshot file; it is replaced before a publication is acknowledged",
+            "The snapshot file; a publication is appended to a log beside it, FILE.log- and 16 hex digits, before it is acknowledged",
         ))?
         .arg(option(
             alloc,
@@ -82,6 +89,12 @@ pub fn run_command<'a>(alloc: Global) -> Result<Command<'a>, AllocError> {
             "MIB",
             "How many MiB the unfinished frames of all connections, and the replies that they have not taken, may have together; past that the connection with the most is closed (256 if not given)",
         ))?
+        .arg(optional(
+            alloc,
+            "log-limit",
+            "MIB",
+            "If the log has more MiB than this at the start, 1 to 1048576, all but its last 16 publications are put into the file first (64 if not given)",
+        ))?
         .arg(
             Arg::new(alloc, "quiet")
                 .long("quiet")
@@ -91,7 +104,7 @@ pub fn run_command<'a>(alloc: Global) -> Result<Command<'a>, AllocError> {
 }
 
 const RUN_EXAMPLE: &str =
-    "Prints 'listening ADDR:PORT' once it listens. A connection that ends with a fault is reported on standard error,\nas 'connection: NAME', and the others go on. A publication is acknowledged only once the file has it on the disk; where\nit can't be saved the server ends. What is sent is not encrypted: listen on 127.0.0.1 or [::1] unless a tunnel or a proxy\nstands before the port.\n\nExample: pir_server run --file two.pir --listen 127.0.0.1:7000\n\nWith --verbose a fault has a second line, 'cause: TEXT', that says what failed and where.";
+    "Prints 'listening ADDR:PORT' once it listens. A connection that ends with a fault is reported on standard error,\nas 'connection: NAME', and the others go on. A publication is acknowledged only once its log has it on the disk; if it\ncan't be appended the connection is closed, and the version before is served on. What is sent is not encrypted: listen on 127.0.0.1 or [::1] unless a tunnel or a proxy\nstands before the port.\n\nExample: pir_server run --file two.pir --listen 127.0.0.1:7000\n\nWith --verbose a fault has a second line, 'cause: TEXT', that says what failed and where.";
 
 // An option that may be left out.
 fn optional<'a>(alloc: Global, name: &'a str, value: &'a str, help: &'a str) -> Arg<'a> {
@@ -111,6 +124,7 @@ pub fn running_of<'a>(found: &ArgMatches<'a>) -> Result<Running<'a>, BadLine<'a>
         most: number_or(found, "most", MOST, 65_535, MOST_TAKES)? as usize,
         idle: number_or(found, "idle", IDLE, 86_400, IDLE_TAKES)?,
         memory: number_or(found, "memory", MEMORY, 1_048_576, MEMORY_TAKES)?,
+        log_limit: number_or(found, "log-limit", LOG_LIMIT, 1_048_576, LOG_LIMIT_TAKES)?,
         quiet: found.get_flag("quiet"),
     })
 }

@@ -1,13 +1,16 @@
 //! The command `run`.
 
-ghost use Rattle.std.specs.Prelude.{◌≡◌, ◌-◌, min, max};
+ghost use Rattle.std.specs.Prelude.{◌≡◌, ◌-◌, min, max, IfOk};
 
 use crate::causes::{failed_at, not_listening};
-use crate::file_version::FileVersion;
-use crate::files::{OwnFile, VersionOf, store_of, write_file};
+use crate::compacting::compacted_past;
+use crate::files::{OwnFile, kept_file, store_after};
+use crate::logs::{BAD_LOG, log_failure};
 use crate::run_line::Running;
+use crate::saving::LogSaver;
 use command_words::{Failed, Failure};
-use service_loop::{Limits, RunFault, SaveFailed, Saver, run_service, say_line};
+use publication_log::open_log;
+use service_loop::{Limits, RunFault, run_service, say_line};
 use session_core::{Lanes, ServerCore, Store};
 
 /// How many bytes a MiB has.
@@ -17,58 +20,69 @@ const MIB: u64 = 1_048_576;
 /// lock and folder, a version that is saved, and some that whoever started the process left open.
 const OTHER_DESCRIPTORS: u64 = 16;
 
-// Saves versions to the snapshot file. What it counts as saved is what the file has.
-#[derive(Drop)]
-struct FileSaver<'a> {
-    file: OwnFile<'a>,
-    has: FileVersion,
-}
-
-impl Saver for FileSaver<'_> {
-    ghost saved = { λ s. s.has.version };
-
-    fn save(&mut self, rt: &HostRuntime, store: &Store<Lanes>) -> Result<(), SaveFailed> {
-        match write_file(rt, &mut self.file, &VersionOf(store)) {
-            Ok(has) => {
-                self.has = has;
-                Ok(())
-            }
-            Err(_) => Err(SaveFailed),
-        }
-    }
-}
-
-/// Serves a snapshot file over many connections side by side, until the process is killed. Each version that is published
-/// replaces the one in the file before it is acknowledged. No other process serves or replaces the file meanwhile.
+/// Serves a snapshot file over many connections side by side, until the process is killed. Each publication is appended to the log
+/// beside the file before it is made. No other process serves or replaces the file meanwhile.
 ///
 /// # Errors
 ///
 /// In this order: `File` where there is no file, `Locked` where another process has it, those of the snapshot, `Write` where the
-/// file can't be sent to the device, those of the store, `Connect` where the address can't be listened on, and `Write` where
-/// it can't be printed or a version can't be saved. `Memory` where there was none. A connection that is closed before its end is reported on standard error, and ends nothing else.
+/// file can't be sent to the device, those of its log (`File`, `BadLog`, `Write` where a torn end can't be cut off, or where a log that
+/// is too long can't be made shorter), those of the store, `Connect` where the address can't be listened on, and `Write` where
+/// it can't be printed, or what is left of a failed append can't be cut off. `Memory` where there was none. A connection that is closed
+/// before its end is reported on standard error, and ends nothing else.
 pub fn run_file(rt: &HostRuntime, running: &Running<'_>) -> Result<(), Failed> {
     let mut file = match OwnFile::to_read(rt, running.file) {
         Ok(file) => file,
         Err(failure) => return Err(failed_at(rt, running.file, failure)),
     };
-    let (store, has) = match store_of(rt, &mut file) {
+    let limit = bytes_of_mib(running.log_limit);
+    let (store, saver) = match open_to_run(rt, &mut file, limit) {
         Ok(both) => both,
         Err(failure) => return Err(failed_at(rt, running.file, failure)),
     };
     let core = ServerCore::new(rt.alloc(), store);
-    let memory = running.memory.saturating_mul(MIB);
     let limits = Limits {
         most: possible_most(rt, running.most)?,
         idle: running.idle.saturating_mul(1000),
-        memory: usize::try_from(memory).unwrap_or(usize::MAX),
+        memory: bytes_of_mib(running.memory),
         quiet: running.quiet,
     };
-    let saver = FileSaver { file, has };
     match run_service(rt, core, running.listen, limits, saver) {
         Ok(()) => Ok(()),
         Err(RunFault::Connect) => Err(not_listening(rt, running.listen)),
         Err(RunFault::Write) => Err(failed_at(rt, running.file, Failure::Fault("Write"))),
         Err(RunFault::Memory) => Err(Failed::from(Failure::Memory)),
+    }
+}
+
+// How many bytes so many MiB have.
+fn bytes_of_mib(count: u64) -> usize {
+    usize::try_from(count.saturating_mul(MIB)).unwrap_or(usize::MAX)
+}
+
+// The store of a file and its log, and what appends to that log. A log of more than so many bytes is made shorter first.
+fn open_to_run(
+    rt: &HostRuntime,
+    file: &mut OwnFile<'_>,
+    limit: usize,
+) -> Result<(Store<Lanes>, LogSaver), Failure>
+    ensures { IfOk result (λ it. it.1.has.version ≡ it.0.version) }
+{
+    let kept = kept_file(rt, file)?;
+    let kept = compacted_past(rt, file, kept, limit)?;
+    let opened = match open_log(rt, kept.own.name.as_str(), &kept.own.header) {
+        Ok(opened) => opened,
+        Err(fault) => return Err(log_failure(fault)),
+    };
+    if opened.read.torn > 0 {
+        let torn = opened.read.torn;
+        let line = format!(in rt.alloc(); "log: cut {torn} bytes\n")?;
+        say_line(&line);
+    }
+    let (store, has) = store_after(rt, kept.read, opened.publications())?;
+    match LogSaver::of(opened.into_log(), has) {
+        Some(saver) => Ok((store, saver)),
+        None => Err(BAD_LOG),
     }
 }
 

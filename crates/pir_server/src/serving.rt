@@ -5,9 +5,11 @@ ghost use Rattle.std.specs.Prelude.{◌≡◌, IfOk};
 use crate::causes::{failed_at, not_listening};
 use crate::command_line::Serving;
 use crate::file_version::FileVersion;
-use crate::files::{OwnFile, VersionOf, store_of, write_file};
+use crate::files::{OwnFile, VersionOf, kept_file, store_after, write_anew};
+use crate::logs::log_failure;
 use command_words::{Failed, Failure, printed};
 use connection_io::{piece_buffer, read_piece};
+use publication_log::{Publications, read_log_file};
 use session_core::{Lanes, ServeFault, ServerCore, Store, serve};
 use std::io;
 use std::net::{Ipv4Addr, Shutdown, SocketAddr, TcpListener, TcpStream};
@@ -22,13 +24,13 @@ const DRAIN_READS: u32 = 257;
 /// How many milliseconds one of these reads waits at most.
 const DRAIN_WAIT: u64 = 100;
 
-/// Serves a snapshot file over connections, one after the other. After each in which a version was published the file is
-/// replaced. No other process serves or replaces it meanwhile.
+/// Serves a snapshot file with its log over connections, one after the other. After each in which a version was published the file is
+/// replaced, and then needs no log. No other process serves or replaces it meanwhile.
 ///
 /// # Errors
 ///
 /// In this order: `File` where there is no file, `Locked` where another process has it, those of the snapshot, `Write` where the
-/// file can't be sent to the device, those of the store, `Connect` where the port can't be listened on, and after a connection
+/// file can't be sent to the device, those of its log (`File`, `BadLog`), those of the store, `Connect` where the port can't be listened on, and after a connection
 /// that published `File` where the file can't be made anew and `Write` where it can't be written. `Memory` where there was none. A
 /// connection that ends with a fault is reported on standard error, and ends nothing else.
 pub fn serve_file(rt: &HostRuntime, serving: &Serving<'_>) -> Result<(), Failed> {
@@ -36,7 +38,7 @@ pub fn serve_file(rt: &HostRuntime, serving: &Serving<'_>) -> Result<(), Failed>
         Ok(file) => file,
         Err(failure) => return Err(failed_at(rt, serving.file, failure)),
     };
-    let (store, mut saved) = match store_of(rt, &mut file) {
+    let (store, mut saved) = match open_to_serve(rt, &mut file) {
         Ok(both) => both,
         Err(failure) => return Err(failed_at(rt, serving.file, failure)),
     };
@@ -67,7 +69,22 @@ fn save_published(
     if store.version() == saved.number() {
         return Ok(saved);
     }
-    write_file(rt, file, &VersionOf(store))
+    write_anew(rt, file, &VersionOf(store))
+}
+
+// The store of a file and its log, and the version that both have. The log stays as it is, and none is made.
+fn open_to_serve(
+    rt: &HostRuntime,
+    file: &mut OwnFile<'_>,
+) -> Result<(Store<Lanes>, FileVersion), Failure>
+    ensures { IfOk result (λ it. it.1.version ≡ it.0.version) }
+{
+    let kept = kept_file(rt, file)?;
+    match read_log_file(rt, kept.own.name.as_str(), &kept.own.header) {
+        Ok(Some(log)) => store_after(rt, kept.read, log.publications()),
+        Ok(None) => store_after(rt, kept.read, Publications { rest: &[] }),
+        Err(fault) => Err(log_failure(fault)),
+    }
 }
 
 // Listens on a port of 127.0.0.1, and tells which one it is.

@@ -3,7 +3,7 @@
 ghost use Rattle.std.specs.Prelude.{◌≤◌};
 
 use crate::causes::failed_at;
-use crate::files::snapshot_of;
+use crate::pairs::{LogSize, Whole, whole_of};
 use command_words::{Failed, Failure, printed};
 use digit_pack::{is_slotted, read_slot};
 use session_core::{Layout, Scheme, Snapshot, answer_count, hint_len, is_certain, query_count};
@@ -18,12 +18,25 @@ const WORD_BYTES: u128 = 4;
 ///
 /// In this order: those of the file and the snapshot, `Write`. `Memory` where there was none.
 pub fn show(rt: &HostRuntime, name: &str) -> Result<(), Failed> {
-    let snapshot = match snapshot_of(rt, name) {
-        Ok(snapshot) => snapshot,
+    let Whole { snapshot, log } = match whole_of(rt, name) {
+        Ok(whole) => whole,
         Err(failure) => return Err(failed_at(rt, name, failure)),
     };
-    let text = description_of(rt.alloc(), &snapshot)?;
+    let mut text = description_of(rt.alloc(), &snapshot)?;
+    if let Some(size) = log {
+        let line = log_line(rt.alloc(), size)?;
+        text.push_str(&line)?;
+    }
     printed(rt, print!(rt; "{text}"))
+}
+
+// How many publications a log has, and how many bytes.
+fn log_line(alloc: Global, size: LogSize) -> Result<String, AllocError> {
+    let LogSize {
+        publications,
+        bytes,
+    } = size;
+    format!(in alloc; "log {publications} publications, {bytes} bytes\n")
 }
 
 // The lines of a snapshot.

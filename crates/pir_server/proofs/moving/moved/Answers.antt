@@ -12,18 +12,7 @@ returns-in-Ok c =
     let records : List ℕ = c.args.snapshot.now.records.items in
     let slots : List ℕ = c.in-Ok.moved.records.items in
     let is : header_of c.in-Ok.moved ≡ in_slots file = c.in-Ok.ensures.moved.header in
-    let sound : IsSound file records =
-    record {
-      sizes = record {
-        form = c.requires.file.accepted.form;
-        layout = c.requires.file.accepted.layout;
-        low = c.requires.file.accepted.dimension.0;
-        high = c.requires.file.accepted.dimension.1;
-      };
-      version = c.requires.file.accepted.version;
-      len = c.requires.file.len;
-      slots = c.requires.slots;
-    } in
+    let sound : IsSound file records = c.requires in
     let stay = c.migrated_records_stay.ensures file records slots sound c.in-Ok.ensures.moved.form c.in-Ok.ensures.moved.layout c.in-Ok.ensures.moved.slots in
     record {
       whole = c.requires;

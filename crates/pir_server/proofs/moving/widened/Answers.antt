@@ -11,18 +11,7 @@ returns-in-Ok c =
     let file : Header = header_of c.args.snapshot.now in
     let records : List ℕ = c.args.snapshot.now.records.items in
     let is : header_of c.in-Ok.wide ≡ in_wide file c.args.seed = c.in-Ok.ensures.widened.header in
-    let sound : IsSound file records =
-    record {
-      sizes = record {
-        form = c.requires.file.accepted.form;
-        layout = c.requires.file.accepted.layout;
-        low = c.requires.file.accepted.dimension.0;
-        high = c.requires.file.accepted.dimension.1;
-      };
-      version = c.requires.file.accepted.version;
-      len = c.requires.file.len;
-      slots = c.requires.slots;
-    } in
+    let sound : IsSound file records = c.requires in
     let stay = c.widened_records_stay.ensures file c.args.seed records sound c.in-Ok.ensures.widened.form c.in-Ok.ensures.widened.layout in
     record {
       whole = c.requires;

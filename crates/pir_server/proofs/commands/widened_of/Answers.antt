@@ -1,0 +1,4 @@
+use Rattle.pir_server.proofs.commands.widened_of.Goals as goal
+
+pub returns : goal.returns
+returns c = (c.in_ok-whole.whole.snapshot, c.in_ok-wide.ensures)
