@@ -1,8 +1,8 @@
 /* Loaded before the C library: notes each call that opens, writes, cuts, syncs, renames, removes or locks a file below the folder
    TRACE_UNDER, or makes a folder there, as a line of the file whose number is in TRACE_TO: what was done, and the path. The call whose
-   number, counted from 1, is in TRACE_AT fails with the error of the number TRACE_ERROR; without one the process is killed before the call.
-   A line is noted, too, for each socket that is listened on, each wait for connections and each try to accept one; if ACCEPT_ERROR is
-   given, such a try fails with it.
+   number, counted from 1, is in TRACE_AT, which may have several with a comma between, fails with the error of the number TRACE_ERROR;
+   without one the process is killed before the call. A line is noted, too, for each socket that is listened on, each wait for
+   connections, each send and each try to accept one; if ACCEPT_ERROR is given, such a try fails with it.
 
    No header is read, so that a compiler without the C library's will do. The numbers are those of Linux on x86-64. */
 typedef unsigned long size;
@@ -13,8 +13,8 @@ extern long syscall(long, ...);
 extern int *__errno_location(void);
 
 enum {
-    WRITE = 1, OPEN = 2, GETPID = 39, LISTEN = 50, KILL = 62, FLOCK = 73, FSYNC = 74, FDATASYNC = 75, FTRUNCATE = 77, RENAME = 82, MKDIR = 83,
-    UNLINK = 87, READLINK = 89, EPOLL_WAIT = 232, OPENAT = 257, UNLINKAT = 263, ACCEPT4 = 288
+    WRITE = 1, OPEN = 2, GETPID = 39, SENDTO = 44, LISTEN = 50, KILL = 62, FLOCK = 73, FSYNC = 74, FDATASYNC = 75, FTRUNCATE = 77, RENAME = 82,
+    MKDIR = 83, UNLINK = 87, READLINK = 89, EPOLL_WAIT = 232, OPENAT = 257, UNLINKAT = 263, ACCEPT4 = 288
 };
 
 enum { TO_CREATE = 0100, TO_WRITE = 3, HERE = -100, BY_FORCE = 9, LONGEST = 4096 };
@@ -54,12 +54,24 @@ static void note(const char *what, const char *path)
     syscall(WRITE, (long)atoi(getenv("TRACE_TO")), line, at);
 }
 
+/* Whether a number is one of some with a comma between. */
+static int is_listed(const char *numbers, int number)
+{
+    while (numbers && *numbers) {
+        if (atoi(numbers) == number)
+            return 1;
+        while (*numbers && *numbers++ != ',')
+            ;
+    }
+    return 0;
+}
+
 /* Notes a call, and says whether it is to fail. */
 static int fails(const char *what, const char *path)
 {
     const char *at = getenv("TRACE_AT"), *error = getenv("TRACE_ERROR");
     noted++;
-    if (at && noted == atoi(at)) {
+    if (is_listed(at, noted)) {
         if (!error)
             syscall(KILL, syscall(GETPID), (long)BY_FORCE);
         *__errno_location() = atoi(error);
@@ -152,6 +164,15 @@ int listen(int socket, int count)
         note("listen", 0);
     return (int)syscall(LISTEN, (long)socket, (long)count);
 }
+
+long sendto(int socket, const void *bytes, size count, int flags, const void *address, unsigned length)
+{
+    if (getenv("TRACE_TO"))
+        note("send", 0);
+    return syscall(SENDTO, (long)socket, bytes, count, (long)flags, address, (long)length);
+}
+
+long send(int socket, const void *bytes, size count, int flags) { return sendto(socket, bytes, count, flags, 0, 0); }
 
 int epoll_wait(int poll, void *events, int most, int time)
 {

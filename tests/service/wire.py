@@ -37,6 +37,10 @@ def edit(index, record):
     return frame(0x06, struct.pack("<I", index) + record)
 
 
+def append(record):
+    return frame(0x09, record)
+
+
 class Connection:
     """One connection to a server."""
 
@@ -103,13 +107,14 @@ class Connection:
 class Server:
     """A server's process, which listens."""
 
-    def __init__(self, program, *words, prepare=None, keep_signals=False, errors=subprocess.PIPE, more=None):
+    def __init__(self, program, *words, prepare=None, keep_signals=False, errors=subprocess.PIPE, more=None, passed=()):
         self.process = subprocess.Popen(
             [program, *words],
             stdin=subprocess.DEVNULL,
             stdout=subprocess.PIPE,
             stderr=errors,
             preexec_fn=prepare,
+            pass_fds=passed,
             env={**os.environ, **(more or {})},
             # Python ignores SIGXFSZ, and a process that is to see that a file is too large needs it ignored, too.
             restore_signals=not keep_signals,
@@ -149,12 +154,18 @@ class Server:
 
 
 def files_limited_to(count):
-    """What a process does before it begins so that its files have at most so many bytes."""
+    """What a process does before it begins so that its files have at most so many bytes, until `let_have_more`."""
 
     def prepare():
-        resource.setrlimit(resource.RLIMIT_FSIZE, (count, count))
+        resource.setrlimit(resource.RLIMIT_FSIZE, (count, resource.getrlimit(resource.RLIMIT_FSIZE)[1]))
 
     return prepare
+
+
+def let_have_more(process):
+    """Takes the limit of `files_limited_to` from a process."""
+    most = resource.prlimit(process.pid, resource.RLIMIT_FSIZE)[1]
+    resource.prlimit(process.pid, resource.RLIMIT_FSIZE, (most, most))
 
 
 def descriptors_limited_to(count):
