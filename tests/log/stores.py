@@ -172,6 +172,8 @@ def published(port, changes, key=wire.KEY):
     """Publishes changes: the version, or None, or the code of a refusal of the publication."""
     try:
         with Connection(port, key) as it:
+            if it.welcome is None or it.welcome[0] != wire.WELCOME:
+                return None
             it.send(frames_of(changes, count_of(it)) + wire.PUBLISH)
             said = [it.reply() for _ in range(len(changes) + 1)][-1]
             return said and (struct.unpack("<Q", said[1])[0] if said[0] == wire.DONE else f"refused {said[1][0]}")
@@ -227,8 +229,15 @@ def got(port, index, state=None):
 def version_at(port):
     if not port:
         return None
-    with Connection(port, wire.READER) as reader:
-        return version_of(reader)
+    # A connection to which memory is refused ends without a Welcome; the next one has it, unless the server has ended.
+    for _ in range(3):
+        try:
+            with Connection(port, wire.READER) as reader:
+                if reader.welcome and reader.welcome[0] == wire.WELCOME:
+                    return version_of(reader)
+        except OSError:
+            return None
+    return None
 
 
 def of_header(snapshot):
