@@ -1,6 +1,6 @@
 //! Words of command lines as values, and how a command that was not done says so.
 //!
-//! Its tests are in `tests`, and those of the words themselves in `tests/command_line`.
+//! Its tests are in tests/long/command_words and in `world_tests`, and those of the words themselves in `tests/command_line`.
 #![tactic(auto)]
 
 mod arguments;
@@ -20,6 +20,3 @@ pub use failure::Failure;
 pub use options::{number_at, option, text_at, verbose_flag, word};
 pub use secrets::{Secret, SecretFiles, key_at, seed_at};
 pub use words::{bytes_from_hex, bytes32_from_hex, decimal, publisher_key, record_bytes};
-
-#[cfg(test)]
-mod tests;

@@ -3,6 +3,8 @@
 //! `specs/Files.antt` defines the bytes. What is read is what was written: the file has a digest of its head and one of each
 //! part of its words, and other bytes are refused. So the parts with the rows of one record can be read alone. Nothing here
 //! knows a folder: whoever keeps a hint, in a file or elsewhere, writes and reads these bytes.
+//!
+//! Its tests are in tests/long/hint_file and in `session_tests`.
 #![tactic(auto)]
 
 mod digests;
@@ -20,6 +22,3 @@ pub use hints::{HintFile, KeptHint, WriteFault, hint_file, hint_file_len};
 pub use parts::{PartSpan, parts_for, parts_in, place_of, serves};
 pub use reading::{read_hint, read_old_hint};
 pub use texts::{file_name, state_lines};
-
-#[cfg(test)]
-mod tests;

@@ -10,6 +10,8 @@
 //! A log is opened by [`open_log`], which cuts a torn end off; its publications are read by [`Publications`] and
 //! [`Changes`], one after another. [`PublicationBuilder`] makes the next one, and [`Log::append`] appends it. [`relinked`] makes
 //! the log of a later snapshot of the last publications.
+//!
+//! Its tests are in tests/long/publication_log and in `frame_tests`.
 #![tactic(auto)]
 
 mod builder;
@@ -31,6 +33,3 @@ pub use log::{AppendFault, CutFault, Disk, DiskFailed, Log, LogEnd};
 pub use opened::{OpenedLog, ReadLog};
 pub use reading::{BadLog, Found, Publications, ReadFault, read_log};
 pub use relinking::relinked;
-
-#[cfg(test)]
-mod tests;

@@ -1,9 +1,11 @@
-//! Tests of the world and of its scripts.
+//! Tests of the world and of its scripts, and of the words of command lines.
 //!
-//! The gate proves a crate that has tests twice, once with them. The tests of `pir_world` and `rehearsal`
+//! The gate proves a crate that has tests twice, once with them. The tests of `pir_world`, `rehearsal` and `command_words`
 //! make public calls alone, so they stand here, above them all. Those in `src` are proved over what these calls promise, and then run.
 //! The others are modules in `tests/long/world_tests`, which the gate runs alone, and which `tests/long/run --prove` proves.
 #![tactic(auto)]
 
+#[cfg(test)]
+mod words;
 #[cfg(test)]
 mod world;

@@ -1,4 +1,5 @@
 //! Words that are taken and refused, and the lines of failures.
+//! Proved by `tests/long/run --prove`.
 
 use crate::secrets::{file_in, line_of};
 use crate::{Failure, Secret, bytes32_from_hex, decimal, publisher_key, record_bytes};

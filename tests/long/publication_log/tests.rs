@@ -1,7 +1,4 @@
-//! Tests of logs: worked bytes. Those of torn and damaged bytes, of a disk that fails and of a real file are in
-//! `tests/long/publication_log`.
-
-mod worked;
+//! Tests of logs: worked bytes, torn and damaged bytes, a disk that fails, and a real file.
 
 ghost use Rattle.std.specs.Prelude.{◌≡◌, IfOk};
 

@@ -1,4 +1,5 @@
 //! The file of a small hint, written, read and changed.
+//! Proved by `tests/long/run --prove`.
 
 use crate::heads::MOST_HEAD;
 use crate::sealing::digest_of;
