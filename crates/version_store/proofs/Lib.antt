@@ -19,3 +19,4 @@ pub mod KeptBytes
 pub mod Migrated
 pub mod Grown
 pub mod GrownLayer
+pub mod RecordsPut

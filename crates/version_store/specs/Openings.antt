@@ -26,6 +26,11 @@ pub record IsSound (h : Header) (records : List ℕ) : Type 0 where
   pub len : length records ≡ records_len h
   pub slots : has_slots h records ≡ true
 
+-- what a store is opened with: the fields of its snapshot, and the bytes of its records
+pub record Unopened : Type 0 where
+  pub header : Header
+  pub bytes : List ℕ
+
 -- the first cause that stands
 abbrev pub IsOpenFault : Header → List ℕ → OpenError → Type 0
 IsOpenFault h records BadLayout = ¬ HasSizes h
@@ -36,6 +41,10 @@ IsOpenFault h records Memory = IsSound h records
 -- what a snapshot says of every version
 abbrev pub plan_held : Header → Plan
 plan_held h = plan_of h.form (shape_of h) h.dimension h.seed
+
+-- the records that bytes hold for the fields of a snapshot
+abbrev pub records_for : Header → List ℕ → List (List ℕ)
+records_for h bytes = records_held (plan_held h) h.count bytes
 
 -- what a store of a snapshot holds: its records as the only version, and as the draft
 abbrev pub held_of : Header → List ℕ → StoreState

@@ -252,7 +252,7 @@ impl FirstLayer {
 }
 
 // Room for the bytes that a record has in the digits. They are not said, which keeps them out of the proofs.
-fn slot_room() -> [u8; MAX_RECORD_LEN] {
+pub(crate) fn slot_room() -> [u8; MAX_RECORD_LEN] {
     [0; MAX_RECORD_LEN]
 }
 

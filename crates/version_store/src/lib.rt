@@ -13,6 +13,7 @@ mod opening;
 mod row_marks;
 mod rows;
 mod store;
+mod unopened;
 
 pub use answer_room::AnswerRoom;
 pub use opening::{OpenError, plan_in};
@@ -22,3 +23,4 @@ pub use snapshot_file::{
     read_snapshot_and_digest, snapshot_digest,
 };
 pub use store::{AppendError, EditError, PublishError, Store, write_snapshot};
+pub use unopened::Opening;

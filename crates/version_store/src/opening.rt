@@ -8,7 +8,7 @@ ghost use Rattle.version_store.specs.Names.{open_fault_name};
 
 use digit_pack::Layout;
 use pir_schemes::Plan;
-use snapshot_file::{MAX_DIMENSION, Snapshot};
+use snapshot_file::{Header, MAX_DIMENSION, Snapshot};
 use std::alloc::AllocError;
 use thiserror::Error;
 
@@ -59,13 +59,20 @@ impl From<AllocError> for OpenError {
 pub fn plan_in(snapshot: &Snapshot) -> Plan
     ensures { result ≡ plan_held (header_of snapshot.now) }
 {
+    plan_of(&snapshot.header())
+}
+
+/// What the fields of a snapshot say of every version of its records.
+pub(crate) fn plan_of(header: &Header) -> Plan
+    ensures { result ≡ plan_held header.now }
+{
     Plan {
-        form: u16::from(snapshot.form),
-        width: snapshot.width,
-        record_len: snapshot.record_len,
-        groups: snapshot.groups,
-        dimension: snapshot.dimension,
-        seed: snapshot.seed,
+        form: u16::from(header.form),
+        width: header.width,
+        record_len: header.record_len,
+        groups: header.groups,
+        dimension: header.dimension,
+        seed: header.seed,
     }
 }
 

@@ -1,0 +1,106 @@
+-- A snapshot's record bytes with one record replaced, or with one more.
+use Rattle.std.proofs.Common.{◌≡◌, ◌∙◌, ℕ, ◌+◌, ◌*◌, ◌≤◌, List, [], ◌∷◌, ◌++◌, Bool, true, length, take, drop, map, slice_set, refl, sym, ap, subst, arith}
+use Rattle.std.specs.List.{list_all}
+use Rattle.std.proofs.lemmas.Bool.{and_from, and_parts}
+use Rattle.std.proofs.lemmas.Nat.{row_fits}
+use Rattle.std.proofs.lemmas.List.{length-append, length-drop, map-append, take_all, take-append-le, drop-append-le}
+use Rattle.std.proofs.lemmas.List.FromFn.{map-range_with_len_more}
+use Rattle.std.proofs.Math.Seq.{drop-append-add}
+use Rattle.matrix_u32.specs.Sum.{list_of}
+use Rattle.matrix_u32.proofs.Products.{same-list_of}
+use Rattle.digit_pack.specs.Layout.{Shape, IsLayout, records_in}
+use Rattle.pir_schemes.specs.Plans.{IsPlan, shape_at, fits, slot, is_slot_of, content}
+use Rattle.pir_schemes.proofs.Quiet.{slot_holds}
+use Rattle.pir_schemes.proofs.SlotLists.{all_slots}
+use Rattle.snapshot_file.specs.declared.snapshot.Header.{Header}
+use Rattle.snapshot_file.specs.Snapshots.{shape_of, has_slots}
+use Rattle.version_store.specs.Openings.{IsSound, plan_held, records_for}
+use Rattle.version_store.proofs.Slotted.{held_replaced, good_again, held_slots}
+
+-- the bytes of records, and those of one more after them
+pub one_after : (l m : Shape) (bytes s : List ℕ) → m.record_len ≡ l.record_len → m.count ≡ l.count + 1 → length bytes ≡ l.count * l.record_len →
+    length s ≡ l.record_len → records_in m (bytes ++ s) ≡ records_in l bytes ++ s ∷ []
+one_after l m bytes s len count long size =
+    let r : ℕ = l.record_len in
+    let f : ℕ → List ℕ = λ i. take r (drop (i * r) (bytes ++ s)) in
+    let end : l.count * r ≡ length bytes + 0 = omega (arith, long) in
+    let last : f l.count ≡ s =
+    ap (λ (k : ℕ). take r (drop k (bytes ++ s))) end ∙ ap (take r) (drop-append-add bytes s 0) ∙ take_all r s (omega (arith, size)) in
+    ap (λ (k : ℕ). list_of k (λ i. take m.record_len (drop (i * m.record_len) (bytes ++ s)))) count
+    ∙ ap (λ (n : ℕ). list_of (l.count + 1) (λ i. take n (drop (i * n) (bytes ++ s)))) len
+    ∙ map-range_with_len_more f 0 l.count l.count (omega arith)
+    ∙ ap (λ (xs : List (List ℕ)). xs ++ f l.count ∷ [])
+    (same-list_of l.count f (λ i. take r (drop (i * r) bytes)) (λ i lt.
+    let room : i * r + r ≤ l.count * r = row_fits i r l.count r lt (omega arith) in
+    ap (take r) (drop-append-le (i * r) bytes s (omega (arith, room, long)))
+    ∙ take-append-le r (drop (i * r) bytes) s (omega (arith, room, long, length-drop (i * r) bytes))))
+    ∙ ap (λ (x : List ℕ). records_in l bytes ++ x ∷ []) last
+
+pub all_push : (f : List ℕ → Bool) (xs : List (List ℕ)) (y : List ℕ) → list_all f xs ≡ true → f y ≡ true → list_all f (xs ++ y ∷ []) ≡ true
+all_push f [] y all last = and_from _ _ last refl
+all_push f (x ∷ xs) y all last =
+    let parts = and_parts _ _ all in
+    and_from _ _ parts.0 (all_push f xs y parts.1 last)
+
+pub plan_is : (h : Header) (old : List ℕ) → IsSound h old → IsPlan (plan_held h) h.count
+plan_is h old sound = record { form = sound.sizes.form; layout = sound.sizes.layout; low = sound.sizes.low; high = sound.sizes.high }
+
+-- ---- one record is replaced
+
+module _ (h : Header) (old new : List ℕ) (l : Shape) (i : ℕ) (bytes : List ℕ) (sound : IsSound h old) (sizes : l ≡ shape_at (plan_held h) h.count)
+    (room : fits (plan_held h) bytes ≡ true) (written : records_in l new ≡ slice_set (records_in l old) i (slot (plan_held h) bytes)) where
+  here : records_in (shape_of h) new ≡ slice_set (records_in (shape_of h) old) i (slot (plan_held h) bytes)
+  here = subst (λ (s : Shape). records_in s new ≡ slice_set (records_in s old) i (slot (plan_held h) bytes)) sizes written
+
+  pub record_put : records_for h new ≡ slice_set (records_for h old) i bytes
+  record_put = held_replaced (plan_held h) (shape_of h) old new i bytes (plan_is h old sound) refl room here
+
+  pub sound_put : length new ≡ length old → IsSound h new
+  unfolding has_slots
+  sound_put long = record {
+    sizes = sound.sizes;
+    version = sound.version;
+    len = long ∙ sound.len;
+    slots = sym (all_slots (plan_held h) (records_in (shape_of h) new))
+        ∙ good_again (plan_held h) (shape_of h) old new i bytes (plan_is h old sound) refl room here (held_slots h old sound.slots);
+  }
+
+-- ---- one record more
+
+-- the fields of as many records and one more
+abbrev pub one_more : Header → Header
+one_more h = record h { count = h.count + 1 }
+
+module _ (h : Header) (old bytes : List ℕ) (sound : IsSound h old) (layout : IsLayout (shape_at (plan_held h) (h.count + 1)))
+    (room : fits (plan_held h) bytes ≡ true) (size : length (slot (plan_held h) bytes) ≡ h.record_len) where
+  added : records_in (shape_of (one_more h)) (old ++ slot (plan_held h) bytes) ≡ records_in (shape_of h) old ++ slot (plan_held h) bytes ∷ []
+  added = one_after (shape_of h) (shape_of (one_more h)) old (slot (plan_held h) bytes) refl refl sound.len size
+
+  pub record_added : records_for (one_more h) (old ++ slot (plan_held h) bytes) ≡ records_for h old ++ bytes ∷ []
+  record_added =
+      ap (map (content (plan_held h))) added
+      ∙ map-append (content (plan_held h)) (records_in (shape_of h) old) (slot (plan_held h) bytes ∷ [])
+      ∙ ap (λ (b : List ℕ). records_for h old ++ b ∷ []) (slot_holds (plan_held h) h.count bytes (plan_is h old sound) room).1
+
+  pub sound_added : IsSound (one_more h) (old ++ slot (plan_held h) bytes)
+  unfolding has_slots
+  sound_added = record {
+    sizes = record { form = sound.sizes.form; layout = layout; low = sound.sizes.low; high = sound.sizes.high };
+    version = sound.version;
+    len = omega (arith, length-append old (slot (plan_held h) bytes), sound.len, size);
+    slots = sym (all_slots (plan_held h) (records_in (shape_of (one_more h)) (old ++ slot (plan_held h) bytes)))
+        ∙ ap (list_all (is_slot_of (plan_held h))) added
+        ∙ all_push (is_slot_of (plan_held h)) (records_in (shape_of h) old) (slot (plan_held h) bytes) (held_slots h old sound.slots)
+        (slot_holds (plan_held h) h.count bytes (plan_is h old sound) room).0;
+  }
+
+-- ---- another version
+
+pub sound_version : (h : Header) (bytes : List ℕ) (version : ℕ) → 1 ≤ version → IsSound h bytes → IsSound (record h { version = version }) bytes
+unfolding has_slots
+sound_version h bytes version some sound = record {
+  sizes = record { form = sound.sizes.form; layout = sound.sizes.layout; low = sound.sizes.low; high = sound.sizes.high };
+  version = some;
+  len = sound.len;
+  slots = sound.slots;
+}
