@@ -6,3 +6,4 @@ pub mod Unique
 pub mod Stages
 pub mod Migrating
 pub mod Pieces
+pub mod Received

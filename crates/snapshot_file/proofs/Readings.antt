@@ -1,5 +1,5 @@
 -- From what was read to what is answered.
-use Rattle.std.proofs.Common.{◌≡◌, ◌⊎◌, ℕ, suc, ◌<◌, List, [], ◌∷◌, slice_index, drop, ◌++◌, length, Option, Some, None, IfSome, inl, inr, refl, sym, ap, subst, ◌∙◌, append_assoc, arith}
+use Rattle.std.proofs.Common.{◌≡◌, ◌⊎◌, ℕ, suc, ◌<◌, List, [], ◌∷◌, slice_index, drop, ◌++◌, length, Option, Some, None, IfSome, inl, inr, refl, sym, ap, subst, ◌∙◌, append_assoc, arith, ◌+◌, ◌≤◌}
 use Rattle.std.proofs.lemmas.List.{length-append, length-drop, append-nil, take_at}
 use Rattle.std.specs.Io.KnownBytes.{Consumes, IsAtEnd}
 use Rattle.sha2.specs.Sha256.{sha256}
@@ -163,3 +163,27 @@ pub whole_input : (a b : Option (List ℕ)) (read : List ℕ) → Consumes a b r
 whole_input None b read p e = tt
 whole_input (Some xs) None read p e = absurd p
 whole_input (Some xs) (Some ys) read p e = p ∙ ap (λ (x : List ℕ). read ++ x) e ∙ append-nil read
+
+-- the end, or a failed read, in a piece that is wanted after others
+pub below_more : (fault : SnapshotFault) (before part : List ℕ) (n wanted : ℕ) (left : Option (List ℕ)) → length before + n ≤ wanted →
+    EndsBelow n fault part left → EndsBelow wanted fault (before ++ part) left
+below_more faults.Short before part n wanted left le d = (omega (arith, length-append before part, d.0), d.1)
+below_more faults.Read before part n wanted left le d = omega (arith, length-append before part, d)
+below_more faults.Memory before part n wanted left le d = absurd d
+below_more faults.BadSlot before part n wanted left le d = absurd d
+below_more faults.NotSnapshot before part n wanted left le d = absurd d
+below_more faults.BadLayout before part n wanted left le d = absurd d
+below_more faults.BadDigest before part n wanted left le d = absurd d
+below_more faults.TrailingBytes before part n wanted left le d = absurd d
+
+-- the end, or a failed read, and no memory is wanted
+pub kept_below : (fault : SnapshotFault) (wanted : ℕ) (part : List ℕ) (left : Option (List ℕ)) → EndsBelow wanted fault part left →
+    EndsKept wanted fault part left
+kept_below faults.Short wanted part left d = d
+kept_below faults.Read wanted part left d = d
+kept_below faults.Memory wanted part left d = absurd d
+kept_below faults.BadSlot wanted part left d = absurd d
+kept_below faults.NotSnapshot wanted part left d = absurd d
+kept_below faults.BadLayout wanted part left d = absurd d
+kept_below faults.BadDigest wanted part left d = absurd d
+kept_below faults.TrailingBytes wanted part left d = absurd d

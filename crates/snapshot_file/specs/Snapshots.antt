@@ -54,6 +54,10 @@ header_of s = record {
 abbrev pub shape_of : Header → Shape
 shape_of h = shape_in h.form h.width h.record_len h.groups h.count
 
+-- the same fields for so many records
+abbrev pub with_count : ℕ → Header → Header
+with_count n h = record h { count = n }
+
 -- how many bytes its records have together
 abbrev pub records_len : Header → ℕ
 records_len h = h.count * h.record_len

@@ -11,6 +11,7 @@ mod header;
 pub mod laws;
 mod migration;
 mod reading;
+mod receiving;
 mod snapshot;
 mod streaming;
 mod widening;
@@ -18,7 +19,8 @@ mod writing;
 
 pub use header::snapshot_digest;
 pub use migration::{MigrateError, migrate};
-pub use reading::{read_snapshot, read_snapshot_and_digest};
+pub use reading::{read_after_header, read_header, read_snapshot, read_snapshot_and_digest};
+pub use receiving::{RecordSink, read_records_into};
 pub use snapshot::{Header, MAX_DIMENSION, Snapshot, SnapshotFault, WriteFault};
 pub use streaming::{RecordSource, write_snapshot_from};
 pub use widening::{WidenError, widen};

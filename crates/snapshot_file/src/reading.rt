@@ -46,7 +46,7 @@ use std::alloc::{AllocError, Global};
 use std::io::Read;
 
 // As many bytes as there is room for.
-fn fill<R: Read>(reader: &mut R, out: &mut [u8]) -> Result<(), SnapshotFault>
+pub(crate) fn fill<R: Read>(reader: &mut R, out: &mut [u8]) -> Result<(), SnapshotFault>
     ensures ok { OnOk result (Consumes (R.remaining reader.old) (R.remaining reader.new) out.new) }
     ensures err { IfErr result (λ fault. (part : List ℕ) ×
         Consumes (R.remaining reader.old) (R.remaining reader.new) part
@@ -64,7 +64,7 @@ fn fill<R: Read>(reader: &mut R, out: &mut [u8]) -> Result<(), SnapshotFault>
 }
 
 // The next N bytes.
-fn read_array<const N: usize, R: Read>(reader: &mut R) -> Result<[u8; N], SnapshotFault>
+pub(crate) fn read_array<const N: usize, R: Read>(reader: &mut R) -> Result<[u8; N], SnapshotFault>
     ensures ok { IfOk result (λ bytes. (length bytes ≡ N) ×
         Consumes (R.remaining reader.old) (R.remaining reader.new) bytes) }
     ensures err { IfErr result (λ fault. (part : List ℕ) ×
@@ -124,8 +124,12 @@ fn read_fields<R: Read>(reader: &mut R, form: u8) -> Result<Header, SnapshotFaul
     }
 }
 
-// An accepted header.
-fn read_header<R: Read>(reader: &mut R) -> Result<Header, SnapshotFault>
+/// Reads an accepted header, and nothing after it. It takes no memory.
+///
+/// # Errors
+///
+/// Those of [`read_snapshot`] that a header makes, each with the byte that makes it.
+pub fn read_header<R: Read>(reader: &mut R) -> Result<Header, SnapshotFault>
     ensures ok { IfOk result (λ h. IsHeader h × IsAccepted h ×
         Consumes (R.remaining reader.old) (R.remaining reader.new) (header_bytes h)) }
     ensures err { IfErr result (λ fault. (read : List ℕ) ×
@@ -220,7 +224,7 @@ fn read_by_pieces<R: Read>(
 }
 
 // Nothing more.
-fn read_end<R: Read>(reader: &mut R) -> Result<(), SnapshotFault>
+pub(crate) fn read_end<R: Read>(reader: &mut R) -> Result<(), SnapshotFault>
     ensures ok { OnOk result (Consumes (R.remaining reader.old) (R.remaining reader.new) [] ×
         IsAtEnd (R.remaining reader.new)) }
     ensures err { IfErr result (λ fault. (part : List ℕ) ×
@@ -309,6 +313,31 @@ pub fn read_snapshot_and_digest<R: Read>(
         × StopsReadingAt fault read (R.remaining reader.new)) }
 {
     let header = read_header(reader)?;
+    read_after_header(alloc, reader, header)
+}
+
+/// Reads what follows an accepted header, as [`read_snapshot_and_digest`] does.
+///
+/// # Errors
+///
+/// Those of [`read_snapshot`] that come after a header, each with the byte that makes it.
+pub fn read_after_header<R: Read>(
+    alloc: Global,
+    reader: &mut R,
+    header: Header,
+) -> Result<(Snapshot, [u8; DIGEST_LEN]), SnapshotFault>
+    requires header { IsHeader header }
+    requires accepted { IsAccepted header }
+    ensures header { IfOk result (λ s. header_of s.0 ≡ header) }
+    ensures ok { IfOk result (λ s. IsSnapshot header s.0.records.items
+        × Consumes (R.remaining reader.old) (R.remaining reader.new)
+        (s.0.records.items ++ sha256 (hashed_bytes header s.0.records.items))
+        × IsAtEnd (R.remaining reader.new)) }
+    ensures digest { IfOk result (λ s. s.1 ≡ sha256 (hashed_bytes header s.0.records.items)) }
+    ensures err { IfErr result (λ fault. (read : List ℕ) ×
+        Consumes (R.remaining reader.old) (R.remaining reader.new) read
+        × StopsReadingAt fault (header_bytes header ++ read) (R.remaining reader.new)) }
+{
     let (records, digest) = read_body(alloc, reader, &header)?;
     if !header.has_slots(&records) {
         return Err(SnapshotFault::BadSlot);
