@@ -20,3 +20,4 @@ pub mod Migrated
 pub mod Grown
 pub mod GrownLayer
 pub mod RecordsPut
+pub mod KeptDigits

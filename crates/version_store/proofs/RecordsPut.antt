@@ -14,27 +14,9 @@ use Rattle.pir_schemes.proofs.Quiet.{slot_holds}
 use Rattle.pir_schemes.proofs.SlotLists.{all_slots}
 use Rattle.snapshot_file.specs.declared.snapshot.Header.{Header}
 use Rattle.snapshot_file.specs.Snapshots.{shape_of, has_slots}
+use Rattle.snapshot_file.proofs.Received.{one_after}
 use Rattle.version_store.specs.Openings.{IsSound, plan_held, records_for}
 use Rattle.version_store.proofs.Slotted.{held_replaced, good_again, held_slots}
-
--- the bytes of records, and those of one more after them
-pub one_after : (l m : Shape) (bytes s : List ℕ) → m.record_len ≡ l.record_len → m.count ≡ l.count + 1 → length bytes ≡ l.count * l.record_len →
-    length s ≡ l.record_len → records_in m (bytes ++ s) ≡ records_in l bytes ++ s ∷ []
-one_after l m bytes s len count long size =
-    let r : ℕ = l.record_len in
-    let f : ℕ → List ℕ = λ i. take r (drop (i * r) (bytes ++ s)) in
-    let end : l.count * r ≡ length bytes + 0 = omega (arith, long) in
-    let last : f l.count ≡ s =
-    ap (λ (k : ℕ). take r (drop k (bytes ++ s))) end ∙ ap (take r) (drop-append-add bytes s 0) ∙ take_all r s (omega (arith, size)) in
-    ap (λ (k : ℕ). list_of k (λ i. take m.record_len (drop (i * m.record_len) (bytes ++ s)))) count
-    ∙ ap (λ (n : ℕ). list_of (l.count + 1) (λ i. take n (drop (i * n) (bytes ++ s)))) len
-    ∙ map-range_with_len_more f 0 l.count l.count (omega arith)
-    ∙ ap (λ (xs : List (List ℕ)). xs ++ f l.count ∷ [])
-    (same-list_of l.count f (λ i. take r (drop (i * r) bytes)) (λ i lt.
-    let room : i * r + r ≤ l.count * r = row_fits i r l.count r lt (omega arith) in
-    ap (take r) (drop-append-le (i * r) bytes s (omega (arith, room, long)))
-    ∙ take-append-le r (drop (i * r) bytes) s (omega (arith, room, long, length-drop (i * r) bytes))))
-    ∙ ap (λ (x : List ℕ). records_in l bytes ++ x ∷ []) last
 
 pub all_push : (f : List ℕ → Bool) (xs : List (List ℕ)) (y : List ℕ) → list_all f xs ≡ true → f y ≡ true → list_all f (xs ++ y ∷ []) ≡ true
 all_push f [] y all last = and_from _ _ last refl

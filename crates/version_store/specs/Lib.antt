@@ -7,3 +7,4 @@ pub mod Openings
 pub mod Rooms
 pub mod Laws
 pub mod Names
+pub mod KeptRecords

@@ -5,6 +5,7 @@
 
 mod answer_room;
 mod columns;
+mod digit_records;
 mod drafts;
 mod edition;
 mod first_layer;

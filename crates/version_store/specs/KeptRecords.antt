@@ -1,0 +1,27 @@
+-- Records that are kept in digits alone.
+use Rattle.std.specs.Prelude.{◌≡◌, ◌≤◌, ◌<◌, ◌*◌, ◌^◌, ℕ, List, All, length}
+use Rattle.std.specs.List.{flat_map}
+use Rattle.matrix_u32.specs.Matrix.{WordMatrix}
+use Rattle.digit_pack.specs.Layout.{Shape, IsLayout, digit_matrix, records_in}
+use Rattle.digit_pack.specs.Held.{records_in_digits}
+
+-- the sizes of records, and the bytes of as many of them as there are, one after another
+pub record KeptRecords : Type 0 where
+  pub shape : Shape
+  pub bytes : List ℕ
+
+-- the same sizes for so many records
+abbrev pub counted : Shape → ℕ → Shape
+counted l n = record l { count = n }
+
+-- the bytes of the first n records that a digit matrix holds, one after another
+abbrev pub bytes_in_digits : Shape → ℕ → WordMatrix → List ℕ
+bytes_in_digits l n digits = flat_map (λ bytes. bytes) (records_in_digits (counted l n) digits)
+
+-- a digit matrix that is made of the first n records of a layout
+pub record IsKept (l : Shape) (n : ℕ) (digits : WordMatrix) : Type 0 where
+  pub layout : IsLayout l
+  pub few : n ≤ l.count
+  pub small : All (λ b. b < 2 ^ 8) (bytes_in_digits l n digits)
+  pub len : length (bytes_in_digits l n digits) ≡ n * l.record_len
+  pub digits_are : digits ≡ digit_matrix l (records_in (counted l n) (bytes_in_digits l n digits))

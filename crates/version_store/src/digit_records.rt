@@ -1,0 +1,159 @@
+//! Records that are kept in their digits alone.
+
+ghost use Rattle.std.specs.Prelude.{◌≡◌, ◌≤◌, ◌<◌, ◌+◌, ◌*◌, ◌++◌, [], length, IfOk, OnOk, OnErr, slice_set};
+ghost use Rattle.digit_pack.specs.Columns.{WritesColumn};
+ghost use Rattle.digit_pack.specs.Layout.{digit_rows, digit_cols, digit_matrix, first_row, column_of, record_digits, records_in};
+ghost use Rattle.version_store.specs.KeptRecords.{counted};
+
+use crate::first_layer::Digits;
+use digit_pack::{DigitStore, Layout, copy_record, digits_of_records, pack, write_digits};
+use snapshot_file::{RecordSink, RecordSource};
+use std::alloc::{AllocError, Global};
+use std::marker::Model;
+
+/// How many digits a record has at most: 256 bytes in digits of 6 bits.
+const MOST_DIGITS: usize = 342;
+
+/// The first records of a layout, kept in its digits alone. A contract sees it as the layout and the records' bytes.
+#[derive(Drop)]
+pub struct DigitRecords {
+    layout: Layout,
+    digits: Digits,
+    taken: usize,
+}
+
+impl Model for DigitRecords {
+    ghost use Rattle.version_store.specs.KeptRecords.{KeptRecords, IsKept, bytes_in_digits};
+
+    ghost Value = { KeptRecords };
+
+    ghost view = { λ d. record {
+      shape = d.layout;
+      bytes = bytes_in_digits d.layout d.taken d.digits;
+    } };
+
+    ghost invariant = { λ d. IsKept d.layout d.taken d.digits };
+}
+
+impl RecordSource for DigitRecords {
+    ghost bytes = { λ d. d.bytes };
+
+    ghost record_len = { λ d. d.shape.record_len };
+
+    fn copy_record(&self, i: usize, out: &mut [u8]) {
+        copy_record(&self.layout, &self.digits, i, out);
+    }
+}
+
+impl RecordSink for DigitRecords {
+    ghost taken = { λ d. d.bytes };
+
+    ghost shape = { λ d. d.shape };
+
+    fn take_record(&mut self, bytes: &[u8]) {
+        write_place(&self.layout, &mut self.digits, self.taken, bytes);
+        self.taken += 1;
+    }
+}
+
+impl DigitRecords {
+    /// No records yet, and room for those of a layout. Only refused memory gives an `Err`.
+    pub fn new(alloc: Global, layout: Layout) -> Result<DigitRecords, AllocError>
+        ensures { IfOk result (λ d. d ≡ record { shape = layout; bytes = [] }) }
+    {
+        let Ok(digits) = Digits::zeros(alloc, layout.rows(), layout.cols()) else {
+            return Err(AllocError);
+        };
+        let taken = 0;
+        Ok(DigitRecords {
+            layout,
+            digits,
+            taken,
+        })
+    }
+
+    /// The records of a layout that stand one after another in `bytes`. Only refused memory gives an `Err`.
+    pub fn from_bytes(
+        alloc: Global,
+        layout: Layout,
+        bytes: &[u8],
+    ) -> Result<DigitRecords, AllocError>
+        requires { length bytes.now ≡ layout.count * layout.record_len }
+        ensures { IfOk result (λ d. d ≡ record { shape = layout; bytes = bytes.now }) }
+    {
+        // Called for what it says of the layout: there are few rows and columns.
+        layout.rows();
+        let digits: Digits = digits_of_records(alloc, &layout, bytes)?;
+        let taken = layout.count();
+        Ok(DigitRecords {
+            layout,
+            digits,
+            taken,
+        })
+    }
+
+    /// Puts other bytes in the place of record i. It takes no memory.
+    pub fn replace(&mut self, i: usize, bytes: &[u8])
+        requires index { i < self.old.shape.count }
+        requires whole { length self.old.bytes ≡
+            self.old.shape.count * self.old.shape.record_len }
+        requires len { length bytes.now ≡ self.old.shape.record_len }
+        ensures shape { self.new.shape ≡ self.old.shape }
+        ensures same_len { length self.new.bytes ≡ length self.old.bytes }
+        ensures records { records_in self.new.shape self.new.bytes ≡
+            slice_set (records_in self.old.shape self.old.bytes) i bytes.now }
+    {
+        write_place(&self.layout, &mut self.digits, i, bytes);
+    }
+
+    /// Puts a record after the last one: `layout` is that of one record more. Only refused memory gives an `Err`, and then nothing
+    /// has changed.
+    ///
+    /// Memory is taken only where a row of digits becomes a word longer, once in three further columns.
+    pub fn push(&mut self, layout: Layout, bytes: &[u8]) -> Result<(), AllocError>
+        requires whole { length self.old.bytes ≡
+            self.old.shape.count * self.old.shape.record_len }
+        requires sizes { layout ≡ counted self.old.shape (self.old.shape.count + 1) }
+        requires len { length bytes.now ≡ self.old.shape.record_len }
+        ensures put { OnOk result (self.new ≡
+            record { shape = layout; bytes = self.old.bytes ++ bytes.now }) }
+        ensures refused { OnErr result (self.new ≡ self.old) }
+    {
+        self.digits.rows();
+        let Ok(()) = self.digits.grow(layout.cols()) else {
+            return Err(AllocError);
+        };
+        self.layout = layout;
+        self.take_record(bytes);
+        Ok(())
+    }
+
+    /// The digits of all records of the layout.
+    pub fn into_digits(self) -> Digits
+        requires { length self.bytes ≡ self.shape.count * self.shape.record_len }
+        ensures { result ≡ digit_matrix self.shape (records_in self.shape self.bytes) }
+    {
+        self.digits
+    }
+}
+
+// Writes the digits of a record's bytes into the place of record i.
+fn write_place(layout: &Layout, digits: &mut Digits, i: usize, bytes: &[u8])
+    requires index { i < layout.now.count }
+    requires len { length bytes.now ≡ layout.now.record_len }
+    requires rows { digits.old.rows ≡ digit_rows layout.now }
+    requires cols { digits.old.cols ≡ digit_cols layout.now }
+    ensures { WritesColumn digits.old digits.new (first_row layout.now i) (column_of layout.now i)
+        (record_digits layout.now bytes.now) }
+{
+    let mut room = digit_room();
+    let packed = &mut room[..layout.digits_per_record()];
+    let (first, col) = layout.place(i);
+    pack(layout, bytes, packed);
+    write_digits(digits, first, col, packed);
+}
+
+// Room for the digits of a record. They are not said, which keeps them out of the proofs.
+fn digit_room() -> [u32; MOST_DIGITS] {
+    [0; MOST_DIGITS]
+}
