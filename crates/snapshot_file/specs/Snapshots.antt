@@ -54,7 +54,7 @@ header_of s = record {
 abbrev pub shape_of : Header → Shape
 shape_of h = shape_in h.form h.width h.record_len h.groups h.count
 
--- the same fields for so many records
+-- a header for another number of records
 abbrev pub with_count : ℕ → Header → Header
 with_count n h = record h { count = n }
 

@@ -23,10 +23,10 @@ use Rattle.version_store.proofs.RecordBytes.{joined_records}
 use Rattle.version_store.proofs.Slotted.{record_len_is, record_small, slot_at, held_at}
 use Rattle.version_store.proofs.Versions.{long_records, long_held, digits_again}
 
-pick_true : (b : Bool) (x y : List ℕ) → b ≡ true → cond b x y ≡ x
+pub pick_true : (b : Bool) (x y : List ℕ) → b ≡ true → cond b x y ≡ x
 pick_true b x y e = ap (λ c. cond c x y) e
 
-pick_false : (b : Bool) (x y : List ℕ) → b ≡ false → cond b x y ≡ y
+pub pick_false : (b : Bool) (x y : List ℕ) → b ≡ false → cond b x y ≡ y
 pick_false b x y e = ap (λ c. cond c x y) e
 
 pub held_ordinary : (p : Plan) (l : Shape) (kept : List ℕ) (digits : WordMatrix) → is_wide p.form ≡ false → bytes_held p l kept digits ≡ kept

@@ -5,12 +5,12 @@ use Rattle.matrix_u32.specs.Matrix.{WordMatrix}
 use Rattle.digit_pack.specs.Layout.{Shape, IsLayout, digit_matrix, records_in}
 use Rattle.digit_pack.specs.Held.{records_in_digits}
 
--- the sizes of records, and the bytes of as many of them as there are, one after another
+-- the sizes of records, and the bytes of those that there are, one after another
 pub record KeptRecords : Type 0 where
   pub shape : Shape
   pub bytes : List ℕ
 
--- the same sizes for so many records
+-- sizes for another number of records
 abbrev pub counted : Shape → ℕ → Shape
 counted l n = record l { count = n }
 

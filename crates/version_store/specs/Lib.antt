@@ -4,7 +4,9 @@ pub mod Deltas
 pub mod Histories
 pub mod DraftChanges
 pub mod Openings
+pub mod HeldFor
 pub mod Rooms
 pub mod Laws
 pub mod Names
 pub mod KeptRecords
+pub mod HeldRecords

@@ -1,6 +1,6 @@
 //! Records that are kept in their digits alone.
 
-ghost use Rattle.std.specs.Prelude.{◌≡◌, ◌≤◌, ◌<◌, ◌+◌, ◌*◌, ◌++◌, [], length, IfOk, OnOk, OnErr, slice_set};
+ghost use Rattle.std.specs.Prelude.{◌≡◌, ◌≤◌, ◌<◌, ◌^◌, ◌+◌, ◌*◌, ◌++◌, All, [], length, IfOk, OnOk, OnErr, slice_set};
 ghost use Rattle.digit_pack.specs.Columns.{WritesColumn};
 ghost use Rattle.digit_pack.specs.Layout.{digit_rows, digit_cols, digit_matrix, first_row, column_of, record_digits, records_in};
 ghost use Rattle.version_store.specs.KeptRecords.{counted};
@@ -131,7 +131,8 @@ impl DigitRecords {
     /// The digits of all records of the layout.
     pub fn into_digits(self) -> Digits
         requires { length self.bytes ≡ self.shape.count * self.shape.record_len }
-        ensures { result ≡ digit_matrix self.shape (records_in self.shape self.bytes) }
+        ensures digits { result ≡ digit_matrix self.shape (records_in self.shape self.bytes) }
+        ensures small { All (λ b. b < 2 ^ 8) self.bytes }
     {
         self.digits
     }

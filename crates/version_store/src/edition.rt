@@ -9,12 +9,14 @@ ghost use Rattle.pir_schemes.specs.Plans.{IsPlan, is_slot_of, records_held, shap
 ghost use Rattle.pir_schemes.specs.Retrievals.{hint_matrix, server_hint, query_count, answer_words};
 ghost use Rattle.version_store.specs.Drafts.{draft_of, grown_to, FitRecords};
 ghost use Rattle.version_store.specs.Editions.{Records, version_shape, MarksChanges};
+ghost use Rattle.version_store.specs.HeldRecords.{bytes_held_by, is_in_digits, HasShape};
 ghost use Rattle.version_store.specs.Openings.{bytes_of_records};
 ghost use Rattle.version_store.specs.Rooms.{scheme_answered, IsAnswerRoom, IsRoomForRows};
 
 use crate::answer_room::AnswerRoom;
 use crate::drafts::{Changes, apply_changes};
 use crate::first_layer::{Digits, FirstLayer};
+use crate::held_records::HeldRecords;
 use crate::rows::{FollowRoom, follow_rows};
 use digit_pack::Layout;
 use matrix_u32::{Kernel, Matrix};
@@ -45,27 +47,29 @@ impl<K: Kernel> Model for Edition<K> {
 }
 
 impl<K: Kernel> Edition<K> {
-    /// The edition of the records that stand one after another in `bytes`: their digits, the public matrices
-    /// of the plan, and the hints by the schemes' `setup`. `layout` has the plan's sizes. Only refused memory gives
-    /// an `Err`.
+    /// The edition of the records that are held: their digits, the public matrices of the plan, and the hints by the schemes'
+    /// `setup`. `layout` has the plan's sizes. Only refused memory gives an `Err`.
     pub fn open(
         alloc: Global,
         kernel: K,
         plan: Plan,
         layout: Layout,
-        bytes: Vec<u8>,
+        held: HeldRecords,
     ) -> Result<Edition<K>, AllocError>
         requires sizes { shape_at plan layout.count ≡ layout }
         requires dimension { (1 ≤ plan.dimension) × (plan.dimension ≤ 1024) }
         requires form { is_form plan.form plan.record_len ≡ true }
-        requires count { length bytes.items ≡ layout.count * layout.record_len }
-        requires slots { list_all (is_slot_of plan) (records_in layout bytes.items) ≡ true }
+        requires count { length (bytes_held_by held) ≡ layout.count * layout.record_len }
+        requires slots { list_all (is_slot_of plan)
+            (records_in layout (bytes_held_by held)) ≡ true }
+        requires kind { is_in_digits held ≡ is_wide plan.form }
+        requires shape { HasShape layout held }
         ensures { IfOk result (λ e. e ≡ record {
           plan = plan;
-          records = records_held plan layout.count bytes.items;
+          records = records_held plan layout.count (bytes_held_by held);
         }) }
     {
-        let layer = FirstLayer::open(alloc, kernel, plan, layout, bytes)?;
+        let layer = FirstLayer::open(alloc, kernel, plan, layout, held)?;
         let layout = layer.layout();
         let dimension = usize::from(plan.dimension);
         let a2 = expand(alloc, &plan.seed, 1, 0, layout.rows(), dimension)?;

@@ -9,12 +9,13 @@ ghost use Rattle.pir_schemes.specs.Retrievals.{hint_matrix, answer_words};
 ghost use Rattle.seed_expand.specs.Words.{public_rows};
 ghost use Rattle.version_store.specs.Drafts.{grown_to};
 ghost use Rattle.version_store.specs.Editions.{Records, version_shape, MarksChanges};
+ghost use Rattle.version_store.specs.HeldRecords.{bytes_held_by, is_in_digits, HasShape};
 ghost use Rattle.version_store.specs.Openings.{bytes_of_records};
 
 use crate::columns::replace_digits;
+use crate::held_records::HeldRecords;
 use digit_pack::{
-    DigitStore, Layout, MAX_RECORD_LEN, Wide3, copy_record, digits_of_records, is_wide, nth_record,
-    pack, write_record,
+    DigitStore, Layout, MAX_RECORD_LEN, Wide3, copy_record, is_wide, nth_record, pack, write_record,
 };
 use matrix_u32::{Kernel, Matrix};
 use pir_schemes::{Plan, Scheme};
@@ -68,29 +69,29 @@ impl RecordSource for FirstLayer {
 }
 
 impl FirstLayer {
-    /// What is made of the records that stand one after another in `bytes`: their digits, the first public
-    /// matrix of the plan, and the hint by `setup`. `layout` has the plan's sizes. Only refused memory gives an `Err`.
+    /// What is made of the records that are held: their digits, the first public matrix of the plan, and the hint by `setup`.
+    /// `layout` has the plan's sizes. Only refused memory gives an `Err`.
     pub fn open<K: Kernel>(
         alloc: Global,
         kernel: K,
         plan: Plan,
         layout: Layout,
-        bytes: Vec<u8>,
+        held: HeldRecords,
     ) -> Result<FirstLayer, AllocError>
         requires sizes { shape_at plan layout.count ≡ layout }
         requires dimension { (1 ≤ plan.dimension) × (plan.dimension ≤ 1024) }
         requires form { is_form plan.form plan.record_len ≡ true }
-        requires count { length bytes.items ≡ layout.count * layout.record_len }
-        requires slots { list_all (is_slot_of plan) (records_in layout bytes.items) ≡ true }
+        requires count { length (bytes_held_by held) ≡ layout.count * layout.record_len }
+        requires slots { list_all (is_slot_of plan)
+            (records_in layout (bytes_held_by held)) ≡ true }
+        requires kind { is_in_digits held ≡ is_wide plan.form }
+        requires shape { HasShape layout held }
         ensures { IfOk result (λ e. e ≡ record {
           plan = plan;
-          records = records_held plan layout.count bytes.items;
+          records = records_held plan layout.count (bytes_held_by held);
         }) }
     {
-        // Called for what it says of the layout: there are few rows and columns.
-        layout.rows();
-        let digits: Digits = digits_of_records(alloc, &layout, &bytes)?;
-        let kept = bytes_to_keep(alloc, plan.form, bytes);
+        let (digits, kept) = held.into_digits(alloc, &layout)?;
         let dimension = usize::from(plan.dimension);
         let a1 = expand(alloc, &plan.seed, 0, 0, layout.cols(), dimension)?;
         digits.rows();
@@ -254,17 +255,6 @@ impl FirstLayer {
 // Room for the bytes that a record has in the digits. They are not said, which keeps them out of the proofs.
 pub(crate) fn slot_room() -> [u8; MAX_RECORD_LEN] {
     [0; MAX_RECORD_LEN]
-}
-
-// The bytes of records that are kept beside their digits: all in an ordinary form, and none in a wide one.
-fn bytes_to_keep(alloc: Global, form: u16, bytes: Vec<u8>) -> Vec<u8>
-    ensures ordinary { is_wide form ≡ false → result.items ≡ bytes.items }
-    ensures wide { is_wide form ≡ true → result.items ≡ [] }
-{
-    if is_wide(form) {
-        return Vec::new(alloc);
-    }
-    bytes
 }
 
 // Writes other bytes over those of record i, where the bytes of records are kept.

@@ -9,6 +9,7 @@ mod digit_records;
 mod drafts;
 mod edition;
 mod first_layer;
+mod held_records;
 pub mod laws;
 mod opening;
 mod row_marks;

@@ -11,7 +11,9 @@ ghost use Rattle.pir_schemes.specs.Retrievals.{hint_matrix, server_hint, query_c
 ghost use Rattle.hint_update.specs.Logs.{ReachesBack, lists_since, AreRowsOf};
 ghost use Rattle.version_store.specs.Editions.{version_shape};
 ghost use Rattle.snapshot_file.specs.Snapshots.{header_of, shape_of, snapshot_bytes};
-ghost use Rattle.version_store.specs.Openings.{IsSound, IsOpenFault, IsRead, held_of, plan_held, header_of_held, bytes_of_records, snapshot_of};
+ghost use Rattle.version_store.specs.HeldRecords.{bytes_held_by};
+ghost use Rattle.version_store.specs.Openings.{IsSound, IsOpenFault, IsRead, held_of, plan_held, records_for, header_of_held, bytes_of_records, snapshot_of};
+ghost use Rattle.version_store.specs.HeldFor.{IsHeldFor};
 ghost use Rattle.version_store.specs.Rooms.{scheme_answered, IsAnswerRoom};
 ghost use Rattle.std.specs.Io.KnownBytes.{Appends, Consumes, IsAtEnd};
 ghost use Rattle.snapshot_file.specs.declared.snapshot.Header.{Header};
@@ -23,16 +25,17 @@ ghost use Rattle.version_store.specs.Names.{append_fault_name, edit_fault_name, 
 use crate::answer_room::AnswerRoom;
 use crate::drafts::{Changes, first_change};
 use crate::edition::Edition;
-use crate::opening::{OpenError, plan_in, sizes_of};
+use crate::held_records::HeldRecords;
+use crate::opening::{OpenError, plan_of, sizes_of};
 use crate::row_marks::{marks_for, push_marked};
 use crate::rows::FollowRoom;
+use crate::unopened::Opening;
 use digit_pack::{Layout, is_wide};
 use hint_update::DeltaLog;
 use matrix_u32::Kernel;
 use pir_schemes::{Plan, Scheme, part_words};
 use snapshot_file::{
-    Header, Snapshot, SnapshotFault, WriteFault, read_snapshot_and_digest, write_snapshot_bytes,
-    write_snapshot_from,
+    Header, Snapshot, SnapshotFault, WriteFault, write_snapshot_bytes, write_snapshot_from,
 };
 use std::alloc::{AllocError, Global};
 use std::collections::BTreeMap;
@@ -207,23 +210,38 @@ impl<K: Kernel> Store<K> {
         ensures refused { IfErr result (IsOpenFault (header_of snapshot) snapshot.records.items) }
     {
         let layout = sizes_of(&snapshot)?;
-        let plan = plan_in(&snapshot);
-        let Snapshot {
-            version,
-            publisher,
-            records,
-            ..
-        } = snapshot;
+        let header = snapshot.header();
+        let form = u16::from(header.form);
+        let held = HeldRecords::from_bytes(alloc, form, layout, snapshot.records)?;
+        Ok(Store::hold(alloc, kernel, &header, held)?)
+    }
+
+    /// The store of the records that are held for the fields of a snapshot, with an empty draft; its hints are made by the schemes'
+    /// `setup`. The store keeps the allocator. Only refused memory gives an `Err`.
+    pub(crate) fn hold(
+        alloc: Global,
+        kernel: K,
+        header: &Header,
+        held: HeldRecords,
+    ) -> Result<Store<K>, AllocError>
+        requires { IsHeldFor header.now held }
+        ensures held { IfOk result (λ s. s ≡ held_of header.now (bytes_held_by held)) }
+        ensures history { IfOk result (λ s. StandsFor s
+            (opened header.now.version (records_for header.now (bytes_held_by held)))) }
+    {
+        let plan = plan_of(header);
+        // The sizes are within the limits: no refusal is left.
+        let layout = header.layout().unwrap();
         let count = layout.count();
-        let edition = Edition::open(alloc, kernel, plan, layout, records)?;
-        let log = DeltaLog::new(alloc, version)?;
+        let edition = Edition::open(alloc, kernel, plan, layout, held)?;
+        let log = DeltaLog::new(alloc, header.version)?;
         Ok(Store {
             alloc,
             edition,
             count,
             changes: Changes::new(alloc),
             log,
-            publisher,
+            publisher: header.publisher,
         })
     }
 
@@ -250,11 +268,9 @@ impl<K: Kernel> Store<K> {
             Consumes (R.remaining reader.old) (R.remaining reader.new) read
             × StopsReadingAt fault read (R.remaining reader.new)) }
     {
-        let (snapshot, digest) = read_snapshot_and_digest(alloc, reader)?;
-        match Store::open(alloc, kernel, snapshot) {
-            Ok(store) => Ok((store, digest)),
-            Err(_) => Err(SnapshotFault::Memory),
-        }
+        let (opening, digest) = Opening::read(alloc, reader)?;
+        let store = opening.open(alloc, kernel)?;
+        Ok((store, digest))
     }
 
     /// The fields of a snapshot of the current version, but its records.

@@ -5,37 +5,46 @@ ghost use Rattle.std.specs.Io.KnownBytes.{Consumes, IsAtEnd};
 ghost use Rattle.sha2.specs.Sha256.{sha256};
 ghost use Rattle.digit_pack.specs.Layout.{IsLayout};
 ghost use Rattle.pir_schemes.specs.Plans.{fits, shape_at};
-ghost use Rattle.snapshot_file.specs.Snapshots.{hashed_bytes, snapshot_bytes, IsSnapshot};
+ghost use Rattle.snapshot_file.specs.Snapshots.{header_bytes, hashed_bytes, snapshot_bytes, IsHeader, IsAccepted, IsSnapshot};
 ghost use Rattle.snapshot_file.specs.Verdicts.{MayRefuse, StopsReadingAt};
 ghost use Rattle.version_store.specs.Histories.{StandsFor, opened};
+ghost use Rattle.version_store.specs.HeldRecords.{bytes_held_by};
+ghost use Rattle.version_store.specs.HeldFor.{IsHeldFor};
 ghost use Rattle.version_store.specs.Openings.{IsSound, held_of, plan_held, records_for};
 
+use crate::digit_records::DigitRecords;
 use crate::first_layer::slot_room;
+use crate::held_records::HeldRecords;
 use crate::opening::plan_of;
 use crate::store::Store;
+use digit_pack::is_wide;
 use matrix_u32::Kernel;
 use pir_schemes::Plan;
-use snapshot_file::{Header, RecordSource, SnapshotFault, read_snapshot_and_digest};
+use snapshot_file::{
+    Header, RecordSource, SnapshotFault, read_after_header, read_header, read_records_into,
+};
 use std::alloc::{AllocError, Global};
 use std::io::Read;
 use std::marker::Model;
 
 /// What a store is opened with: a snapshot that was read to its end, with the changes that were made in its records since,
-/// before any hint is made.
+/// before any hint is made. A wide one keeps its records in their digits alone.
 #[derive(Drop)]
 pub struct Opening {
     header: Header,
-    bytes: Vec<u8>,
+    held: HeldRecords,
 }
 
 impl Model for Opening {
-    ghost use Rattle.version_store.specs.Openings.{Unopened, IsSound};
+    ghost use Rattle.version_store.specs.HeldRecords.{bytes_held_by};
+    ghost use Rattle.version_store.specs.Openings.{Unopened};
+    ghost use Rattle.version_store.specs.HeldFor.{IsHeldFor};
 
     ghost Value = { Unopened };
 
-    ghost view = { λ o. record { header = o.header; bytes = o.bytes.items } };
+    ghost view = { λ o. record { header = o.header; bytes = bytes_held_by o.held } };
 
-    ghost invariant = { λ o. IsSound o.header o.bytes.items };
+    ghost invariant = { λ o. IsHeldFor o.header o.held };
 }
 
 impl RecordSource for Opening {
@@ -44,8 +53,9 @@ impl RecordSource for Opening {
     ghost record_len = { λ o. o.header.record_len };
 
     fn copy_record(&self, i: usize, out: &mut [u8]) {
-        let len = usize::from(self.header.record_len);
-        out.copy_from_slice(&self.bytes[i * len..i * len + len]);
+        // The sizes are within the limits: no refusal is left.
+        let layout = self.header.layout().unwrap();
+        self.held.copy_record(&layout, i, out);
     }
 }
 
@@ -70,10 +80,9 @@ impl Opening {
             Consumes (R.remaining reader.old) (R.remaining reader.new) read
             × StopsReadingAt fault read (R.remaining reader.new)) }
     {
-        let (snapshot, digest) = read_snapshot_and_digest(alloc, reader)?;
-        let header = snapshot.header();
-        let bytes = snapshot.records;
-        Ok((Opening { header, bytes }, digest))
+        let header = read_header(reader)?;
+        let (held, digest) = read_held(alloc, reader, &header)?;
+        Ok((Opening { header, held }, digest))
     }
 
     /// The fields of the snapshot, but its records.
@@ -125,8 +134,11 @@ impl Opening {
     {
         let plan = self.plan();
         // The sizes are within the limits: no refusal is left.
-        let layout = plan.layout(self.header.count as usize).unwrap();
-        plan.write(&layout, &mut self.bytes, i, bytes);
+        let layout = self.header.layout().unwrap();
+        let mut room = slot_room();
+        let slot = &mut room[..usize::from(plan.record_len)];
+        plan.fill(bytes, slot);
+        self.held.replace(&layout, i, slot);
     }
 
     /// Puts a record after the last one. Only refused memory gives an `Err`, and then nothing has changed.
@@ -141,12 +153,13 @@ impl Opening {
         ensures refused { OnErr result (self.new ≡ self.old) }
     {
         let plan = self.plan();
-        // Called for what it says of the count: there is room for one more.
-        plan.layout(self.count() + 1).unwrap();
+        let count = self.count();
+        // There is a layout of one more: no refusal is left.
+        let layout = plan.layout(count + 1).unwrap();
         let mut room = slot_room();
         let slot = &mut room[..usize::from(plan.record_len)];
         plan.fill(bytes, slot);
-        self.bytes.extend_from_slice(slot)?;
+        self.held.push(layout, count, slot)?;
         self.header.count += 1;
         Ok(())
     }
@@ -158,9 +171,36 @@ impl Opening {
         ensures history { IfOk result (λ s. StandsFor s
             (opened self.header.version (records_for self.header self.bytes))) }
     {
-        match Store::open(alloc, kernel, self.header.with_records(self.bytes)) {
-            Ok(store) => Ok(store),
-            Err(_) => Err(AllocError),
-        }
+        let Opening { header, held } = self;
+        Store::hold(alloc, kernel, &header, held)
     }
+}
+
+// Reads what follows an accepted header: in a wide form each record into its digits as it comes.
+fn read_held<R: Read>(
+    alloc: Global,
+    reader: &mut R,
+    header: &Header,
+) -> Result<(HeldRecords, [u8; 32]), SnapshotFault>
+    requires header { IsHeader header.now }
+    requires accepted { IsAccepted header.now }
+    ensures held { IfOk result (λ r. IsHeldFor header.now r.0) }
+    ensures ok { IfOk result (λ r. IsSnapshot header.now (bytes_held_by r.0)
+        × Consumes (R.remaining reader.old) (R.remaining reader.new)
+        (bytes_held_by r.0 ++ sha256 (hashed_bytes header.now (bytes_held_by r.0)))
+        × IsAtEnd (R.remaining reader.new)) }
+    ensures digest { IfOk result (λ r. r.1 ≡ sha256 (hashed_bytes header.now (bytes_held_by r.0))) }
+    ensures err { IfErr result (λ fault. (read : List ℕ) ×
+        Consumes (R.remaining reader.old) (R.remaining reader.new) read
+        × StopsReadingAt fault (header_bytes header.now ++ read) (R.remaining reader.new)) }
+{
+    if !is_wide(u16::from(header.form)) {
+        let (snapshot, digest) = read_after_header(alloc, reader, *header)?;
+        return Ok((HeldRecords::Bytes(snapshot.records), digest));
+    }
+    // The sizes are within the limits: no refusal is left.
+    let layout = header.layout().unwrap();
+    let mut records = DigitRecords::new(alloc, layout)?;
+    let digest = read_records_into(alloc, reader, header, &mut records)?;
+    Ok((HeldRecords::Digits(records), digest))
 }

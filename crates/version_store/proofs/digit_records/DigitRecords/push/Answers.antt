@@ -8,8 +8,7 @@ pub grow-requires : goal.grow-requires
 grow-requires c =
     let l : Shape = c.self.inside.layout in
     let sizes : c.args.layout ≡ counted l (l.count + 1) =
-    c.requires.sizes ∙ ap (λ (v : KeptRecords). counted v.shape (v.shape.count + 1)) (sym c.self.view_is) in
-    (
+    c.requires.sizes ∙ ap (λ (v : KeptRecords). counted v.shape (v.shape.count + 1)) (sym c.self.view_is) in (
       omega arith,
       omega (
         arith,
