@@ -107,10 +107,10 @@ class Connection:
 class Server:
     """A server's process, which listens."""
 
-    def __init__(self, program, *words, prepare=None, keep_signals=False, errors=subprocess.PIPE, more=None, passed=()):
+    def __init__(self, program, *words, prepare=None, keep_signals=False, errors=subprocess.PIPE, more=None, passed=(), stdin=subprocess.DEVNULL):
         self.process = subprocess.Popen(
             [program, *words],
-            stdin=subprocess.DEVNULL,
+            stdin=stdin,
             stdout=subprocess.PIPE,
             stderr=errors,
             preexec_fn=prepare,

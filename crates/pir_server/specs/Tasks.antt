@@ -1,10 +1,12 @@
 -- What a command line asks for.
-use Rattle.std.specs.Prelude.{◌≡◌, ◌+◌, ℕ, List, codes, Bool, true, false, None, Some, MatchOption}
+use Rattle.std.specs.Prelude.{◌≡◌, ◌+◌, ℕ, List, codes, Bool, true, false, Option, None, Some, IsSomeAnd, MatchBool, MatchOption}
 use Rattle.std.specs.Str.Parse.{IsNumeral, digits_value}
 use Rattle.clap.specs.declared.parser.matches.Found.{Found}
 use Rattle.clap.specs.Matches.{first_value, one_text}
 use Rattle.command_words.specs.declared.secrets.Secret.{Secret}
 use Rattle.command_words.specs.Secrets.{IsSecretOf}
+use Rattle.service_watch.specs.declared.entries.LogFormat.{LogFormat}
+use Rattle.service_watch.specs.declared.entries.LogFormat.TheVariants.{Text, Json}
 use Rattle.pir_server.specs.declared.command_line.Making.{Making}
 use Rattle.pir_server.specs.declared.command_line.Migrating.{Migrating}
 use Rattle.pir_server.specs.declared.command_line.Widening.{Widening}
@@ -62,11 +64,30 @@ ReadsServe found serving =
     (first_value found (codes "file") ≡ Some serving.file.now) × IsNumberGiven found (codes "port") serving.port
     × IsNumberGiven found (codes "connections") serving.connections
 
+-- what was given for a name is this number in decimal digits, or nothing was given and there is none
+abbrev pub IsNumberIf : Found → List ℕ → Option ℕ → Type 0
+IsNumberIf found name n =
+    MatchOption (first_value found name) (n ≡ None) (λ text. IsNumeral 10 text × (n ≡ Some (digits_value 10 text)))
+
+-- How a log's lines are written, if that was given.
+abbrev pub ReadsFormat : Found → Option LogFormat → Type 0
+ReadsFormat found None = first_value found (codes "log") ≡ None
+ReadsFormat found (Some Text) = first_value found (codes "log") ≡ Some (codes "text")
+ReadsFormat found (Some Json) = first_value found (codes "log") ≡ Some (codes "json")
+
+-- How many seconds what was begun has after the end of standard input: the number given, or 10. If the flag is not given, there is
+-- none, and none was given.
+abbrev pub ReadsGrace : Found → Option ℕ → Type 0
+ReadsGrace found grace =
+    (stops : Bool) × IsFlagGiven found (codes "until-eof") stops
+    × MatchBool stops (IsSomeAnd grace (IsNumberOr 10 found (codes "grace"))) ((grace ≡ None) × (first_value found (codes "grace") ≡ None))
+
 -- connections side by side, as those of `run` do, but the address and whether it is quiet
 abbrev pub ReadsRun : Found → Running → Type 0
 ReadsRun found running =
     (first_value found (codes "file") ≡ Some running.file.now) × IsNumberOr 256 found (codes "most") running.most
     × IsNumberOr 60 found (codes "idle") running.idle × IsNumberOr 256 found (codes "memory") running.memory × IsNumberOr 64 found (codes "log-limit") running.log_limit
+    × ReadsGrace found running.grace × IsNumberIf found (codes "most-per-peer") running.most_per_peer × ReadsFormat found running.log
 
 -- a copy of a file's last version, as those of `backup` do
 abbrev pub ReadsBackup : Found → BackingUp → Type 0

@@ -1,11 +1,12 @@
 //! The words of the command `run`.
 
-ghost use Rattle.std.specs.Prelude.{◌≤◌, IfOk};
+ghost use Rattle.std.specs.Prelude.{◌≤◌, IfOk, IfSome};
 ghost use Rattle.clap.specs.Matches.{found_of};
-ghost use Rattle.pir_server.specs.Tasks.{IsNumberOr, ReadsRun};
+ghost use Rattle.pir_server.specs.Tasks.{IsNumberIf, IsNumberOr, ReadsFormat, ReadsGrace, ReadsRun};
 
 use clap::{Arg, ArgAction, ArgMatches, Command};
 use command_words::{BadLine, number_at, option, text_at, verbose_flag};
+use service_loop::LogFormat;
 use std::alloc::{AllocError, Global};
 use std::net::SocketAddr;
 
@@ -20,6 +21,16 @@ const IDLE_TAKES: &str = "--idle takes a number of seconds from 1 to 86400";
 const MEMORY_TAKES: &str = "--memory takes a number of MiB from 1 to 1048576";
 
 const LOG_LIMIT_TAKES: &str = "--log-limit takes a number of MiB from 1 to 1048576";
+
+const MOST_PER_PEER_TAKES: &str = "--most-per-peer takes a number from 1 to 65535";
+
+const LOG_TAKES: &str = "--log takes text or json";
+
+const GRACE_TAKES: &str =
+    "--grace takes a number of seconds from 1 to 3600, and is for --until-eof alone";
+
+/// How many seconds what was begun has after the end of standard input where `--grace` is not given.
+const GRACE: u64 = 10;
 
 /// How many MiB the log may have when a server starts, before it is made shorter, if `--log-limit` is not given.
 const LOG_LIMIT: u64 = 64;
@@ -49,6 +60,13 @@ pub struct Running<'a> {
     pub memory: u64,
     /// How many MiB the log may have at the start before it is made shorter: 1 to 1048576.
     pub log_limit: u64,
+    /// How many seconds what was begun has after the end of standard input: 1 to 3600. If there is no number, the server is not to
+    /// stop there.
+    pub grace: Option<u64>,
+    /// How many connections one IP address may have at once, if that is bounded: 1 to 65535.
+    pub most_per_peer: Option<u64>,
+    /// How the lines of the log are written, if it is not only the faults of connections.
+    pub log: Option<LogFormat>,
     /// Whether the faults of connections are left out on standard error.
     pub quiet: bool,
 }
@@ -56,7 +74,7 @@ pub struct Running<'a> {
 /// The command `run`.
 pub fn run_command<'a>(alloc: Global) -> Result<Command<'a>, AllocError> {
     Command::new(alloc, "run")
-        .about("Serves a snapshot file, many connections side by side, until it is killed")
+        .about("Serves a snapshot file, many connections side by side, until it is killed or, with --until-eof, standard input ends")
         .after_help(RUN_EXAMPLE)
         .arg(verbose_flag(alloc))?
         .arg(option(
@@ -95,6 +113,30 @@ pub fn run_command<'a>(alloc: Global) -> Result<Command<'a>, AllocError> {
             "MIB",
             "If the log has more MiB than this at the start, 1 to 1048576, all but its last 16 publications are put into the file first (64 if not given)",
         ))?
+        .arg(optional(
+            alloc,
+            "most-per-peer",
+            "N",
+            "How many connections one IP address may have at once, 1 to 65535; one more is closed at once (not bounded if not given)",
+        ))?
+        .arg(optional(
+            alloc,
+            "log",
+            "FORMAT",
+            "Writes a line on standard error for each event, with its time, as text or as json (only the faults of connections if not given)",
+        ))?
+        .arg(
+            Arg::new(alloc, "until-eof")
+                .long("until-eof")
+                .help("Stops at the end of standard input, which must be a pipe, a socket or a terminal: accepts nothing more, serves what was begun, and ends with status 0")
+                .action(ArgAction::SetTrue),
+        )?
+        .arg(optional(
+            alloc,
+            "grace",
+            "SECONDS",
+            "How many seconds at most what was begun is served after the end of standard input, 1 to 3600 (10 if not given)",
+        ))?
         .arg(
             Arg::new(alloc, "quiet")
                 .long("quiet")
@@ -116,6 +158,10 @@ pub fn running_of<'a>(found: &ArgMatches<'a>) -> Result<Running<'a>, BadLine<'a>
     ensures most { IfOk result (λ running. (1 ≤ running.most) × (running.most ≤ 65535)) }
     ensures idle { IfOk result (λ running. (1 ≤ running.idle) × (running.idle ≤ 86400)) }
     ensures memory { IfOk result (λ running. (1 ≤ running.memory) × (running.memory ≤ 1048576)) }
+    ensures most_per_peer { IfOk result (λ running. IfSome running.most_per_peer
+        (λ most. (1 ≤ most) × (most ≤ 65535))) }
+    ensures grace { IfOk result (λ running. IfSome running.grace
+        (λ seconds. (1 ≤ seconds) × (seconds ≤ 3600))) }
     ensures read { IfOk result (ReadsRun (found_of found.now)) }
 {
     Ok(Running {
@@ -125,8 +171,58 @@ pub fn running_of<'a>(found: &ArgMatches<'a>) -> Result<Running<'a>, BadLine<'a>
         idle: number_or(found, "idle", IDLE, 86_400, IDLE_TAKES)?,
         memory: number_or(found, "memory", MEMORY, 1_048_576, MEMORY_TAKES)?,
         log_limit: number_or(found, "log-limit", LOG_LIMIT, 1_048_576, LOG_LIMIT_TAKES)?,
+        grace: grace_at(found)?,
+        most_per_peer: number_if(found, "most-per-peer", 65_535, MOST_PER_PEER_TAKES)?,
+        log: format_at(found)?,
         quiet: found.get_flag("quiet"),
     })
+}
+
+// How the lines of the log are written, if that is given.
+fn format_at<'a>(found: &ArgMatches<'a>) -> Result<Option<LogFormat>, BadLine<'a>>
+    ensures read { IfOk result (ReadsFormat (found_of found.now)) }
+{
+    match found.get_str("log") {
+        None => Ok(None),
+        Some("text") => Ok(Some(LogFormat::Text)),
+        Some("json") => Ok(Some(LogFormat::Json)),
+        Some(text) => Err(BadLine::Given(LOG_TAKES, text)),
+    }
+}
+
+// The number given for an option, from 1 to the most, if there is one.
+fn number_if<'a>(
+    found: &ArgMatches<'a>,
+    name: &str,
+    most: u64,
+    takes: &'static str,
+) -> Result<Option<u64>, BadLine<'a>>
+    ensures within { IfOk result (λ number. IfSome number (λ n. (1 ≤ n) × (n ≤ most))) }
+    ensures read { IfOk result (IsNumberIf (found_of found.now) name.now) }
+{
+    let Some(text) = found.get_str(name) else {
+        return Ok(None);
+    };
+    match number_at(found, name, most, takes)? {
+        0 => Err(BadLine::Given(takes, text)),
+        number => Ok(Some(number)),
+    }
+}
+
+// How many seconds what was begun has after the end of standard input, if the server is to stop there.
+fn grace_at<'a>(found: &ArgMatches<'a>) -> Result<Option<u64>, BadLine<'a>>
+    ensures within { IfOk result (λ grace. IfSome grace
+        (λ seconds. (1 ≤ seconds) × (seconds ≤ 3600))) }
+    ensures read { IfOk result (ReadsGrace (found_of found.now)) }
+{
+    if found.get_flag("until-eof") {
+        let seconds = number_or(found, "grace", GRACE, 3_600, GRACE_TAKES)?;
+        return Ok(Some(seconds));
+    }
+    match found.get_str("grace") {
+        None => Ok(None),
+        Some(text) => Err(BadLine::Given(GRACE_TAKES, text)),
+    }
 }
 
 // The address and the port to listen on.

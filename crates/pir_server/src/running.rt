@@ -20,14 +20,14 @@ const MIB: u64 = 1_048_576;
 /// lock and folder, a version that is saved, and some that whoever started the process left open.
 const OTHER_DESCRIPTORS: u64 = 16;
 
-/// Serves a snapshot file over many connections side by side, until the process is killed. Each publication is appended to the log
+/// Serves a snapshot file over many connections side by side, until the process is killed, or standard input has ended if that is wanted. Each publication is appended to the log
 /// beside the file before it is made. No other process serves or replaces the file meanwhile.
 ///
 /// # Errors
 ///
 /// In this order: `File` where there is no file, `Locked` where another process has it, those of the snapshot, `Write` where the
 /// file can't be sent to the device, those of its log (`File`, `BadLog`, `Write` where a torn end can't be cut off, or where a log that
-/// is too long can't be made shorter), those of the store, `Connect` where the address can't be listened on, and `Write` where
+/// is too long can't be made shorter), those of the store, `Input` where standard input is to be watched and can't be, `Connect` where the address can't be listened on, and `Write` where
 /// it can't be printed, or what is left of a failed append can't be cut off. `Memory` where there was none. A connection that is closed
 /// before its end is reported on standard error, and ends nothing else.
 pub fn run_file(rt: &HostRuntime, running: &Running<'_>) -> Result<(), Failed> {
@@ -45,13 +45,33 @@ pub fn run_file(rt: &HostRuntime, running: &Running<'_>) -> Result<(), Failed> {
         most: possible_most(rt, running.most)?,
         idle: running.idle.saturating_mul(1000),
         memory: bytes_of_mib(running.memory),
+        most_per_peer: most_per_peer(running),
         quiet: running.quiet,
+        format: running.log,
+        grace: grace_of(running),
     };
     match run_service(rt, core, running.listen, limits, saver) {
         Ok(()) => Ok(()),
         Err(RunFault::Connect) => Err(not_listening(rt, running.listen)),
         Err(RunFault::Write) => Err(failed_at(rt, running.file, Failure::Fault("Write"))),
+        Err(RunFault::Input) => Err(failed_at(rt, "standard input", Failure::Fault("Input"))),
         Err(RunFault::Memory) => Err(Failed::from(Failure::Memory)),
+    }
+}
+
+// How many milliseconds what was begun has after the end of standard input.
+fn grace_of(running: &Running<'_>) -> Option<u64> {
+    match running.grace {
+        Some(seconds) => Some(seconds.saturating_mul(1000)),
+        None => None,
+    }
+}
+
+// How many connections one peer may have, if that is bounded.
+fn most_per_peer(running: &Running<'_>) -> Option<usize> {
+    match running.most_per_peer {
+        Some(most) => Some(most as usize),
+        None => None,
     }
 }
 

@@ -3,3 +3,5 @@ pub mod Judging
 pub mod Lines
 pub mod Places
 pub mod Sessions
+pub mod Stopping
+pub mod Watching

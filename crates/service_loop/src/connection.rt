@@ -5,14 +5,16 @@ ghost use Rattle.server_core.specs.Cores.{session_of};
 ghost use Rattle.service_core.specs.Runs.{OthersStay};
 ghost use Rattle.service_loop.specs.Holding.{held_by};
 ghost use Rattle.service_loop.specs.Judging.{GoesOn, IsIdle, due_of};
+ghost use Rattle.service_loop.specs.Stopping.{EndsWriting, IsQuiet};
 
 use crate::device::{Device, Saver};
 use crate::kept::Kept;
 use crate::report::{Closing, RunFault};
+use crate::watch::Watch;
 use mio::net::TcpStream;
 use service_core::{Fault, Link, PIECE_LEN, turn};
 use std::io::{ErrorKind, Read};
-use std::net::Shutdown;
+use std::net::{Shutdown, SocketAddr};
 
 /// How many milliseconds a connection that is over is read from, so that the last reply is not lost with it.
 const LINGER: u64 = 2_000;
@@ -22,6 +24,10 @@ const LINGER: u64 = 2_000;
 pub struct Connection {
     /// The socket.
     pub stream: TcpStream,
+    /// The peer's address.
+    pub address: SocketAddr,
+    /// The peer's IP address, as one of IPv6.
+    pub peer: [u8; 16],
     /// The number of its session.
     pub id: u64,
     /// What is kept for it.
@@ -36,6 +42,8 @@ pub struct Connection {
     pub held: usize,
     /// It will have its turn in this round, or the next one.
     pub queued: bool,
+    /// What was seen of it.
+    pub watch: Watch,
 }
 
 /// What a turn came to.
@@ -65,9 +73,17 @@ impl Outcome {
 
 impl Connection {
     /// A connection that was accepted, has a session of this number, and will have its turn.
-    pub fn opened(stream: TcpStream, id: u64, link: Link) -> Connection
+    pub fn opened(
+        stream: TcpStream,
+        address: SocketAddr,
+        peer: [u8; 16],
+        id: u64,
+        link: Link,
+    ) -> Connection
         ensures { result ≡ record {
           stream = stream;
+          address = address;
+          peer = peer;
           id = id;
           link = link;
           readable = true;
@@ -75,10 +91,13 @@ impl Connection {
           lingers = None;
           held = 0;
           queued = true;
+          watch = result.watch;
         } }
     {
         Connection {
             stream,
+            address,
+            peer,
             id,
             link,
             readable: true,
@@ -86,6 +105,7 @@ impl Connection {
             lingers: None,
             held: 0,
             queued: true,
+            watch: Watch::new(),
         }
     }
 
@@ -145,6 +165,32 @@ impl Connection {
         }
     }
 
+    /// Ends the writing after a turn if the service stops and nothing of the connection is left to be served.
+    pub fn retired(&mut self, now: u64, stops: bool, outcome: Outcome) -> Outcome
+        ensures serves { stops ≡ false → (self.new ≡ self.old) × (result ≡ outcome) }
+        ensures over { (GoesOn outcome → ⊥) → (self.new ≡ self.old) × (result ≡ outcome) }
+        ensures begun { (IsQuiet self.old → ⊥) → (self.new ≡ self.old) × (result ≡ outcome) }
+        ensures ends { stops ≡ true → GoesOn outcome → IsQuiet self.old →
+            EndsWriting now self.old self.new result }
+        ensures id { self.new.id ≡ self.old.id }
+        ensures link { self.new.link ≡ self.old.link }
+        ensures held { self.new.held ≡ self.old.held }
+        ensures queued { self.new.queued ≡ self.old.queued }
+    {
+        if stops && outcome.goes_on() && self.is_quiet() {
+            self.end(now)
+        } else {
+            outcome
+        }
+    }
+
+    // Whether nothing of it is left to be served.
+    fn is_quiet(&self) -> bool
+        ensures { IsTrue result ↔ IsQuiet self.now }
+    {
+        self.lingers.is_none() && !self.readable && self.link.may_read() && self.held == 0
+    }
+
     // Whether it has nothing to serve, and made no progress for too long.
     fn is_idle(&self, now: u64, idle: u64) -> bool
         ensures { IsTrue result ↔ IsIdle self.now now idle }
@@ -177,27 +223,37 @@ impl Connection {
         ensures others { IfOk result (λ it. OthersStay self.old.id kept.core it.0.core) }
         ensures queued { self.new.queued ≡ self.old.queued }
     {
-        let Kept { mut core, saver } = kept;
+        let Kept {
+            mut core,
+            saver,
+            counters,
+        } = kept;
+        self.watch.reply = None;
         let mut device = Device {
             rt,
             saver,
             stream: &self.stream,
             readable: self.readable,
             writable: self.writable,
+            watch: self.watch,
+            counters,
         };
         let ended = turn(&mut self.link, &mut core, &mut device, self.id, now, buffer);
         let Device {
             saver,
             readable,
             writable,
+            watch,
+            counters,
             ..
         } = device;
+        self.watch = watch;
         self.readable = readable;
         self.writable = writable;
         match ended {
-            Ok(()) => Ok((Kept { core, saver }, Ok(()))),
+            Ok(()) => Ok((Kept { core, saver, counters }, Ok(()))),
             Err(Fault::Save) => Err(RunFault::Write),
-            Err(fault) => Ok((Kept { core, saver }, Err(fault))),
+            Err(fault) => Ok((Kept { core, saver, counters }, Err(fault))),
         }
     }
 
@@ -223,8 +279,10 @@ impl Connection {
     // Ends the writing.
     fn end(&mut self, now: u64) -> Outcome
         ensures id { self.new.id ≡ self.old.id }
+        ensures link { self.new.link ≡ self.old.link }
         ensures held { self.new.held ≡ self.old.held }
         ensures queued { self.new.queued ≡ self.old.queued }
+        ensures ends { self.old.readable ≡ false → EndsWriting now self.old self.new result }
     {
         if self.stream.shutdown(Shutdown::Write).is_err() {
             return Outcome::Over;

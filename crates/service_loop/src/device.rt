@@ -2,9 +2,11 @@
 
 ghost use Rattle.std.specs.Prelude.{◌≡◌, ◌<◌, ◌+◌, ◌^◌, ℕ, IsErrOf, OnOk, true};
 
+use crate::watch::Watch;
 use lane_kernels::Lanes;
 use mio::net::TcpStream;
 use service_core::{AppendFailed, Outside, SaveFailed, Stop};
+use service_watch::{Counted, Counters};
 use std::io::{Error, ErrorKind, Read, Write};
 use version_store::Store;
 
@@ -48,6 +50,10 @@ pub struct Device<'a, S> {
     pub readable: bool,
     /// There may be room to write.
     pub writable: bool,
+    /// What is seen of the connection.
+    pub watch: Watch,
+    /// What was counted of all.
+    pub counters: Counters,
 }
 
 impl<S: Saver> Outside<Lanes> for Device<'_, S> {
@@ -67,7 +73,11 @@ impl<S: Saver> Outside<Lanes> for Device<'_, S> {
         }
         let mut stream = self.stream;
         match stream.read(buffer) {
-            Ok(n) => Ok(n),
+            Ok(n) => {
+                self.counters.add(Counted::BytesIn, n as u64);
+                self.watch.scan.count(&buffer[..n], &mut self.counters);
+                Ok(n)
+            }
             Err(e) => {
                 self.readable = !must_wait(&e);
                 Err(stop_of(&e))
@@ -79,13 +89,18 @@ impl<S: Saver> Outside<Lanes> for Device<'_, S> {
         if bytes.is_empty() {
             return Ok(0);
         }
+        self.watch.look(bytes);
         if !self.writable {
             return Err(Stop::Later);
         }
         let mut stream = self.stream;
         match stream.write(bytes) {
             Ok(0) => Err(Stop::Failed),
-            Ok(n) => Ok(n),
+            Ok(n) => {
+                self.watch.wrote(n);
+                self.counters.add(Counted::BytesOut, n as u64);
+                Ok(n)
+            }
             Err(e) => {
                 self.writable = !must_wait(&e);
                 Err(stop_of(&e))

@@ -7,6 +7,7 @@ ghost use Rattle.service_core.specs.Runs.{DoesToCore, Opens, Closes};
 use crate::device::Saver;
 use lane_kernels::Lanes;
 use server_core::{ServerCore, SessionError};
+use service_watch::Counters;
 
 /// A server whose current version is there after a crash, and what writes its publications down. A turn takes it and gives
 /// it back, unless a publication may be there in part or without having been made: then there is none with which another
@@ -17,6 +18,8 @@ pub struct Kept<S: Saver> {
     pub core: ServerCore<Lanes>,
     /// What writes its publications down.
     pub saver: S,
+    /// What was counted of its connections.
+    pub counters: Counters,
     ghost is_saved: { S.saved saver ≡ core.store.version },
 }
 
@@ -27,7 +30,11 @@ impl<S: Saver> Kept<S> {
         ensures core { result.core ≡ core }
         ensures saver { result.saver ≡ saver }
     {
-        Kept { core, saver }
+        Kept {
+            core,
+            saver,
+            counters: Counters::new(),
+        }
     }
 
     /// Opens the session of a connection.

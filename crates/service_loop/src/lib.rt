@@ -11,9 +11,12 @@ mod lines;
 mod places;
 mod report;
 mod serving;
+mod stopping;
+mod watch;
 
 pub use device::Saver;
 pub use lines::say_line;
 pub use report::RunFault;
 pub use service_core::{AppendFailed, SaveFailed};
+pub use service_watch::LogFormat;
 pub use serving::{Limits, run_service};

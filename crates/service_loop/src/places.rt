@@ -4,6 +4,8 @@ ghost use Rattle.std.specs.Prelude.{◌≡◌, ◌≢◌, ◌≤◌, ◌<◌, �
 ghost use Rattle.std.specs.List.{IsFirstMaxByKey};
 ghost use Rattle.service_loop.specs.Judging.{due_of};
 ghost use Rattle.service_loop.specs.Places.{connection_at, held_bytes, all_held, noted, LosesLargest};
+ghost use Rattle.service_loop.specs.Stopping.{open_count};
+ghost use Rattle.service_loop.specs.Watching.{is_of, peer_count};
 
 use crate::connection::Connection;
 use std::alloc::{AllocError, Global};
@@ -47,6 +49,32 @@ impl Places {
         ensures { result ≡ length self.now.connections.items }
     {
         self.connections.len()
+    }
+
+    /// How many connections there are.
+    pub fn open(&self) -> usize
+        ensures { result ≡ open_count self.now.connections.items }
+    {
+        let mut open = 0;
+        for connection in &self.connections {
+            if connection.is_some() {
+                open += 1;
+            }
+        }
+        open
+    }
+
+    /// How many connections a peer has.
+    pub fn open_of(&self, peer: &[u8; 16]) -> usize
+        ensures { result ≡ peer_count peer.now self.now.connections.items }
+    {
+        let mut open = 0;
+        for connection in &self.connections {
+            if is_of(connection, peer) {
+                open += 1;
+            }
+        }
+        open
     }
 
     /// Whether there is a place, and it is free.
@@ -159,6 +187,16 @@ impl Places {
         let largest = largest(&self.connections);
         self.held -= held_at(&self.connections[largest]) - own;
         self.connections[largest].take()
+    }
+}
+
+// Whether a connection is of a peer.
+fn is_of(place: &Option<Connection>, peer: &[u8; 16]) -> bool
+    ensures { result ≡ is_of peer.now place.now }
+{
+    match place {
+        Some(connection) => connection.peer.as_slice() == peer.as_slice(),
+        None => false,
     }
 }
 

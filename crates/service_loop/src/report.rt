@@ -1,6 +1,7 @@
 //! How a service ends, and why a connection is closed.
 
 use service_core::Fault;
+use service_watch::Cause;
 use std::io;
 use thiserror::Error;
 
@@ -13,6 +14,9 @@ pub enum RunFault {
     /// A version could not be saved, or the address could not be printed.
     #[error("a write failed")]
     Write,
+    /// Standard input was to be watched, and can't be.
+    #[error("standard input can't be watched")]
+    Input,
     /// There was no memory.
     #[error("out of memory")]
     Memory,
@@ -40,6 +44,8 @@ pub enum Closing {
     Idle,
     /// Too many bytes were held for all connections, and for this one the most.
     Crowded,
+    /// Its peer had as many as it may have.
+    TooMany,
 }
 
 impl Closing {
@@ -50,6 +56,19 @@ impl Closing {
             Closing::Turn(fault) => fault.name(),
             Closing::Idle => "Idle",
             Closing::Crowded => "Memory",
+            Closing::TooMany => "TooMany",
+        }
+    }
+
+    /// What it is counted as.
+    pub fn cause(self) -> Cause {
+        match self {
+            Closing::Connect => Cause::Connect,
+            Closing::Turn(Fault::Read) => Cause::Read,
+            Closing::Turn(Fault::Write | Fault::Save) => Cause::Write,
+            Closing::Turn(Fault::Memory) | Closing::Crowded => Cause::Memory,
+            Closing::Idle => Cause::Idle,
+            Closing::TooMany => Cause::TooMany,
         }
     }
 }

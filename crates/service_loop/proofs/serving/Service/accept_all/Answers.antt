@@ -4,7 +4,7 @@ use Rattle.service_loop.proofs.serving.Service.accept_all.Goals as goal
 use Rattle.service_loop.proofs.serving.Service.accept_all.Goals.{in-Ok, in-Err-2+else-has_no_descriptor}
 
 pub loop-preserved : goal.loop-preserved
-loop-preserved g c = elim c.match-accept.branch [
+loop-preserved g c = elim c.match-accept_next.branch [
   | in-Ok w ↦
       let begin = c.args.self.now.places.connections.items in
       let l = c.loop.self in

@@ -22,6 +22,8 @@ returns-clause-noted g c =
     let next = c.args.self.now.next_id in
     let made : Connection = record {
       stream = c.register-registered.new.source;
+      address = c.args.address;
+      peer = c.octets_of-peer.result;
       id = next;
       link = c.new.result;
       readable = true;
@@ -29,6 +31,7 @@ returns-clause-noted g c =
       lingers = None;
       held = 0;
       queued = true;
+      watch = c.opened-connection.result.watch;
     } in
     let pushed = subst (λ (k : Connection). Settles c.args.place k c.push_ready.new.self.places.connections.items mid
     c.settle.new.self.places.connections.items c.settle.new.kept.core) c.opened-connection.ensures c.settle.ensures.settles in

@@ -21,28 +21,35 @@ returns-clause-noted g c =
     let there : connection_at before c.args.place ≡ Some c.in-Some.connection = sym c.in-Some.ensures.taken in
     let note = c.note_held.ensures in
     let mid = c.in_ok-kept.kept.core in
+    let d = c.retired-outcome.new.self in
+    let retired = c.retired-outcome.ensures in
     let same : c.note_held.new.self.id ≡ c.take_turn.new.self.id = ap (λ (k : Connection). k.id) note in
-    let id : c.note_held.new.self.id ≡ c.in-Some.connection.id = same ∙ c.in_ok-kept.ensures.id in
-    let is : c.note_held.new.self.held ≡ held_by (session_of mid.sessions c.note_held.new.self.id) c.note_held.new.self.link =
+    let id : d.id ≡ c.in-Some.connection.id = retired.id ∙ (same ∙ c.in_ok-kept.ensures.id) in
+    let held : c.note_held.new.self.held ≡ held_by (session_of mid.sessions c.note_held.new.self.id) c.note_held.new.self.link =
     ap (λ (k : Connection). k.held) note ∙ sym (ap (λ (k : Connection). held_by (session_of mid.sessions k.id) k.link) note) in
+    let is : d.held ≡ held_by (session_of mid.sessions d.id) d.link =
+    retired.held ∙ (held ∙ (sym (ap (λ k. held_by (session_of mid.sessions k) c.note_held.new.self.link) retired.id)
+    ∙ sym (ap (λ l. held_by (session_of mid.sessions d.id) l) retired.link))) in
     subst (λ n. AreNoted c.conclude-more.new.self.places.connections.items c.conclude-more.new.kept.core n) (sym c.conclude-more.ensures.number)
-    (concluded_noted c.judged-outcome.result c.args.place c.in-Some.connection c.note_held.new.self before c.take.new.self.connections.items
+    (concluded_noted c.judged-outcome.result c.args.place c.in-Some.connection d before c.take.new.self.connections.items
     c.args.kept.core mid c.conclude-more.new.self.places.connections.items c.conclude-more.new.kept.core c.in-Some.ensures.places
     c.conclude-more.ensures.goes_on c.conclude-more.ensures.over id c.in_ok-kept.ensures.others
     c.args.self.now.next_id (is_within before c.args.place c.in-Some.connection there) there c.requires.noted is)
 
 pub returns-clause-others : goal.returns-clause-others
 returns-clause-others g c =
-    let id : c.note_held.new.self.id ≡ c.in-Some.connection.id = ap (λ (k : Connection). k.id) c.note_held.ensures ∙ c.in_ok-kept.ensures.id in
-    concluded_others c.judged-outcome.result c.args.place c.in-Some.connection c.note_held.new.self c.args.self.now.places.connections.items
+    let d = c.retired-outcome.new.self in
+    let id : d.id ≡ c.in-Some.connection.id = c.retired-outcome.ensures.id ∙ (ap (λ (k : Connection). k.id) c.note_held.ensures ∙ c.in_ok-kept.ensures.id) in
+    concluded_others c.judged-outcome.result c.args.place c.in-Some.connection d c.args.self.now.places.connections.items
     c.take.new.self.connections.items c.args.kept.core c.in_ok-kept.kept.core c.conclude-more.new.self.places.connections.items c.conclude-more.new.kept.core
     c.in-Some.ensures.places c.conclude-more.ensures.goes_on c.conclude-more.ensures.over id c.in_ok-kept.ensures.others
 
 pub returns-clause-sessions : goal.returns-clause-sessions
 returns-clause-sessions g c =
-    let id : c.note_held.new.self.id ≡ c.in-Some.connection.id = ap (λ (k : Connection). k.id) c.note_held.ensures ∙ c.in_ok-kept.ensures.id in
+    let d = c.retired-outcome.new.self in
+    let id : d.id ≡ c.in-Some.connection.id = c.retired-outcome.ensures.id ∙ (ap (λ (k : Connection). k.id) c.note_held.ensures ∙ c.in_ok-kept.ensures.id) in
     subst (λ (o : Option Connection). IfSome o (λ k. SessionsStayOrGo k.id c.args.kept.core c.conclude-more.new.kept.core)) c.in-Some.ensures.taken
-    (concluded_sessions c.judged-outcome.result c.args.place c.in-Some.connection c.note_held.new.self c.args.self.now.places.connections.items
+    (concluded_sessions c.judged-outcome.result c.args.place c.in-Some.connection d c.args.self.now.places.connections.items
     c.take.new.self.connections.items c.args.kept.core c.in_ok-kept.kept.core c.conclude-more.new.self.places.connections.items c.conclude-more.new.kept.core
     c.in-Some.ensures.places c.conclude-more.ensures.goes_on c.conclude-more.ensures.over id c.in_ok-kept.ensures.others)
 
@@ -51,20 +58,20 @@ returns-clause-idle g c =
     let before = c.args.self.now.places.connections.items in
     let scanned = c.args.self.now.scanned in
     let idle = c.args.self.now.limits.idle in
-    let d = c.note_held.new.self in
+    let d = c.retired-outcome.new.self in
     let there : connection_at before c.args.place ≡ Some c.in-Some.connection = sym c.in-Some.ensures.taken in
     concluded_holds (λ k. HasBeenIdle k scanned idle → ⊥) c.judged-outcome.result c.args.place d before c.take.new.self.connections.items
     c.in_ok-kept.kept.core c.conclude-more.new.self.places.connections.items c.conclude-more.new.kept.core c.in-Some.ensures.places
     (is_within before c.args.place c.in-Some.connection there) c.conclude-more.ensures.goes_on c.conclude-more.ensures.over
-    (λ on was. judged_active c.in_ok-kept.outcome c.judged-outcome.result d c.in_ok-now.now idle c.judged-outcome.ensures.idle
+    (λ on was. judged_active c.retired-outcome.result c.judged-outcome.result d c.in_ok-now.now idle c.judged-outcome.ensures.idle
     c.judged-outcome.ensures.over on (stays_idle d scanned c.in_ok-now.now idle c.in_ok-now.ensures was))
 
 pub returns-clause-unmarked : goal.returns-clause-unmarked
 returns-clause-unmarked g c =
     let before = c.args.self.now.places.connections.items in
-    let d = c.note_held.new.self in
+    let d = c.retired-outcome.new.self in
     let there : connection_at before c.args.place ≡ Some c.in-Some.connection = sym c.in-Some.ensures.taken in
-    let unmarked : d.queued ≡ false = ap (λ (k : Connection). k.queued) c.note_held.ensures ∙ c.in_ok-kept.ensures.queued in
+    let unmarked : d.queued ≡ false = c.retired-outcome.ensures.queued ∙ (ap (λ (k : Connection). k.queued) c.note_held.ensures ∙ c.in_ok-kept.ensures.queued) in
     concluded_holds (λ k. k.queued ≡ false) c.judged-outcome.result c.args.place d before c.take.new.self.connections.items
     c.in_ok-kept.kept.core c.conclude-more.new.self.places.connections.items c.conclude-more.new.kept.core c.in-Some.ensures.places
     (is_within before c.args.place c.in-Some.connection there) c.conclude-more.ensures.goes_on c.conclude-more.ensures.over (λ _. unmarked)

@@ -1,0 +1,25 @@
+use Rattle.std.proofs.Common.{◌≡◌, sym, ap, subst}
+use Rattle.service_loop.specs.declared.places.Places.{Places}
+use Rattle.service_loop.specs.declared.serving.Limits.{Limits}
+use Rattle.service_loop.specs.Places.{HasNoIdle}
+use Rattle.service_loop.specs.Sessions.{AreNoted}
+use Rattle.service_loop.proofs.Idle.{here_moved}
+use Rattle.service_loop.proofs.Marks.{marks_stay}
+use Rattle.service_loop.proofs.serving.Service.run.Goals as goal
+
+pub loop-preserved : goal.loop-preserved
+loop-preserved g c =
+    let r = c.round.new.self in
+    let s = c.stop_at_end.new.self in
+    let n = c.in_ok-kept.ensures in
+    let e = c.stop_at_end.ensures in
+    let core = c.in_ok-kept.kept.core in
+    record {
+      noted = subst (λ k. AreNoted s.places.connections.items core k) (sym e.number)
+          (subst (λ (p : Places). AreNoted p.connections.items core r.next_id) (sym e.places) n.noted);
+      marked = marks_stay r.places.connections.items s.places.connections.items r.visits_all s.visits_all r.ready.items s.ready.items
+          (ap (λ (p : Places). p.connections.items) e.places) e.all (ap (λ v. v.items) e.ready) n.marked;
+      idle = λ i. here_moved s.places.connections.items i r.scanned r.limits.idle s.scanned s.limits.idle (sym e.scanned)
+          (sym (ap (λ (k : Limits). k.idle) e.limits))
+          (subst (λ (p : Places). HasNoIdle p.connections.items i r.scanned r.limits.idle) (sym e.places) (n.idle i));
+    }

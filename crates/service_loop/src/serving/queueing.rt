@@ -1,0 +1,171 @@
+//! Whose turn it is, and when something is due.
+
+ghost use Rattle.std.specs.Prelude.{◌≡◌, ◌≤◌, ◌<◌, ℕ, slice_set};
+
+use super::{LISTENER, LONGEST_WAIT, Service};
+use crate::stopping::INPUT;
+use mio::Events;
+
+/// How many milliseconds at least lie between two looks at all connections for what is due.
+const RESCAN: u64 = 100;
+
+impl Service {
+    ghost use Rattle.service_loop.specs.Places.{connection_at, noted, AreQueued, HasTurn, HasTurnIfMarked, OnlyFlagsChange};
+
+    // Has the connection at a place have its turn, if there is one.
+    pub(super) fn queue(&mut self, place: usize, readable: bool, writable: bool)
+        ensures places { self.new.places.connections.items ≡
+            slice_set self.old.places.connections.items place
+            (noted readable writable (connection_at self.old.places.connections.items place)) }
+        ensures limits { self.new.limits ≡ self.old.limits }
+        ensures scanned { self.new.scanned ≡ self.old.scanned }
+        ensures flags { OnlyFlagsChange self.old.places.connections.items
+            self.new.places.connections.items }
+        ensures number { self.new.next_id ≡ self.old.next_id }
+        ensures turns { self.new.turns ≡ self.old.turns }
+        ensures marked { (i : ℕ) → HasTurnIfMarked self.old.places.connections.items
+            self.old.visits_all self.old.ready.items i
+            → HasTurnIfMarked self.new.places.connections.items
+            self.new.visits_all self.new.ready.items i }
+    {
+        if self.places.note(place, readable, writable) {
+            self.push_ready(place);
+        }
+    }
+
+    // Notes a place whose connection is to have its turn.
+    pub(super) fn push_ready(&mut self, place: usize)
+        ensures places { self.new.places ≡ self.old.places }
+        ensures limits { self.new.limits ≡ self.old.limits }
+        ensures scanned { self.new.scanned ≡ self.old.scanned }
+        ensures number { self.new.next_id ≡ self.old.next_id }
+        ensures turns { self.new.turns ≡ self.old.turns }
+        ensures noted { HasTurn self.new.visits_all self.new.ready.items place }
+        ensures others { (i : ℕ) → HasTurn self.old.visits_all self.old.ready.items i
+            → HasTurn self.new.visits_all self.new.ready.items i }
+    {
+        if self.ready.push(place).is_err() {
+            self.visits_all = true;
+        }
+    }
+
+    // Has each connection have its turn for which something is due, and notes when that is so for the next one. What is due is looked
+    // for among all of them, but only where it can be found, and not too often.
+    pub(super) fn note_due(&mut self, now: u64)
+        ensures looks { self.old.scan_at ≤ now → (self.new.scanned ≡ now)
+            × AreQueued self.new.places.connections.items self.new.limits.idle now }
+        ensures limits { self.new.limits ≡ self.old.limits }
+        ensures flags { OnlyFlagsChange self.old.places.connections.items
+            self.new.places.connections.items }
+        ensures number { self.new.next_id ≡ self.old.next_id }
+        ensures marked { (i : ℕ) → HasTurnIfMarked self.old.places.connections.items
+            self.old.visits_all self.old.ready.items i
+            → HasTurnIfMarked self.new.places.connections.items
+            self.new.visits_all self.new.ready.items i }
+        ensures waits { now < self.old.scan_at → self.new ≡ self.old }
+    {
+        if now < self.scan_at {
+            return;
+        }
+        self.scanned = now;
+        self.scan_at = now.saturating_add(LONGEST_WAIT);
+        self.queue_due(now);
+    }
+
+    // Has each connection have its turn for which something is due.
+    pub(super) fn queue_due(&mut self, now: u64)
+        ensures due { AreQueued self.new.places.connections.items self.new.limits.idle now }
+        ensures limits { self.new.limits ≡ self.old.limits }
+        ensures scanned { self.new.scanned ≡ self.old.scanned }
+        ensures flags { OnlyFlagsChange self.old.places.connections.items
+            self.new.places.connections.items }
+        ensures number { self.new.next_id ≡ self.old.next_id }
+        ensures marked { (i : ℕ) → HasTurnIfMarked self.old.places.connections.items
+            self.old.visits_all self.old.ready.items i
+            → HasTurnIfMarked self.new.places.connections.items
+            self.new.visits_all self.new.ready.items i }
+    {
+        for place in 0..self.places.len() {
+            match self.places.due_at(place, self.limits.idle) {
+                Some(due) if due <= now => self.queue(place, false, false),
+                Some(due) => self.note_next(due),
+                None => {}
+            }
+        }
+    }
+
+    // Notes when something is due for a connection.
+    pub(super) fn note_next(&mut self, due: u64)
+        ensures places { self.new.places ≡ self.old.places }
+        ensures limits { self.new.limits ≡ self.old.limits }
+        ensures scanned { self.new.scanned ≡ self.old.scanned }
+        ensures number { self.new.next_id ≡ self.old.next_id }
+        ensures turns { self.new.turns ≡ self.old.turns }
+        ensures all { self.new.visits_all ≡ self.old.visits_all }
+        ensures ready { self.new.ready ≡ self.old.ready }
+    {
+        let due = due.max(self.scanned.saturating_add(RESCAN));
+        self.scan_at = self.scan_at.min(due);
+    }
+
+    // Notes what the events say. One of a connection that is gone does no harm: the next call would wait.
+    pub(super) fn note_all(&mut self, events: &Events)
+        ensures flags { OnlyFlagsChange self.old.places.connections.items
+            self.new.places.connections.items }
+        ensures number { self.new.next_id ≡ self.old.next_id }
+        ensures marked { (i : ℕ) → HasTurnIfMarked self.old.places.connections.items
+            self.old.visits_all self.old.ready.items i
+            → HasTurnIfMarked self.new.places.connections.items
+            self.new.visits_all self.new.ready.items i }
+        ensures limits { self.new.limits ≡ self.old.limits }
+        ensures scanned { self.new.scanned ≡ self.old.scanned }
+    {
+        for event in events {
+            let token = event.token();
+            if token == LISTENER {
+                self.acceptable = true;
+            } else if token == INPUT {
+                self.input_ready = true;
+            } else {
+                self.queue(
+                    token.0,
+                    event.is_readable(),
+                    event.is_writable() || event.is_error(),
+                );
+            }
+        }
+    }
+
+    // Notes when something is due for the connection at a place, if there is one.
+    pub(super) fn note_next_at(&mut self, place: usize)
+        ensures places { self.new.places ≡ self.old.places }
+        ensures number { self.new.next_id ≡ self.old.next_id }
+        ensures turns { self.new.turns ≡ self.old.turns }
+        ensures limits { self.new.limits ≡ self.old.limits }
+        ensures scanned { self.new.scanned ≡ self.old.scanned }
+        ensures all { self.new.visits_all ≡ self.old.visits_all }
+        ensures ready { self.new.ready ≡ self.old.ready }
+    {
+        if let Some(due) = self.places.due_at(place, self.limits.idle) {
+            self.note_next(due);
+        }
+    }
+
+    // Has the connection at a place have another turn, if it has more to do.
+    pub(super) fn queue_again(&mut self, place: usize, more: bool)
+        ensures flags { OnlyFlagsChange self.old.places.connections.items
+            self.new.places.connections.items }
+        ensures number { self.new.next_id ≡ self.old.next_id }
+        ensures turns { self.new.turns ≡ self.old.turns }
+        ensures limits { self.new.limits ≡ self.old.limits }
+        ensures scanned { self.new.scanned ≡ self.old.scanned }
+        ensures marked { (i : ℕ) → HasTurnIfMarked self.old.places.connections.items
+            self.old.visits_all self.old.ready.items i
+            → HasTurnIfMarked self.new.places.connections.items
+            self.new.visits_all self.new.ready.items i }
+    {
+        if more {
+            self.queue(place, false, false);
+        }
+    }
+}

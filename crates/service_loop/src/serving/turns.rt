@@ -1,0 +1,281 @@
+//! The turns of connections, and what becomes of them.
+
+ghost use Rattle.std.specs.Prelude.{◌≡◌, ◌≤◌, ◌<◌, ℕ, slice_get, None, IfOk, IfSome, OnOk, length, true, false};
+ghost use Rattle.service_loop.specs.Watching.{published_between};
+
+use super::Service;
+use crate::connection::{Connection, Outcome};
+use crate::device::Saver;
+use crate::kept::Kept;
+use crate::report::{Closing, RunFault};
+use service_watch::{Cause, Counted, Event};
+use std::mem;
+
+impl Service {
+    ghost use Rattle.service_core.specs.Runs.{DoesToCore, Closes};
+    ghost use Rattle.service_loop.specs.Judging.{GoesOn};
+    ghost use Rattle.service_loop.specs.Places.{all_held, connection_at, AreMarkedNoted, HasNoIdle, HasTurn, HasTurnIfMarked, OthersStayOrGo};
+    ghost use Rattle.service_loop.specs.Sessions.{AreNoted, Settles, SessionsStayOrGo};
+
+    // Gives a turn to each connection that is to have one.
+    pub(super) fn take_turns<S: Saver + Drop>(
+        &mut self,
+        rt: &HostRuntime,
+        kept: Kept<S>,
+    ) -> Result<Kept<S>, RunFault>
+        requires noted { AreNoted self.old.places.connections.items kept.core self.old.next_id }
+        ensures noted { IfOk result (λ kept.
+            AreNoted self.new.places.connections.items kept.core self.new.next_id) }
+        ensures idle { OnOk result ((i : ℕ) → HasTurn self.old.visits_all self.old.ready.items i
+            → HasNoIdle self.new.places.connections.items i
+            self.old.scanned self.old.limits.idle) }
+        ensures limits { OnOk result (self.new.limits ≡ self.old.limits) }
+        ensures scanned { OnOk result (self.new.scanned ≡ self.old.scanned) }
+        ensures stays { OnOk result ((i : ℕ) → HasNoIdle self.old.places.connections.items i
+            self.old.scanned self.old.limits.idle → HasNoIdle self.new.places.connections.items i
+            self.old.scanned self.old.limits.idle) }
+        ensures marked { AreMarkedNoted self.old.places.connections.items self.old.visits_all
+            self.old.ready.items → OnOk result (AreMarkedNoted
+            self.new.places.connections.items self.new.visits_all self.new.ready.items) }
+    {
+        let kept = self.visit_all(rt, kept)?;
+        self.visit_ready(rt, kept)
+    }
+
+    // Gives a turn to each connection that is noted.
+    pub(super) fn visit_ready<S: Saver + Drop>(
+        &mut self,
+        rt: &HostRuntime,
+        mut kept: Kept<S>,
+    ) -> Result<Kept<S>, RunFault>
+        requires noted { AreNoted self.old.places.connections.items kept.core self.old.next_id }
+        ensures noted { IfOk result (λ kept.
+            AreNoted self.new.places.connections.items kept.core self.new.next_id) }
+        ensures idle { OnOk result ((k : ℕ) → IfSome (slice_get self.old.ready.items k)
+            (λ i. HasNoIdle self.new.places.connections.items i
+            self.old.scanned self.old.limits.idle)) }
+        ensures stays { OnOk result ((i : ℕ) → HasNoIdle self.old.places.connections.items i
+            self.old.scanned self.old.limits.idle → HasNoIdle self.new.places.connections.items i
+            self.old.scanned self.old.limits.idle) }
+        ensures limits { OnOk result (self.new.limits ≡ self.old.limits) }
+        ensures scanned { OnOk result (self.new.scanned ≡ self.old.scanned) }
+        ensures marked { AreMarkedNoted self.old.places.connections.items self.old.visits_all
+            self.old.ready.items → OnOk result (AreMarkedNoted
+            self.new.places.connections.items self.new.visits_all self.new.ready.items) }
+    {
+        mem::swap(&mut self.ready, &mut self.turns);
+        self.ready.clear();
+        for at in 0..self.turns.len() {
+            let place = self.turns[at];
+            kept = self.visit(rt, place, kept)?;
+        }
+        Ok(kept)
+    }
+
+    // Gives each connection a turn, where one could not be noted.
+    pub(super) fn visit_all<S: Saver + Drop>(
+        &mut self,
+        rt: &HostRuntime,
+        mut kept: Kept<S>,
+    ) -> Result<Kept<S>, RunFault>
+        requires noted { AreNoted self.old.places.connections.items kept.core self.old.next_id }
+        ensures noted { IfOk result (λ kept.
+            AreNoted self.new.places.connections.items kept.core self.new.next_id) }
+        ensures idle { self.old.visits_all ≡ true → OnOk result ((i : ℕ) →
+            HasNoIdle self.new.places.connections.items i self.old.scanned self.old.limits.idle) }
+        ensures none { self.old.visits_all ≡ false → OnOk result (self.new ≡ self.old) }
+        ensures limits { OnOk result (self.new.limits ≡ self.old.limits) }
+        ensures scanned { OnOk result (self.new.scanned ≡ self.old.scanned) }
+        ensures marked { self.old.visits_all ≡ true → OnOk result (AreMarkedNoted
+            self.new.places.connections.items self.new.visits_all self.new.ready.items) }
+    {
+        if !self.visits_all {
+            return Ok(kept);
+        }
+        self.visits_all = false;
+        for place in 0..self.places.len() {
+            kept = self.visit(rt, place, kept)?;
+        }
+        Ok(kept)
+    }
+
+    // Gives the connection at a place a turn, if there is one, and has it have another if it has more to do at once.
+    pub(super) fn visit<S: Saver + Drop>(
+        &mut self,
+        rt: &HostRuntime,
+        place: usize,
+        kept: Kept<S>,
+    ) -> Result<Kept<S>, RunFault>
+        requires noted { AreNoted self.old.places.connections.items kept.core self.old.next_id }
+        ensures noted { IfOk result (λ kept.
+            AreNoted self.new.places.connections.items kept.core self.new.next_id) }
+        ensures idle { OnOk result (HasNoIdle self.new.places.connections.items place
+            self.old.scanned self.old.limits.idle) }
+        ensures stays { OnOk result ((i : ℕ) → HasNoIdle self.old.places.connections.items i
+            self.old.scanned self.old.limits.idle → HasNoIdle self.new.places.connections.items i
+            self.old.scanned self.old.limits.idle) }
+        ensures limits { OnOk result (self.new.limits ≡ self.old.limits) }
+        ensures scanned { OnOk result (self.new.scanned ≡ self.old.scanned) }
+        ensures turns { OnOk result (self.new.turns ≡ self.old.turns) }
+        ensures marked { OnOk result (HasTurnIfMarked self.new.places.connections.items
+            self.new.visits_all self.new.ready.items place) }
+        ensures marks_stay { OnOk result ((i : ℕ) → HasTurnIfMarked
+            self.old.places.connections.items self.old.visits_all self.old.ready.items i
+            → HasTurnIfMarked self.new.places.connections.items
+            self.new.visits_all self.new.ready.items i) }
+    {
+        let (kept, more) = self.take_turn_at(rt, place, kept)?;
+        self.note_next_at(place);
+        self.queue_again(place, more);
+        Ok(kept)
+    }
+
+    // Gives the connection at a place a turn, if there is one, and closes what is over. Answers whether there is more to do
+    // at once.
+    pub(super) fn take_turn_at<S: Saver + Drop>(
+        &mut self,
+        rt: &HostRuntime,
+        place: usize,
+        kept: Kept<S>,
+    ) -> Result<(Kept<S>, bool), RunFault>
+        requires noted { AreNoted self.old.places.connections.items kept.core self.old.next_id }
+        ensures noted { IfOk result (λ it.
+            AreNoted self.new.places.connections.items it.0.core self.new.next_id) }
+        ensures idle { OnOk result (HasNoIdle self.new.places.connections.items place
+            self.old.scanned self.old.limits.idle) }
+        ensures limits { OnOk result (self.new.limits ≡ self.old.limits) }
+        ensures scanned { OnOk result (self.new.scanned ≡ self.old.scanned) }
+        ensures bounded { OnOk result
+            (all_held self.new.places.connections.items ≤ self.new.limits.memory) }
+        ensures free { connection_at self.old.places.connections.items place ≡ None →
+            IfOk result (λ it. (it.0.core ≡ kept.core) × (it.1 ≡ false)
+            × (self.new.places.connections.items ≡ self.old.places.connections.items)) }
+        ensures others { OnOk result (OthersStayOrGo place
+            self.old.places.connections.items self.new.places.connections.items) }
+        ensures sessions { IfOk result (λ it.
+            IfSome (connection_at self.old.places.connections.items place)
+            (λ c. SessionsStayOrGo c.id kept.core it.0.core)) }
+        ensures turns { OnOk result (self.new.turns ≡ self.old.turns) }
+        ensures unmarked { OnOk result (IfSome
+            (connection_at self.new.places.connections.items place) (λ c. c.queued ≡ false)) }
+        ensures all { OnOk result (self.new.visits_all ≡ self.old.visits_all) }
+        ensures ready { OnOk result (self.new.ready ≡ self.old.ready) }
+    {
+        if self.places.is_free(place) {
+            return Ok((kept, false));
+        }
+        let now = self.now_of_turn(rt)?;
+        let Some(mut connection) = self.places.take(place) else {
+            return Ok((kept, false));
+        };
+        let before = kept.core.store().version();
+        let (mut kept, outcome) = connection.take_turn(rt, now, kept, &mut self.buffer)?;
+        let published = published_between(before, kept.core.store().version());
+        self.log.note_turn(
+            rt,
+            connection.id,
+            connection.address,
+            connection.watch.reply,
+            published,
+        );
+        connection.note_held(&kept);
+        let outcome = connection.retired(now, self.phase.is_stopping(), outcome);
+        let outcome = connection.judged(now, self.limits.idle, outcome);
+        let more = self.conclude(rt, &mut kept, place, connection, outcome);
+        Ok((kept, more))
+    }
+
+    // Puts a connection back into its place after a turn, or closes it. Answers whether there is more to do at once: where it
+    // is closed, whether another may be accepted in its place.
+    pub(super) fn conclude<S: Saver>(
+        &mut self,
+        rt: &HostRuntime,
+        kept: &mut Kept<S>,
+        place: usize,
+        connection: Connection,
+        outcome: Outcome,
+    ) -> bool
+        requires within { place < length self.old.places.connections.items }
+        requires free { connection_at self.old.places.connections.items place ≡ None }
+        ensures goes_on { GoesOn outcome → Settles place connection
+            self.old.places.connections.items kept.old.core
+            self.new.places.connections.items kept.new.core }
+        ensures over { (GoesOn outcome → ⊥) →
+            (self.new.places.connections.items ≡ self.old.places.connections.items)
+            × DoesToCore kept.old.core (Closes connection.id) kept.new.core }
+        ensures busy { outcome ≡ Outcome.Busy → result ≡ true }
+        ensures waits { outcome ≡ Outcome.Waits → result ≡ false }
+        ensures again { (GoesOn outcome → ⊥) → result ≡ self.old.acceptable }
+        ensures limits { self.new.limits ≡ self.old.limits }
+        ensures scanned { self.new.scanned ≡ self.old.scanned }
+        ensures number { self.new.next_id ≡ self.old.next_id }
+        ensures turns { self.new.turns ≡ self.old.turns }
+        ensures all { self.new.visits_all ≡ self.old.visits_all }
+        ensures ready { self.new.ready ≡ self.old.ready }
+    {
+        if outcome.goes_on() {
+            self.settle(rt, kept, place, connection);
+            return matches!(outcome, Outcome::Busy);
+        }
+        let (id, address) = (connection.id, connection.address);
+        match outcome {
+            Outcome::Closed(closing) => {
+                self.log.report(rt, closing, Some(id), Some(address));
+                kept.counters.add(Counted::Closed(closing.cause()), 1);
+            }
+            _ => {
+                self.log.note_connection(rt, Event::Closed, id, address, None);
+                kept.counters.add(Counted::Closed(Cause::End), 1);
+            }
+        }
+        self.full = false;
+        kept.close_session(connection.id);
+        self.acceptable
+    }
+
+    // Puts a connection into a free place. If too many bytes are held for all then, the one for which most are held is closed.
+    pub(super) fn settle<S: Saver>(
+        &mut self,
+        rt: &HostRuntime,
+        kept: &mut Kept<S>,
+        place: usize,
+        connection: Connection,
+    )
+        requires within { place < length self.old.places.connections.items }
+        requires free { connection_at self.old.places.connections.items place ≡ None }
+        ensures settles { Settles place connection self.old.places.connections.items kept.old.core
+            self.new.places.connections.items kept.new.core }
+        ensures limits { self.new.limits ≡ self.old.limits }
+        ensures scanned { self.new.scanned ≡ self.old.scanned }
+        ensures number { self.new.next_id ≡ self.old.next_id }
+        ensures turns { self.new.turns ≡ self.old.turns }
+        ensures all { self.new.visits_all ≡ self.old.visits_all }
+        ensures ready { self.new.ready ≡ self.old.ready }
+    {
+        if let Some(lost) = self.places.put(place, connection) {
+            self.log.report(rt, Closing::Crowded, Some(lost.id), Some(lost.address));
+            kept.counters.add(Counted::Closed(Cause::Memory), 1);
+            self.full = false;
+            kept.close_session(lost.id);
+        }
+    }
+
+    // Milliseconds since the start, no fewer than when all connections were looked at.
+    pub(super) fn now_of_turn(&self, rt: &HostRuntime) -> Result<u64, RunFault>
+        ensures { IfOk result (λ now. self.now.scanned ≤ now) }
+    {
+        let now = self.now(rt)?;
+        Ok(if now < self.scanned {
+            self.scanned
+        } else {
+            now
+        })
+    }
+}
+
+// The version that a turn published, from those before and after it.
+fn published_between(before: u64, after: u64) -> Option<u64>
+    ensures { result ≡ published_between before after }
+{
+    if before == after { None } else { Some(after) }
+}

@@ -1,0 +1,42 @@
+-- The requests of those who ask how a service does, and what they get.
+use Rattle.std.specs.Prelude.{ℕ, List, [], ◌++◌, cond, codes, decimal, length, bytes_eq}
+use Rattle.service_watch.specs.declared.requests.Page.{Page}
+use Rattle.service_watch.specs.declared.requests.Page.TheVariants.{Health, Metrics, NotFound, BadMethod, BadRequest}
+
+-- a page that is only to be got
+abbrev pub if_got : List ℕ → Page → Page
+if_got method page = cond (bytes_eq method (codes "GET")) page BadMethod
+
+-- the page for a method and a target
+abbrev pub page_for : List ℕ → List ℕ → Page
+page_for method target =
+    cond (bytes_eq target (codes "/health")) (if_got method Health)
+    (cond (bytes_eq target (codes "/metrics")) (if_got method Metrics) NotFound)
+
+-- a status and what it means
+abbrev pub status_line : Page → List ℕ
+status_line Health = codes "200 OK"
+status_line Metrics = codes "200 OK"
+status_line NotFound = codes "404 Not Found"
+status_line BadMethod = codes "405 Method Not Allowed"
+status_line BadRequest = codes "400 Bad Request"
+
+-- the field that names the method, where another was asked for
+abbrev pub allow_field : Page → List ℕ
+allow_field BadMethod = codes "Allow: GET\r\n"
+allow_field _ = []
+
+-- the type of a page's content
+abbrev pub content_type : Page → List ℕ
+content_type Health = codes "application/json"
+content_type _ = codes "text/plain; version=0.0.4; charset=utf-8"
+
+-- a whole response
+abbrev pub response_text : Page → List ℕ → List ℕ
+response_text page content =
+    codes "HTTP/1.1 " ++ (status_line page ++ (codes "\r\nContent-Type: " ++ (content_type page ++ (codes "\r\n" ++ (allow_field page
+    ++ (codes "Content-Length: " ++ (decimal (length content) ++ (codes "\r\nConnection: close\r\n\r\n" ++ content))))))))
+
+-- the content of `/health`
+abbrev pub health_text : ℕ → ℕ → List ℕ
+health_text version records = codes "{\"version\":" ++ (decimal version ++ (codes ",\"records\":" ++ (decimal records ++ codes "}\n")))

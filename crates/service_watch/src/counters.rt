@@ -1,0 +1,155 @@
+//! Counts of what happened.
+
+ghost use Rattle.std.specs.Prelude.{◌≡◌, ◌+◌, ◌++◌, ◌∷◌, ◌<◌, [], List, slice_index, slice_set};
+ghost use Rattle.service_watch.specs.Counts.{Amount, IsTally, cause_slot, frame_slot, refusal_slot, reply_slot, saturating, scheme_offset, slot_of};
+
+/// How many things are counted apart.
+pub const SLOTS: usize = 48;
+
+/// Why a connection is over.
+#[derive(Clone, Copy, Debug, PartialEq, Eq)]
+pub enum Cause {
+    /// It came to its end.
+    End,
+    /// It could not be accepted.
+    Connect,
+    /// A read failed.
+    Read,
+    /// A write failed.
+    Write,
+    /// There was no progress for too long.
+    Idle,
+    /// Memory was refused, or too many bytes were held for all.
+    Memory,
+    /// Its peer had too many.
+    TooMany,
+}
+
+/// What is counted.
+#[derive(Clone, Copy, Debug, PartialEq, Eq)]
+pub enum Counted {
+    /// A connection was accepted.
+    Accepted,
+    /// A connection is over.
+    Closed(Cause),
+    /// A frame of this kind came.
+    Frame(u8),
+    /// A reply of this kind was made, whose payload begins with this byte: an answer's scheme, a refusal's code.
+    Reply(u8, u8),
+    /// So many bytes were read.
+    BytesIn,
+    /// So many bytes were written.
+    BytesOut,
+    /// A line of the log was left out.
+    LeftOut,
+}
+
+/// How often each thing happened, or how much of it. A count that a word can't say stays at the most that it can.
+#[derive(Clone, Copy)]
+pub struct Counters {
+    counts: [u64; SLOTS],
+}
+
+impl Counters {
+    /// Nothing has happened.
+    pub fn new() -> Counters
+        ensures { IsTally result.counts [] }
+    {
+        Counters { counts: [0; SLOTS] }
+    }
+
+    /// Counts a thing that happened, or so much of it.
+    pub fn add(&mut self, what: Counted, amount: u64)
+        ensures tally { (events : List Amount) → IsTally self.old.counts events →
+            IsTally self.new.counts (events ++ record { slot = slot_of what; much = amount } ∷ []) }
+        ensures exactly { self.new.counts ≡ slice_set self.old.counts (slot_of what)
+            (saturating (slice_index self.old.counts (slot_of what) + amount)) }
+    {
+        let slot = what.slot();
+        self.counts[slot] = self.counts[slot].saturating_add(amount);
+    }
+
+    /// How often a thing happened, or how much of it.
+    pub fn of(&self, what: Counted) -> u64
+        ensures { result ≡ slice_index self.now.counts (slot_of what) }
+    {
+        self.counts[what.slot()]
+    }
+}
+
+impl Counted {
+    // Where it is counted.
+    fn slot(self) -> usize
+        ensures slot { result ≡ slot_of self }
+        ensures within { result < 48 }
+    {
+        match self {
+            Counted::Accepted => 0,
+            Counted::Closed(cause) => cause.slot(),
+            Counted::Frame(kind) => frame_slot(kind),
+            Counted::Reply(kind, first) => reply_slot(kind, first),
+            Counted::BytesIn => 18,
+            Counted::BytesOut => 19,
+            Counted::LeftOut => 20,
+        }
+    }
+}
+
+impl Cause {
+    // Where connections that are over for it are counted.
+    fn slot(self) -> usize
+        ensures slot { result ≡ cause_slot self }
+        ensures within { result < 48 }
+    {
+        match self {
+            Cause::End => 1,
+            Cause::Connect => 2,
+            Cause::Read => 3,
+            Cause::Write => 4,
+            Cause::Idle => 5,
+            Cause::Memory => 6,
+            Cause::TooMany => 7,
+        }
+    }
+}
+
+// Where frames of a kind are counted: those that no client sends together.
+fn frame_slot(kind: u8) -> usize
+    ensures slot { result ≡ frame_slot kind }
+    ensures within { result < 48 }
+{
+    if kind <= 9 { 8 + kind as usize } else { 8 }
+}
+
+// Where replies are counted: those that no server makes together.
+fn reply_slot(kind: u8, first: u8) -> usize
+    ensures slot { result ≡ reply_slot kind first }
+    ensures within { result < 48 }
+{
+    match kind {
+        0x82 => 21,
+        0x83 => 22 + scheme_offset(first),
+        0x84 => 24,
+        0x85 => 25 + scheme_offset(first),
+        0x86 => 27,
+        0x87 => 28,
+        0x88 => 29,
+        0x8f => refusal_slot(first),
+        _ => 44,
+    }
+}
+
+// 1 for DoublePIR.
+fn scheme_offset(scheme: u8) -> usize
+    ensures { result ≡ scheme_offset scheme }
+{
+    if scheme == 1 { 1 } else { 0 }
+}
+
+// Where refusals of a code are counted.
+fn refusal_slot(code: u8) -> usize
+    ensures slot { result ≡ refusal_slot code }
+    ensures within { result < 48 }
+{
+    if code <= 14 { 29 + code as usize } else { 44 }
+}

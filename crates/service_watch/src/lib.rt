@@ -1,0 +1,20 @@
+//! What operators see of a service, as functions of values: the lines of its log.
+#![tactic(auto)]
+
+mod counters;
+mod entries;
+mod histograms;
+mod metrics;
+mod moments;
+mod replies;
+mod requests;
+mod scans;
+
+pub use counters::{Cause, Counted, Counters};
+pub use entries::{Entry, Event, LogFormat, entry_line};
+pub use histograms::{BOUND_COUNT, Histogram};
+pub use metrics::{Kind, Sample, push_family};
+pub use moments::moment_text;
+pub use replies::{ReplyHead, head_of_reply};
+pub use requests::{Page, health, page_of, response};
+pub use scans::FrameScan;
