@@ -1,7 +1,7 @@
 -- The places that a draft changes.
-use Rattle.std.proofs.Common.{◌≡◌, ◌≢◌, ℕ, ◌+◌, ◌<◌, ◌≤◌, arith, ap, ◌∙◌, sym, refl, subst, inl, inr, List, [], ◌∷◌, length, Bool, true, false, cond}
+use Rattle.std.proofs.Common.{◌≡◌, ◌≢◌, ℕ, ◌+◌, ◌<◌, ◌≤◌, arith, ap, ◌∙◌, sym, refl, subst, inl, inr, List, [], ◌∷◌, length, true, false, cond}
 use Rattle.std.proofs.lemmas.Bool.{cases_eq, cases_lt}
-use Rattle.std.specs.Prelude.{Option, Some, None, MatchOption, IsSomeAnd, IsSome}
+use Rattle.std.specs.Prelude.{Option, Some, None, MatchOption, IsSomeAnd}
 use Rattle.std.specs.declared.vec.Vec.{Vec}
 use Rattle.std.specs.declared.alloc.Global.{Global}
 use Rattle.std.specs.BTreeMap.{BTreeMap, Updates}
@@ -11,7 +11,7 @@ use Rattle.digit_pack.specs.Layout.{IsLayout, is_layout, record_at}
 use Rattle.digit_pack.proofs.Layouts.{layout_accepted}
 use Rattle.pir_schemes.specs.declared.plan.Plan.{Plan}
 use Rattle.pir_schemes.specs.Plans.{fits, shape_at}
-use Rattle.version_store.specs.Drafts.{Changes, change_at, bytes_or, draft_of, is_some_change, grown_to, FitRecords, HasAppended, IsHeld}
+use Rattle.version_store.specs.Drafts.{Changes, change_at, bytes_or, draft_of, is_some_change, grown_to, HasAppended, IsHeld}
 use Rattle.version_store.specs.Editions.{Records}
 use Rattle.version_store.specs.Histories.{StoreState}
 use Rattle.version_store.specs.DraftChanges.{IsUnchangedAt, IsNextChange, HasNoChange}

@@ -1,5 +1,5 @@
 -- Records that are read out of the digits that keep them, and put into them.
-use Rattle.std.proofs.Common.{◌≡◌, ◌≢◌, ◌∙◌, ℕ, ◌+◌, ◌-◌, ◌*◌, ◌/◌, ◌%◌, ◌^◌, ◌<◌, ◌≤◌, List, [], ◌∷◌, ◌++◌, All, length, take, drop, slice_set, refl, sym, ap, subst, arith, inl, inr}
+use Rattle.std.proofs.Common.{◌≡◌, ◌∙◌, ℕ, ◌+◌, ◌-◌, ◌*◌, ◌/◌, ◌%◌, ◌^◌, ◌<◌, ◌≤◌, List, [], ◌∷◌, ◌++◌, All, length, take, drop, slice_set, refl, sym, ap, subst, arith, inl, inr}
 use Rattle.std.proofs.Math.Nat.{mul-le-mul_left, mul-div_cancel, div-mul-le_self}
 use borrow.Rule.Slice.PartMut.{put_mid, post_of}
 use Rattle.std.proofs.lemmas.Bool.{cases_lt}
@@ -7,21 +7,21 @@ use Rattle.std.proofs.lemmas.Nat.{row_fits, le-div}
 use Rattle.std.proofs.lemmas.List.{length-append, length-take-le, length-drop, get_or_append_left, get_or-append_right, get_or_past}
 use Rattle.std.proofs.lemmas.List.Elements.{All-append, All-take, All-drop}
 use Rattle.matrix_u32.specs.Matrix.{WordMatrix, entry_or_zero, widened}
-use Rattle.matrix_u32.specs.Sum.{list_of, sum_below}
-use Rattle.matrix_u32.proofs.Products.{at-list_of_any, same-list_of, entry-matrix_of, length-list_of}
+use Rattle.matrix_u32.specs.Sum.{sum_below}
+use Rattle.matrix_u32.proofs.Products.{at-list_of_any, same-list_of, entry-matrix_of}
 use Rattle.matrix_u32.proofs.Changes.{same-matrix_of}
 use Rattle.lane_kernels.specs.Digit.{digit}
 use Rattle.digit_pack.specs.Digits.{number_of}
 use Rattle.digit_pack.specs.Columns.{WritesColumn}
 use Rattle.digit_pack.specs.Held.{record_in_digits, HoldsRecord}
 use Rattle.digit_pack.specs.Laws.{PacksAndUnpacks}
-use Rattle.digit_pack.specs.Layout.{Shape, IsShape, IsLayout, IsRecord, FitsRecord, digit_at, digit_matrix, digit_rows, digit_cols, digits_per_record, first_row, column_of, record_at, record_bytes, record_digits, records_in}
+use Rattle.digit_pack.specs.Layout.{Shape, IsLayout, IsRecord, FitsRecord, digit_at, digit_matrix, digit_rows, digit_cols, digits_per_record, first_row, column_of, record_at, record_bytes, record_digits, records_in}
 use Rattle.digit_pack.proofs.Changes.{zero_digit}
 use Rattle.digit_pack.proofs.HeldRecords.{digits_back}
 use Rattle.digit_pack.proofs.RecordLemmas.{shape_of_layout, record_written, record_replaced, written_record}
 use Rattle.digit_pack.proofs.Records.{unpack-pack}
 use Rattle.snapshot_file.proofs.Received.{one_after}
-use Rattle.version_store.specs.KeptRecords.{KeptRecords, IsKept, counted, bytes_in_digits}
+use Rattle.version_store.specs.KeptRecords.{IsKept, counted, bytes_in_digits}
 use Rattle.version_store.specs.Openings.{bytes_of_records}
 use Rattle.version_store.proofs.KeptBytes.{below_count}
 use Rattle.version_store.proofs.RecordBytes.{joined_records}

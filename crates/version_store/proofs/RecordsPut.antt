@@ -1,13 +1,8 @@
 -- A snapshot's record bytes with one record replaced, or with one more.
-use Rattle.std.proofs.Common.{◌≡◌, ◌∙◌, ℕ, ◌+◌, ◌*◌, ◌≤◌, List, [], ◌∷◌, ◌++◌, Bool, true, length, take, drop, map, slice_set, refl, sym, ap, subst, arith}
+use Rattle.std.proofs.Common.{◌≡◌, ◌∙◌, ℕ, ◌+◌, ◌≤◌, List, [], ◌∷◌, ◌++◌, Bool, true, length, map, slice_set, refl, sym, ap, subst, arith}
 use Rattle.std.specs.List.{list_all}
 use Rattle.std.proofs.lemmas.Bool.{and_from, and_parts}
-use Rattle.std.proofs.lemmas.Nat.{row_fits}
-use Rattle.std.proofs.lemmas.List.{length-append, length-drop, map-append, take_all, take-append-le, drop-append-le}
-use Rattle.std.proofs.lemmas.List.FromFn.{map-range_with_len_more}
-use Rattle.std.proofs.Math.Seq.{drop-append-add}
-use Rattle.matrix_u32.specs.Sum.{list_of}
-use Rattle.matrix_u32.proofs.Products.{same-list_of}
+use Rattle.std.proofs.lemmas.List.{length-append, map-append}
 use Rattle.digit_pack.specs.Layout.{Shape, IsLayout, records_in}
 use Rattle.pir_schemes.specs.Plans.{IsPlan, shape_at, fits, slot, is_slot_of, content}
 use Rattle.pir_schemes.proofs.Quiet.{slot_holds}

@@ -1,4 +1,4 @@
-use Rattle.std.proofs.Common.{◌≡◌, ◌++◌, List, [], ℕ, length, rules, sym, ap, subst, refl, ◌∙◌, append_assoc}
+use Rattle.std.proofs.Common.{◌≡◌, ◌++◌, List, [], ℕ, rules, sym, ap, subst, ◌∙◌, append_assoc}
 use Rattle.std.proofs.lemmas.List.{append-nil}
 use Rattle.std.specs.Io.KnownBytes.{Consumes}
 use Rattle.std.proofs.KnownBytes.{Consumes-trans}
@@ -6,7 +6,7 @@ use Rattle.sha2.specs.Sha256.{sha256}
 use Rattle.sha2.specs.Hashers.{Holds256}
 use Rattle.snapshot_file.specs.declared.snapshot.Header.{Header}
 use Rattle.snapshot_file.specs.Verdicts.{StopsReadingAt}
-use Rattle.snapshot_file.specs.Snapshots.{header_bytes, hashed_bytes, snapshot_bytes, has_slots, IsFile}
+use Rattle.snapshot_file.specs.Snapshots.{header_bytes, hashed_bytes, IsFile}
 use Rattle.snapshot_file.proofs.Readings.{kept_below, stops_in_records, stops_in_digest, stops_at_digest, stops_after}
 use Rattle.snapshot_file.proofs.receiving.read_records_into.Goals as goal
 

@@ -1,11 +1,11 @@
-use Rattle.std.proofs.Common.{◌≡◌, ◌∙◌, ◌+◌, ◌-◌, ◌*◌, ◌/◌, ◌<◌, ◌≤◌, ◌++◌, ℕ, List, true, length, take, drop, sym, ap, subst, arith, append_assoc}
+use Rattle.std.proofs.Common.{◌≡◌, ◌∙◌, ◌+◌, ◌-◌, ◌*◌, ◌/◌, ◌≤◌, ◌++◌, ℕ, List, true, length, take, drop, sym, ap, subst, arith, append_assoc}
 use Rattle.std.specs.Prelude.{◌&&◌, if◌then◌else◌}
 use Rattle.std.proofs.lemmas.List.{take_all, length-append, length-take-le, length-drop}
 use Rattle.std.proofs.Math.Nat.{mul-div_cancel, mul-le-mul_right}
 use Rattle.digit_pack.specs.Layout.{Shape}
 use Rattle.digit_pack.specs.Slots.{is_slotted, is_slot}
 use Rattle.snapshot_file.specs.declared.snapshot.Header.{Header}
-use Rattle.snapshot_file.specs.Snapshots.{shape_of, with_count, has_slots}
+use Rattle.snapshot_file.specs.Snapshots.{with_count, has_slots}
 use Rattle.snapshot_file.proofs.Pieces.{taken_more}
 use Rattle.snapshot_file.proofs.Received.{slots_more}
 use Rattle.snapshot_file.proofs.receiving.take_records.Goals.{then-is_good, else-is_good}

@@ -1,4 +1,4 @@
-use Rattle.std.proofs.Common.{◌++◌, [], refl}
+use Rattle.std.proofs.Common.{[], refl}
 use Rattle.std.proofs.KnownBytes.{Consumes-nil}
 use Rattle.std.proofs.lemmas.Result.{err_from_is_err_and}
 use Rattle.version_store.proofs.unopened.read_held.Goals as goal

@@ -1,6 +1,6 @@
-use Rattle.std.proofs.Common.{◌≡◌, ◌∙◌, ◌<◌, ◌*◌, ◌^◌, ◌≤◌, ap, sym, arith, ℕ, List, All, length}
+use Rattle.std.proofs.Common.{◌≡◌, ◌∙◌, ◌<◌, ◌*◌, ◌^◌, ap, sym, arith, ℕ, List, All, length}
 use Rattle.std.proofs.lemmas.List.Elements.{All-from_get_or}
-use Rattle.digit_pack.specs.Layout.{Shape, digit_matrix, records_in}
+use Rattle.digit_pack.specs.Layout.{digit_matrix, records_in}
 use Rattle.version_store.specs.KeptRecords.{KeptRecords, counted}
 use Rattle.version_store.proofs.KeptDigits.{is_kept, bytes_back}
 use Rattle.version_store.proofs.digit_records.DigitRecords.from_bytes.Goals as goal

@@ -1,7 +1,7 @@
-use Rattle.std.proofs.Common.{◌≡◌, ◌∙◌, ◌<◌, ◌^◌, [], ap, arith}
+use Rattle.std.proofs.Common.{◌∙◌, ◌<◌, ◌^◌, [], ap, arith}
 use Rattle.std.proofs.lemmas.List.Elements.{All-nil}
 use Rattle.matrix_u32.specs.Matrix.{zero_matrix}
-use Rattle.digit_pack.specs.Layout.{Shape, digit_matrix, digit_rows}
+use Rattle.digit_pack.specs.Layout.{Shape, digit_rows}
 use Rattle.digit_pack.proofs.RecordLemmas.{no_records}
 use Rattle.version_store.proofs.KeptDigits.{is_kept}
 use Rattle.version_store.proofs.digit_records.DigitRecords.new.Goals as goal

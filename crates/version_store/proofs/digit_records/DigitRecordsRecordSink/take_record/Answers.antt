@@ -1,4 +1,4 @@
-use Rattle.std.proofs.Common.{◌≡◌, ◌∙◌, ◌+◌, ◌*◌, ◌++◌, ◌<◌, ◌≤◌, ◌^◌, ap, sym, subst, arith, ℕ, List, All, length}
+use Rattle.std.proofs.Common.{◌≡◌, ◌∙◌, ◌+◌, ◌*◌, ◌++◌, ◌<◌, ◌≤◌, ◌^◌, ap, sym, subst, arith, All, length}
 use Rattle.std.proofs.lemmas.List.Elements.{All-from_get_or}
 use Rattle.version_store.specs.KeptRecords.{KeptRecords, bytes_in_digits}
 use Rattle.version_store.proofs.KeptBytes.{below_count}

@@ -1,4 +1,4 @@
-use Rattle.std.proofs.Common.{◌≡◌, ◌∙◌, ◌+◌, ◌*◌, ◌<◌, ◌≤◌, ap, sym, subst, length, take, drop}
+use Rattle.std.proofs.Common.{◌∙◌, ◌+◌, ◌*◌, ◌≤◌, ap, sym, subst, length, take, drop}
 use Rattle.version_store.specs.KeptRecords.{KeptRecords}
 use Rattle.version_store.proofs.KeptDigits.{is_taken, kept_there, kept_record}
 use Rattle.version_store.proofs.digit_records.DigitRecordsRecordSource.copy_record.Goals as goal

@@ -1,4 +1,4 @@
-use Rattle.std.proofs.Common.{◌≡◌, ◌∙◌, ◌*◌, [], ap, sym, ℕ, List, take, drop}
+use Rattle.std.proofs.Common.{◌∙◌, ◌*◌, [], ap, sym, ℕ, List, take, drop}
 use Rattle.matrix_u32.proofs.Products.{at-list_of_any}
 use Rattle.digit_pack.specs.Layout.{Shape}
 use Rattle.version_store.specs.HeldRecords.{bytes_held_by}

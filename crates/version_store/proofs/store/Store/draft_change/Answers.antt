@@ -1,4 +1,4 @@
-use Rattle.std.proofs.Common.{ap, ◌∙◌, sym, subst, arith, ◌≡◌, ◌<◌, ◌≤◌, ℕ, List, true, false, refl, Option, Some, None}
+use Rattle.std.proofs.Common.{subst, arith, ◌≡◌, ◌<◌, ◌≤◌, ℕ, List, true, false, refl, Option, Some, None}
 use Rattle.std.specs.Prelude.{IfSome, IfNone, IsSome, IsSomeAnd, ◌↔◌}
 use Rattle.version_store.specs.Drafts.{Changes, change_at, is_some_change, IsHeld}
 use Rattle.version_store.specs.Editions.{Records}
