@@ -6,9 +6,9 @@ use Rattle.std.proofs.lemmas.List.{take-take}
 use Rattle.publication_log.specs.Publications.{Placed, Published}
 use Rattle.snapshot_file.specs.declared.snapshot.Header.{Header}
 use Rattle.version_store.specs.Histories.{StoreState, held_edited, held_appended, held_published, held_after, draft_rows}
-use Rattle.version_store.specs.Openings.{held_of, plan_held}
+use Rattle.version_store.specs.Openings.{held_of, plan_held, records_for}
 use Rattle.log_replay.specs.Replays.{record_changed, records_after, edits_and_appends, replayed, replayed_all}
-use Rattle.log_replay.specs.Records.{AreRecordsReplayed, snapshot_records}
+use Rattle.log_replay.specs.Records.{AreRecordsReplayed}
 use Rattle.log_replay.specs.Laws.{ReplayedIsPublished, DraftIsReplayed, RecordsReplayAlike, LastSixteenSuffice, without_draft, with_log}
 use Rattle.log_replay.proofs.ChangeLemmas.{held_change, held_first}
 
@@ -59,7 +59,7 @@ opened h records = record {
 one_alike : (h h' : Header) (bytes bytes' : List ℕ) (p : Published) → AreRecordsReplayed h bytes p h' bytes' →
     held_of h' bytes' ≡ with_log [] (replayed p (held_of h bytes))
 one_alike h h' bytes bytes' p is =
-    let rs : List (List ℕ) = records_after (snapshot_records h bytes) p.changes in
+    let rs : List (List ℕ) = records_after (records_for h bytes) p.changes in
     ap (opened h') is.held ∙ ap (λ (k : Header). opened k rs) is.header ∙ ap (with_log []) (sym (is_published p (held_of h bytes)))
 
 -- ---- logs of changed rows

@@ -4,14 +4,13 @@ ghost use Rattle.std.specs.Prelude.{◌≡◌, ◌-◌, ℕ, List, OnOk, length,
 ghost use Rattle.publication_log.specs.Publications.{Published};
 ghost use Rattle.publication_log.specs.Entries.{chain_bytes};
 ghost use Rattle.publication_log.specs.Logs.{bodies_of, AreNext};
-ghost use Rattle.snapshot_file.specs.Snapshots.{header_of};
 ghost use Rattle.version_store.specs.Openings.{IsSound};
 ghost use Rattle.log_replay.specs.Laws.{AreRecordsReplayedAll};
 
+use crate::held::HeldRecords;
 use crate::records::replay_records;
 use crate::replaying::ReplayFault;
 use publication_log::Publications;
-use snapshot_file::Snapshot;
 
 /// Of how many publications a store knows the rows that changed.
 const LATEST: usize = 16;
@@ -29,24 +28,24 @@ pub fn earlier_count(publications: Publications<'_>) -> usize
 /// # Errors
 ///
 /// As [`replay_records`] of the first that it refuses. The snapshot is of no more use then.
-pub fn replay_first(
-    snapshot: &mut Snapshot,
+pub fn replay_first<H: HeldRecords>(
+    held: &mut H,
     publications: Publications<'_>,
     n: usize,
 ) -> Result<(), ReplayFault>
-    requires { IsSound (header_of snapshot.old) snapshot.old.records.items }
-    ensures sound { OnOk result (IsSound (header_of snapshot.new) snapshot.new.records.items) }
+    requires { IsSound (H.header held.old) (H.bytes held.old) }
+    ensures sound { OnOk result (IsSound (H.header held.new) (H.bytes held.new)) }
     ensures replayed { (link : List ℕ) (version : ℕ) (ps : List Published) → AreNext version ps →
         publications.entry.rest.now ≡ chain_bytes link (bodies_of ps) → OnOk result
-        (AreRecordsReplayedAll (header_of snapshot.old) snapshot.old.records.items (take n ps)
-        (header_of snapshot.new) snapshot.new.records.items) }
+        (AreRecordsReplayedAll (H.header held.old) (H.bytes held.old) (take n ps)
+        (H.header held.new) (H.bytes held.new)) }
 {
     let mut left = publications;
     for i in 0..n {
         let Some((publication, rest)) = left.split_first() else {
             return Ok(());
         };
-        if let Err(fault) = replay_records(snapshot, publication) {
+        if let Err(fault) = replay_records(held, publication) {
             return Err(fault);
         }
         left = rest;

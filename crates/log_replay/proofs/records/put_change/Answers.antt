@@ -1,33 +1,25 @@
-use Rattle.std.proofs.Common.{◌≡◌, ◌∙◌, ◌++◌, ◌≤◌, ◌∷◌, [], sym, ap, ℕ, List, length, Option, None, Some}
-use Rattle.std.specs.Prelude.{IfSome, slice_set}
-use Rattle.std.proofs.lemmas.List.{with_items_is}
+use Rattle.std.proofs.Common.{◌∙◌, ◌+◌, ◌<◌, ◌≤◌, ℕ, sym, subst, arith}
+use Rattle.digit_pack.specs.Layout.{IsLayout}
 use Rattle.pir_schemes.specs.declared.plan.Plan.{Plan}
-use Rattle.pir_schemes.specs.Plans.{records_held}
-use Rattle.log_replay.specs.Replays.{record_changed}
-use Rattle.log_replay.proofs.RecordLemmas.{changed_below, changed_above, length_held}
+use Rattle.pir_schemes.specs.Plans.{shape_at}
+use Rattle.pir_schemes.proofs.Layouts.{layout_means}
+use Rattle.log_replay.proofs.RecordLemmas.{replaced_one, appended_one}
 use Rattle.log_replay.proofs.records.put_change.Goals as goal
 
 pub returns-then-place-count-clause-put : goal.returns-then-place-count-clause-put
-returns-then-place-count-clause-put c =
-    let p : Plan = c.args.plan.now in
-    let n : ℕ = c.args.count in
-    let old : List ℕ = c.args.records.now.items in
-    let begun : c.deref_mut.result.now ≡ old = c.deref_mut.ensures.value in
-    let back : length c.replace_record.new.records ≡ c.args.records.now.len =
-    c.replace_record.auto.records ∙ ap (λ (xs : List ℕ). length xs) begun ∙ sym c.args.records.now.ok.0 in
-    changed_below (records_held p n old) _ n c.args.place c.args.bytes.now (length_held p n old) c.if-place-count.true
-    (ap (records_held p n) (with_items_is c.args.records.now c.replace_record.new.records back)
-    ∙ c.replace_record.ensures.put
-    ∙ ap (λ (xs : List ℕ). slice_set (records_held p n xs) c.args.place c.args.bytes.now) begun)
+returns-then-place-count-clause-put g c =
+    let lt : c.args.place < (g.H.HeldRecords.header c.args.held.now).count = omega (arith, c.if-place-count.true, c.count-count.ensures) in
+    replaced_one (g.H.HeldRecords.header c.args.held.now) (g.H.HeldRecords.header c.replace.new.self) (g.H.HeldRecords.bytes c.args.held.now)
+    (g.H.HeldRecords.bytes c.replace.new.self) c.args.place c.args.bytes.now lt c.replace.ensures.header c.replace.ensures.records
 
-above : (p : Plan) (n place : ℕ) (bytes old new : List ℕ) (o : Option ℕ) → n ≤ place →
-    IfSome o (λ k. records_held p k new ≡ records_held p n old ++ bytes ∷ []) →
-    IfSome o (λ k. records_held p k new ≡ record_changed (records_held p n old) (record { place = place; bytes = bytes }))
-above p n place bytes old new None le put = tt
-above p n place bytes old new (Some k) le put =
-    changed_above (records_held p n old) (records_held p k new) n place bytes (length_held p n old) le put
+pub append-requires-clause-layout : goal.append-requires-clause-layout
+append-requires-clause-layout g c =
+    subst (λ (p : Plan). IsLayout (shape_at p ((g.H.HeldRecords.header c.args.held.now).count + 1))) c.requires.plan
+    (subst (λ (n : ℕ). IsLayout (shape_at c.args.plan.now (n + 1))) c.count-count.ensures
+    (layout_means (shape_at c.args.plan.now (c.count-count.result + 1)) (sym c.has_layout.ensures ∙ c.if-not-has_layout.false)))
 
-pub returns-clause-put : goal.returns-clause-put
-returns-clause-put c =
-    above c.args.plan.now c.args.count c.args.place c.args.bytes.now c.args.records.now.items c.append_record.new.records.items c.append_record.result
-    c.if-place-count.false c.append_record.ensures.put
+pub returns-in-Ok-clause-put : goal.returns-in-Ok-clause-put
+returns-in-Ok-clause-put g c =
+    let le : (g.H.HeldRecords.header c.args.held.now).count ≤ c.args.place = omega (arith, c.if-place-count.false, c.count-count.ensures) in
+    appended_one (g.H.HeldRecords.header c.args.held.now) (g.H.HeldRecords.header c.append.new.self) (g.H.HeldRecords.bytes c.args.held.now)
+    (g.H.HeldRecords.bytes c.append.new.self) c.args.place c.args.bytes.now le c.in-Ok.ensures.header c.in-Ok.ensures.records

@@ -1,28 +1,37 @@
 use Rattle.std.proofs.Common.{◌∙◌, sym, ap, ℕ, List}
-use Rattle.pir_schemes.specs.Plans.{records_held}
 use Rattle.publication_log.specs.Publications.{Placed}
+use Rattle.snapshot_file.specs.declared.snapshot.Header.{Header}
+use Rattle.version_store.specs.Openings.{plan_held, records_for}
 use Rattle.log_replay.specs.Replays.{records_after}
 use Rattle.log_replay.proofs.ChangeLemmas.{splits, none_left}
+use Rattle.log_replay.proofs.RecordLemmas.{changed_to, still_counted}
 use Rattle.log_replay.proofs.records.put_changes.Goals as goal
 
 pub changes-preserved : goal.changes-preserved
-changes-preserved c = (
-  c.in_ok-after.ensures.kept,
-  λ low cs each e.
-      let it = c.changes.invariant.1 low cs each e in
-      let split = splits c.changes.left.rest.now it.0 c.in-Some.change.place c.in-Some.change.bytes.now c.in-Some.rest.rest.now it.1 c.in-Some.ensures.some
-      (λ none. absurd (let bad = c.in-Some.ensures.none none in cc)) in
-      let records : List (List ℕ) = records_held c.args.plan.now c.changes.after c.changes.records.items in (
-        split.others,
-        split.others_are,
-        it.2
-            ∙ ap (λ (x : List Placed). records_after records x) split.all
-            ∙ ap (λ (rs : List (List ℕ)). records_after rs split.others) (sym c.in_ok-after.ensures.put),
-      ),
-)
+changes-preserved g c =
+    let h : Header = g.H.HeldRecords.header c.changes.held in
+    let after : Header = g.H.HeldRecords.header c.put_change.new.held in
+    let records : List (List ℕ) = records_for h (g.H.HeldRecords.bytes c.changes.held) in
+    let changed = c.in_ok-put_change.ensures.put in
+    record {
+      plan = c.changes.invariant.plan ∙ sym (ap plan_held changed.header);
+      sound = c.in_ok-put_change.ensures.sound;
+      header = still_counted (g.H.HeldRecords.header c.args.held.now) h after _ c.changes.invariant.header changed.header;
+      put = λ low cs each e.
+          let it = c.changes.invariant.put low cs each e in
+          let split = splits c.changes.left.rest.now it.0 c.in-Some.change.place c.in-Some.change.bytes.now c.in-Some.rest.rest.now it.1 c.in-Some.ensures.some
+          (λ none. absurd (let bad = c.in-Some.ensures.none none in cc)) in (
+            split.others,
+            split.others_are,
+            it.2
+                ∙ ap (λ (x : List Placed). records_after records x) split.all
+                ∙ ap (λ (rs : List (List ℕ)). records_after rs split.others) (sym changed.held),
+          );
+    }
 
 pub returns-clause-put : goal.returns-clause-put
-returns-clause-put c = λ low cs each e.
-    let it = c.changes.invariant.1 low cs each e in
+returns-clause-put g c = λ low cs each e.
+    let it = c.changes.invariant.put low cs each e in
     let none = none_left c.changes.left.rest.now it.0 it.1 c.in_default.ensures.some in
-    sym (it.2 ∙ ap (λ (x : List Placed). records_after (records_held c.args.plan.now c.changes.after c.changes.records.items) x) none)
+    changed_to _ (g.H.HeldRecords.header c.changes.held) _ (g.H.HeldRecords.bytes c.changes.held) cs c.changes.invariant.header
+    (sym (it.2 ∙ ap (λ (x : List Placed). records_after (records_for (g.H.HeldRecords.header c.changes.held) (g.H.HeldRecords.bytes c.changes.held)) x) none))
