@@ -6,10 +6,11 @@ use matrix_u32::Plain;
 use publication_log::{
     Disk, DiskFailed, Log, LogHeader, PublicationBuilder, Publications, read_log, relinked,
 };
+use snapshot_file::write_snapshot_bytes;
 use std::alloc::Global;
 use std::process::Abort;
 use std::test::Fail;
-use version_store::{Snapshot, Store, write_snapshot};
+use version_store::{Opening, Snapshot, Store, write_snapshot};
 
 // How many bytes the header of a log has.
 const HEADER_LEN: usize = 81;
@@ -101,6 +102,30 @@ fn restored(
     Ok(store)
 }
 
+// What a store is opened with, read of the bytes of a snapshot.
+fn opening(alloc: Global, snapshot: &Snapshot) -> Result<Opening, Fail> {
+    let mut bytes = Vec::new(alloc);
+    write_snapshot_bytes(alloc, &snapshot.header(), &snapshot.records, &mut bytes)?;
+    let (opening, _digest) = Opening::read(alloc, &mut bytes.as_slice())?;
+    Ok(opening)
+}
+
+// The store of an opening after all publications of a log, the earlier of which are made on the records alone.
+fn restored_early(
+    alloc: Global,
+    opening: Opening,
+    publications: Publications<'_>,
+) -> Result<Store<Plain>, Fail> {
+    let mut opening = opening;
+    let earlier = earlier_count(publications);
+    // Called for what it says of the records.
+    opening.header();
+    replay_first(&mut opening, publications, earlier)?;
+    let mut store = opening.open(alloc, Plain)?;
+    replay_all(&mut store, publications.without_first(earlier))?;
+    Ok(store)
+}
+
 // A snapshot's records after the earlier publications, and the log of a snapshot of these, of the latest 16.
 fn compacted(
     alloc: Global,
@@ -165,7 +190,7 @@ fn are_alike(
     Ok(())
 }
 
-// Publishes, restores the store from its first snapshot, and from one of 16 versions before the last.
+// Publishes, restores the store from its first snapshot, in both ways, and from one of 16 versions before the last.
 fn restores(rt: &impl Abort, alloc: Global, form: u8) -> Result<(), Fail> {
     let mut log = empty_log(alloc, form)?;
     let store = published(alloc, form, &mut log)?;
@@ -173,6 +198,9 @@ fn restores(rt: &impl Abort, alloc: Global, form: u8) -> Result<(), Fail> {
     assert_eq!(rt; last_version(alloc, form, 1, bytes)?, 20);
     let first = restored(alloc, snapshot(alloc, form)?, entries(bytes))?;
     are_alike(rt, alloc, &store, &first)?;
+    let opening = opening(alloc, &snapshot(alloc, form)?)?;
+    let early = restored_early(alloc, opening, entries(bytes))?;
+    are_alike(rt, alloc, &store, &early)?;
 
     let mut later = snapshot(alloc, form)?;
     let bytes = compacted(alloc, &mut later, entries(bytes))?;
