@@ -1,17 +1,17 @@
 //! The command `compact`, and the same before a file is served: a log made shorter.
 
 ghost use Rattle.std.specs.Prelude.{◌≡◌, IfOk};
-ghost use Rattle.snapshot_file.specs.Snapshots.{header_of};
 ghost use Rattle.version_store.specs.Openings.{IsSound};
 
 use crate::causes::failed_at;
-use crate::files::{KeptFile, OwnFile, RecordsOf, kept_file, replace_failure, write_file};
+use crate::files::{
+    KeptFile, OpeningOf, OwnFile, digest_of, kept_file, replace_failure, write_file,
+};
 use crate::logs::{OwnLog, log_failure, replay_failure};
 use command_words::{Failed, Failure, printed};
 use log_replay::{earlier_count, replay_first};
 use publication_log::{ReadLog, read_log_file, relinked, remove_other_logs};
 use safe_files::{Bytes, replace_file};
-use session_core::snapshot_digest;
 use std::fs;
 
 /// Puts all publications of a file's log into its snapshot, but the last 16, and prints the version of the snapshot and how many
@@ -38,16 +38,16 @@ fn compact_pair(rt: &HostRuntime, name: &str) -> Result<(u64, usize), Failure> {
     // What one that was cut short left is removed, also if there is nothing to do.
     remove_other_logs(rt, file.name(), kept.own.name.as_str());
     let Some(log) = read_own(rt, &kept.own)? else {
-        return Ok((kept.read.snapshot.version, 0));
+        return Ok((kept.read.opening.version(), 0));
     };
     let publications = log.publications();
     let earlier = earlier_count(publications);
     if earlier == 0 {
-        return Ok((kept.read.snapshot.version, publications.count()));
+        return Ok((kept.read.opening.version(), publications.count()));
     }
     let kept = shortened(rt, &mut file, kept, &log)?;
     Ok((
-        kept.read.snapshot.version,
+        kept.read.opening.version(),
         publications.count().saturating_sub(earlier),
     ))
 }
@@ -63,11 +63,10 @@ pub fn compacted_past(
     kept: KeptFile,
     limit: usize,
 ) -> Result<KeptFile, Failure>
-    requires version { kept.read.has.version ≡ kept.read.snapshot.version }
-    requires sound { IsSound (header_of kept.read.snapshot) kept.read.snapshot.records.items }
-    ensures version { IfOk result (λ it. it.read.has.version ≡ it.read.snapshot.version) }
-    ensures sound { IfOk result (λ it.
-        IsSound (header_of it.read.snapshot) it.read.snapshot.records.items) }
+    requires version { kept.read.has.version ≡ kept.read.opening.header.version }
+    requires sound { IsSound kept.read.opening.header kept.read.opening.bytes }
+    ensures version { IfOk result (λ it. it.read.has.version ≡ it.read.opening.header.version) }
+    ensures sound { IfOk result (λ it. IsSound it.read.opening.header it.read.opening.bytes) }
 {
     if !is_longer(rt, kept.own.name.as_str(), limit) {
         return Ok(kept);
@@ -105,31 +104,26 @@ fn shortened(
     kept: KeptFile,
     log: &ReadLog,
 ) -> Result<KeptFile, Failure>
-    requires sound { IsSound (header_of kept.read.snapshot) kept.read.snapshot.records.items }
-    ensures version { IfOk result (λ it. it.read.has.version ≡ it.read.snapshot.version) }
-    ensures sound { IfOk result (λ it.
-        IsSound (header_of it.read.snapshot) it.read.snapshot.records.items) }
+    requires sound { IsSound kept.read.opening.header kept.read.opening.bytes }
+    ensures version { IfOk result (λ it. it.read.has.version ≡ it.read.opening.header.version) }
+    ensures sound { IfOk result (λ it. IsSound it.read.opening.header it.read.opening.bytes) }
 {
     let publications = log.publications();
     let earlier = earlier_count(publications);
-    let mut snapshot = kept.read.snapshot;
-    match replay_first(&mut snapshot, publications, earlier) {
+    let mut opening = kept.read.opening;
+    match replay_first(&mut opening, publications, earlier) {
         Ok(()) => {}
         Err(fault) => return Err(replay_failure(fault)),
     }
-    let header = snapshot.header();
-    let digest = snapshot_digest(rt.alloc(), &header, &snapshot.records)?;
-    let own = OwnLog::of(rt.alloc(), file.name(), &header, digest)?;
+    let content = OpeningOf(&opening);
+    let digest = digest_of(rt.alloc(), &content)?;
+    let own = OwnLog::of(rt.alloc(), file.name(), &opening.header(), digest)?;
     let bytes = relinked(rt.alloc(), &own.header, publications.without_first(earlier))?;
     match replace_file(rt, own.name.as_str(), &Bytes(&bytes)) {
         Ok(()) => {}
         Err(fault) => return Err(replace_failure(fault)),
     }
-    let content = RecordsOf {
-        header: &header,
-        bytes: &snapshot.records,
-    };
     let has = write_file(rt, file, &content)?;
     remove_other_logs(rt, file.name(), own.name.as_str());
-    Ok(KeptFile::of(snapshot, digest, has, own))
+    Ok(KeptFile::of(opening, digest, has, own))
 }

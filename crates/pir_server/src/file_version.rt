@@ -9,7 +9,7 @@ ghost use Rattle.std.specs.List.{FoldsTo};
 ghost use Rattle.std.specs.Io.KnownBytes.{Appends, Consumes, IsAtEnd};
 ghost use Rattle.safe_files.specs.Steps.{Replaces, Syncs, SyncsFolder};
 ghost use Rattle.sha2.specs.Sha256.{sha256};
-ghost use Rattle.snapshot_file.specs.Snapshots.{IsSnapshot, hashed_bytes, header_of, snapshot_bytes};
+ghost use Rattle.snapshot_file.specs.Snapshots.{IsSnapshot, hashed_bytes, snapshot_bytes};
 ghost use Rattle.publication_log.specs.Publications.{Published};
 ghost use Rattle.publication_log.specs.Entries.{entry, chain_bytes};
 ghost use Rattle.publication_log.specs.Logs.{AreNext, bodies_of};
@@ -23,9 +23,10 @@ use publication_log::{
     AppendFault, CutFault, Disk as LogDisk, Log, LogEnd, PublicationBuilder, Publications,
 };
 use safe_files::{Content, ContentFault, Disk, ReplaceFault, SettleFault, replace, settle};
-use session_core::{Lanes, Snapshot, SnapshotFault, Store, read_snapshot_and_digest};
+use session_core::{Lanes, SnapshotFault, Store};
 use std::alloc::Global;
 use std::io::{Read, Write};
+use version_store::Opening;
 
 /// A snapshot, as a file is to hold it.
 pub trait Versioned: Content {
@@ -55,8 +56,8 @@ impl FileVersion {
 /// A snapshot that was read of a file which is on the device.
 #[derive(Drop)]
 pub struct ReadVersion {
-    /// The snapshot.
-    pub snapshot: Snapshot,
+    /// What a store of it is opened with.
+    pub opening: Opening,
     /// The digest at its end.
     pub digest: [u8; 32],
     /// Its version, which the file has.
@@ -77,24 +78,24 @@ pub enum VersionFault {
 ///
 /// # Errors
 ///
-/// In this order: those of [`read_snapshot_and_digest`], those of [`settle`].
+/// In this order: those of [`Opening::read`], those of [`settle`].
 pub fn read_version<F: Read + Write + Drop, D: Disk<File = F>>(
     alloc: Global,
     disk: &mut D,
     file: &mut F,
 ) -> Result<ReadVersion, VersionFault>
-    ensures version { IfOk result (λ it. it.has.version ≡ it.snapshot.version) }
+    ensures version { IfOk result (λ it. it.has.version ≡ it.opening.header.version) }
     ensures sound { IfOk result (λ it.
-        IsSnapshot (header_of it.snapshot) it.snapshot.records.items) }
+        IsSnapshot it.opening.header it.opening.bytes) }
     ensures digest { IfOk result (λ it. it.digest ≡
-        sha256 (hashed_bytes (header_of it.snapshot) it.snapshot.records.items)) }
+        sha256 (hashed_bytes it.opening.header it.opening.bytes)) }
     ensures taken { IfOk result (λ it. Consumes (F.remaining file.old) (F.remaining file.new)
-        (snapshot_bytes (header_of it.snapshot) it.snapshot.records.items)
+        (snapshot_bytes it.opening.header it.opening.bytes)
         × IsAtEnd (F.remaining file.new)) }
     ensures settled { OnOk result (FoldsTo D.does disk.old
         (Syncs (F.contents file.new) ∷ SyncsFolder ∷ []) disk.new) }
 {
-    let (snapshot, digest) = match read_snapshot_and_digest(alloc, file) {
+    let (opening, digest) = match Opening::read(alloc, file) {
         Ok(both) => both,
         Err(fault) => return Err(VersionFault::Snapshot(fault)),
     };
@@ -103,10 +104,10 @@ pub fn read_version<F: Read + Write + Drop, D: Disk<File = F>>(
         Err(fault) => return Err(VersionFault::Settle(fault)),
     }
     let has = FileVersion {
-        version: snapshot.version,
+        version: opening.version(),
     };
     Ok(ReadVersion {
-        snapshot,
+        opening,
         digest,
         has,
     })
@@ -123,26 +124,25 @@ pub fn take_up_version(
     publications: Publications<'_>,
     n: usize,
 ) -> Result<ReadVersion, ReplayFault>
-    requires sound { IsSound (header_of read.snapshot) read.snapshot.records.items }
-    ensures version { IfOk result (λ it. it.has.version ≡ it.snapshot.version) }
-    ensures sound { IfOk result (λ it.
-        IsSound (header_of it.snapshot) it.snapshot.records.items) }
+    requires sound { IsSound read.opening.header read.opening.bytes }
+    ensures version { IfOk result (λ it. it.has.version ≡ it.opening.header.version) }
+    ensures sound { IfOk result (λ it. IsSound it.opening.header it.opening.bytes) }
     ensures replayed { (link : List ℕ) (version : ℕ) (ps : List Published) → AreNext version ps →
         publications.entry.rest.now ≡ chain_bytes link (bodies_of ps) → IfOk result
-        (λ it. AreRecordsReplayedAll (header_of read.snapshot) read.snapshot.records.items
-        (take n ps) (header_of it.snapshot) it.snapshot.records.items) }
+        (λ it. AreRecordsReplayedAll read.opening.header read.opening.bytes
+        (take n ps) it.opening.header it.opening.bytes) }
 {
     let ReadVersion {
-        mut snapshot,
+        mut opening,
         digest,
         ..
     } = read;
-    replay_first(&mut snapshot, publications, n)?;
+    replay_first(&mut opening, publications, n)?;
     let has = FileVersion {
-        version: snapshot.version,
+        version: opening.version(),
     };
     Ok(ReadVersion {
-        snapshot,
+        opening,
         digest,
         has,
     })

@@ -1,7 +1,7 @@
 //! Snapshot files.
 
 ghost use Rattle.std.specs.Prelude.{◌≡◌, ℕ, List, IfOk};
-ghost use Rattle.snapshot_file.specs.Snapshots.{header_of, snapshot_bytes};
+ghost use Rattle.snapshot_file.specs.Snapshots.{snapshot_bytes};
 ghost use Rattle.version_store.specs.Openings.{IsSound, held_of, snapshot_of};
 ghost use Rattle.publication_log.specs.Publications.{Published};
 ghost use Rattle.publication_log.specs.Entries.{chain_bytes};
@@ -14,7 +14,6 @@ use crate::file_version::{
 };
 use crate::last_bytes::LastBytes;
 use crate::logs::{OwnLog, log_failure, replay_failure};
-use crate::pairs::opens_a_store;
 use command_words::Failure;
 use log_replay::earlier_count;
 use log_replay::laws::last_sixteen_suffice;
@@ -23,13 +22,15 @@ use safe_files::{
     Content, ContentFault, FileLock, LockFault, Place, ReplaceFault, SteadyFile, open_file,
 };
 use session_core::{
-    Header, Lanes, MigrateError, OpenError, Snapshot, SnapshotFault, Store, WidenError, WriteFault,
+    Header, Lanes, MigrateError, Snapshot, SnapshotFault, Store, WidenError, WriteFault,
     read_snapshot_and_digest, write_snapshot, write_snapshot_bytes,
 };
+use snapshot_file::write_snapshot_from;
 use std::alloc::Global;
 use std::fs;
 use std::fs::File;
 use std::io::Write;
+use version_store::Opening;
 
 /// The snapshot of a store's current version, as a file is to hold it.
 #[derive(Clone, Copy)]
@@ -43,6 +44,10 @@ pub struct RecordsOf<'a> {
     /// Their bytes, one record after the other.
     pub bytes: &'a [u8],
 }
+
+/// The snapshot of what a store is opened with.
+#[derive(Clone, Copy)]
+pub struct OpeningOf<'a>(pub &'a Opening);
 
 impl Content for VersionOf<'_> {
     ghost bytes = { λ content. snapshot_of content.0.now };
@@ -66,6 +71,18 @@ impl Content for RecordsOf<'_> {
     }
 }
 
+impl Content for OpeningOf<'_> {
+    ghost bytes = { λ content. snapshot_bytes content.0.now.header content.0.now.bytes };
+
+    fn write_to<W: Write>(&self, alloc: Global, writer: &mut W) -> Result<(), ContentFault> {
+        let header = self.0.header();
+        match write_snapshot_from(alloc, &header, self.0, writer) {
+            Ok(()) => Ok(()),
+            Err(fault) => Err(content_fault(fault)),
+        }
+    }
+}
+
 impl Versioned for VersionOf<'_> {
     ghost version = { λ content. content.0.now.version };
 
@@ -79,6 +96,14 @@ impl Versioned for RecordsOf<'_> {
 
     fn version(&self) -> u64 {
         self.header.version
+    }
+}
+
+impl Versioned for OpeningOf<'_> {
+    ghost version = { λ content. content.0.now.header.version };
+
+    fn version(&self) -> u64 {
+        self.0.version()
     }
 }
 
@@ -151,21 +176,21 @@ impl<'a> OwnFile<'a> {
 /// A snapshot that a file has, and the log beside it.
 #[derive(Drop)]
 pub struct KeptFile {
-    /// The snapshot.
+    /// What was read of the file.
     pub read: ReadVersion,
     /// Its log.
     pub own: OwnLog,
 }
 
 impl KeptFile {
-    /// A snapshot with its digest, the version that the file has, and its log.
-    pub fn of(snapshot: Snapshot, digest: [u8; 32], has: FileVersion, own: OwnLog) -> KeptFile
-        ensures snapshot { result.read.snapshot ≡ snapshot }
+    /// What was read of a snapshot, its digest, the version that the file has, and its log.
+    pub fn of(opening: Opening, digest: [u8; 32], has: FileVersion, own: OwnLog) -> KeptFile
+        ensures opening { result.read.opening ≡ opening }
         ensures version { result.read.has ≡ has }
     {
         KeptFile {
             read: ReadVersion {
-                snapshot,
+                opening,
                 digest,
                 has,
             },
@@ -180,9 +205,8 @@ impl KeptFile {
 ///
 /// In this order: `File`, the refusals of the snapshot, `Write` where the file or its name can't be sent to the device; `Memory`.
 pub fn kept_file(rt: &HostRuntime, file: &mut OwnFile<'_>) -> Result<KeptFile, Failure>
-    ensures sound { IfOk result (λ it.
-        IsSound (header_of it.read.snapshot) it.read.snapshot.records.items) }
-    ensures version { IfOk result (λ it. it.read.has.version ≡ it.read.snapshot.version) }
+    ensures sound { IfOk result (λ it. IsSound it.read.opening.header it.read.opening.bytes) }
+    ensures version { IfOk result (λ it. it.read.has.version ≡ it.read.opening.header.version) }
 {
     let Ok(mut opened) = file.place.open() else {
         return Err(NO_FILE);
@@ -192,8 +216,7 @@ pub fn kept_file(rt: &HostRuntime, file: &mut OwnFile<'_>) -> Result<KeptFile, F
         Err(VersionFault::Snapshot(fault)) => return Err(snapshot_failure(fault)),
         Err(VersionFault::Settle(_)) => return Err(NOT_WRITTEN),
     };
-    opens_a_store(&read.snapshot);
-    let header = read.snapshot.header();
+    let header = read.opening.header();
     let own = OwnLog::of(rt.alloc(), file.name(), &header, read.digest)?;
     Ok(KeptFile { read, own })
 }
@@ -203,19 +226,18 @@ pub fn kept_file(rt: &HostRuntime, file: &mut OwnFile<'_>) -> Result<KeptFile, F
 ///
 /// # Errors
 ///
-/// In this order: `BadLog` where one of the first publications can't follow, the refusals of the store, `BadLog` where one of the
-/// last can't; `Memory`.
+/// `BadLog` where one of the publications can't follow; `Memory`.
 pub fn store_after(
     rt: &HostRuntime,
     read: ReadVersion,
     publications: Publications<'_>,
 ) -> Result<(Store<Lanes>, FileVersion), Failure>
-    requires { IsSound (header_of read.snapshot) read.snapshot.records.items }
+    requires { IsSound read.opening.header read.opening.bytes }
     ensures version { IfOk result (λ it. it.1.version ≡ it.0.version) }
     ensures replayed { (link : List ℕ) (version : ℕ) (ps : List Published) → AreNext version ps →
         publications.entry.rest.now ≡ chain_bytes link (bodies_of ps) →
         IfOk result (λ it. it.0 ≡ replayed_all ps
-        (held_of (header_of read.snapshot) read.snapshot.records.items)) }
+        (held_of read.opening.header read.opening.bytes)) }
 {
     last_sixteen_suffice();
     let earlier = earlier_count(publications);
@@ -232,18 +254,15 @@ fn open_and_replay(
     read: ReadVersion,
     publications: Publications<'_>,
 ) -> Result<(Store<Lanes>, FileVersion), Failure>
-    requires { read.has.version ≡ read.snapshot.version }
+    requires { read.has.version ≡ read.opening.header.version }
     ensures version { IfOk result (λ it. it.1.version ≡ it.0.version) }
     ensures replayed { (link : List ℕ) (version : ℕ) (ps : List Published) → AreNext version ps →
         publications.entry.rest.now ≡ chain_bytes link (bodies_of ps) →
         IfOk result (λ it. it.0 ≡ replayed_all ps
-        (held_of (header_of read.snapshot) read.snapshot.records.items)) }
+        (held_of read.opening.header read.opening.bytes)) }
 {
-    let ReadVersion { snapshot, has, .. } = read;
-    let mut store = match Store::open(rt.alloc(), Lanes, snapshot) {
-        Ok(store) => store,
-        Err(fault) => return Err(open_failure(fault)),
-    };
+    let ReadVersion { opening, has, .. } = read;
+    let mut store = opening.open(rt.alloc(), Lanes)?;
     match replay_version(&mut store, has, publications) {
         Ok(has) => Ok((store, has)),
         Err(fault) => Err(replay_failure(fault)),
@@ -292,8 +311,12 @@ pub fn write_anew<C: Versioned>(
     Ok(has)
 }
 
-// The digest at a snapshot's end.
-fn digest_of<C: Content>(alloc: Global, content: &C) -> Result<[u8; 32], Failure> {
+/// The digest at a snapshot's end.
+///
+/// # Errors
+///
+/// `Memory`.
+pub fn digest_of<C: Content>(alloc: Global, content: &C) -> Result<[u8; 32], Failure> {
     let mut writer = LastBytes::new();
     match content.write_to(alloc, &mut writer) {
         Ok(()) => Ok(writer.bytes()),
@@ -391,14 +414,6 @@ pub fn migrate_failure(fault: MigrateError) -> Failure {
 pub fn widen_failure(fault: WidenError) -> Failure {
     match fault {
         WidenError::Memory => Failure::Memory,
-        fault => Failure::Fault(fault.name()),
-    }
-}
-
-// The failure that a refused store is.
-fn open_failure(fault: OpenError) -> Failure {
-    match fault {
-        OpenError::Memory => Failure::Memory,
         fault => Failure::Fault(fault.name()),
     }
 }

@@ -1,5 +1,4 @@
 use Rattle.std.proofs.Common.{◌≡◌, ℕ, IfOk, take, drop, subst}
-use Rattle.snapshot_file.specs.Snapshots.{header_of}
 use Rattle.publication_log.specs.Entries.{last_link}
 use Rattle.publication_log.specs.Logs.{bodies_of}
 use Rattle.version_store.specs.Histories.{StoreState}
@@ -12,6 +11,6 @@ returns-clause-replayed c link version ps each entries =
     let next = next_drop n version ps each in
     let done = c.open_and_replay.ensures.replayed (last_link link (bodies_of (take n ps))) next.0 (drop n ps) next.1
     (c.without_first.ensures link version ps each entries) in
-    let same = same_store (header_of c.args.read.snapshot) (header_of c.in-Ok.taken.snapshot) c.args.read.snapshot.records.items c.in-Ok.taken.snapshot.records.items ps n
+    let same = same_store c.args.read.opening.header c.in-Ok.taken.opening.header c.args.read.opening.bytes c.in-Ok.taken.opening.bytes ps n
     c.last_sixteen_suffice.ensures (c.earlier_count-earlier.ensures link version ps each entries) (c.in-Ok.ensures.replayed link version ps each entries) in
     subst (λ (s : StoreState). IfOk c.open_and_replay.result (λ it. it.0 ≡ s)) same done
