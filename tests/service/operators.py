@@ -82,9 +82,9 @@ def serves_what_was_begun(t):
         close_input(it)
         ended_within(t, "what is not ended in time", it, 1.5, 3)
     with stopping(t, "stop.pir") as it, Connection(it.port, wire.READER) as begun:
-        begun.send(wire.query(0, 1, [1, 2]) * 3000)
+        begun.send(wire.query(0, 1, [1, 2]) * 2000)
         close_input(it)
-        t.same("all that had come is served", {wire.ANSWER}, {begun.reply()[0] for _ in range(3000)})
+        t.same("all that had come is served", {wire.ANSWER}, {begun.reply()[0] for _ in range(2000)})
         t.same("and then the end", None, begun.reply())
         begun.close()
         ended_within(t, "many frames", it, 0, 3)
@@ -96,10 +96,10 @@ def gets_answer_in_the_middle(t):
     for wait in (0.0, 0.005, 0.02):
         with stopping(t, "double.pir") as it, Connection(it.port, wire.READER) as client:
             # A word for each of 410 columns, and one for each of 250 rows of digits.
-            client.send(wire.query(1, 1, [7] * 660) * 50)
+            client.send(wire.query(1, 1, [7] * 660) * 15)
             time.sleep(wait)
             close_input(it)
-            t.same(f"answers after {wait}", {wire.ANSWER}, {client.reply()[0] for _ in range(50)})
+            t.same(f"answers after {wait}", {wire.ANSWER}, {client.reply()[0] for _ in range(15)})
             t.same(f"the end after {wait}", None, client.reply())
             client.close()
             ended_within(t, "in the middle of answers", it, 0, 3)
