@@ -32,7 +32,9 @@ fn cause_of(failure: Failure) -> Option<&'static str> {
         ),
         "Write" => Some("what was to be written is not on the disk, or could not be printed"),
         "Read" => Some("reading failed"),
-        "Input" => Some("no event comes of a file or of the null device: it takes a pipe, a socket or a terminal"),
+        "Input" => Some(
+            "no event comes of a file or of the null device: it takes a pipe, a socket or a terminal",
+        ),
         "Locked" => Some("another process serves or replaces it"),
         "Exists" => Some("a file stands there, and --new replaces none"),
         "NotSnapshot" => Some("not a snapshot"),

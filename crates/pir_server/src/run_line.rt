@@ -74,7 +74,9 @@ pub struct Running<'a> {
 /// The command `run`.
 pub fn run_command<'a>(alloc: Global) -> Result<Command<'a>, AllocError> {
     Command::new(alloc, "run")
-        .about("Serves a snapshot file, many connections side by side, until it is killed or, with --until-eof, standard input ends")
+        .about(
+            "Serves a snapshot file, many connections side by side, until it is killed or, with --until-eof, standard input ends",
+        )
         .after_help(RUN_EXAMPLE)
         .arg(verbose_flag(alloc))?
         .arg(option(
@@ -128,7 +130,9 @@ pub fn run_command<'a>(alloc: Global) -> Result<Command<'a>, AllocError> {
         .arg(
             Arg::new(alloc, "until-eof")
                 .long("until-eof")
-                .help("Stops at the end of standard input, which must be a pipe, a socket or a terminal: accepts nothing more, serves what was begun, and ends with status 0")
+                .help(
+                    "Stops at the end of standard input, which must be a pipe, a socket or a terminal: accepts nothing more, serves what was begun, and ends with status 0",
+                )
                 .action(ArgAction::SetTrue),
         )?
         .arg(optional(

@@ -251,9 +251,23 @@ impl Connection {
         self.readable = readable;
         self.writable = writable;
         match ended {
-            Ok(()) => Ok((Kept { core, saver, counters }, Ok(()))),
+            Ok(()) => Ok((
+                Kept {
+                    core,
+                    saver,
+                    counters,
+                },
+                Ok(()),
+            )),
             Err(Fault::Save) => Err(RunFault::Write),
-            Err(fault) => Ok((Kept { core, saver, counters }, Err(fault))),
+            Err(fault) => Ok((
+                Kept {
+                    core,
+                    saver,
+                    counters,
+                },
+                Err(fault),
+            )),
         }
     }
 

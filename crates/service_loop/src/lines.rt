@@ -138,10 +138,12 @@ impl Log {
         reply: Option<ReplyHead>,
         published: Option<u64>,
     ) {
-        if let Some(ReplyHead {
-            kind: REFUSED,
-            first,
-        }) = reply
+        if let Some(
+            ReplyHead {
+                kind: REFUSED,
+                first,
+            },
+        ) = reply
         {
             let code = Some(u64::from(first));
             self.note_connection(rt, Event::Refused, session, address, code);

@@ -18,9 +18,9 @@ use mio::{Events, Interest, Poll, Token};
 use server_core::ServerCore;
 use service_core::PIECE_LEN;
 use service_watch::{Entry, Event, LogFormat};
+use std::io;
 use std::net::SocketAddr;
 use std::time::{Duration, Instant};
-use std::io;
 
 const LISTENER: Token = Token(usize::MAX);
 

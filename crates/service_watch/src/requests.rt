@@ -34,9 +34,7 @@ pub fn page_of(bytes: &[u8]) -> Option<Page>
 {
     let mut fields = [EMPTY_HEADER_SPAN; MOST_FIELDS];
     match parse_request(bytes, &mut fields) {
-        Ok(Status::Complete(head)) => {
-            Some(page_at(head.method.of(bytes), head.path.of(bytes)))
-        }
+        Ok(Status::Complete(head)) => { Some(page_at(head.method.of(bytes), head.path.of(bytes))) }
         Ok(Status::Partial) => None,
         Err(_) => Some(Page::BadRequest),
     }
@@ -112,7 +110,9 @@ pub fn response(alloc: Global, page: Page, content: &str) -> Result<String, Allo
     let kind = page.content_type();
     let allow = page.allows();
     let len = content.len();
-    format!(in alloc; "HTTP/1.1 {status}\r\nContent-Type: {kind}\r\n{allow}Content-Length: {len}\r\nConnection: close\r\n\r\n{content}")
+    format!(in alloc;
+        "HTTP/1.1 {status}\r\nContent-Type: {kind}\r\n{allow}Content-Length: {len}\r\nConnection: close\r\n\r\n{content}"
+    )
 }
 
 /// The content of `/health`: the version that is served, and how many records it has.

@@ -20,7 +20,7 @@ pub struct FrameScan {
 impl FrameScan {
     /// At the start of a stream.
     pub fn new() -> FrameScan
-        ensures { result ≡ record { came = 0; len = 0; kind = 0; } }
+        ensures { result ≡ record { came = 0; len = 0; kind = 0 } }
     {
         FrameScan {
             came: 0,

@@ -11,9 +11,9 @@ use crate::report::{Closing, RunFault};
 use mio::net::TcpStream;
 use mio::{Interest, Token};
 use service_core::Link;
+use service_watch::{Cause, Counted, Event};
 use std::io;
 use std::io::ErrorKind;
-use service_watch::{Cause, Counted, Event};
 use std::net::{IpAddr, SocketAddr};
 
 /// How many milliseconds no connection is accepted after the system had no descriptor for one.
@@ -30,7 +30,11 @@ impl Service {
     ghost use Rattle.service_loop.specs.Sessions.{AreNoted, SessionsStayOrGo};
 
     // Accepts what waits, while there is a free place, so many at most.
-    pub(super) fn accept_all<S: Saver>(&mut self, rt: &HostRuntime, kept: &mut Kept<S>) -> Result<(), RunFault>
+    pub(super) fn accept_all<S: Saver>(
+        &mut self,
+        rt: &HostRuntime,
+        kept: &mut Kept<S>,
+    ) -> Result<(), RunFault>
         requires noted { AreNoted self.old.places.connections.items kept.old.core self.old.next_id }
         ensures noted { AreNoted self.new.places.connections.items kept.new.core self.new.next_id }
         ensures turns { (i : ℕ) → HasTurn self.old.visits_all self.old.ready.items i
@@ -125,7 +129,8 @@ impl Service {
             kept.counters.add(Counted::Closed(Cause::Connect), 1);
             return;
         }
-        self.log.note_connection(rt, Event::Accepted, id, address, None);
+        self.log
+            .note_connection(rt, Event::Accepted, id, address, None);
         kept.counters.add(Counted::Accepted, 1);
         // A reply is one write: it is not to wait for more.
         let _ = stream.set_nodelay(true);

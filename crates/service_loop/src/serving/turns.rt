@@ -224,7 +224,8 @@ impl Service {
                 kept.counters.add(Counted::Closed(closing.cause()), 1);
             }
             _ => {
-                self.log.note_connection(rt, Event::Closed, id, address, None);
+                self.log
+                    .note_connection(rt, Event::Closed, id, address, None);
                 kept.counters.add(Counted::Closed(Cause::End), 1);
             }
         }
@@ -253,7 +254,8 @@ impl Service {
         ensures ready { self.new.ready ≡ self.old.ready }
     {
         if let Some(lost) = self.places.put(place, connection) {
-            self.log.report(rt, Closing::Crowded, Some(lost.id), Some(lost.address));
+            self.log
+                .report(rt, Closing::Crowded, Some(lost.id), Some(lost.address));
             kept.counters.add(Counted::Closed(Cause::Memory), 1);
             self.full = false;
             kept.close_session(lost.id);

@@ -24,11 +24,13 @@ loop-byte-preserved c =
     let lt : i < length bytes = c.loop-byte-test.true in
     record {
       tally = λ events is.
-          let h = c.loop-byte.invariant.tally events is in
-          (h.0 ++ more, subst (IsTally c.count_byte.new.counters.counts) (append_assoc events h.0 more) (e.tally (events ++ h.0) h.1),
-          append_assoc h.0 more (frames_in c.count_byte.new.self (drop (i + 1) bytes))
-          ∙ (ap (λ (k : FrameScan). h.0 ++ (more ++ frames_in k (drop (i + 1) bytes))) e.scan
-          ∙ (ap (λ xs. h.0 ++ xs) (sym (next s bytes i lt)) ∙ h.2)));
+          let h = c.loop-byte.invariant.tally events is in (
+            h.0 ++ more,
+            subst (IsTally c.count_byte.new.counters.counts) (append_assoc events h.0 more) (e.tally (events ++ h.0) h.1),
+            append_assoc h.0 more (frames_in c.count_byte.new.self (drop (i + 1) bytes))
+                ∙ (ap (λ (k : FrameScan). h.0 ++ (more ++ frames_in k (drop (i + 1) bytes))) e.scan
+                ∙ (ap (λ xs. h.0 ++ xs) (sym (next s bytes i lt)) ∙ h.2)),
+          );
       scan = ap (λ (k : FrameScan). scan_after k (drop (i + 1) bytes)) e.scan ∙ (sym (next_scan s bytes i lt) ∙ c.loop-byte.invariant.scan);
     }
 
