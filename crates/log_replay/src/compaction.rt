@@ -7,7 +7,7 @@ ghost use Rattle.publication_log.specs.Logs.{bodies_of, AreNext};
 ghost use Rattle.version_store.specs.Openings.{IsSound};
 ghost use Rattle.log_replay.specs.Laws.{AreRecordsReplayedAll};
 
-use crate::held::HeldRecords;
+use crate::held::RecordHolder;
 use crate::records::replay_records;
 use crate::replaying::ReplayFault;
 use publication_log::Publications;
@@ -28,7 +28,7 @@ pub fn earlier_count(publications: Publications<'_>) -> usize
 /// # Errors
 ///
 /// As [`replay_records`] of the first that it refuses. The snapshot is of no more use then.
-pub fn replay_first<H: HeldRecords>(
+pub fn replay_first<H: RecordHolder>(
     held: &mut H,
     publications: Publications<'_>,
     n: usize,

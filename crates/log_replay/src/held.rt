@@ -14,7 +14,7 @@ use std::alloc::AllocError;
 use version_store::{Opening, plan_in};
 
 /// The records of a snapshot, however their bytes are kept, and its fields.
-pub trait HeldRecords: Sized + Drop {
+pub trait RecordHolder: Sized + Drop {
     /// The fields of the snapshot.
     ghost header: { Self → Header };
 
@@ -73,7 +73,7 @@ fn slot_room() -> [u8; MAX_RECORD_LEN] {
     [0; MAX_RECORD_LEN]
 }
 
-impl HeldRecords for Snapshot {
+impl RecordHolder for Snapshot {
     ghost use Rattle.snapshot_file.specs.Snapshots.{header_of};
 
     ghost header = { header_of };
@@ -116,7 +116,7 @@ impl HeldRecords for Snapshot {
     }
 }
 
-impl HeldRecords for Opening {
+impl RecordHolder for Opening {
     ghost header = { λ it. it.header };
 
     ghost bytes = { λ it. it.bytes };

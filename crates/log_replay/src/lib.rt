@@ -4,7 +4,7 @@
 //! the store publishes. [`replay`] makes a publication of a log on a store, by the store's own edits, appends and
 //! publications; [`replay_all`] makes all of a log. [`replay_records`] makes one on a snapshot's records alone, so that a
 //! later snapshot is written without hints; [`replay_first`] makes the first of a log, as all but the latest 16. What holds
-//! the records, [`HeldRecords`], is a snapshot or what a store is opened with.
+//! the records, [`RecordHolder`], is a snapshot or what a store is opened with.
 //! `specs/Replays.antt` and `specs/Records.antt` define all of these, and [`laws`] says how they agree.
 //!
 //! Its tests are in tests/long/log_replay.
@@ -20,6 +20,6 @@ mod replaying;
 
 pub use compaction::{earlier_count, replay_first};
 pub use drafting::{DraftFault, draft_publication};
-pub use held::HeldRecords;
+pub use held::RecordHolder;
 pub use records::replay_records;
 pub use replaying::{ReplayFault, replay, replay_all};

@@ -6,7 +6,7 @@ ghost use Rattle.version_store.specs.Openings.{IsSound, plan_held};
 ghost use Rattle.log_replay.specs.Replays.{IsPublicationOf};
 ghost use Rattle.log_replay.specs.Records.{AreRecordsChanged, AreRecordsReplayed, is_next_of_snapshot};
 
-use crate::held::HeldRecords;
+use crate::held::RecordHolder;
 use crate::judging::is_replayable;
 use crate::replaying::ReplayFault;
 use pir_schemes::Plan;
@@ -19,7 +19,7 @@ use publication_log::{Changes, Publication};
 ///
 /// `BadPublication` exactly when the publication does not follow the snapshot's version: nothing changes then. After `Memory`
 /// some of its changes may be made, and the snapshot is of no more use.
-pub fn replay_records<H: HeldRecords>(
+pub fn replay_records<H: RecordHolder>(
     held: &mut H,
     publication: Publication<'_>,
 ) -> Result<(), ReplayFault>
@@ -46,7 +46,7 @@ pub fn replay_records<H: HeldRecords>(
 }
 
 // Makes changes in the records of a plan. After an error some of them may be made.
-fn put_changes<H: HeldRecords>(
+fn put_changes<H: RecordHolder>(
     plan: &Plan,
     held: &mut H,
     changes: Changes<'_>,
@@ -68,7 +68,7 @@ fn put_changes<H: HeldRecords>(
 }
 
 // Makes a change in the records of a plan: `BadPublication` if the bytes can't be a record, or no layout has one record more.
-fn put_change<H: HeldRecords>(
+fn put_change<H: RecordHolder>(
     plan: &Plan,
     held: &mut H,
     place: usize,

@@ -27,7 +27,7 @@ const OTHER_DESCRIPTORS: u64 = 16;
 ///
 /// In this order: `File` where there is no file, `Locked` where another process has it, those of the snapshot, `Write` where the
 /// file can't be sent to the device, those of its log (`File`, `BadLog`, `Write` where a torn end can't be cut off, or where a log that
-/// is too long can't be made shorter), those of the store, `Input` where standard input is to be watched and can't be, `Connect` where the address can't be listened on, and `Write` where
+/// is too long can't be made shorter), `Input` where standard input is to be watched and can't be, `Connect` where the address can't be listened on, and `Write` where
 /// it can't be printed, or what is left of a failed append can't be cut off. `Memory` where there was none. A connection that is closed
 /// before its end is reported on standard error, and ends nothing else.
 pub fn run_file(rt: &HostRuntime, running: &Running<'_>) -> Result<(), Failed> {

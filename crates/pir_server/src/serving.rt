@@ -30,7 +30,7 @@ const DRAIN_WAIT: u64 = 100;
 /// # Errors
 ///
 /// In this order: `File` where there is no file, `Locked` where another process has it, those of the snapshot, `Write` where the
-/// file can't be sent to the device, those of its log (`File`, `BadLog`), those of the store, `Connect` where the port can't be listened on, and after a connection
+/// file can't be sent to the device, those of its log (`File`, `BadLog`), `Connect` where the port can't be listened on, and after a connection
 /// that published `File` where the file can't be made anew and `Write` where it can't be written. `Memory` where there was none. A
 /// connection that ends with a fault is reported on standard error, and ends nothing else.
 pub fn serve_file(rt: &HostRuntime, serving: &Serving<'_>) -> Result<(), Failed> {

@@ -9,14 +9,14 @@ use Rattle.log_replay.proofs.records.put_changes.Goals as goal
 
 pub changes-preserved : goal.changes-preserved
 changes-preserved g c =
-    let h : Header = g.H.HeldRecords.header c.changes.held in
-    let after : Header = g.H.HeldRecords.header c.put_change.new.held in
-    let records : List (List ℕ) = records_for h (g.H.HeldRecords.bytes c.changes.held) in
+    let h : Header = g.H.RecordHolder.header c.changes.held in
+    let after : Header = g.H.RecordHolder.header c.put_change.new.held in
+    let records : List (List ℕ) = records_for h (g.H.RecordHolder.bytes c.changes.held) in
     let changed = c.in_ok-put_change.ensures.put in
     record {
       plan = c.changes.invariant.plan ∙ sym (ap plan_held changed.header);
       sound = c.in_ok-put_change.ensures.sound;
-      header = still_counted (g.H.HeldRecords.header c.args.held.now) h after _ c.changes.invariant.header changed.header;
+      header = still_counted (g.H.RecordHolder.header c.args.held.now) h after _ c.changes.invariant.header changed.header;
       put = λ low cs each e.
           let it = c.changes.invariant.put low cs each e in
           let split = splits c.changes.left.rest.now it.0 c.in-Some.change.place c.in-Some.change.bytes.now c.in-Some.rest.rest.now it.1 c.in-Some.ensures.some
@@ -33,5 +33,5 @@ pub returns-clause-put : goal.returns-clause-put
 returns-clause-put g c = λ low cs each e.
     let it = c.changes.invariant.put low cs each e in
     let none = none_left c.changes.left.rest.now it.0 it.1 c.in_default.ensures.some in
-    changed_to _ (g.H.HeldRecords.header c.changes.held) _ (g.H.HeldRecords.bytes c.changes.held) cs c.changes.invariant.header
-    (sym (it.2 ∙ ap (λ (x : List Placed). records_after (records_for (g.H.HeldRecords.header c.changes.held) (g.H.HeldRecords.bytes c.changes.held)) x) none))
+    changed_to _ (g.H.RecordHolder.header c.changes.held) _ (g.H.RecordHolder.bytes c.changes.held) cs c.changes.invariant.header
+    (sym (it.2 ∙ ap (λ (x : List Placed). records_after (records_for (g.H.RecordHolder.header c.changes.held) (g.H.RecordHolder.bytes c.changes.held)) x) none))

@@ -9,13 +9,13 @@ use Rattle.log_replay.proofs.records.put_changes.Given as goal
 -- what is left makes of the records what all changes make of them
 abbrev pub invariant-changes : goal.invariant-changes
 invariant-changes g l = record {
-  plan : l.plan ≡ plan_held (g.H.HeldRecords.header l.held);
-  sound : IsSound (g.H.HeldRecords.header l.held) (g.H.HeldRecords.bytes l.held);
-  header : g.H.HeldRecords.header l.held ≡ with_count (g.H.HeldRecords.header l.fn.held) (g.H.HeldRecords.header l.held).count;
+  plan : l.plan ≡ plan_held (g.H.RecordHolder.header l.held);
+  sound : IsSound (g.H.RecordHolder.header l.held) (g.H.RecordHolder.bytes l.held);
+  header : g.H.RecordHolder.header l.held ≡ with_count (g.H.RecordHolder.header l.fn.held) (g.H.RecordHolder.header l.held).count;
   put : (low : ℕ) (cs : List Placed) → AreChanges low cs → l.fn.changes.rest.now ≡ changes_bytes cs →
       (left : List Placed) × HasChanges l.left.rest.now left
-      × (records_after (records_for (g.H.HeldRecords.header l.fn.held) (g.H.HeldRecords.bytes l.fn.held)) cs
-      ≡ records_after (records_for (g.H.HeldRecords.header l.held) (g.H.HeldRecords.bytes l.held)) left);
+      × (records_after (records_for (g.H.RecordHolder.header l.fn.held) (g.H.RecordHolder.bytes l.fn.held)) cs
+      ≡ records_after (records_for (g.H.RecordHolder.header l.held) (g.H.RecordHolder.bytes l.held)) left);
 }
 
 abbrev pub decreases-changes : goal.decreases-changes

@@ -8,7 +8,7 @@ use Rattle.snapshot_file.specs.declared.snapshot.Header.{Header}
 use Rattle.snapshot_file.specs.Snapshots.{header_of}
 use Rattle.version_store.specs.Openings.{IsSound, plan_held, records_for}
 use Rattle.version_store.proofs.RecordsPut.{record_put, sound_put}
-use Rattle.log_replay.proofs.held.SnapshotHeldRecords.replace.Goals as goal
+use Rattle.log_replay.proofs.held.SnapshotRecordHolder.replace.Goals as goal
 
 module _ (c : goal.After-self-1) where
   abbrev h : Header
