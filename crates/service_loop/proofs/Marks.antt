@@ -266,10 +266,6 @@ pub four_ok : {T E A B C D Q : Type 0} (r : Result T E) → OnOk r A → OnOk r 
 four_ok (Ok x) a b c d h = h a b c d
 four_ok (Err e) a b c d h = tt
 
-marked_if : (o : Option Connection) (A B : Type 0) → (A → B) → IfSome o (λ c. c.queued ≡ true → A) → IfSome o (λ c. c.queued ≡ true → B)
-marked_if None A B f h = tt
-marked_if (Some c) A B f h = λ marked. f (h marked)
-
 turn_stays : (all all2 : Bool) (ready ready2 : List ℕ) (i : ℕ) → (all ≡ true → all2 ≡ true) → ready2 ≡ ready → HasTurn all ready i → HasTurn all2 ready2 i
 turn_stays all all2 ready ready2 i each same (inl is) = inl (each is)
 turn_stays all all2 ready ready2 i each same (inr (k, at)) = inr (k, subst (λ (r : List ℕ). slice_get r k ≡ Some i) (sym same) at)
@@ -278,4 +274,4 @@ turn_stays all all2 ready ready2 i each same (inr (k, at)) = inr (k, subst (λ (
 pub marks_stay : (a b : List (Option Connection)) (all all2 : Bool) (ready ready2 : List ℕ) → b ≡ a → (all ≡ true → all2 ≡ true) → ready2 ≡ ready
     → AreMarkedNoted a all ready → AreMarkedNoted b all2 ready2
 marks_stay a b all all2 ready ready2 places each same h = λ i. subst (λ (k : List (Option Connection)). HasTurnIfMarked k all2 ready2 i) (sym places)
-    (marked_if (connection_at a i) (HasTurn all ready i) (HasTurn all2 ready2 i) (turn_stays all all2 ready ready2 i each same) (h i))
+    (if_marked (connection_at a i) (HasTurn all ready i) (HasTurn all2 ready2 i) (turn_stays all all2 ready ready2 i each same) (h i))
