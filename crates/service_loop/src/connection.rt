@@ -138,6 +138,7 @@ impl Connection {
         ensures queued { self.new.queued ≡ false }
     {
         self.queued = false;
+        self.watch.reply = None;
         if let Some(until) = self.lingers {
             return Ok((kept, self.linger(now, until, buffer)));
         }
@@ -228,7 +229,6 @@ impl Connection {
             saver,
             counters,
         } = kept;
-        self.watch.reply = None;
         let mut device = Device {
             rt,
             saver,
