@@ -97,11 +97,13 @@ impl<'a> Folder<'a> {
             Err(LockFault::Held) => return Ok(()),
             Err(fault) => return Err(fault.into()),
         };
-        if !self.may_replace(known, hint)? {
+        if !self.may_replace(known, hint.scheme, hint.version)? {
             return Ok(());
         }
         let content = HintContent(hint_file(alloc, known, hint)?);
         replace(alloc, &mut place, &content)?;
+        // One that stays is judged by its version when it is wanted.
+        let _ = self.drop_partial(known, hint.scheme);
         Ok(())
     }
 
@@ -183,10 +185,15 @@ impl<'a> Folder<'a> {
         Ok(Some(kept.into_head()))
     }
 
-    // Whether a hint may take the place of the one that is kept: of one that is damaged or can't be read, too.
-    fn may_replace(&self, known: &ServerInfo, hint: &Hint) -> Result<bool, FolderFault> {
-        match self.kept(hint.scheme, &known.plan) {
-            Ok(Some(kept)) => Ok(is_no_newer(kept.head(), known, hint)),
+    /// Whether a hint of a version may take the place of the one that is kept: of one that is damaged or can't be read, too.
+    pub(crate) fn may_replace(
+        &self,
+        known: &ServerInfo,
+        scheme: Scheme,
+        version: u64,
+    ) -> Result<bool, FolderFault> {
+        match self.kept(scheme, &known.plan) {
+            Ok(Some(kept)) => Ok(is_no_newer(kept.head(), known, version)),
             Ok(None) | Err(HintError::Damaged | HintError::Read) => Ok(true),
             Err(HintError::Memory) => Err(FolderFault::Memory),
         }

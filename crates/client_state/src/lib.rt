@@ -11,11 +11,13 @@ mod folder;
 mod kept;
 mod names;
 mod old;
+mod partial;
 
 pub use fault::FolderFault;
 pub use folder::{Folder, KeptHeads};
 pub use kept::KeptFile;
 pub use old::OldFolder;
+pub use partial::{Fetched, PartialFile};
 
 #[cfg(test)]
 mod tests;

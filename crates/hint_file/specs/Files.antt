@@ -98,7 +98,7 @@ pub record IsKeepable (known : ServerInfo) (hint : Hint) : Type 0 where
 abbrev pub HasDigests : HintFields → List ℕ → Type 0
 HasDigests f digests = length digests ≡ 32 * part_count (4 * (f.rows * f.cols))
 
--- the file of this head is no newer than the hint with what the server reported: neither its hint nor what it says was reported is of a later version
-pub record IsNoNewer (f : HintFields) (known : ServerInfo) (hint : Hint) : Type 0 where
+-- the file of this head is no newer than a hint of a version with what the server reported: neither its hint nor what it says was reported is of a later one
+pub record IsNoNewer (f : HintFields) (known : ServerInfo) (version : ℕ) : Type 0 where
   pub reported : f.known.version ≤ known.version
-  pub version : f.version ≤ hint.version
+  pub version_kept : f.version ≤ version

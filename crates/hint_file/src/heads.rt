@@ -9,7 +9,7 @@ ghost use Rattle.hint_file.specs.Files.{hint_magic, plan_bytes, field_bytes, hea
 use crate::digests::PART_LEN;
 use crate::sealing::{DIGEST_LEN, MAGIC_LEN, after, first_32, seal, unsealed};
 use byteorder::{ByteOrder, LittleEndian};
-use client_core::{Hint, Plan, Scheme, ServerInfo};
+use client_core::{Plan, Scheme, ServerInfo};
 use matrix_u32::MAX_WORDS;
 use std::alloc::{AllocError, Global};
 use thiserror::Error;
@@ -130,9 +130,13 @@ pub fn plan_bytes(alloc: Global, plan: &Plan) -> Result<Vec<u8>, AllocError>
     Ok(bytes)
 }
 
-// The fields.
+/// The fields.
+///
+/// # Errors
+///
+/// `AllocError` when memory was refused.
 #[tactic(auto, unfolding(crate::specs::Files::field_bytes, frame_codec::specs::Numbers::number_bytes))]
-fn field_bytes(alloc: Global, fields: &HintFields) -> Result<Vec<u8>, AllocError>
+pub fn field_bytes(alloc: Global, fields: &HintFields) -> Result<Vec<u8>, AllocError>
     ensures { IfOk result (λ bytes. bytes.items ≡ field_bytes fields.now) }
 {
     let mut bytes = plan_bytes(alloc, &fields.known.plan)?;
@@ -264,9 +268,10 @@ pub fn head_in(alloc: Global, bytes: &[u8]) -> Result<KeptHead, HintError>
     head_after(alloc, &front, bytes)
 }
 
-/// Whether the file of this head is no newer than a hint with what the server had reported: whether it may be replaced by theirs.
-pub fn is_no_newer(head: &KeptHead, known: &ServerInfo, hint: &Hint) -> bool
-    ensures { IsTrue result ↔ IsNoNewer head.now.fields known.now hint.now }
+/// Whether the file of this head is no newer than a hint of a version with what the server had reported: whether it may be replaced by
+/// theirs.
+pub fn is_no_newer(head: &KeptHead, known: &ServerInfo, version: u64) -> bool
+    ensures { IsTrue result ↔ IsNoNewer head.now.fields known.now version }
 {
-    head.fields.known.version <= known.version && head.fields.version <= hint.version
+    head.fields.known.version <= known.version && head.fields.version <= version
 }

@@ -12,6 +12,7 @@ mod heads;
 mod hints;
 pub mod laws;
 mod numbers;
+mod partial;
 mod parts;
 mod reading;
 mod sealing;
@@ -19,6 +20,9 @@ mod texts;
 
 pub use heads::{HintError, HintFields, KeptHead, MOST_HEAD, head_in, is_no_newer};
 pub use hints::{HintFile, KeptHint, WriteFault, hint_file, hint_file_len};
+pub use partial::{
+    are_parts, empty_part, head_to_fetch, part_ask, part_digest, partial_front, whole_head,
+};
 pub use parts::{PartSpan, parts_for, parts_in, place_of, serves};
 pub use reading::{read_hint, read_old_hint};
 pub use texts::{file_name, state_lines};

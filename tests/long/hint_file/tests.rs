@@ -96,8 +96,8 @@ fn a_file_is_read_as_it_was_written(rt: HostRuntime) -> Result<(), Fail> {
     }
     let head = head_in(alloc, cut(&bytes, MOST_HEAD).0)?;
     assert_eq!(rt; head.file_len(), bytes.len() as u64);
-    assert!(rt; is_no_newer(&head, &known(), &whole));
-    assert!(rt; !is_no_newer(&head, &known(), &hint(alloc, Scheme::Simple, 6)?));
+    assert!(rt; is_no_newer(&head, &known(), whole.version));
+    assert!(rt; !is_no_newer(&head, &known(), 6));
     Ok(())
 }
 
