@@ -14,7 +14,7 @@ IsWithin found (Some seconds) =
 
 -- retrievals with a folder, as the options of `get` ask for them
 abbrev pub ReadsFolderGet : Found → FolderTask → Type 0
-ReadsFolderGet found (Get state server least no_older scheme indices) =
+ReadsFolderGet found (Get state server least no_older progress scheme indices) =
     (first_value found (codes "state") ≡ Some state.now) × IsNumberGiven found (codes "port") server.port × IsHostGiven found server
     × IsWithin found server.timeout
     × (first_value found (codes "scheme") ≡ Some (scheme_text scheme))
@@ -23,6 +23,6 @@ ReadsFolderGet found (Forget state) = ⊥
 
 -- a folder that is printed, or whose hint is dropped, as the option of `state` and `forget` names it
 abbrev pub ReadsFolder : Found → FolderTask → Type 0
-ReadsFolder found (Get state server least no_older scheme indices) = ⊥
+ReadsFolder found (Get state server least no_older progress scheme indices) = ⊥
 ReadsFolder found (State state) = first_value found (codes "state") ≡ Some state.now
 ReadsFolder found (Forget state) = first_value found (codes "state") ≡ Some state.now

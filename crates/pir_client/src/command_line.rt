@@ -125,6 +125,17 @@ fn no_older_flag<'a>(alloc: Global) -> Result<Arg<'a>, AllocError> {
         .conflicts_with("seed")
 }
 
+// The flag by which it is said how much of a hint has come.
+fn progress_flag<'a>(alloc: Global) -> Result<Arg<'a>, AllocError> {
+    Arg::new(alloc, "progress")
+        .long("progress")
+        .help(
+            "With --state: says on standard error how many parts of a hint have come, and how long the others take",
+        )
+        .action(ArgAction::SetTrue)
+        .conflicts_with("seed")
+}
+
 // The command `get`.
 fn get_command<'a>(alloc: Global) -> Result<Command<'a>, AllocError> {
     Command::new(alloc, "get")
@@ -161,6 +172,7 @@ fn get_command<'a>(alloc: Global) -> Result<Command<'a>, AllocError> {
         )
         .required(false))?
         .arg(no_older_flag(alloc)?)?
+        .arg(progress_flag(alloc)?)?
         .arg(wide_flag(alloc)?.conflicts_with("state")?)?
         .arg(option(
             alloc,
@@ -191,7 +203,7 @@ fn get_command<'a>(alloc: Global) -> Result<Command<'a>, AllocError> {
 }
 
 const GET_EXAMPLE: &str =
-    "Prints 'retrieved INDEX VERSION HEX', HEX being the record's bytes, or - where it has none.\n\nWith --state DIR a wide store is known by its greeting; without it --wide says that the store is one. With --state DIR each run draws a seed of its own from the system's random source, and keeps none. The folder keeps public hints alone, one for\neach scheme and store, so that a second get need not fetch one; it may be copied, restored or removed at any time. A server of a lower version\nthan was seen before is warned of beside the result, and with --no-older refused: 'fault: Older'.\n\nWith --seed and --number it is you who must never use a number twice with one seed, not even after a get that failed: two such retrievals can\ntell the server what they ask.\n\nSecrets of fewer than 1024 words hide INDEX less: the server chooses their number. --least-dimension 1024 ends a get\nwith 'fault: BadWelcome' if they are fewer, before INDEX is asked for; without it a warning is printed, and with --state fewer than 1024 are refused.\n\nExample: pir_client get --state DIR --port 7000 --scheme simple 1\nExample: pir_client get --port 7000 --seed 1111111111111111111111111111111111111111111111111111111111111111 --number 0 --scheme simple 1\n\nWith --verbose a fault has a second line, 'cause: TEXT', that says what failed and where.";
+    "Prints 'retrieved INDEX VERSION HEX', HEX being the record's bytes, or - where it has none.\n\nWith --state DIR a wide store is known by its greeting; without it --wide says that the store is one. With --state DIR each run draws a seed of its own from the system's random source, and keeps none. The folder keeps public hints alone, one for\neach scheme and store, so that a second get need not fetch one; it may be copied, restored or removed at any time. A server of a lower version\nthan was seen before is warned of beside the result, and with --no-older refused: 'fault: Older'.\nA hint's parts that have come stay there, so that a get whose connection was cut goes on with the next one.\n\nWith --seed and --number it is you who must never use a number twice with one seed, not even after a get that failed: two such retrievals can\ntell the server what they ask.\n\nSecrets of fewer than 1024 words hide INDEX less: the server chooses their number. --least-dimension 1024 ends a get\nwith 'fault: BadWelcome' if they are fewer, before INDEX is asked for; without it a warning is printed, and with --state fewer than 1024 are refused.\n\nExample: pir_client get --state DIR --port 7000 --scheme simple 1\nExample: pir_client get --port 7000 --seed 1111111111111111111111111111111111111111111111111111111111111111 --number 0 --scheme simple 1\n\nWith --verbose a fault has a second line, 'cause: TEXT', that says what failed and where.";
 
 // The command `state`.
 fn state_command<'a>(alloc: Global) -> Result<Command<'a>, AllocError> {

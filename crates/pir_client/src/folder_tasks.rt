@@ -30,6 +30,8 @@ pub enum FolderTask<'a> {
         least: usize,
         // Whether a server of an older version than was seen before is refused.
         no_older: bool,
+        // Whether it is said how much of a hint has come.
+        progress: bool,
         scheme: Scheme,
         indices: Vec<u32>,
     },
@@ -56,11 +58,13 @@ pub fn folder_get_task<'a>(
     let least = least_dimension(found)?.unwrap_or(WHOLE_SECRET);
     let indices = indices_given(alloc, found)?;
     let no_older = found.get_flag("no-older");
+    let progress = found.get_flag("progress");
     Ok(FolderTask::Get {
         state,
         server,
         least,
         no_older,
+        progress,
         scheme,
         indices,
     })

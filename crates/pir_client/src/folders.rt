@@ -25,6 +25,7 @@ pub fn done_in_folder(rt: &HostRuntime, task: FolderTask<'_>) -> Result<(), Fail
             server,
             least,
             no_older,
+            progress,
             scheme,
             indices,
         } => {
@@ -35,6 +36,11 @@ pub fn done_in_folder(rt: &HostRuntime, task: FolderTask<'_>) -> Result<(), Fail
                 session_of_no_older(rt, folder, &server, seed, least, scheme)?
             } else {
                 Session::begin(rt, folder, &server, seed, least, scheme)?
+            };
+            let session = if progress {
+                session.with_progress()
+            } else {
+                session
             };
             get_records(rt, session, &server, &indices)?;
             warn_of_old(rt, old);

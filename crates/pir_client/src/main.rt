@@ -10,13 +10,15 @@
 mod causes;
 mod command_line;
 mod commands;
+mod delta_only;
 mod failures;
+mod fetching;
 mod folder_tasks;
 mod folders;
+mod progress;
 mod server;
 mod sessions;
 mod warnings;
-mod watching;
 
 use std::process::ExitCode;
 

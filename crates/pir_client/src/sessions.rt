@@ -5,10 +5,11 @@
 
 ghost use Rattle.client_commands.specs.Transcripts.{IsRecordAsked};
 
+use crate::delta_only::DeltaOnly;
 use crate::failures::failure_of;
+use crate::fetching::fetch;
 use crate::server::{Address, Server};
 use crate::warnings::{Older, Warnings};
-use crate::watching::Watched;
 use client_commands::{
     CommandError, Retrieved, ask, ask_with_rows, check_dimension, greet_either, sync,
 };
@@ -55,6 +56,8 @@ pub struct Session<'a> {
     // The hint kept, which the client doesn't hold: of SimplePIR's the rows of a record are read when it is asked for.
     kept: Option<KeptFile<'a>>,
     warnings: Warnings,
+    // Whether it is said how much of a hint has come.
+    says: bool,
 }
 
 impl<'a> Session<'a> {
@@ -82,9 +85,15 @@ impl<'a> Session<'a> {
             scheme,
             kept: None,
             warnings: Warnings::default(),
+            says: false,
         };
         session.look_up()?;
         Ok(session)
+    }
+
+    /// The same session, which says how much of a hint has come.
+    pub fn with_progress(self) -> Session<'a> {
+        Session { says: true, ..self }
     }
 
     /// How a command of this session failed.
@@ -252,24 +261,76 @@ impl<'a> Session<'a> {
         }
     }
 
-    // Moves the hint to the version known, and keeps it.
+    // Moves the hint to the version known, and keeps it: by delta, or part by part through the folder, or else without it.
     fn move_hint(&mut self) -> Result<(), CommandError> {
-        let mut watched = Watched::new(self.rt, &self.server);
-        let synced = sync(
+        if self.move_by_delta()? || self.fetch_parts()? {
+            return Ok(());
+        }
+        sync(
             self.rt.alloc(),
             &mut self.client,
-            &mut watched,
+            &mut &self.server,
             &mut &self.server,
             self.scheme,
+        )?;
+        self.keep();
+        Ok(())
+    }
+
+    // Moves the hint by delta, if one of SimplePIR is held and the server has a delta. Else the client holds no hint then.
+    fn move_by_delta(&mut self) -> Result<bool, CommandError> {
+        match self.client.hint() {
+            Some(hint) if hint.scheme == Scheme::Simple && self.scheme == Scheme::Simple => {}
+            _ => return Ok(false),
+        }
+        let relay = DeltaOnly::new(&self.server);
+        let moved = sync(
+            self.rt.alloc(),
+            &mut self.client,
+            &mut &relay,
+            &mut &relay,
+            self.scheme,
         );
-        watched.end();
-        synced?;
+        if relay.has_refused() {
+            return Ok(false);
+        }
+        moved?;
+        self.keep();
+        Ok(true)
+    }
+
+    // Fetches the hint through the folder, and takes it up. Whether that could be done.
+    fn fetch_parts(&mut self) -> Result<bool, CommandError> {
+        let Some(known) = self.client.known() else {
+            return Ok(false);
+        };
+        let fetched = fetch(
+            self.rt,
+            &self.server,
+            &self.folder,
+            &known,
+            self.scheme,
+            self.says,
+        )?;
+        let Some(fetched) = fetched else {
+            return Ok(false);
+        };
+        if !fetched.could_keep {
+            self.warnings.is_not_kept = true;
+        }
+        self.take_up(&fetched.file)?;
+        Ok(
+            matches!(self.client.hint(), Some(hint) if hint.scheme == self.scheme && hint.version == known.version),
+        )
+    }
+
+    // Keeps the hint held.
+    fn keep(&mut self) {
         if let (Some(known), Some(hint)) = (self.client.known(), self.client.hint()) {
             if self.folder.keep(&known, hint).is_err() {
                 self.warnings.is_not_kept = true;
             }
         }
-        Ok(())
     }
 }
 

@@ -1,0 +1,74 @@
+//! A connection over which a hint moves by delta alone.
+
+use crate::server::Server;
+use std::cell::Cell;
+use std::io;
+use std::io::{Read, Write};
+
+/// How many bytes an ask for a delta has.
+const DELTA_ASK_LEN: usize = 13;
+
+/// The frame Refused, with the code for a part that there is not.
+const REFUSED: [u8; 6] = [1, 0, 0, 0, 0x8f, 10];
+
+/// A connection over which the client asks for a delta. When there is none, the client's ask for the first part of a hint is
+/// refused on this side, and the server gets nothing of it: the parts are fetched one by one, into their file.
+#[derive(Drop)]
+pub struct DeltaOnly<'a> {
+    server: &'a Server,
+    sent: Cell<usize>,
+    refused: Cell<bool>,
+    given: Cell<usize>,
+}
+
+impl<'a> DeltaOnly<'a> {
+    /// The connection, over which nothing was asked.
+    pub fn new(server: &'a Server) -> DeltaOnly<'a> {
+        DeltaOnly {
+            server,
+            sent: Cell::new(0),
+            refused: Cell::new(false),
+            given: Cell::new(0),
+        }
+    }
+
+    /// Whether the server had no delta.
+    pub fn has_refused(&self) -> bool {
+        self.refused.get()
+    }
+}
+
+impl Write for &DeltaOnly<'_> {
+    fn write(&mut self, buf: &[u8]) -> io::Result<usize> {
+        let sent = self.sent.get();
+        let left = DELTA_ASK_LEN.saturating_sub(sent).min(buf.len());
+        if left == 0 {
+            self.refused.set(true);
+            return Ok(buf.len());
+        }
+        let n = (&mut &*self.server).write(&buf[..left])?;
+        self.sent.set(sent.saturating_add(n));
+        Ok(n)
+    }
+
+    fn flush(&mut self) -> io::Result<()> {
+        Ok(())
+    }
+}
+
+impl Read for &DeltaOnly<'_> {
+    fn read(&mut self, buf: &mut [u8]) -> io::Result<usize> {
+        if !self.refused.get() {
+            return (&mut &*self.server).read(buf);
+        }
+        let at = self.given.get();
+        match (REFUSED.get(at), buf.first_mut()) {
+            (Some(byte), Some(room)) => {
+                *room = *byte;
+                self.given.set(at.saturating_add(1));
+                Ok(1)
+            }
+            _ => Ok(0),
+        }
+    }
+}
