@@ -6,6 +6,7 @@ use crate::causes::failed_at;
 use crate::pairs::{LogSize, Whole, whole_of};
 use command_words::{Failed, Failure, printed};
 use digit_pack::{is_slotted, read_slot};
+use noise_odds::{Odds, of_double, of_simple};
 use session_core::{Layout, Scheme, Snapshot, answer_count, hint_len, is_certain, query_count};
 use std::alloc::{AllocError, Global};
 
@@ -65,8 +66,10 @@ fn description(alloc: Global, snapshot: &Snapshot, layout: &Layout) -> Result<St
     text.push_str(&simple)?;
     let double = words_of(alloc, Scheme::Double, layout, n)?;
     text.push_str(&double)?;
-    text.push_str(certainty_of(Scheme::Simple, layout))?;
-    text.push_str(certainty_of(Scheme::Double, layout))?;
+    let simple = certainty_of(alloc, Scheme::Simple, layout)?;
+    text.push_str(&simple)?;
+    let double = certainty_of(alloc, Scheme::Double, layout)?;
+    text.push_str(&double)?;
     Ok(text)
 }
 
@@ -122,23 +125,23 @@ fn name_of(scheme: Scheme) -> &'static str {
     }
 }
 
-// Whether every retrieval gives its record, whatever noise is drawn.
-fn certainty_of(scheme: Scheme, layout: &Layout) -> &'static str {
-    let certain = is_certain(scheme, layout);
+// Whether every retrieval gives its record, whatever noise is drawn, or else how rarely a digit of one is misread.
+fn certainty_of(alloc: Global, scheme: Scheme, layout: &Layout) -> Result<String, AllocError> {
+    let name = name_of(scheme);
+    if is_certain(scheme, layout) {
+        return format!(in alloc; "{name}: certain\n");
+    }
+    let Odds { even, worst } = odds_of(scheme, layout);
+    format!(in alloc; "{name}: depends on the noise, odds 2^-{even}, at worst 2^-{worst}\n")
+}
+
+// Bits of the odds that a digit of a retrieval is misread.
+fn odds_of(scheme: Scheme, layout: &Layout) -> Odds {
+    // A layout has one of each at least.
+    let columns = layout.cols().max(1);
+    let rows = layout.rows().max(1);
     match scheme {
-        Scheme::Simple => {
-            if certain {
-                "simple: certain\n"
-            } else {
-                "simple: depends on the noise\n"
-            }
-        }
-        Scheme::Double => {
-            if certain {
-                "double: certain\n"
-            } else {
-                "double: depends on the noise\n"
-            }
-        }
+        Scheme::Simple => of_simple(layout.width(), columns),
+        Scheme::Double => of_double(layout.width(), columns, rows),
     }
 }
