@@ -60,9 +60,12 @@ const BINS: [&str; 13] = [
 /// `AllocError` where memory was refused.
 pub fn metrics_text(alloc: Global, figures: &Figures) -> Result<String, AllocError> {
     let mut text = String::new(alloc);
-    push_traffic(alloc, &mut text, figures)?;
+    push_connections(alloc, &mut text, figures)?;
+    push_closed(alloc, &mut text, figures)?;
+    push_bytes(alloc, &mut text, figures)?;
     push_frames(alloc, &mut text, figures)?;
     push_replies(alloc, &mut text, figures)?;
+    push_other_replies(alloc, &mut text, figures)?;
     push_refusals(alloc, &mut text, figures)?;
     push_histogram(
         alloc,
@@ -79,6 +82,7 @@ pub fn metrics_text(alloc: Global, figures: &Figures) -> Result<String, AllocErr
         &figures.waited,
     )?;
     push_state(alloc, &mut text, figures)?;
+    push_publication(alloc, &mut text, figures)?;
     push_held(alloc, &mut text, figures)?;
     Ok(text)
 }
@@ -118,8 +122,8 @@ fn push_histogram(
     push_family(alloc, text, name, help, Kind::Histogram, &samples)
 }
 
-// Adds the families on traffic.
-fn push_traffic(alloc: Global, text: &mut String, figures: &Figures) -> Result<(), AllocError> {
+// Adds the families on connections.
+fn push_connections(alloc: Global, text: &mut String, figures: &Figures) -> Result<(), AllocError> {
     let counters = &figures.counters;
     push_family(
         alloc,
@@ -136,7 +140,12 @@ fn push_traffic(alloc: Global, text: &mut String, figures: &Figures) -> Result<(
         "Connections that were accepted.",
         Kind::Counter,
         &[counted("", counters.of(Counted::Accepted))],
-    )?;
+    )
+}
+
+// Adds the families on connections that are over.
+fn push_closed(alloc: Global, text: &mut String, figures: &Figures) -> Result<(), AllocError> {
+    let counters = &figures.counters;
     push_family(
         alloc,
         text,
@@ -170,7 +179,12 @@ fn push_traffic(alloc: Global, text: &mut String, figures: &Figures) -> Result<(
                 counters.of(Counted::Closed(Cause::TooMany)),
             ),
         ],
-    )?;
+    )
+}
+
+// Adds the families on bytes.
+fn push_bytes(alloc: Global, text: &mut String, figures: &Figures) -> Result<(), AllocError> {
+    let counters = &figures.counters;
     push_family(
         alloc,
         text,
@@ -189,7 +203,7 @@ fn push_traffic(alloc: Global, text: &mut String, figures: &Figures) -> Result<(
     )
 }
 
-// Adds the families on frames.
+// Adds the family on frames.
 fn push_frames(alloc: Global, text: &mut String, figures: &Figures) -> Result<(), AllocError> {
     let counters = &figures.counters;
     push_family(
@@ -213,7 +227,7 @@ fn push_frames(alloc: Global, text: &mut String, figures: &Figures) -> Result<()
     )
 }
 
-// Adds the families on replies.
+// Adds the families on answers, and on what is stale.
 fn push_replies(alloc: Global, text: &mut String, figures: &Figures) -> Result<(), AllocError> {
     let counters = &figures.counters;
     push_family(
@@ -234,7 +248,16 @@ fn push_replies(alloc: Global, text: &mut String, figures: &Figures) -> Result<(
         "Frames that named a version which is not served any more.",
         Kind::Counter,
         &[counted("", counters.of(Counted::Reply(0x86, 0)))],
-    )?;
+    )
+}
+
+// Adds the family on other replies.
+fn push_other_replies(
+    alloc: Global,
+    text: &mut String,
+    figures: &Figures,
+) -> Result<(), AllocError> {
+    let counters = &figures.counters;
     push_family(
         alloc,
         text,
@@ -258,7 +281,7 @@ fn push_replies(alloc: Global, text: &mut String, figures: &Figures) -> Result<(
     )
 }
 
-// Adds the families on refusals.
+// Adds the family on refusals.
 fn push_refusals(alloc: Global, text: &mut String, figures: &Figures) -> Result<(), AllocError> {
     let counters = &figures.counters;
     push_family(
@@ -286,7 +309,7 @@ fn push_refusals(alloc: Global, text: &mut String, figures: &Figures) -> Result<
     )
 }
 
-// Adds the families on state.
+// Adds the families on what is served.
 fn push_state(alloc: Global, text: &mut String, figures: &Figures) -> Result<(), AllocError> {
     push_family(
         alloc,
@@ -311,7 +334,11 @@ fn push_state(alloc: Global, text: &mut String, figures: &Figures) -> Result<(),
         "1 while the service stops, and accepts nothing more.",
         Kind::Gauge,
         &[counted("", u64::from(figures.stopping))],
-    )?;
+    )
+}
+
+// Adds the families on the last publication.
+fn push_publication(alloc: Global, text: &mut String, figures: &Figures) -> Result<(), AllocError> {
     push_family(
         alloc,
         text,
@@ -338,7 +365,7 @@ fn push_state(alloc: Global, text: &mut String, figures: &Figures) -> Result<(),
     )
 }
 
-// Adds the families on held.
+// Adds the families on what is held and left out.
 fn push_held(alloc: Global, text: &mut String, figures: &Figures) -> Result<(), AllocError> {
     push_family(
         alloc,
