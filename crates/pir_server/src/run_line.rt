@@ -14,6 +14,8 @@ const FILE_TAKES: &str = "--file takes a file's name";
 
 const LISTEN_TAKES: &str = "--listen takes an address and a port, as 127.0.0.1:7000 or [::1]:7000";
 
+const STATUS_TAKES: &str = "--status takes an address and a port, as 127.0.0.1:9100 or [::1]:9100";
+
 const MOST_TAKES: &str = "--most takes a number from 1 to 65535";
 
 const IDLE_TAKES: &str = "--idle takes a number of seconds from 1 to 86400";
@@ -65,6 +67,8 @@ pub struct Running<'a> {
     pub grace: Option<u64>,
     /// How many connections one IP address may have at once, if that is bounded: 1 to 65535.
     pub most_per_peer: Option<u64>,
+    /// Where those are answered who ask how it does, if anywhere; port 0 is any that is free.
+    pub status: Option<SocketAddr>,
     /// How the lines of the log are written, if it is not only the faults of connections.
     pub log: Option<LogFormat>,
     /// Whether the faults of connections are left out on standard error.
@@ -123,6 +127,12 @@ pub fn run_command<'a>(alloc: Global) -> Result<Command<'a>, AllocError> {
         ))?
         .arg(optional(
             alloc,
+            "status",
+            "ADDR:PORT",
+            "A second address and port to listen on, for GET /health and GET /metrics over HTTP; port 0 takes any that is free (none if not given)",
+        ))?
+        .arg(optional(
+            alloc,
             "log",
             "FORMAT",
             "Writes a line on standard error for each event, with its time, as text or as json (only the faults of connections if not given)",
@@ -150,7 +160,7 @@ pub fn run_command<'a>(alloc: Global) -> Result<Command<'a>, AllocError> {
 }
 
 const RUN_EXAMPLE: &str =
-    "Prints 'listening ADDR:PORT' once it listens. A connection that ends with a fault is reported on standard error,\nas 'connection: NAME', and the others go on. A publication is acknowledged only once its log has it on the disk; if it\ncan't be appended the connection is closed, and the version before is served on. What is sent is not encrypted: listen on 127.0.0.1 or [::1] unless a tunnel or a proxy\nstands before the port.\n\nExample: pir_server run --file two.pir --listen 127.0.0.1:7000\n\nWith --verbose a fault has a second line, 'cause: TEXT', that says what failed and where.";
+    "Prints 'listening ADDR:PORT' once it listens, and 'status ADDR:PORT' after that with --status. A connection that ends with a fault is reported on standard error,\nas 'connection: NAME', and the others go on. A publication is acknowledged only once its log has it on the disk; if it\ncan't be appended the connection is closed, and the version before is served on. What is sent is not encrypted: listen on 127.0.0.1 or [::1] unless a tunnel or a proxy\nstands before the port.\n\nExample: pir_server run --file two.pir --listen 127.0.0.1:7000\n\nWith --verbose a fault has a second line, 'cause: TEXT', that says what failed and where.";
 
 // An option that may be left out.
 fn optional<'a>(alloc: Global, name: &'a str, value: &'a str, help: &'a str) -> Arg<'a> {
@@ -177,6 +187,7 @@ pub fn running_of<'a>(found: &ArgMatches<'a>) -> Result<Running<'a>, BadLine<'a>
         log_limit: number_or(found, "log-limit", LOG_LIMIT, 1_048_576, LOG_LIMIT_TAKES)?,
         grace: grace_at(found)?,
         most_per_peer: number_if(found, "most-per-peer", 65_535, MOST_PER_PEER_TAKES)?,
+        status: status_at(found)?,
         log: format_at(found)?,
         quiet: found.get_flag("quiet"),
     })
@@ -231,10 +242,22 @@ fn grace_at<'a>(found: &ArgMatches<'a>) -> Result<Option<u64>, BadLine<'a>>
 
 // The address and the port to listen on.
 fn address_at<'a>(found: &ArgMatches<'a>) -> Result<SocketAddr, BadLine<'a>> {
-    let text = text_at(found, "listen", LISTEN_TAKES)?;
+    address_of(text_at(found, "listen", LISTEN_TAKES)?, LISTEN_TAKES)
+}
+
+// The address and the port for those who ask how the server does, if they are given.
+fn status_at<'a>(found: &ArgMatches<'a>) -> Result<Option<SocketAddr>, BadLine<'a>> {
+    match found.get_str("status") {
+        Some(text) => Ok(Some(address_of(text, STATUS_TAKES)?)),
+        None => Ok(None),
+    }
+}
+
+// The address and the port of a text.
+fn address_of<'a>(text: &'a str, takes: &'static str) -> Result<SocketAddr, BadLine<'a>> {
     match text.parse::<SocketAddr>() {
         Ok(address) => Ok(address),
-        Err(_) => Err(BadLine::Given(LISTEN_TAKES, text)),
+        Err(_) => Err(BadLine::Given(takes, text)),
     }
 }
 

@@ -16,9 +16,12 @@ use session_core::{Lanes, ServerCore, Store};
 /// How many bytes a MiB has.
 const MIB: u64 = 1_048_576;
 
-/// How many descriptors are kept for all but connections: standard input, output and error, the listener, events, the file, its
+/// How many descriptors are kept for all but connections, without `--status`: standard input, output and error, the listener, events, the file, its
 /// lock and folder, a version that is saved, and some that whoever started the process left open.
 const OTHER_DESCRIPTORS: u64 = 16;
+
+/// How many are kept for those who ask how the server does: their listener, and eight connections.
+const STATUS_DESCRIPTORS: u64 = 9;
 
 /// Serves a snapshot file over many connections side by side, until the process is killed, or standard input has ended if that is wanted. Each publication is appended to the log
 /// beside the file before it is made. No other process serves or replaces the file meanwhile.
@@ -27,8 +30,8 @@ const OTHER_DESCRIPTORS: u64 = 16;
 ///
 /// In this order: `File` where there is no file, `Locked` where another process has it, those of the snapshot, `Write` where the
 /// file can't be sent to the device, those of its log (`File`, `BadLog`, `Write` where a torn end can't be cut off, or where a log that
-/// is too long can't be made shorter), `Input` where standard input is to be watched and can't be, `Connect` where the address can't be listened on, and `Write` where
-/// it can't be printed, or what is left of a failed append can't be cut off. `Memory` where there was none. A connection that is closed
+/// is too long can't be made shorter), `Input` where standard input is to be watched and can't be, `Connect` where the address or that of `--status` can't be listened on, and `Write` where
+/// one can't be printed, or what is left of a failed append can't be cut off. `Memory` where there was none. A connection that is closed
 /// before its end is reported on standard error, and ends nothing else.
 pub fn run_file(rt: &HostRuntime, running: &Running<'_>) -> Result<(), Failed> {
     let mut file = match OwnFile::to_read(rt, running.file) {
@@ -42,7 +45,7 @@ pub fn run_file(rt: &HostRuntime, running: &Running<'_>) -> Result<(), Failed> {
     };
     let core = ServerCore::new(rt.alloc(), store);
     let limits = Limits {
-        most: possible_most(rt, running.most)?,
+        most: possible_most(rt, running.most, other_descriptors(running))?,
         idle: running.idle.saturating_mul(1000),
         memory: bytes_of_mib(running.memory),
         most_per_peer: most_per_peer(running),
@@ -50,9 +53,10 @@ pub fn run_file(rt: &HostRuntime, running: &Running<'_>) -> Result<(), Failed> {
         format: running.log,
         grace: grace_of(running),
     };
-    match run_service(rt, core, running.listen, limits, saver) {
+    match run_service(rt, core, running.listen, limits, running.status, saver) {
         Ok(()) => Ok(()),
         Err(RunFault::Connect) => Err(not_listening(rt, running.listen)),
+        Err(RunFault::Status) => Err(not_listening(rt, running.status.unwrap_or(running.listen))),
         Err(RunFault::Write) => Err(failed_at(rt, running.file, Failure::Fault("Write"))),
         Err(RunFault::Input) => Err(failed_at(rt, "standard input", Failure::Fault("Input"))),
         Err(RunFault::Memory) => Err(Failed::from(Failure::Memory)),
@@ -108,11 +112,11 @@ fn open_to_run(
 
 // How many connections there may be at once: as many as are asked for, or fewer where the process may have too few descriptors, which
 // is said then.
-fn possible_most(rt: &HostRuntime, asked: usize) -> Result<usize, Failure> {
+fn possible_most(rt: &HostRuntime, asked: usize, others: u64) -> Result<usize, Failure> {
     let Some(descriptors) = descriptor_limit() else {
         return Ok(asked);
     };
-    let most = within_descriptors(asked, descriptors);
+    let most = within_descriptors(asked, descriptors, others);
     if most < asked {
         let line = format!(in rt.alloc(); "most: {most}, of {descriptors} descriptors\n")?;
         say_line(&line);
@@ -120,11 +124,20 @@ fn possible_most(rt: &HostRuntime, asked: usize) -> Result<usize, Failure> {
     Ok(most)
 }
 
-// How many of the connections that are asked for so many descriptors have room for: one at least.
-fn within_descriptors(asked: usize, descriptors: u64) -> usize
-    ensures { result ≡ min asked (max 1 (descriptors - 16)) }
+// How many descriptors are kept for all but connections.
+fn other_descriptors(running: &Running<'_>) -> u64 {
+    if running.status.is_some() {
+        OTHER_DESCRIPTORS + STATUS_DESCRIPTORS
+    } else {
+        OTHER_DESCRIPTORS
+    }
+}
+
+// How many of the connections that are asked for so many descriptors have room for beside so many others: one at least.
+fn within_descriptors(asked: usize, descriptors: u64, others: u64) -> usize
+    ensures { result ≡ min asked (max 1 (descriptors - others)) }
 {
-    let room = descriptors.saturating_sub(OTHER_DESCRIPTORS).max(1);
+    let room = descriptors.saturating_sub(others).max(1);
     asked.min(usize::try_from(room).unwrap_or(usize::MAX))
 }
 

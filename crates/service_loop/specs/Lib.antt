@@ -4,4 +4,5 @@ pub mod Lines
 pub mod Places
 pub mod Sessions
 pub mod Stopping
+pub mod Visiting
 pub mod Watching

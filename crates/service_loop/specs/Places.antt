@@ -1,6 +1,7 @@
 -- The places of connections, and what is held for them.
 use Rattle.std.specs.Prelude.{◌≡◌, ◌≢◌, ◌≤◌, ◌⊎◌, ℕ, List, length, Bool, false, true, ◌||◌, Option, None, Some, option_map, IfSome, slice_get, slice_index_or, slice_set}
 use Rattle.std.specs.List.{sum_by, IsFirstMaxByKey}
+use Rattle.service_watch.specs.Counts.{saturating}
 use Rattle.service_loop.specs.declared.connection.Connection.{Connection}
 use Rattle.service_loop.specs.Judging.{HasBeenIdle, due_of}
 
@@ -16,6 +17,15 @@ held_bytes (Some c) = c.held
 -- how many bytes are held for all connections together
 abbrev pub all_held : List (Option Connection) → ℕ
 all_held places = sum_by held_bytes places
+
+-- how many bytes are owed to a connection
+abbrev pub owed_bytes : Option Connection → ℕ
+owed_bytes None = 0
+owed_bytes (Some c) = length c.link.owed
+
+-- how many bytes are owed to all connections together, as a word says it
+abbrev pub all_owed : List (Option Connection) → ℕ
+all_owed places = saturating (sum_by owed_bytes places)
 
 -- a connection whose socket may be read or written, and which will have its turn
 abbrev pub noted : Bool → Bool → Option Connection → Option Connection

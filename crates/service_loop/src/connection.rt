@@ -139,6 +139,7 @@ impl Connection {
     {
         self.queued = false;
         self.watch.reply = None;
+        self.watch.saved = 0;
         if let Some(until) = self.lingers {
             return Ok((kept, self.linger(now, until, buffer)));
         }

@@ -2,12 +2,14 @@
 
 ghost use Rattle.std.specs.Prelude.{◌≡◌, ◌<◌, ◌+◌, ◌^◌, ℕ, IsErrOf, OnOk, true};
 
+use crate::tallies::Tallies;
 use crate::watch::Watch;
 use lane_kernels::Lanes;
 use mio::net::TcpStream;
 use service_core::{AppendFailed, Outside, SaveFailed, Stop};
-use service_watch::{Counted, Counters};
+use service_watch::Counted;
 use std::io::{Error, ErrorKind, Read, Write};
+use std::time::Instant;
 use version_store::Store;
 
 /// What writes publications down before they are made, so that they are there after a crash.
@@ -53,14 +55,17 @@ pub struct Device<'a, S> {
     /// What is seen of the connection.
     pub watch: Watch,
     /// What was counted of all.
-    pub counters: Counters,
+    pub counters: Tallies,
 }
 
 impl<S: Saver> Outside<Lanes> for Device<'_, S> {
     ghost saved = { λ d. S.saved d.saver };
 
     fn append(&mut self, store: &Store<Lanes>) -> Result<(), AppendFailed> {
-        self.saver.append(self.rt, store)
+        let begun = Instant::now(self.rt).ok();
+        let appended = self.saver.append(self.rt, store);
+        self.watch.saved = micros_since(self.rt, begun);
+        appended
     }
 
     fn take_back(&mut self, store: &Store<Lanes>) -> Result<(), SaveFailed> {
@@ -75,7 +80,9 @@ impl<S: Saver> Outside<Lanes> for Device<'_, S> {
         match stream.read(buffer) {
             Ok(n) => {
                 self.counters.add(Counted::BytesIn, n as u64);
-                self.watch.scan.count(&buffer[..n], &mut self.counters);
+                self.watch
+                    .scan
+                    .count(&buffer[..n], &mut self.counters.counts);
                 Ok(n)
             }
             Err(e) => {
@@ -106,6 +113,17 @@ impl<S: Saver> Outside<Lanes> for Device<'_, S> {
                 Err(stop_of(&e))
             }
         }
+    }
+}
+
+// How many microseconds have passed since a moment; 0 where the clock can't be read.
+fn micros_since(rt: &HostRuntime, moment: Option<Instant>) -> u64 {
+    let Some(moment) = moment else {
+        return 0;
+    };
+    match moment.elapsed(rt) {
+        Ok(elapsed) => u64::try_from(elapsed.as_micros()).unwrap_or(u64::MAX),
+        Err(_) => 0,
     }
 }
 

@@ -5,9 +5,9 @@ ghost use Rattle.server_core.specs.Cores.{session_of};
 ghost use Rattle.service_core.specs.Runs.{DoesToCore, Opens, Closes};
 
 use crate::device::Saver;
+use crate::tallies::Tallies;
 use lane_kernels::Lanes;
 use server_core::{ServerCore, SessionError};
-use service_watch::Counters;
 
 /// A server whose current version is there after a crash, and what writes its publications down. A turn takes it and gives
 /// it back, unless a publication may be there in part or without having been made: then there is none with which another
@@ -18,8 +18,8 @@ pub struct Kept<S: Saver> {
     pub core: ServerCore<Lanes>,
     /// What writes its publications down.
     pub saver: S,
-    /// What was counted of its connections.
-    pub counters: Counters,
+    /// What was counted of its connections, and how long its turns took.
+    pub counters: Tallies,
     ghost is_saved: { S.saved saver ≡ core.store.version },
 }
 
@@ -33,7 +33,7 @@ impl<S: Saver> Kept<S> {
         Kept {
             core,
             saver,
-            counters: Counters::new(),
+            counters: Tallies::new(),
         }
     }
 

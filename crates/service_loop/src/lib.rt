@@ -11,7 +11,9 @@ mod lines;
 mod places;
 mod report;
 mod serving;
+mod status;
 mod stopping;
+mod tallies;
 mod watch;
 
 pub use device::Saver;

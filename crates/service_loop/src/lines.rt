@@ -243,8 +243,8 @@ fn plain_line(alloc: Global, what: &str, count: Option<u64>) -> Result<Vec<u8>, 
     Ok(line)
 }
 
-// Milliseconds since 1970 began in UTC; 0 where the clock can't be read.
-fn unix_millis(rt: &HostRuntime) -> u64 {
+/// Milliseconds since 1970 began in UTC; 0 where the clock can't be read.
+pub fn unix_millis(rt: &HostRuntime) -> u64 {
     let Ok(now) = SystemTime::now(rt) else {
         return 0;
     };

@@ -3,7 +3,7 @@
 ghost use Rattle.std.specs.Prelude.{◌≡◌, ◌≢◌, ◌≤◌, ◌<◌, ◌↔◌, ℕ, None, Some, IsTrue, IsSome, IsSomeAnd, IfSome, IfNone, IfOk, option_map, false, length, replicate, slice_set};
 ghost use Rattle.std.specs.List.{IsFirstMaxByKey};
 ghost use Rattle.service_loop.specs.Judging.{due_of};
-ghost use Rattle.service_loop.specs.Places.{connection_at, held_bytes, all_held, noted, LosesLargest};
+ghost use Rattle.service_loop.specs.Places.{connection_at, held_bytes, owed_bytes, all_held, all_owed, noted, LosesLargest};
 ghost use Rattle.service_loop.specs.Stopping.{open_count};
 ghost use Rattle.service_loop.specs.Watching.{is_of, peer_count};
 
@@ -62,6 +62,24 @@ impl Places {
             }
         }
         open
+    }
+
+    /// How many bytes are owed to all connections.
+    pub fn owed(&self) -> u64
+        ensures { result ≡ all_owed self.now.connections.items }
+    {
+        let mut owed: u64 = 0;
+        for connection in &self.connections {
+            owed = owed.saturating_add(owed_to(connection));
+        }
+        owed
+    }
+
+    /// How many bytes are held for all connections, of unfinished frames and of replies that are owed.
+    pub fn held(&self) -> usize
+        ensures { result ≡ all_held self.now.connections.items }
+    {
+        self.held
     }
 
     /// How many connections a peer has.
@@ -197,6 +215,16 @@ fn is_of(place: &Option<Connection>, peer: &[u8; 16]) -> bool
     match place {
         Some(connection) => connection.peer.as_slice() == peer.as_slice(),
         None => false,
+    }
+}
+
+// How many bytes are owed to the connection at a place.
+fn owed_to(place: &Option<Connection>) -> u64
+    ensures { result ≡ owed_bytes place.now }
+{
+    match place {
+        Some(connection) => connection.link.owed().len() as u64,
+        None => 0,
     }
 }
 

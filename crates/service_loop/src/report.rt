@@ -11,6 +11,9 @@ pub enum RunFault {
     /// The address can't be listened on, or the system gives no events.
     #[error("no connection can be accepted")]
     Connect,
+    /// The address of those who ask how it does can't be listened on.
+    #[error("the status address can't be listened on")]
+    Status,
     /// A version could not be saved, or the address could not be printed.
     #[error("a write failed")]
     Write,

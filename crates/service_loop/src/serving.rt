@@ -3,6 +3,7 @@
 ghost use Rattle.std.specs.Prelude.{◌≡◌, ◌↔◌, ◌⊎◌, ℕ, None, Ok, IfOk, IfSome, IsTrue, OnOk, true, false, replicate};
 
 mod accepting;
+mod attending;
 mod queueing;
 mod turns;
 
@@ -11,6 +12,7 @@ use crate::kept::Kept;
 use crate::lines::Log;
 use crate::places::Places;
 use crate::report::RunFault;
+use crate::status::Status;
 use crate::stopping::{InputState, Phase, read_input, watch_input};
 use lane_kernels::Lanes;
 use mio::net::TcpListener;
@@ -84,20 +86,22 @@ struct Service {
 
 /// Serves a store over connections, in one thread, until the process is killed, or, if there is a time of grace, until standard input
 /// has ended and then nothing that was begun is left, or that time is over. It prints `listening ADDR:PORT`, and a
-/// line for each connection that is closed before the end of its session.
+/// line for each connection that is closed before the end of its session. With a status address those who ask there get its health and its
+/// metrics until its end; it prints `status ADDR:PORT` then, too.
 ///
 /// The store's version is one that `saver` saved, or that was there to begin with. Each later one is saved by it before any
 /// connection is answered that it was published.
 ///
 /// # Errors
 ///
-/// `Input` where standard input is to be watched and can't be, `Connect` where the address can't be listened on, `Write` where a version can't be saved or the address not be printed,
+/// `Input` where standard input is to be watched and can't be, `Connect` where the address can't be listened on, `Status` where that is so of the status address, `Write` where a version can't be saved or the address not be printed,
 /// `Memory` where there is none to begin with. After a `Write` nothing was sent of the version that was not saved.
 pub fn run_service<S: Saver + Drop>(
     rt: &HostRuntime,
     core: ServerCore<Lanes>,
     address: SocketAddr,
     limits: Limits,
+    status: Option<SocketAddr>,
     saver: S,
 ) -> Result<(), RunFault>
     requires saved { S.saved saver ≡ core.store.version }
@@ -107,10 +111,21 @@ pub fn run_service<S: Saver + Drop>(
         Ok(events) => events,
         Err(_) => return Err(RunFault::Memory),
     };
-    service.run(rt, &mut events, Kept::opened(core, saver))
+    let mut status = match status {
+        Some(address) => Some(Status::listen(rt, &service.poll, address)?),
+        None => None,
+    };
+    let address = service.print(rt)?;
+    if let Some(status) = &status {
+        status.print(rt)?;
+    }
+    service
+        .log
+        .note(rt, &service_entry(Event::Listening, Some(address)));
+    service.run(rt, &mut events, Kept::opened(core, saver), &mut status)
 }
 
-// Listens, and says where.
+// Listens.
 fn open_service(rt: &HostRuntime, address: SocketAddr, limits: Limits) -> Result<Service, RunFault>
     ensures limits { IfOk result (λ service. service.limits ≡ limits) }
     ensures free { IfOk result (λ service.
@@ -129,11 +144,6 @@ fn open_service(rt: &HostRuntime, address: SocketAddr, limits: Limits) -> Result
     let Ok(start) = Instant::now(rt) else {
         return Err(RunFault::Connect);
     };
-    let mut log = Log::new(start, limits.quiet, limits.format);
-    log.note(
-        rt,
-        &service_entry(Event::Listening, listener.local_addr().ok()),
-    );
     Ok(Service {
         limits,
         poll,
@@ -150,7 +160,7 @@ fn open_service(rt: &HostRuntime, address: SocketAddr, limits: Limits) -> Result
         visits_all: false,
         scan_at: 0,
         scanned: 0,
-        log,
+        log: Log::new(start, limits.quiet, limits.format),
         next_id: 0,
         buffer,
         start,
@@ -168,7 +178,7 @@ fn service_entry(event: Event, address: Option<SocketAddr>) -> Entry {
     }
 }
 
-// Listens on an address, and prints it. Standard input is watched if that is wanted.
+// Listens on an address. Standard input is watched if that is wanted.
 fn listen(
     rt: &HostRuntime,
     address: SocketAddr,
@@ -181,17 +191,9 @@ fn listen(
     if watches {
         watch_input(&poll)?;
     }
-    let listener = match bind(rt, &poll, address) {
-        Ok(listener) => listener,
-        Err(e) => return Err(RunFault::of_system(&e)),
-    };
-    let address = match listener.local_addr() {
-        Ok(address) => address,
-        Err(e) => return Err(RunFault::of_system(&e)),
-    };
-    match println!(rt; "listening {address}") {
-        Ok(()) => Ok((poll, listener)),
-        Err(_) => Err(RunFault::Write),
+    match bind(rt, &poll, address) {
+        Ok(listener) => Ok((poll, listener)),
+        Err(e) => Err(RunFault::of_system(&e)),
     }
 }
 
@@ -214,6 +216,7 @@ impl Service {
         rt: &HostRuntime,
         events: &mut Events,
         mut kept: Kept<S>,
+        status: &mut Option<Status>,
     ) -> Result<(), RunFault>
         requires noted { AreNoted self.old.places.connections.items kept.core self.old.next_id }
         requires marked { AreMarkedNoted self.old.places.connections.items
@@ -221,8 +224,10 @@ impl Service {
         requires idle { (i : ℕ) → HasNoIdle self.old.places.connections.items i
             self.old.scanned self.old.limits.idle }
     {
+        let mut until = 0;
         for _ in 0..u64::MAX {
-            kept = self.round(rt, events, kept)?;
+            kept = self.round(rt, events, until, kept)?;
+            until = self.attend(rt, events, status, &kept)?;
             self.stop_at_end(rt)?;
             if self.is_over(rt)? {
                 self.log.note(rt, &service_entry(Event::Stopped, None));
@@ -295,11 +300,12 @@ impl Service {
         }
     }
 
-    // Waits for events, unless there is more to do at once, accepts, and gives each connection a turn that has something to do.
+    // Waits for events until a moment at most, unless there is more to do at once, accepts, and gives each connection a turn that has something to do.
     fn round<S: Saver + Drop>(
         &mut self,
         rt: &HostRuntime,
         events: &mut Events,
+        until: u64,
         mut kept: Kept<S>,
     ) -> Result<Kept<S>, RunFault>
         requires noted { AreNoted self.old.places.connections.items kept.core self.old.next_id }
@@ -314,11 +320,12 @@ impl Service {
         ensures idle { OnOk result ((i : ℕ) → HasNoIdle self.new.places.connections.items i
             self.new.scanned self.new.limits.idle) }
     {
-        let wait = self.wait(rt)?;
+        let wait = self.wait(rt, until)?;
         match self.poll.poll(events, Some(Duration::from_millis(wait))) {
             Ok(()) => {}
             Err(e) => return Err(RunFault::of_system(&e)),
         }
+        kept.counters.polled = self.micros(rt);
         self.note_all(events);
         self.accept_all(rt, &mut kept)?;
         self.note_due(self.now(rt)?);
@@ -333,13 +340,15 @@ impl Service {
         }
     }
 
-    // How long nothing needs to be done, unless an event comes.
-    fn wait(&self, rt: &HostRuntime) -> Result<u64, RunFault> {
+    // How long nothing needs to be done, until a moment at most, unless an event comes.
+    fn wait(&self, rt: &HostRuntime, until: u64) -> Result<u64, RunFault> {
         if self.visits_all || self.input_ready || !self.ready.is_empty() {
             return Ok(0);
         }
         let now = self.now(rt)?;
-        let mut until = self.scan_at.min(now.saturating_add(LONGEST_WAIT));
+        let mut until = until
+            .min(self.scan_at)
+            .min(now.saturating_add(LONGEST_WAIT));
         if self.acceptable && !self.full {
             until = until.min(self.accepts_from);
         }

@@ -14,6 +14,10 @@ pub struct Watch {
     pub reply: Option<ReplyHead>,
     /// Where in the stream of frames the next byte is.
     pub scan: FrameScan,
+    /// How many microseconds the append of a publication took in this turn; 0 if there was none.
+    pub saved: u64,
+    /// When its last turn ended, in microseconds since the start, if that left more to do.
+    pub left_more: Option<u64>,
 }
 
 impl Watch {
@@ -23,6 +27,8 @@ impl Watch {
             seen: 0,
             reply: None,
             scan: FrameScan::new(),
+            saved: 0,
+            left_more: None,
         }
     }
 

@@ -1,7 +1,7 @@
 -- The requests of those who ask how a service does, and what they get.
-use Rattle.std.specs.Prelude.{ℕ, List, [], ◌++◌, cond, codes, decimal, length, bytes_eq}
+use Rattle.std.specs.Prelude.{ℕ, List, [], ◌++◌, Bool, cond, codes, decimal, length, bytes_eq}
 use Rattle.service_watch.specs.declared.requests.Page.{Page}
-use Rattle.service_watch.specs.declared.requests.Page.TheVariants.{Health, Metrics, NotFound, BadMethod, BadRequest}
+use Rattle.service_watch.specs.declared.requests.Page.TheVariants.{Health, Stopping, Metrics, NotFound, BadMethod, BadRequest}
 
 -- a page that is only to be got
 abbrev pub if_got : List ℕ → Page → Page
@@ -13,9 +13,15 @@ page_for method target =
     cond (bytes_eq target (codes "/health")) (if_got method Health)
     (cond (bytes_eq target (codes "/metrics")) (if_got method Metrics) NotFound)
 
+-- the page of a service that stops, or does not: of one that stops `/health` is another
+abbrev pub page_when : Bool → Page → Page
+page_when stopping Health = cond stopping Stopping Health
+page_when stopping page = page
+
 -- a status and what it means
 abbrev pub status_line : Page → List ℕ
 status_line Health = codes "200 OK"
+status_line Stopping = codes "503 Service Unavailable"
 status_line Metrics = codes "200 OK"
 status_line NotFound = codes "404 Not Found"
 status_line BadMethod = codes "405 Method Not Allowed"
@@ -29,6 +35,7 @@ allow_field _ = []
 -- the type of a page's content
 abbrev pub content_type : Page → List ℕ
 content_type Health = codes "application/json"
+content_type Stopping = codes "application/json"
 content_type _ = codes "text/plain; version=0.0.4; charset=utf-8"
 
 -- a whole response

@@ -1,8 +1,9 @@
-//! What operators see of a service, as functions of values: the lines of its log.
+//! What operators see of a service, as functions of values: the lines of its log, its counts, and what a request over HTTP gets.
 #![tactic(auto)]
 
 mod counters;
 mod entries;
+mod figures;
 mod histograms;
 mod metrics;
 mod moments;
@@ -12,9 +13,10 @@ mod scans;
 
 pub use counters::{Cause, Counted, Counters};
 pub use entries::{Entry, Event, LogFormat, entry_line};
+pub use figures::{Figures, metrics_text};
 pub use histograms::{BOUND_COUNT, Histogram};
 pub use metrics::{Kind, Sample, push_family};
 pub use moments::moment_text;
 pub use replies::{ReplyHead, head_of_reply};
-pub use requests::{Page, health, page_of, response};
+pub use requests::{Page, health, page_of, page_when, response};
 pub use scans::FrameScan;

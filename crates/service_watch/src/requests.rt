@@ -2,7 +2,7 @@
 
 ghost use Rattle.std.specs.Prelude.{◌≡◌, ◌≤◌, ℕ, List, length, IfOk, IfNone, Some, string_bytes};
 ghost use Rattle.httparse.specs.Grammar.{HasNoRequest, MayBecomeRequest, ReadsRequest, RequestHead};
-ghost use Rattle.service_watch.specs.Requests.{allow_field, content_type, health_text, if_got, page_for, response_text, status_line};
+ghost use Rattle.service_watch.specs.Requests.{allow_field, content_type, health_text, if_got, page_for, page_when, response_text, status_line};
 
 use httparse::Status;
 use httparse::spans::{EMPTY_HEADER_SPAN, parse_request};
@@ -16,6 +16,8 @@ const MOST_FIELDS: usize = 64;
 pub enum Page {
     /// Whether the service listens, its version and how many records it has.
     Health,
+    /// The same of a service that stops.
+    Stopping,
     /// The counters.
     Metrics,
     /// There is no such page.
@@ -64,6 +66,16 @@ fn got_page(method: &[u8], page: Page) -> Page
     }
 }
 
+/// The page of a service that stops, or does not: of one that stops `/health` is another.
+pub fn page_when(stopping: bool, page: Page) -> Page
+    ensures { result ≡ page_when stopping page }
+{
+    match page {
+        Page::Health if stopping => Page::Stopping,
+        page => page,
+    }
+}
+
 impl Page {
     // The status in the first line of a response, and what it means.
     fn status(self) -> &'static str
@@ -71,6 +83,7 @@ impl Page {
     {
         match self {
             Page::Health | Page::Metrics => "200 OK",
+            Page::Stopping => "503 Service Unavailable",
             Page::NotFound => "404 Not Found",
             Page::BadMethod => "405 Method Not Allowed",
             Page::BadRequest => "400 Bad Request",
@@ -92,7 +105,7 @@ impl Page {
         ensures { result.now ≡ content_type self }
     {
         match self {
-            Page::Health => "application/json",
+            Page::Health | Page::Stopping => "application/json",
             _ => "text/plain; version=0.0.4; charset=utf-8",
         }
     }
@@ -115,7 +128,7 @@ pub fn response(alloc: Global, page: Page, content: &str) -> Result<String, Allo
     )
 }
 
-/// The content of `/health`: the version that is served, and how many records it has.
+/// The content of `/health`: the version that is served, and how many records it has. That of a service which stops is the same.
 ///
 /// # Errors
 ///

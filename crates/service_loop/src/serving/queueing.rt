@@ -108,7 +108,8 @@ impl Service {
         self.scan_at = self.scan_at.min(due);
     }
 
-    // Notes what the events say. One of a connection that is gone does no harm: the next call would wait.
+    // Notes what the events say. One of a connection that is gone does no harm: the next call would wait. Nor does one of those who ask how
+    // the service does: their numbers are those of no place.
     pub(super) fn note_all(&mut self, events: &Events)
         ensures flags { OnlyFlagsChange self.old.places.connections.items
             self.new.places.connections.items }

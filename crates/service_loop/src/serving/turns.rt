@@ -7,7 +7,10 @@ use super::Service;
 use crate::connection::{Connection, Outcome};
 use crate::device::Saver;
 use crate::kept::Kept;
+use crate::lines::unix_millis;
 use crate::report::{Closing, RunFault};
+use crate::tallies::{Tallies, TurnTimes};
+use crate::watch::Watch;
 use service_watch::{Cause, Counted, Event};
 use std::mem;
 
@@ -169,8 +172,20 @@ impl Service {
             return Ok((kept, false));
         };
         let before = kept.core.store().version();
+        let began = self.micros(rt);
         let (mut kept, outcome) = connection.take_turn(rt, now, kept, &mut self.buffer)?;
         let published = published_between(before, kept.core.store().version());
+        let busy = matches!(outcome, Outcome::Busy);
+        let ended = self.micros(rt);
+        kept.counters = noted_turn(
+            rt,
+            kept.counters,
+            &connection.watch,
+            began,
+            ended,
+            published,
+        );
+        connection.watch.left_more = if busy { Some(ended) } else { None };
         self.log.note_turn(
             rt,
             connection.id,
@@ -273,6 +288,27 @@ impl Service {
             now
         })
     }
+}
+
+// What was counted, with a turn that began and ended at these moments, and the version that it published.
+fn noted_turn(
+    rt: &HostRuntime,
+    mut tallies: Tallies,
+    watch: &Watch,
+    began: u64,
+    ended: u64,
+    published: Option<u64>,
+) -> Tallies {
+    let turn = TurnTimes {
+        waits_since: watch.left_more.unwrap_or(tallies.polled),
+        began,
+        ended,
+    };
+    tallies.note_turn(turn, watch.reply);
+    if published.is_some() {
+        tallies.note_publication(turn, watch.saved, unix_millis(rt) / 1000);
+    }
+    tallies
 }
 
 // The version that a turn published, from those before and after it.
