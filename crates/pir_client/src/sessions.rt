@@ -5,7 +5,7 @@
 
 ghost use Rattle.client_commands.specs.Transcripts.{IsRecordAsked};
 
-use crate::delta_only::DeltaOnly;
+use crate::delta_only::{DeltaOnly, DeltaReader, DeltaWriter};
 use crate::failures::failure_of;
 use crate::fetching::fetch;
 use crate::server::{Address, Server};
@@ -283,15 +283,15 @@ impl<'a> Session<'a> {
             Some(hint) if hint.scheme == Scheme::Simple && self.scheme == Scheme::Simple => {}
             _ => return Ok(false),
         }
-        let relay = DeltaOnly::new(&self.server);
+        let only = DeltaOnly::new();
         let moved = sync(
             self.rt.alloc(),
             &mut self.client,
-            &mut &relay,
-            &mut &relay,
+            &mut DeltaReader::new(&self.server, &only),
+            &mut DeltaWriter::new(&self.server, &only),
             self.scheme,
         );
-        if relay.has_refused() {
+        if only.has_refused() {
             return Ok(false);
         }
         moved?;
