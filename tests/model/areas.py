@@ -500,6 +500,17 @@ def is_certain(layout, terms):
     return 27 * ((1 << layout.width) - 1) * terms < layout.delta // 2
 
 
+def bits_of_sum(layout, terms):
+    """How rarely a noise sum of so many terms reaches half of delta, in bits: if digits are drawn evenly, and at worst."""
+    half_squared, top = (layout.delta // 2) ** 2, (1 << layout.width) - 1
+    worst = 18 * half_squared // (1025 * terms * top * top)
+    spread = (terms * (2 * top + 1)) ** 2
+    if 41 * spread < 36 * half_squared:
+        return worst, worst
+    mean = 108 * half_squared // (1025 * terms * top * (2 * top + 1))
+    return max(worst, mean - 54 * half_squared * mean // (205 * spread) - 1), worst
+
+
 def description(store):
     """The lines that `show` prints."""
     layout, n = store.layout, store.n
@@ -512,5 +523,11 @@ def description(store):
         sizes = (hint_count(scheme, layout, n), query_count(scheme, layout), answer_count(scheme, layout, n))
         hint, query, answer = (4 * words for words in sizes)
         yield f"{name}: hint {hint}, query {query}, answer {answer} bytes"
-    for name, good in (("simple", is_certain(layout, layout.cols)), ("double", is_certain(layout, max(layout.cols, layout.rows)))):
-        yield f"{name}: {'certain' if good else 'depends on the noise'}"
+    first, second = bits_of_sum(layout, layout.cols), bits_of_sum(layout, layout.rows)
+    simple = [max(0, bits - 1) for bits in first]
+    double = [max(0, min(over_columns - 2, over_rows - 15)) for over_columns, over_rows in zip(first, second)]
+    for name, good, odds in (
+        ("simple", is_certain(layout, layout.cols), simple),
+        ("double", is_certain(layout, max(layout.cols, layout.rows)), double),
+    ):
+        yield f"{name}: certain" if good else f"{name}: depends on the noise, odds 2^-{odds[0]}, at worst 2^-{odds[1]}"

@@ -246,7 +246,7 @@ def memory_is_that_of_the_hint(t):
         t.same(f"{scheme} is done", 0, process[0].wait(timeout=120))
     # The hint of DoublePIR has 4 rows for each word of a secret.
     hint = 4 * 4 * 1024 * 1024 // 1024
-    t.holds(f"a hint of {hint} KiB takes {seen[1] - seen[0]} more than a small one", hint <= seen[1] - seen[0] <= hint + 16 * 1024)
+    t.holds(f"a hint of {hint} KiB takes {seen[1] - seen[0]} more than a small one", hint // 2 <= seen[1] - seen[0] <= hint + 16 * 1024)
     server.stdout.close()
     t.same("the server ends", 0, server.wait(timeout=20))
 
