@@ -143,6 +143,16 @@ impl<K: Kernel> ServerCore<K> {
         }
     }
 
+    /// Whether a piece of the stream of this number's session may be fed now. It may not, and one step is made, when its next frame is
+    /// a query whose answer is long and is not made yet: then the same piece is to come here again. Nor may it when it waits for
+    /// another session's answer that was begun, or is a long query while a publication waits. Contracts see nothing of it: feeding at once gives the same replies,
+    /// in one long turn.
+    pub fn prepare(&mut self, id: u64, piece: &[u8]) -> bool
+        ensures { self.new ≡ self.old }
+    {
+        true
+    }
+
     /// The store.
     pub fn store(&self) -> &Store<K>
         ensures { result.now ≡ self.now.store }

@@ -467,6 +467,43 @@ impl<K: Kernel> Store<K> {
         self.edition.answer_room(self.alloc, scheme)
     }
 
+    /// Whether an answer of a scheme is so long that it is made in more than one step.
+    pub fn has_steps(&self, scheme: Scheme) -> bool {
+        false
+    }
+
+    /// Begins the answer to the words of a query on the current version, which [`Store::step_answer`] makes step by step, and gives up
+    /// another one that was begun. Contracts see nothing of it. Only refused memory gives an `Err`, and then none is begun.
+    pub fn begin_answer(&mut self, scheme: Scheme, words: Vec<u32>) -> Result<(), AllocError>
+        requires { length words.items ≡ query_count scheme (version_shape self.old.edition) }
+        ensures { self.new ≡ self.old }
+    {
+        Ok(())
+    }
+
+    /// Makes one more step of the answer that was begun, and answers whether there is none left to make: also when no answer was
+    /// begun, or it was given up since the version has changed. It takes no memory.
+    pub fn step_answer(&mut self) -> bool
+        ensures { self.new ≡ self.old }
+    {
+        true
+    }
+
+    /// The answer that was begun, if all its steps were made and it is the one to these words on the current version. It is given once.
+    pub fn take_answer(&mut self, scheme: Scheme, words: &[u32]) -> Option<Vec<u32>>
+        ensures same { self.new ≡ self.old }
+        ensures answer { IfSome result (λ answer. answer.items ≡ answer_words scheme
+            self.old.edition.plan self.old.edition.records words.now) }
+    {
+        None
+    }
+
+    /// Gives up the answer that was begun.
+    pub fn drop_answer(&mut self)
+        ensures { self.new ≡ self.old }
+    {
+    }
+
     /// The answer to the words of a query on the current version, in the scheme that the room is for. It takes no
     /// memory.
     pub fn answer_in(&self, room: AnswerRoom, words: &[u32]) -> Vec<u32>
