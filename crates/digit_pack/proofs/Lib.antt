@@ -13,3 +13,4 @@ pub mod Layouts
 pub mod SlotLemmas
 pub mod WiderRows
 pub mod Turns
+pub mod RowBlocks

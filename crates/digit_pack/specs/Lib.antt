@@ -6,3 +6,4 @@ pub mod Laws
 pub mod Packed
 pub mod Windows
 pub mod Slots
+pub mod Products

@@ -1,10 +1,11 @@
 //! A store with three digits in a word.
 
-ghost use Rattle.std.specs.Prelude.{◌≡◌, ◌+◌, ◌*◌, ◌/◌, ◌^◌, ◌<◌, ◌≤◌, ℕ, length, slice_index};
-ghost use Rattle.matrix_u32.specs.Matrix.{entry};
+ghost use Rattle.std.specs.Prelude.{◌≡◌, ◌+◌, ◌*◌, ◌/◌, ◌^◌, ◌<◌, ◌≤◌, ℕ, List, All, length, slice_index};
+ghost use Rattle.matrix_u32.specs.Matrix.{entry, times_vector};
 ghost use Rattle.lane_kernels.specs.Packed.{packed_cols, unpacked};
 ghost use Rattle.digit_pack.specs.Columns.{WritesColumn};
 ghost use Rattle.digit_pack.specs.Packed.{packed, IsPacked, IsReplaced};
+ghost use Rattle.digit_pack.specs.Products.{rows_times_vector};
 
 use crate::store::{DigitStore, judge_size};
 use crate::widening::widened_words;
@@ -106,6 +107,20 @@ fn swap_packed(
     }
 }
 
+// The words of `count` rows from row `first` on.
+fn words_of_rows(words: &[u32], rows: usize, cols: usize, first: usize, count: usize) -> &[u32]
+    requires packed { IsPacked rows cols words.now }
+    requires inside { first + count ≤ rows }
+    ensures count { length result.now ≡ count * packed_cols cols }
+    ensures small { All (λ word. word < 2 ^ 30) result.now }
+    ensures products { (x : List ℕ) → times_vector (unpacked count cols result.now) x
+        ≡ rows_times_vector (unpacked rows cols words.now) x first count }
+{
+    let each = row_words(cols);
+    let at = first * each;
+    &words[at..at + count * each]
+}
+
 impl<const MOST: usize> PackedDigits<MOST> {
     /// The words, row by row, lent as they are kept.
     pub fn words(&self) -> &[u32]
@@ -184,5 +199,23 @@ impl<const MOST: usize> DigitStore for PackedDigits<MOST> {
         y_out: &mut [u32],
     ) {
         packed_mul_two(&self.words, self.cols, x, y, x_out, y_out);
+    }
+
+    fn mul_rows<K: Kernel>(&self, _kernel: K, first: usize, x: &[u32], out: &mut [u32]) {
+        let words = words_of_rows(&self.words, self.rows, self.cols, first, out.len());
+        packed_mul_vec(words, self.cols, x, out);
+    }
+
+    fn mul_two_rows<K: Kernel>(
+        &self,
+        _kernel: K,
+        first: usize,
+        x: &[u32],
+        y: &[u32],
+        x_out: &mut [u32],
+        y_out: &mut [u32],
+    ) {
+        let words = words_of_rows(&self.words, self.rows, self.cols, first, x_out.len());
+        packed_mul_two(words, self.cols, x, y, x_out, y_out);
     }
 }

@@ -3,6 +3,7 @@
 ghost use Rattle.std.specs.Prelude.{◌≡◌, ◌<◌, ◌≤◌, ◌+◌, ◌*◌, ◌⊎◌, ◌↔◌, ℕ, IfOk, IfErr, IsErrOf, IsOk, OnOk, OnErr, length, slice_index};
 ghost use Rattle.matrix_u32.specs.Matrix.{WordMatrix, IsWhole, entry, times_vector, widened, with_entry, zero_matrix};
 ghost use Rattle.digit_pack.specs.Columns.{WritesColumn};
+ghost use Rattle.digit_pack.specs.Products.{rows_times_vector};
 
 use crate::widening::widened_words;
 use matrix_u32::{Kernel, MAX_WORDS, Matrix, MatrixError};
@@ -109,6 +110,36 @@ pub trait DigitStore: Sized + Drop {
         self.mul_vec(kernel, x, x_out);
         self.mul_vec(kernel, y, y_out);
     }
+
+    /// Writes rows of the digits, from row `first` on, times x into `out`, whatever it held: as many rows as `out` has words.
+    fn mul_rows<K: Kernel>(&self, kernel: K, first: usize, x: &[u32], out: &mut [u32])
+        requires x_fits { length x.now ≡ (digits self.now).cols }
+        requires inside { first + length out.old ≤ (digits self.now).rows }
+        ensures { out.new ≡ rows_times_vector (digits self.now) x.now first (length out.old) };
+
+    /// Writes the same rows of the digits times x into `x_out` and times y into `y_out`, whatever they held. A store of
+    /// many digits reads them once for both.
+    fn mul_two_rows<K: Kernel>(
+        &self,
+        kernel: K,
+        first: usize,
+        x: &[u32],
+        y: &[u32],
+        x_out: &mut [u32],
+        y_out: &mut [u32],
+    )
+        requires x_fits { length x.now ≡ (digits self.now).cols }
+        requires y_fits { length y.now ≡ (digits self.now).cols }
+        requires inside { first + length x_out.old ≤ (digits self.now).rows }
+        requires same_rows { length y_out.old ≡ length x_out.old }
+        ensures x { x_out.new ≡
+            rows_times_vector (digits self.now) x.now first (length x_out.old) }
+        ensures y { y_out.new ≡
+            rows_times_vector (digits self.now) y.now first (length x_out.old) }
+    {
+        self.mul_rows(kernel, first, x, x_out);
+        self.mul_rows(kernel, first, y, y_out);
+    }
 }
 
 /// Judges whether a store of at most so many digits may have these rows and columns. It takes no memory.
@@ -179,5 +210,12 @@ impl DigitStore for Flat {
 
     fn mul_vec<K: Kernel>(&self, kernel: K, x: &[u32], out: &mut [u32]) {
         kernel.mul_vec(&self.matrix, x, out);
+    }
+
+    fn mul_rows<K: Kernel>(&self, kernel: K, first: usize, x: &[u32], out: &mut [u32]) {
+        let _rows = self.matrix.rows();
+        for i in 0..out.len() {
+            out[i] = kernel.dot(self.matrix.row(first + i), x);
+        }
     }
 }
