@@ -7,3 +7,4 @@ pub mod Answering
 pub mod Sizes
 pub mod Reading
 pub mod Products
+pub mod StepLemmas

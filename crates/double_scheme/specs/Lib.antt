@@ -2,3 +2,4 @@ pub mod Double
 pub mod Laws
 pub mod Recovery
 pub mod Rooms
+pub mod Steps

@@ -117,7 +117,7 @@ impl AnswerRoom {
 }
 
 // A matrix of zeros, of sizes that a matrix may have.
-fn zeros(alloc: Global, rows: usize, cols: usize) -> Result<Matrix, AllocError>
+pub(crate) fn zeros(alloc: Global, rows: usize, cols: usize) -> Result<Matrix, AllocError>
     ensures { IfOk result (λ m. m ≡ zero_matrix rows cols) }
 {
     match Matrix::zeros(alloc, rows, cols) {
@@ -127,7 +127,7 @@ fn zeros(alloc: Global, rows: usize, cols: usize) -> Result<Matrix, AllocError>
 }
 
 // Writes the digits of words, row t with digit t of each word.
-fn put_digits(words: &[u32], w: u32, out: &mut Matrix)
+pub(crate) fn put_digits(words: &[u32], w: u32, out: &mut Matrix)
     requires width { (6 ≤ w) × (w ≤ 10) }
     requires rows { out.old.rows ≡ split_count w }
     requires cols { out.old.cols ≡ length words.now }

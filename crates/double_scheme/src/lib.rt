@@ -25,9 +25,11 @@ pub mod laws;
 mod queries;
 mod records;
 mod secrets;
+mod steps;
 
 pub use answers::{AnswerRoom, answer, answer_count};
 pub use hints::setup;
 pub use queries::{QueryRoom, query};
 pub use records::recover;
 pub use simple_scheme::RecoverError;
+pub use steps::{AnswerSteps, rows_in_step};

@@ -28,6 +28,15 @@ slice_bounds-two-end g c =
       c.loop-d.auto.out,
     )
 
+pub part_of-y-requires : goal.part_of-y-requires
+part_of-y-requires g c =
+    let l = c.args.layout.now in
+    let r : ℕ = c.rows-rows.result in
+    let last : (c.loop-d.d + 2) * r ≤ digits_per_record l * r =
+    mul-le-mul_right r (omega (arith, c.if-d-parts.true, c.digits_per_record-parts.ensures.value)) in
+    let same : digits_per_record l * r ≡ digits_per_record l * digit_rows l = ap (λ n. digits_per_record l * n) c.rows-rows.ensures.value in
+    omega (arith, last, same, c.requires.words, c.cols-cols.ensures.value)
+
 pub loop-d-preserved-then-d-parts : goal.loop-d-preserved-then-d-parts
 loop-d-preserved-then-d-parts g c =
     let l = c.args.layout.now in

@@ -1,0 +1,522 @@
+//! An answer that is made in steps, each of which reads a bounded part of the digits.
+
+ghost use Rattle.std.specs.Prelude.{◌≡◌, ◌+◌, ◌*◌, ◌≤◌, ◌<◌, ◌↔◌, ◌++◌, ℕ, List, IfOk, IsTrue, length, take, drop};
+ghost use Rattle.matrix_u32.specs.Matrix.{WordMatrix, product, times_vector, transpose};
+ghost use Rattle.digit_pack.specs.Digits.{decomposed};
+ghost use Rattle.lane_kernels.specs.Digit.{split_count};
+ghost use Rattle.digit_pack.specs.Layout.{digit_rows, digit_cols, digits_per_record};
+ghost use Rattle.double_scheme.specs.Double.{one_column, first_answer_of, part_answer_of, part_answers_of, part_of_query, words_of_part, double_query_count, double_answer};
+ghost use Rattle.double_scheme.specs.Steps.{HasColumn, HasFirst, HasParts, HasStepsRoom, IsMadeSoFar, IsMadeUntil, IsWholeAt};
+
+use crate::answers::{answer_count, part_of, put_digits, zeros};
+use digit_pack::{DigitStore, Layout, split_count};
+use matrix_u32::{Kernel, Matrix};
+use std::alloc::{AllocError, Global};
+
+/// How many digits a step reads at most, but for one whole row of them: 2^25, which a processor of today multiplies in less than 10
+/// milliseconds, also by two words each.
+const STEP: usize = 33_554_432;
+
+/// How far an answer is.
+#[derive(Clone, Copy)]
+pub(crate) enum Stage {
+    /// So many rows of the first layer's answer are there.
+    Column(usize),
+    /// The answer is there up to a part, and of that part and the next one so many rows of the server's hint.
+    Parts(usize, usize),
+}
+
+/// An answer of which some steps were made. It has its memory from the beginning on.
+#[derive(Drop)]
+pub struct AnswerSteps {
+    layout: Layout,
+    stage: Stage,
+    column: Vec<u32>,
+    first: Matrix,
+    hint: Matrix,
+    // The words of a part, and those of the one after it.
+    x: Vec<u32>,
+    y: Vec<u32>,
+    words: Vec<u32>,
+}
+
+/// How many rows of digits a step makes, of so many that are left: at least one.
+pub fn rows_in_step(cols: usize, left: usize) -> usize
+    requires { 0 < left }
+    ensures some { 0 < result }
+    ensures within { result ≤ left }
+{
+    left.min(STEP / cols.max(1)).max(1)
+}
+
+// Writes the words of some more rows.
+fn put_rows<K: Kernel, S: DigitStore>(
+    kernel: K,
+    digits: &S,
+    x: &[u32],
+    first: usize,
+    count: usize,
+    out: &mut [u32],
+)
+    requires x_fits { length x.now ≡ (S.digits digits.now).cols }
+    requires inside { first + count ≤ (S.digits digits.now).rows }
+    requires room { (S.digits digits.now).rows ≤ length out.old }
+    requires so_far { HasFirst first (times_vector (S.digits digits.now) x.now) out.old }
+    ensures so_far { HasFirst (first + count) (times_vector (S.digits digits.now) x.now) out.new }
+    ensures len { length out.new ≡ length out.old }
+{
+    digits.mul_rows(kernel, first, x, &mut out[first..first + count]);
+}
+
+// Writes the words of some more rows for two parts, for which the rows are read once.
+fn put_two_rows<K: Kernel, S: DigitStore>(
+    kernel: K,
+    digits: &S,
+    x: &[u32],
+    y: &[u32],
+    first: usize,
+    count: usize,
+    x_out: &mut [u32],
+    y_out: &mut [u32],
+)
+    requires x_fits { length x.now ≡ (S.digits digits.now).cols }
+    requires y_fits { length y.now ≡ (S.digits digits.now).cols }
+    requires inside { first + count ≤ (S.digits digits.now).rows }
+    requires x_room { (S.digits digits.now).rows ≤ length x_out.old }
+    requires y_room { (S.digits digits.now).rows ≤ length y_out.old }
+    requires x_so_far { HasFirst first (times_vector (S.digits digits.now) x.now) x_out.old }
+    requires y_so_far { HasFirst first (times_vector (S.digits digits.now) y.now) y_out.old }
+    ensures x { HasFirst (first + count) (times_vector (S.digits digits.now) x.now) x_out.new }
+    ensures y { HasFirst (first + count) (times_vector (S.digits digits.now) y.now) y_out.new }
+    ensures x_len { length x_out.new ≡ length x_out.old }
+    ensures y_len { length y_out.new ≡ length y_out.old }
+{
+    let end = first + count;
+    digits.mul_two_rows(
+        kernel,
+        first,
+        x,
+        y,
+        &mut x_out[first..end],
+        &mut y_out[first..end],
+    );
+}
+
+// Writes the words of a part after those of the server's hint, which are there: the first layer's answer times the part.
+fn finish_part<K: Kernel, S: DigitStore>(
+    kernel: K,
+    server_hint: &S,
+    first: &Matrix,
+    part: &[u32],
+    words: &mut [u32],
+)
+    requires first { length part.now ≡ first.now.cols }
+    requires room { length words.old ≡ (S.digits server_hint.now).rows + first.now.rows }
+    requires so_far { HasFirst (S.digits server_hint.now).rows
+        (times_vector (S.digits server_hint.now) part.now) words.old }
+    ensures { words.new ≡ part_answer_of (S.digits server_hint.now) first.now part.now }
+{
+    let (_, first_words) = words.split_at_mut(server_hint.rows());
+    kernel.mul_vec(first, part, first_words);
+}
+
+// The words of a query for a part.
+fn query_part<'a>(layout: &Layout, query: &'a [u32], part: usize) -> &'a [u32]
+    requires query { length query.now ≡ double_query_count layout.now }
+    requires part { part < digits_per_record layout.now }
+    ensures value { result.now ≡ part_of_query layout.now query.now part }
+    ensures count { length result.now ≡ digit_rows layout.now }
+{
+    let rows = layout.rows();
+    part_of(query, layout.cols() + part * rows, rows)
+}
+
+// Writes the words of a part into the answer, in which there are those of all parts before.
+fn join_part(place: usize, part: &[u32], words: &mut [u32])
+    requires { place + length part.now ≤ length words.old }
+    ensures joined { (whole : List ℕ) → HasFirst place whole words.old →
+        part.now ≡ take (length part.now) (drop place whole) →
+        HasFirst (place + length part.now) whole words.new }
+    ensures len { length words.new ≡ length words.old }
+{
+    words[place..place + part.len()].copy_from_slice(part);
+}
+
+// Ends a part of which all rows of the server's hint are there, and writes its words into the answer.
+fn end_part<K: Kernel, S: DigitStore>(
+    kernel: K,
+    layout: &Layout,
+    server_hint: &S,
+    first: &Matrix,
+    query: &[u32],
+    part: usize,
+    made: &mut [u32],
+    words: &mut [u32],
+)
+    requires query { length query.now ≡ double_query_count layout.now }
+    requires part { part < digits_per_record layout.now }
+    requires first_cols { first.now.cols ≡ digit_rows layout.now }
+    requires room { length made.old ≡ (S.digits server_hint.now).rows + first.now.rows }
+    requires answer { length words.old ≡ (S.digits server_hint.now).rows
+        + digits_per_record layout.now * length made.old }
+    requires made { HasFirst (S.digits server_hint.now).rows (times_vector
+        (S.digits server_hint.now) (part_of_query layout.now query.now part)) made.old }
+    ensures joined { (prefix : List ℕ) → length prefix ≡ (S.digits server_hint.now).rows →
+        HasFirst ((S.digits server_hint.now).rows + part * length made.old) (prefix ++
+        part_answers_of layout.now (S.digits server_hint.now) first.now query.now) words.old →
+        HasFirst ((S.digits server_hint.now).rows + (part + 1) * length made.old) (prefix ++
+        part_answers_of layout.now (S.digits server_hint.now) first.now query.now) words.new }
+    ensures made_len { length made.new ≡ length made.old }
+    ensures words_len { length words.new ≡ length words.old }
+{
+    let x = query_part(layout, query, part);
+    finish_part(kernel, server_hint, first, x, made);
+    join_part(server_hint.rows() + part * made.len(), made, words);
+}
+
+// Ends a part and, if there is one, the part after it, of which all rows of the server's hint are there. Answers the part that is next.
+fn end_both<K: Kernel, S: DigitStore>(
+    kernel: K,
+    layout: &Layout,
+    server_hint: &S,
+    first: &Matrix,
+    query: &[u32],
+    part: usize,
+    x: &mut [u32],
+    y: &mut [u32],
+    words: &mut [u32],
+) -> usize
+    requires query { length query.now ≡ double_query_count layout.now }
+    requires part { part < digits_per_record layout.now }
+    requires first_cols { first.now.cols ≡ digit_rows layout.now }
+    requires x_room { length x.old ≡ (S.digits server_hint.now).rows + first.now.rows }
+    requires y_room { length y.old ≡ length x.old }
+    requires answer { length words.old ≡ (S.digits server_hint.now).rows
+        + digits_per_record layout.now * length x.old }
+    requires x_made { HasFirst (S.digits server_hint.now).rows (times_vector
+        (S.digits server_hint.now) (part_of_query layout.now query.now part)) x.old }
+    requires y_made { part + 1 < digits_per_record layout.now →
+        HasFirst (S.digits server_hint.now).rows (times_vector
+        (S.digits server_hint.now) (part_of_query layout.now query.now (part + 1))) y.old }
+    ensures next { result ≤ digits_per_record layout.now }
+    ensures joined { (prefix : List ℕ) → length prefix ≡ (S.digits server_hint.now).rows →
+        HasFirst ((S.digits server_hint.now).rows + part * length x.old) (prefix ++
+        part_answers_of layout.now (S.digits server_hint.now) first.now query.now) words.old →
+        HasFirst ((S.digits server_hint.now).rows + result * length x.old) (prefix ++
+        part_answers_of layout.now (S.digits server_hint.now) first.now query.now) words.new }
+    ensures x_len { length x.new ≡ length x.old }
+    ensures y_len { length y.new ≡ length y.old }
+    ensures words_len { length words.new ≡ length words.old }
+{
+    let parts = layout.digits_per_record();
+    end_part(kernel, layout, server_hint, first, query, part, x, words);
+    let next = part + 1;
+    if next >= parts {
+        return next;
+    }
+    end_part(kernel, layout, server_hint, first, query, next, y, words);
+    next + 1
+}
+
+// Makes the hint of the digits of the first layer's answer, and writes its words to the beginning of the answer.
+fn put_first_hint<K: Kernel>(
+    kernel: K,
+    first: &Matrix,
+    a2: &Matrix,
+    hint: &mut Matrix,
+    words: &mut [u32],
+)
+    requires fits { first.now.cols ≡ a2.now.rows }
+    requires rows { hint.old.rows ≡ first.now.rows }
+    requires cols { hint.old.cols ≡ a2.now.cols }
+    requires room { first.now.rows * a2.now.cols ≤ length words.old }
+    ensures hint { hint.new ≡ product first.now a2.now }
+    ensures words { HasFirst (length (product first.now a2.now).words)
+        (product first.now a2.now).words words.new }
+    ensures len { length words.new ≡ length words.old }
+{
+    kernel.mul_into(first, a2, hint);
+    let hint = hint.words();
+    let (prefix, _) = words.split_at_mut(hint.len());
+    prefix.copy_from_slice(hint);
+}
+
+// Writes the words of some more rows of the server's hint for a part and, if there is one, for the part after it.
+fn put_part_rows<K: Kernel, S: DigitStore>(
+    kernel: K,
+    layout: &Layout,
+    server_hint: &S,
+    query: &[u32],
+    part: usize,
+    first: usize,
+    count: usize,
+    x_out: &mut [u32],
+    y_out: &mut [u32],
+)
+    requires query { length query.now ≡ double_query_count layout.now }
+    requires server_cols { (S.digits server_hint.now).cols ≡ digit_rows layout.now }
+    requires part { part < digits_per_record layout.now }
+    requires inside { first + count ≤ (S.digits server_hint.now).rows }
+    requires x_room { (S.digits server_hint.now).rows ≤ length x_out.old }
+    requires y_room { (S.digits server_hint.now).rows ≤ length y_out.old }
+    requires x_so_far { HasFirst first (times_vector (S.digits server_hint.now)
+        (part_of_query layout.now query.now part)) x_out.old }
+    requires y_so_far { part + 1 < digits_per_record layout.now →
+        HasFirst first (times_vector (S.digits server_hint.now)
+        (part_of_query layout.now query.now (part + 1))) y_out.old }
+    ensures x { HasFirst (first + count) (times_vector (S.digits server_hint.now)
+        (part_of_query layout.now query.now part)) x_out.new }
+    ensures y { part + 1 < digits_per_record layout.now →
+        HasFirst (first + count) (times_vector (S.digits server_hint.now)
+        (part_of_query layout.now query.now (part + 1))) y_out.new }
+    ensures x_len { length x_out.new ≡ length x_out.old }
+    ensures y_len { length y_out.new ≡ length y_out.old }
+{
+    let parts = layout.digits_per_record();
+    let x = query_part(layout, query, part);
+    if part + 1 < parts {
+        let y = query_part(layout, query, part + 1);
+        put_two_rows(kernel, server_hint, x, y, first, count, x_out, y_out);
+    } else {
+        put_rows(kernel, server_hint, x, first, count, x_out);
+    }
+}
+
+impl AnswerSteps {
+    /// The memory of an answer on a layout, under public matrices of `dimension` columns, with no step made. It is taken by sizes alone.
+    pub fn new(alloc: Global, layout: &Layout, dimension: usize) -> Result<AnswerSteps, AllocError>
+        requires { dimension ≤ 1024 }
+        ensures { IfOk result (λ s. (digits server_hint a2 : WordMatrix) (query : List ℕ) →
+            a2.cols ≡ dimension → IsMadeSoFar layout.now digits server_hint a2 query s) }
+    {
+        let rows = layout.rows();
+        let digits = split_count(layout.width());
+        let count = dimension * digits + digits;
+        Ok(AnswerSteps {
+            layout: *layout,
+            stage: Stage::Column(0),
+            column: vec![in alloc; 0; rows]?,
+            first: zeros(alloc, digits, rows)?,
+            hint: zeros(alloc, digits, dimension)?,
+            x: vec![in alloc; 0; count]?,
+            y: vec![in alloc; 0; count]?,
+            words: vec![in alloc; 0; answer_count(layout, dimension)]?,
+        })
+    }
+
+    /// Makes one more step of the answer to the words of a query, and answers whether no step is left: then it is whole. The digits, the
+    /// server's hint, the second public matrix and the query are the same in all steps.
+    pub fn step<K: Kernel, S: DigitStore>(
+        &mut self,
+        kernel: K,
+        digits: &S,
+        server_hint: &S,
+        a2: &Matrix,
+        query: &[u32],
+    ) -> bool
+        requires query { length query.now ≡ double_query_count self.old.layout }
+        requires rows { (S.digits digits.now).rows ≡ digit_rows self.old.layout }
+        requires cols { (S.digits digits.now).cols ≡ digit_cols self.old.layout }
+        requires server_rows { (S.digits server_hint.now).rows ≡
+            a2.now.cols * split_count self.old.layout.width }
+        requires server_cols { (S.digits server_hint.now).cols ≡ digit_rows self.old.layout }
+        requires second_rows { a2.now.rows ≡ digit_rows self.old.layout }
+        requires so_far { IsMadeSoFar self.old.layout (S.digits digits.now)
+            (S.digits server_hint.now) a2.now query.now self.old }
+        ensures so_far { IsMadeSoFar self.old.layout (S.digits digits.now)
+            (S.digits server_hint.now) a2.now query.now self.new }
+        ensures whole { IsTrue result ↔ IsWholeAt self.old.layout self.new.stage }
+    {
+        self.advance(kernel, digits, server_hint, a2, query);
+        self.is_whole()
+    }
+
+    // Whether no step is left.
+    fn is_whole(&self) -> bool
+        ensures { IsTrue result ↔ IsWholeAt self.now.layout self.now.stage }
+    {
+        match self.stage {
+            Stage::Column(_) => false,
+            Stage::Parts(part, _) => part >= self.layout.digits_per_record(),
+        }
+    }
+
+    // Makes one more step.
+    fn advance<K: Kernel, S: DigitStore>(
+        &mut self,
+        kernel: K,
+        digits: &S,
+        server_hint: &S,
+        a2: &Matrix,
+        query: &[u32],
+    )
+        requires query { length query.now ≡ double_query_count self.old.layout }
+        requires rows { (S.digits digits.now).rows ≡ digit_rows self.old.layout }
+        requires cols { (S.digits digits.now).cols ≡ digit_cols self.old.layout }
+        requires server_rows { (S.digits server_hint.now).rows ≡
+            a2.now.cols * split_count self.old.layout.width }
+        requires server_cols { (S.digits server_hint.now).cols ≡ digit_rows self.old.layout }
+        requires second_rows { a2.now.rows ≡ digit_rows self.old.layout }
+        requires so_far { IsMadeSoFar self.old.layout (S.digits digits.now)
+            (S.digits server_hint.now) a2.now query.now self.old }
+        ensures so_far { IsMadeSoFar self.old.layout (S.digits digits.now)
+            (S.digits server_hint.now) a2.now query.now self.new }
+        ensures layout { self.new.layout ≡ self.old.layout }
+    {
+        match self.stage {
+            Stage::Column(made) => self.make_column(kernel, digits, a2, query, made),
+            Stage::Parts(part, made) => {
+                self.make_parts(kernel, digits, server_hint, a2, query, part, made);
+            }
+        }
+    }
+
+    /// The words of an answer, which is whole.
+    pub fn into_words(self) -> Vec<u32>
+        ensures { (digits server_hint a2 : WordMatrix) (query : List ℕ) →
+            IsMadeSoFar self.layout digits server_hint a2 query self →
+            server_hint.rows ≡ a2.cols * split_count self.layout.width →
+            IsWholeAt self.layout self.stage →
+            result.items ≡ double_answer self.layout digits server_hint a2 query }
+    {
+        self.words
+    }
+
+    // Makes some more rows of the first layer's answer or, if all are there, its digits and their hint.
+    fn make_column<K: Kernel, S: DigitStore>(
+        &mut self,
+        kernel: K,
+        digits: &S,
+        a2: &Matrix,
+        query: &[u32],
+        made: usize,
+    )
+        requires query { length query.now ≡ double_query_count self.old.layout }
+        requires rows { (S.digits digits.now).rows ≡ digit_rows self.old.layout }
+        requires cols { (S.digits digits.now).cols ≡ digit_cols self.old.layout }
+        requires second_rows { a2.now.rows ≡ digit_rows self.old.layout }
+        requires room { HasStepsRoom self.old.layout a2.now.cols self.old }
+        requires column { HasColumn self.old.layout (S.digits digits.now) query.now self.old made }
+        ensures so_far { (server_hint : WordMatrix) → IsMadeSoFar self.old.layout (S.digits digits.now)
+            server_hint a2.now query.now self.new }
+        ensures layout { self.new.layout ≡ self.old.layout }
+    {
+        let (rows, cols) = (self.layout.rows(), self.layout.cols());
+        if made >= rows {
+            return self.make_first(kernel, a2);
+        }
+        let count = rows_in_step(cols, rows - made);
+        let prefix = part_of(query, 0, cols);
+        put_rows(kernel, digits, prefix, made, count, &mut self.column);
+        self.stage = Stage::Column(made + count);
+    }
+
+    // Makes the digits of the first layer's answer, of which all rows are there, and their hint.
+    fn make_first<K: Kernel>(&mut self, kernel: K, a2: &Matrix)
+        requires second_rows { a2.now.rows ≡ digit_rows self.old.layout }
+        requires room { HasStepsRoom self.old.layout a2.now.cols self.old }
+        ensures room { HasStepsRoom self.old.layout a2.now.cols self.new }
+        ensures stage { self.new.stage ≡ Stage.Parts 0 0 }
+        ensures first { self.new.first ≡ decomposed self.old.layout.width
+            (transpose (one_column self.old.column.items)) }
+        ensures hint { HasFirst (length (product self.new.first a2.now).words)
+            (product self.new.first a2.now).words self.new.words.items }
+        ensures layout { self.new.layout ≡ self.old.layout }
+    {
+        put_digits(&self.column, self.layout.width(), &mut self.first);
+        put_first_hint(kernel, &self.first, a2, &mut self.hint, &mut self.words);
+        self.stage = Stage::Parts(0, 0);
+    }
+
+    // Makes some more rows of a part and of the one after it or, if all are there, ends them.
+    fn make_parts<K: Kernel, S: DigitStore>(
+        &mut self,
+        kernel: K,
+        digits: &S,
+        server_hint: &S,
+        a2: &Matrix,
+        query: &[u32],
+        part: usize,
+        made: usize,
+    )
+        requires query { length query.now ≡ double_query_count self.old.layout }
+        requires server_rows { (S.digits server_hint.now).rows ≡
+            a2.now.cols * split_count self.old.layout.width }
+        requires server_cols { (S.digits server_hint.now).cols ≡ digit_rows self.old.layout }
+        requires stage { self.old.stage ≡ Stage.Parts part made }
+        requires so_far { IsMadeSoFar self.old.layout (S.digits digits.now)
+            (S.digits server_hint.now) a2.now query.now self.old }
+        ensures so_far { IsMadeSoFar self.old.layout (S.digits digits.now)
+            (S.digits server_hint.now) a2.now query.now self.new }
+        ensures layout { self.new.layout ≡ self.old.layout }
+    {
+        if part >= self.layout.digits_per_record() {
+            return;
+        }
+        if made < server_hint.rows() {
+            self.make_part_rows(kernel, digits, server_hint, a2, query, part, made);
+        } else {
+            self.end_parts(kernel, digits, server_hint, a2, query, part, made);
+        }
+    }
+
+    // Makes some more rows of a part and of the one after it.
+    fn make_part_rows<K: Kernel, S: DigitStore>(
+        &mut self,
+        kernel: K,
+        _digits: &S,
+        server_hint: &S,
+        _a2: &Matrix,
+        query: &[u32],
+        part: usize,
+        made: usize,
+    )
+        requires query { length query.now ≡ double_query_count self.old.layout }
+        requires server_rows { (S.digits server_hint.now).rows ≡
+            _a2.now.cols * split_count self.old.layout.width }
+        requires server_cols { (S.digits server_hint.now).cols ≡ digit_rows self.old.layout }
+        requires part { part < digits_per_record self.old.layout }
+        requires made { made < (S.digits server_hint.now).rows }
+        requires room { HasStepsRoom self.old.layout _a2.now.cols self.old }
+        requires parts { HasParts self.old.layout (S.digits _digits.now)
+            (S.digits server_hint.now) _a2.now query.now self.old part made }
+        ensures so_far { IsMadeSoFar self.old.layout (S.digits _digits.now)
+            (S.digits server_hint.now) _a2.now query.now self.new }
+        ensures layout { self.new.layout ≡ self.old.layout }
+    {
+        let count = rows_in_step(server_hint.cols(), server_hint.rows() - made);
+        let (layout, x, y) = (&self.layout, &mut self.x, &mut self.y);
+        put_part_rows(kernel, layout, server_hint, query, part, made, count, x, y);
+        self.stage = Stage::Parts(part, made + count);
+    }
+
+    // Ends a part and the one after it, of which all rows are there.
+    fn end_parts<K: Kernel, S: DigitStore>(
+        &mut self,
+        kernel: K,
+        _digits: &S,
+        server_hint: &S,
+        _a2: &Matrix,
+        query: &[u32],
+        part: usize,
+        _made: usize,
+    )
+        requires query { length query.now ≡ double_query_count self.old.layout }
+        requires server_rows { (S.digits server_hint.now).rows ≡
+            _a2.now.cols * split_count self.old.layout.width }
+        requires server_cols { (S.digits server_hint.now).cols ≡ digit_rows self.old.layout }
+        requires part { part < digits_per_record self.old.layout }
+        requires made { (S.digits server_hint.now).rows ≤ _made }
+        requires room { HasStepsRoom self.old.layout _a2.now.cols self.old }
+        requires parts { HasParts self.old.layout (S.digits _digits.now)
+            (S.digits server_hint.now) _a2.now query.now self.old part _made }
+        ensures so_far { IsMadeSoFar self.old.layout (S.digits _digits.now)
+            (S.digits server_hint.now) _a2.now query.now self.new }
+        ensures layout { self.new.layout ≡ self.old.layout }
+    {
+        let (layout, first, words) = (&self.layout, &self.first, &mut self.words);
+        let (x, y) = (&mut self.x, &mut self.y);
+        let next = end_both(kernel, layout, server_hint, first, query, part, x, y, words);
+        self.stage = Stage::Parts(next, 0);
+    }
+}
