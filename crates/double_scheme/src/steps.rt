@@ -15,7 +15,7 @@ use std::alloc::{AllocError, Global};
 
 /// How many digits a step reads at most, but for one whole row of them: 2^25, which a processor of today multiplies in less than 10
 /// milliseconds, also by two words each.
-const STEP: usize = 33_554_432;
+pub const STEP: usize = 33_554_432;
 
 /// How far an answer is.
 #[derive(Clone, Copy)]
@@ -49,8 +49,8 @@ pub fn rows_in_step(cols: usize, left: usize) -> usize
     left.min(STEP / cols.max(1)).max(1)
 }
 
-// Writes the words of some more rows.
-fn put_rows<K: Kernel, S: DigitStore>(
+/// Writes the words of some more rows of digits times x, after those that are there.
+pub fn put_rows<K: Kernel, S: DigitStore>(
     kernel: K,
     digits: &S,
     x: &[u32],

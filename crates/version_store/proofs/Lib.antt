@@ -21,3 +21,4 @@ pub mod Grown
 pub mod GrownLayer
 pub mod RecordsPut
 pub mod KeptDigits
+pub mod Prepared

@@ -10,3 +10,4 @@ pub mod Laws
 pub mod Names
 pub mod KeptRecords
 pub mod HeldRecords
+pub mod Preparing

@@ -1,6 +1,6 @@
 //! One version's records, with everything that is made from them.
 
-ghost use Rattle.std.specs.Prelude.{◌≡◌, [], ◌*◌, ◌<◌, ◌≤◌, IfOk, OnOk, OnErr, true, false, length};
+ghost use Rattle.std.specs.Prelude.{◌≡◌, [], ◌*◌, ◌<◌, ◌≤◌, IfOk, IfSome, OnOk, OnErr, true, false, length};
 ghost use Rattle.std.specs.List.{list_all};
 ghost use Rattle.digit_pack.specs.Slots.{is_form};
 ghost use Rattle.digit_pack.specs.Layout.{IsLayout, is_wide, digit_rows, digit_cols, digits_per_record, record_at, records_in};
@@ -17,8 +17,10 @@ use crate::answer_room::AnswerRoom;
 use crate::drafts::{Changes, apply_changes};
 use crate::first_layer::{Digits, FirstLayer};
 use crate::held_records::HeldRecords;
+use crate::preparing::Preparation;
 use crate::rows::{FollowRoom, follow_rows};
-use digit_pack::Layout;
+use digit_pack::{DigitStore, Layout};
+use double_scheme::STEP;
 use matrix_u32::{Kernel, Matrix};
 use pir_schemes::{Plan, Scheme};
 use seed_expand::expand;
@@ -34,16 +36,20 @@ pub struct Edition<K: Kernel> {
     a2: Matrix,
     server: Digits,
     client: Matrix,
+    // The answer that was begun, of which contracts see nothing.
+    prepared: Option<Preparation>,
 }
 
 impl<K: Kernel> Model for Edition<K> {
     ghost use Rattle.version_store.specs.Editions.{Records, IsMadeTwice};
+    ghost use Rattle.version_store.specs.Preparing.{IsPrepared};
 
     ghost Value = { Records };
 
     ghost view = { λ e. e.layer };
 
-    ghost invariant = { λ e. IsMadeTwice e.layer e.a2 e.server e.client };
+    ghost invariant = { λ e. IsMadeTwice e.layer e.a2 e.server e.client
+        × IsPrepared e.layer e.prepared };
 }
 
 impl<K: Kernel> Edition<K> {
@@ -86,6 +92,7 @@ impl<K: Kernel> Edition<K> {
             a2,
             server,
             client,
+            prepared: None,
         })
     }
 
@@ -191,6 +198,73 @@ impl<K: Kernel> Edition<K> {
         room.fill(self.kernel, digits, &self.server, &self.a2, words)
     }
 
+    /// Whether an answer of a scheme is made in more than one step: whether it reads more digits than one step does.
+    pub fn has_steps(&self, scheme: Scheme) -> bool {
+        let layout = self.layer.layout();
+        let digits = layout.rows().saturating_mul(layout.cols());
+        let server = self.server.rows().saturating_mul(self.server.cols());
+        match scheme {
+            Scheme::Simple => digits > STEP,
+            Scheme::Double => {
+                let parts = server.saturating_mul(layout.digits_per_record());
+                digits.saturating_add(parts) > STEP
+            }
+        }
+    }
+
+    /// Begins the answer to a query, in place of another one that was begun. Only refused memory gives an `Err`, and then none is begun.
+    pub fn begin_answer(
+        &mut self,
+        alloc: Global,
+        scheme: Scheme,
+        query: Vec<u32>,
+    ) -> Result<(), AllocError>
+        requires { length query.items ≡ query_count scheme (version_shape self.old) }
+        ensures { self.new ≡ self.old }
+    {
+        self.prepared = None;
+        let layout = self.layer.layout();
+        let dimension = usize::from(self.layer.plan().dimension);
+        let prepared = Preparation::new(alloc, scheme, layout, dimension, query)?;
+        self.prepared = Some(prepared);
+        Ok(())
+    }
+
+    /// Makes one more step of the answer that was begun, and answers whether none is left, also if no answer was begun.
+    pub fn step_answer(&mut self) -> bool
+        ensures { self.new ≡ self.old }
+    {
+        let Some(prepared) = self.prepared.take() else {
+            return true;
+        };
+        let (prepared, whole) = prepared.stepped(self.kernel, &self.layer, &self.server, &self.a2);
+        self.prepared = Some(prepared);
+        whole
+    }
+
+    /// The answer that was begun, if it is whole and the one to this query.
+    pub fn take_answer(&mut self, scheme: Scheme, query: &[u32]) -> Option<Vec<u32>>
+        ensures same { self.new ≡ self.old }
+        ensures answer { IfSome result (λ answer. answer.items ≡
+            answer_words scheme self.old.plan self.old.records query.now) }
+    {
+        let prepared = self.prepared.take()?;
+        match prepared.into_answer(scheme, query) {
+            Ok(answer) => Some(answer),
+            Err(kept) => {
+                self.prepared = kept;
+                None
+            }
+        }
+    }
+
+    /// Gives up the answer that was begun.
+    pub fn drop_answer(&mut self)
+        ensures { self.new ≡ self.old }
+    {
+        self.prepared = None;
+    }
+
     /// Puts blanks after the records, so many in all: the digits get columns of zeros, and no hint changes. Only refused
     /// memory gives an `Err`, and then nothing has changed.
     pub fn grow(&mut self, alloc: Global, count: usize) -> Result<(), AllocError>
@@ -201,6 +275,7 @@ impl<K: Kernel> Edition<K> {
     {
         // Called for what it says of the plan.
         self.layer.layout();
+        self.prepared = None;
         self.layer.grow(alloc, count)?;
         Ok(())
     }
@@ -228,6 +303,7 @@ impl<K: Kernel> Edition<K> {
         ensures marks { MarksChanges (digits_at self.old.plan self.old.records)
             (digits_at self.new.plan self.new.records) marks.old marks.new }
     {
+        self.prepared = None;
         apply_changes(self.kernel, &mut self.layer, changes, scratch, marks);
         let w = self.layer.layout().width();
         follow_rows(

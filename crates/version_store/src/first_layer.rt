@@ -6,6 +6,8 @@ ghost use Rattle.digit_pack.specs.Slots.{is_form};
 ghost use Rattle.digit_pack.specs.Layout.{IsLayout, is_wide, digit_rows, digit_cols, digits_per_record, record_at, records_in};
 ghost use Rattle.pir_schemes.specs.Plans.{IsPlan, fits, is_slot_of, records_held, shape_at, content, slots, digits_at};
 ghost use Rattle.pir_schemes.specs.Retrievals.{hint_matrix, answer_words};
+ghost use Rattle.matrix_u32.specs.Matrix.{times_vector};
+ghost use Rattle.double_scheme.specs.Steps.{HasFirst};
 ghost use Rattle.seed_expand.specs.Words.{public_rows};
 ghost use Rattle.version_store.specs.Drafts.{grown_to};
 ghost use Rattle.version_store.specs.Editions.{Records, version_shape, MarksChanges};
@@ -17,6 +19,7 @@ use crate::held_records::HeldRecords;
 use digit_pack::{
     DigitStore, Layout, MAX_RECORD_LEN, Wide3, copy_record, is_wide, nth_record, pack, write_record,
 };
+use double_scheme::{put_rows, rows_in_step};
 use matrix_u32::{Kernel, Matrix};
 use pir_schemes::{Plan, Scheme};
 use seed_expand::expand;
@@ -189,6 +192,34 @@ impl FirstLayer {
         ensures { out.new ≡ answer_words Scheme.Simple self.now.plan self.now.records words.now }
     {
         self.digits.mul_vec(kernel, words, out);
+    }
+
+    /// Writes some more words of the answer to the words of a SimplePIR query, and answers how many there are then.
+    pub fn put_answer_rows<K: Kernel>(
+        &self,
+        kernel: K,
+        query: &[u32],
+        made: usize,
+        out: &mut [u32],
+    ) -> usize
+        requires query { length query.now ≡ digit_cols (version_shape self.now) }
+        requires room { length out.old ≡ digit_rows (version_shape self.now) }
+        requires within { made ≤ digit_rows (version_shape self.now) }
+        requires so_far { HasFirst made (times_vector
+            (digits_at self.now.plan self.now.records) query.now) out.old }
+        ensures so_far { HasFirst result (times_vector
+            (digits_at self.now.plan self.now.records) query.now) out.new }
+        ensures within { result ≤ digit_rows (version_shape self.now) }
+        ensures len { length out.new ≡ length out.old }
+    {
+        let left = out.len() - made;
+        if left == 0 {
+            return made;
+        }
+        let digits = self.digits();
+        let count = rows_in_step(query.len(), left);
+        put_rows(kernel, digits, query, made, count, out);
+        made + count
     }
 
     /// Puts blanks after the records, so many in all: the digits get columns of zeros, and the hint stays. Only refused

@@ -12,6 +12,7 @@ mod first_layer;
 mod held_records;
 pub mod laws;
 mod opening;
+mod preparing;
 mod row_marks;
 mod rows;
 mod store;

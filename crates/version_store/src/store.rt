@@ -469,7 +469,7 @@ impl<K: Kernel> Store<K> {
 
     /// Whether an answer of a scheme is so long that it is made in more than one step.
     pub fn has_steps(&self, scheme: Scheme) -> bool {
-        false
+        self.edition.has_steps(scheme)
     }
 
     /// Begins the answer to the words of a query on the current version, which [`Store::step_answer`] makes step by step, and gives up
@@ -478,7 +478,7 @@ impl<K: Kernel> Store<K> {
         requires { length words.items ≡ query_count scheme (version_shape self.old.edition) }
         ensures { self.new ≡ self.old }
     {
-        Ok(())
+        self.edition.begin_answer(self.alloc, scheme, words)
     }
 
     /// Makes one more step of the answer that was begun, and answers whether there is none left to make: also when no answer was
@@ -486,7 +486,7 @@ impl<K: Kernel> Store<K> {
     pub fn step_answer(&mut self) -> bool
         ensures { self.new ≡ self.old }
     {
-        true
+        self.edition.step_answer()
     }
 
     /// The answer that was begun, if all its steps were made and it is the one to these words on the current version. It is given once.
@@ -495,13 +495,14 @@ impl<K: Kernel> Store<K> {
         ensures answer { IfSome result (λ answer. answer.items ≡ answer_words scheme
             self.old.edition.plan self.old.edition.records words.now) }
     {
-        None
+        self.edition.take_answer(scheme, words)
     }
 
     /// Gives up the answer that was begun.
     pub fn drop_answer(&mut self)
         ensures { self.new ≡ self.old }
     {
+        self.edition.drop_answer();
     }
 
     /// The answer to the words of a query on the current version, in the scheme that the room is for. It takes no
