@@ -7,3 +7,5 @@ pub mod Unique
 pub mod Runs
 pub mod Pieces
 pub mod Takings
+pub mod Fronts
+pub mod Queries

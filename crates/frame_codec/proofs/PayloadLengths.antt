@@ -16,7 +16,7 @@ small : (n k : ℕ) → 0 < k → All (λ b. b < k) (replicate n 0)
 small n k lt = All-replicate (λ b. b < k) n 0 lt
 
 -- the lengths that the kind of a frame has, of its payload's length alone
-has_length : (k n : ℕ) → IsPayloadLength k n → (p : List ℕ) × HasLength k p × (length p ≡ n)
+pub has_length : (k n : ℕ) → IsPayloadLength k n → (p : List ℕ) × HasLength k p × (length p ≡ n)
 has_length k n h = (payload_of h.0, subst (λ (x : ℕ). HasLength x (payload_of h.0)) h.1 (length-payload h.0 h.2), h.3)
 
 -- one length

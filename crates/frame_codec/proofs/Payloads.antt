@@ -381,7 +381,7 @@ has_delta bytes fits count len =
     )
 
 -- the fields of a scheme, a version and words
-scheme_fields : (bytes : List ℕ) → IsBytes bytes → (n : ℕ) → length bytes ≡ 9 + 4 * n →
+pub scheme_fields : (bytes : List ℕ) → IsBytes bytes → (n : ℕ) → length bytes ≡ 9 + 4 * n →
     (get_or bytes 0 0 ∷ (number_bytes 8 (number_in 8 (drop 1 bytes)) ++ word_bytes (words_in n (drop 9 bytes))) ≡ bytes)
     × ((get_or bytes 0 0 < 2 ^ 8) × (number_in 8 (drop 1 bytes) < 2 ^ 64) × All (λ w. w < 2 ^ 32) (words_in n (drop 9 bytes)))
 scheme_fields bytes fits n len =

@@ -2,7 +2,8 @@
 use Rattle.std.specs.Prelude.{◌≡◌, ◌<◌, ◌≤◌, ◌+◌, ◌==◌, ℕ, List, [], ◌∷◌, ◌++◌, length, slice_index, take, option_to_list, Option, Some, None, IfSome, IfNone, Result, Ok, Err, ◌||◌, Bool, true, false}
 use Rattle.std.specs.List.{flat_map, AllByRecursion}
 use Rattle.frame_codec.specs.declared.frame.Frame.{Frame}
-use Rattle.frame_codec.specs.declared.frame.Frame.TheVariants.{Publish}
+use Rattle.frame_codec.specs.declared.frame.Frame.TheVariants.{Publish, Query}
+use Rattle.frame_codec.specs.declared.ahead.QueryHead.{QueryHead}
 use Rattle.frame_codec.specs.declared.reader.ReadFault.{ReadFault}
 use Rattle.frame_codec.specs.declared.reader.Taken.{Taken}
 use Rattle.frame_codec.specs.declared.reader.ReadFault.TheVariants.{TooLong, UnknownKind, BadPayload, Memory, Failed}
@@ -97,6 +98,24 @@ unfinished_size (Some bytes) = length bytes
 abbrev pub HasPublishNext : Option (List ℕ) → List ℕ → Type 0
 HasPublishNext None piece = ⊥
 HasPublishNext (Some kept) piece = (more : List ℕ) × (kept ++ piece ≡ encoding Publish ++ more)
+
+-- A whole query is at the beginning, and this is its head.
+abbrev pub HasQuery : List ℕ → QueryHead → Type 0
+HasQuery bytes head =
+    (words : List ℕ) × (more : List ℕ) × IsFrame (Query head.scheme head.version words)
+    × (bytes ≡ encoding (Query head.scheme head.version words) ++ more) × (length words ≡ head.count)
+
+-- What a reader keeps of an unfinished frame, and then a piece, begin with the query that has this head. A reader that has stopped keeps nothing.
+abbrev pub HasQueryNext : Option (List ℕ) → List ℕ → QueryHead → Type 0
+HasQueryNext None piece head = ⊥
+HasQueryNext (Some kept) piece head = HasQuery (kept ++ piece) head
+
+-- What is seen of the first frame that a piece completes, where nothing is fed: the frame, if it is whole then, or the fault in its place.
+abbrev pub SeesFrame : Option (List ℕ) → List ℕ → Result (Option Frame) ReadFault → Type 0
+SeesFrame None piece answer = answer ≡ Err Failed
+SeesFrame (Some kept) piece (Ok None) = IsPartial (kept ++ piece)
+SeesFrame (Some kept) piece (Ok (Some f)) = IsFrame f × (more : List ℕ) × (kept ++ piece ≡ encoding f ++ more)
+SeesFrame (Some kept) piece (Err fault) = StopsAt fault (kept ++ piece)
 
 -- Pieces fed to a reader one after another, each without a fault: the frames that they gave, and the rest that the reader keeps.
 abbrev pub FeedsAll : List ℕ → List (List ℕ) → List Frame → List ℕ → Type 0

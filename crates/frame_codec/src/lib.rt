@@ -6,6 +6,7 @@
 //! Its tests are in `frame_tests::frames` and `tests/long/frame_tests`.
 #![tactic(auto)]
 
+mod ahead;
 mod frame;
 pub mod laws;
 mod numbers;
@@ -15,6 +16,7 @@ mod reader;
 mod refusal;
 mod writer;
 
+pub use ahead::QueryHead;
 pub use frame::{Bytes, Bytes32, Frame, Rows, Words};
 pub use reader::{ReadFault, Reader, Taken};
 pub use refusal::Refusal;

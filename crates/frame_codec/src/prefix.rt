@@ -79,16 +79,26 @@ fn header_of(first: &[u8], rest: &[u8]) -> ([u8; HEADER_LEN], usize)
     ensures within { result.1 ≤ 5 }
     ensures bytes { take result.1 result.0 ≡ take 5 (first.now ++ rest.now) }
 {
-    let len = HEADER_LEN.min(first.len().saturating_add(rest.len()));
     let mut header = [0; HEADER_LEN];
+    let len = fill_front(&mut header, first, rest);
+    (header, len)
+}
+
+/// Copies the first bytes of two slices, one after the other: as many as there is space for, or all. Answers how many.
+pub fn fill_front(space: &mut [u8], first: &[u8], rest: &[u8]) -> usize
+    ensures within { result ≤ length space.old }
+    ensures len { length space.new ≡ length space.old }
+    ensures bytes { take result space.new ≡ take (length space.old) (first.now ++ rest.now) }
+{
+    let len = space.len().min(first.len().saturating_add(rest.len()));
     for i in 0..len {
-        header[i] = if i < first.len() {
+        space[i] = if i < first.len() {
             first[i]
         } else {
             rest[i - first.len()]
         };
     }
-    (header, len)
+    len
 }
 
 /// The frame at the beginning and the bytes after it, if it is whole. `Memory` comes only where a frame

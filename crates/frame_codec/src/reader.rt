@@ -3,8 +3,9 @@
 ghost use Rattle.std.specs.Prelude.{◌≡◌, ◌≤◌, ◌↔◌, ◌-◌, IsTrue, ℕ, List, [], ◌∷◌, ◌++◌, length, take, drop, None, Some, IfOk, IfErr, IfSome, IfNone, OnOk, OnErr, vec_capacity};
 ghost use Rattle.frame_codec.specs.declared.frame.Frame.{Frame};
 ghost use Rattle.frame_codec.specs.Frames.{IsFrame, encoding};
-ghost use Rattle.frame_codec.specs.Streams.{Feeds, FeedsFrame, TakesFrame, HasPublishNext, IsPartial, StopsAt, unfinished_size};
+ghost use Rattle.frame_codec.specs.Streams.{Feeds, FeedsFrame, TakesFrame, HasPublishNext, HasQueryNext, IsPartial, SeesFrame, StopsAt, unfinished_size};
 
+use crate::ahead::{QueryHead, query_head};
 use crate::frame::Frame;
 use crate::prefix::{begins_with_publish, frame_at, split_frame_len};
 use std::alloc::{AllocError, AllocFailed, Global};
@@ -112,6 +113,33 @@ impl Reader {
         ensures { IsTrue result ↔ HasPublishNext self.now piece.now }
     {
         !self.failed && begins_with_publish(&self.pending, piece)
+    }
+
+    /// What the next frame says before its words, if what it keeps of an unfinished frame, and then a piece, begin with a
+    /// whole query: so that feeding the piece gives this query first, unless memory is refused. This takes no memory, and
+    /// changes nothing.
+    pub fn query_next(&self, piece: &[u8]) -> Option<QueryHead>
+        ensures { IfSome result (HasQueryNext self.now piece.now) }
+    {
+        if self.failed {
+            return None;
+        }
+        query_head(&self.pending, piece)
+    }
+
+    /// The frame that feeding the piece would give first, if one is whole then. This changes nothing, and takes memory
+    /// for the frame and for its bytes.
+    ///
+    /// # Errors
+    ///
+    /// The fault that feeding the piece would answer in the place of the first frame.
+    pub fn next_frame(&self, piece: &[u8]) -> Result<Option<Frame>, ReadFault>
+        ensures { SeesFrame self.now piece.now result }
+    {
+        if self.failed {
+            return Err(ReadFault::Failed);
+        }
+        see_frame(self.alloc, &self.pending, piece)
     }
 
     /// Takes the next piece of the stream, and adds each frame that is whole now to `out`.
@@ -223,6 +251,25 @@ fn start(alloc: Global, pending: &mut Vec<u8>, piece: &[u8]) -> Result<Taken, Re
             count: piece.len() - rest.len(),
             frame: Some(frame),
         }),
+    }
+}
+
+/// The frame at the beginning of an unfinished frame and then a piece, if it is whole then.
+fn see_frame(alloc: Global, pending: &[u8], piece: &[u8]) -> Result<Option<Frame>, ReadFault>
+    requires { IsPartial pending.now }
+    ensures { SeesFrame (Some pending.now) piece.now result }
+{
+    // Judged before memory is taken.
+    let size = split_frame_len(pending, piece)?;
+    if pending.len().saturating_add(piece.len()) < size {
+        return Ok(None);
+    }
+    // A copy: the reader's own bytes stay as they are.
+    let mut bytes = Vec::with_capacity(alloc, size)?;
+    bytes.extend_from_slice(pending)?;
+    match finish(alloc, &mut bytes, piece)? {
+        None => Ok(None),
+        Some((frame, _)) => Ok(Some(frame)),
     }
 }
 

@@ -1,0 +1,47 @@
+//! A look at the first frame of bytes that stand in two places, one after the other.
+
+ghost use Rattle.std.specs.Prelude.{◌++◌, IfSome};
+ghost use Rattle.frame_codec.specs.Streams.{HasQuery};
+
+use crate::numbers::u64_at;
+use crate::payload::is_payload_len;
+use crate::prefix::{HEADER_LEN, fill_front, split_frame_len};
+
+/// The kind of a query.
+const QUERY: u8 = 0x05;
+
+/// How many bytes the frame of a query has before its words.
+const QUERY_HEAD_LEN: usize = 14;
+
+/// What a query says before its words, and how many these are.
+#[derive(Clone, Copy, Debug, PartialEq, Eq)]
+pub struct QueryHead {
+    /// The byte that names the scheme.
+    pub scheme: u8,
+    /// The version that is asked.
+    pub version: u64,
+    /// How many words there are.
+    pub count: usize,
+}
+
+/// The head of the query that stands at the beginning, if a whole one does. This takes no memory.
+pub fn query_head(first: &[u8], rest: &[u8]) -> Option<QueryHead>
+    ensures { IfSome result (λ head. HasQuery (first.now ++ rest.now) head) }
+{
+    let Ok(size) = split_frame_len(first, rest) else {
+        return None;
+    };
+    if first.len().saturating_add(rest.len()) < size || size < QUERY_HEAD_LEN {
+        return None;
+    }
+    let mut head = [0u8; QUERY_HEAD_LEN];
+    fill_front(&mut head, first, rest);
+    if head[4] != QUERY || !is_payload_len(QUERY, size - HEADER_LEN) {
+        return None;
+    }
+    Some(QueryHead {
+        scheme: head[5],
+        version: u64_at(&head[6..]),
+        count: (size - QUERY_HEAD_LEN) / 4,
+    })
+}
