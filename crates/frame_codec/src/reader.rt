@@ -137,9 +137,10 @@ impl Reader {
         ensures { SeesFrame self.now piece.now result }
     {
         if self.failed {
-            return Err(ReadFault::Failed);
+            Err(ReadFault::Failed)
+        } else {
+            see_frame(self.alloc, &self.pending, piece)
         }
-        see_frame(self.alloc, &self.pending, piece)
     }
 
     /// Takes the next piece of the stream, and adds each frame that is whole now to `out`.
@@ -260,12 +261,12 @@ fn see_frame(alloc: Global, pending: &[u8], piece: &[u8]) -> Result<Option<Frame
     ensures { SeesFrame (Some pending.now) piece.now result }
 {
     // Judged before memory is taken.
-    let size = split_frame_len(pending, piece)?;
-    if pending.len().saturating_add(piece.len()) < size {
+    let enough = split_frame_len(pending, piece)?;
+    if pending.len().saturating_add(piece.len()) < enough {
         return Ok(None);
     }
     // A copy: the reader's own bytes stay as they are.
-    let mut bytes = Vec::with_capacity(alloc, size)?;
+    let mut bytes = Vec::with_capacity(alloc, enough)?;
     bytes.extend_from_slice(pending)?;
     match finish(alloc, &mut bytes, piece)? {
         None => Ok(None),

@@ -4,15 +4,15 @@ use Rattle.frame_codec.proofs.Pieces.{readable_limit}
 use Rattle.frame_codec.proofs.Prefixes.{sound_partial}
 use Rattle.frame_codec.proofs.reader.see_frame.Goals as goal
 
-pub returns-then-saturating_add-size : goal.returns-then-saturating_add-size
-returns-then-saturating_add-size c =
+pub returns-then-saturating_add-enough : goal.returns-then-saturating_add-enough
+returns-then-saturating_add-enough c =
     let bytes : List ℕ = c.args.pending.now ++ c.args.piece.now in
-    let few : length bytes < c.in_ok-size.size =
+    let few : length bytes < c.in_ok-enough.enough =
     omega (
       arith,
       length-append c.args.pending.now c.args.piece.now,
       c.saturating_add.ensures,
-      c.if-saturating_add-size.true,
-      readable_limit bytes c.in_ok-size.size c.in_ok-size.ensures.ok,
+      c.if-saturating_add-enough.true,
+      readable_limit bytes c.in_ok-enough.enough c.in_ok-enough.ensures.ok,
     ) in
-    sound_partial bytes c.in_ok-size.size c.in_ok-size.ensures.ok few
+    sound_partial bytes c.in_ok-enough.enough c.in_ok-enough.ensures.ok few
