@@ -1,16 +1,20 @@
 -- The head of a query.
-use Rattle.std.proofs.Common.{◌≡◌, ℕ, ◌+◌, ◌-◌, ◌*◌, ◌/◌, ◌≤◌, List, ◌++◌, length, get_or, take, drop, sym, ap, ◌∙◌, arith}
+use Rattle.std.proofs.Common.{◌≡◌, ℕ, ◌+◌, ◌-◌, ◌*◌, ◌/◌, ◌≤◌, ◌<◌, List, ◌++◌, length, get_or, take, drop, Option, Some, refl, sym, ap, subst, ◌∙◌, arith}
+use Rattle.std.specs.Prelude.{IfNone}
 use Rattle.std.proofs.lemmas.List.{length-take, length-take-le, length-drop, get_or-take, get_or-drop, drop-take, drop-drop, take-append-drop}
+use Rattle.frame_codec.specs.declared.frame.Frame.{Frame}
 use Rattle.frame_codec.specs.declared.frame.Frame.TheVariants.{Query}
+use Rattle.frame_codec.specs.declared.reader.ReadFault.{ReadFault}
 use Rattle.frame_codec.specs.declared.ahead.QueryHead.{QueryHead}
 use Rattle.frame_codec.specs.Numbers.{number_in}
-use Rattle.frame_codec.specs.Frames.{IsPayloadLength, Stands}
-use Rattle.frame_codec.specs.Streams.{HasQuery, IsReadable, kind_at, length_at}
+use Rattle.frame_codec.specs.Frames.{IsPayloadLength, Stands, payload_of}
+use Rattle.frame_codec.specs.Streams.{HasFault, HasFrame, HasQuery, HasQueryNext, IsReadable, kind_at, length_at}
 use Rattle.frame_codec.proofs.NumberBytes.{IsBytes, IsBytes-drop, length-words_in, number_ahead, words_in}
 use Rattle.frame_codec.proofs.Fronts.{IsBytes-take}
-use Rattle.frame_codec.proofs.Payloads.{scheme_fields, is_query}
+use Rattle.frame_codec.proofs.Payloads.{scheme_fields, is_query, payload_sized}
 use Rattle.frame_codec.proofs.PayloadLengths.{has_length}
-use Rattle.frame_codec.proofs.Prefixes.{judged, whole_frame}
+use Rattle.frame_codec.proofs.Prefixes.{announced, judged, whole_frame}
+use Rattle.frame_codec.proofs.Unique.{fault_of_frame}
 
 -- what the first fourteen bytes say
 pub record Says (bytes space : List ℕ) (size : ℕ) (head : QueryHead) : Type 0 where
@@ -57,3 +61,51 @@ has_query_head bytes space size head s =
     let stands : Stands 5 p (Query head.scheme head.version words) = rw (scheme, version) at (is_query p _ _ _ f.0 f.1) in
     let w = whole_frame bytes (Query head.scheme head.version words) s.fits at.within at.len (rw kind stands) in
     (words, drop (length_at bytes) (drop 5 bytes), w.0, w.1, length-words_in n (drop 9 p) ∙ omega (arith, s.count, h.1.1, h.2))
+
+-- what a whole query at the beginning says of the bytes
+pub record Announces (bytes : List ℕ) : Type 0 where
+  pub frame : HasFrame bytes
+  pub within : 5 + length_at bytes ≤ length bytes
+  pub kind : kind_at bytes ≡ 5
+  pub len : IsPayloadLength 5 (length_at bytes)
+  pub long : 9 ≤ length_at bytes
+
+pub announces : (bytes : List ℕ) (head : QueryHead) → HasQuery bytes head → Announces bytes
+announces bytes head q =
+    let f : Frame = Query head.scheme head.version q.0 in
+    let a = announced bytes f q.1 q.2 q.3 in
+    let n : length (payload_of f) ≡ length_at bytes =
+    ap length a.stands.payload ∙ length-take-le (length_at bytes) (drop 5 bytes) (omega (arith, length-drop 5 bytes, a.size)) in
+    record {
+      frame = (f, q.1, q.2, q.3);
+      within = a.size;
+      kind = sym a.stands.kind;
+      len = (f, refl, q.2.fields, n);
+      long = omega (arith, n, payload_sized f);
+    }
+
+-- none where a fault stands
+pub no_query_of_fault : (fault : ReadFault) (bytes : List ℕ) → HasFault fault bytes → (head : QueryHead) → HasQuery bytes head → ⊥
+no_query_of_fault fault bytes h head q = fault_of_frame fault bytes h (announces bytes head q).frame
+
+-- none where the bytes are fewer than the first five say, or these say too few
+pub no_query_of_few : (bytes : List ℕ) (size : ℕ) → IsReadable bytes size → (14 ≤ size → length bytes < size) → (head : QueryHead) → HasQuery bytes head → ⊥
+no_query_of_few bytes size r few head q =
+    let a = announces bytes head q in
+    let known = r.known (omega (arith, a.within)) in
+    omega (arith, a.within, a.long, known.1, few (omega (arith, a.long, known.1)))
+
+-- none where the kind is another one, or no query is so long
+pub no_query_of_kind : (bytes space : List ℕ) (size : ℕ) → IsReadable bytes size → space ≡ take 14 bytes →
+    (get_or space 4 0 ≡ 5 → IsPayloadLength 5 (size - 5) → ⊥) → (head : QueryHead) → HasQuery bytes head → ⊥
+no_query_of_kind bytes space size r space_is none head q =
+    let a = announces bytes head q in
+    let known = r.known (omega (arith, a.within)) in
+    let kind : get_or space 4 0 ≡ 5 = ap (λ (x : List ℕ). get_or x 4 0) space_is ∙ get_or-take 14 bytes 4 0 (omega arith) ∙ a.kind in
+    let len : length_at bytes ≡ size - 5 = omega (arith, known.1) in
+    none kind (subst (IsPayloadLength 5) len a.len)
+
+-- none for a reader that keeps such bytes
+pub no_query_next : (r : Option QueryHead) (kept piece : List ℕ) (now : Option (List ℕ)) → now ≡ Some kept →
+    IfNone r ((head : QueryHead) → HasQuery (kept ++ piece) head → ⊥) → IfNone r ((head : QueryHead) → HasQueryNext now piece head → ⊥)
+no_query_next r kept piece now e h = rw e h

@@ -1,7 +1,8 @@
 //! A look at the first frame of bytes that stand in two places, one after the other.
 
-ghost use Rattle.std.specs.Prelude.{◌++◌, IfSome};
+ghost use Rattle.std.specs.Prelude.{◌++◌, IfSome, IfNone};
 ghost use Rattle.frame_codec.specs.Streams.{HasQuery};
+ghost use Rattle.frame_codec.specs.declared.ahead.QueryHead.{QueryHead};
 
 use crate::numbers::u64_at;
 use crate::payload::is_payload_len;
@@ -26,10 +27,12 @@ pub struct QueryHead {
 
 /// The head of the query that stands at the beginning, if a whole one does. This takes no memory.
 pub fn query_head(first: &[u8], rest: &[u8]) -> Option<QueryHead>
-    ensures { IfSome result (λ head. HasQuery (first.now ++ rest.now) head) }
+    ensures some { IfSome result (HasQuery (first.now ++ rest.now)) }
+    ensures none { IfNone result ((head : QueryHead) → HasQuery (first.now ++ rest.now) head → ⊥) }
 {
-    let Ok(size) = split_frame_len(first, rest) else {
-        return None;
+    let size = match split_frame_len(first, rest) {
+        Ok(size) => size,
+        Err(_) => return None,
     };
     if first.len().saturating_add(rest.len()) < size || size < QUERY_HEAD_LEN {
         return None;

@@ -2,6 +2,7 @@
 
 ghost use Rattle.std.specs.Prelude.{◌≡◌, ◌≤◌, ◌↔◌, ◌-◌, IsTrue, ℕ, List, [], ◌∷◌, ◌++◌, length, take, drop, None, Some, IfOk, IfErr, IfSome, IfNone, OnOk, OnErr, vec_capacity};
 ghost use Rattle.frame_codec.specs.declared.frame.Frame.{Frame};
+ghost use Rattle.frame_codec.specs.declared.ahead.QueryHead.{QueryHead};
 ghost use Rattle.frame_codec.specs.Frames.{IsFrame, encoding};
 ghost use Rattle.frame_codec.specs.Streams.{Feeds, FeedsFrame, TakesFrame, HasPublishNext, HasQueryNext, IsPartial, SeesFrame, StopsAt, unfinished_size};
 
@@ -119,7 +120,8 @@ impl Reader {
     /// whole query: so that feeding the piece gives this query first, unless memory is refused. This takes no memory, and
     /// changes nothing.
     pub fn query_next(&self, piece: &[u8]) -> Option<QueryHead>
-        ensures { IfSome result (HasQueryNext self.now piece.now) }
+        ensures some { IfSome result (HasQueryNext self.now piece.now) }
+        ensures none { IfNone result ((head : QueryHead) → HasQueryNext self.now piece.now head → ⊥) }
     {
         if self.failed {
             return None;
