@@ -1,5 +1,5 @@
 -- What callers see of a server.
-use Rattle.std.specs.Prelude.{ℕ, List, Bool, false, not, Option, Some, None, Result, Ok, Err}
+use Rattle.std.specs.Prelude.{◌≡◌, ℕ, List, Bool, false, not, Option, Some, None, Result, Ok, Err}
 use Rattle.std.specs.Map.{lookup}
 use Rattle.std.specs.BTreeMap.{is_at}
 use Rattle.std.specs.Ordering.{nat_cmp}
@@ -7,7 +7,9 @@ use Rattle.std.specs.declared.alloc.AllocError.{AllocError}
 use Rattle.frame_codec.specs.Streams.{unfinished_size}
 use Rattle.version_store.specs.Histories.{StoreState, History}
 use Rattle.server_core.specs.Serving.{Setting, is_closed}
-use Rattle.server_core.specs.Sessions.{Session, Fed, FedFirst, IsFirstUnread, WouldPublish}
+use Rattle.server_core.specs.Sessions.{Session, Fed, FedFirst, IsComing, IsFirstUnread, WouldPublish}
+use Rattle.server_core.specs.declared.session.Coming.{Coming}
+use Rattle.server_core.specs.declared.session.Coming.TheVariants.{Short}
 use Rattle.server_core.specs.declared.server.FeedError.{FeedError}
 use Rattle.server_core.specs.declared.server.FeedError.TheVariants.{NoSession, Memory}
 
@@ -38,6 +40,11 @@ WouldPublishIn (Some s) piece store = WouldPublish s piece store
 -- A piece of the stream of this number's session makes its next frame a publication, which is made unless memory is refused.
 abbrev pub PublishesNext : Core → ℕ → List ℕ → Type 0
 PublishesNext core id piece = WouldPublishIn (session_of core.sessions id) piece core.store
+
+-- what feeding a piece would do first; nothing that takes long where there is no session
+abbrev pub IsComingIn : Coming → Option Session → List ℕ → StoreState → Type 0
+IsComingIn coming None piece store = coming ≡ Short
+IsComingIn coming (Some s) piece store = IsComing coming s piece store
 
 -- memory was refused to the reading of the first frame of a session's piece
 abbrev pub IsFirstUnreadBy : Option Session → List ℕ → Option Session → Type 0

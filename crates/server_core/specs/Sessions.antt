@@ -1,5 +1,5 @@
 -- What a piece of its stream does to a session.
-use Rattle.std.specs.Prelude.{◌≡◌, ◌≢◌, ◌⊎◌, ℕ, ◌<◌, List, [], ◌∷◌, ◌++◌, length, take, false, Option, Some, None, MatchBool, Result, Ok, Err, IsErr, IsSome, option_to_list}
+use Rattle.std.specs.Prelude.{◌≡◌, ◌≢◌, ◌⊎◌, ℕ, ◌<◌, List, [], ◌∷◌, ◌++◌, length, take, true, false, Option, Some, None, MatchBool, Result, Ok, Err, IsErr, IsSome, option_to_list}
 use Rattle.std.specs.List.{flat_map, AllByRecursion}
 use Rattle.std.specs.declared.alloc.AllocError.{AllocError}
 use Rattle.version_store.specs.Histories.{StoreState, History, StandsFor}
@@ -10,10 +10,16 @@ use Rattle.frame_codec.specs.declared.reader.ReadFault.{ReadFault}
 use Rattle.frame_codec.specs.declared.reader.ReadFault.TheVariants.{TooLong, UnknownKind, BadPayload, Memory, Failed}
 use Rattle.frame_codec.specs.Frames.{IsFrame, encoding}
 use Rattle.frame_codec.specs.declared.reader.Taken.{Taken}
-use Rattle.frame_codec.specs.Streams.{Feeds, FeedsFrame, HasPublishNext}
+use Rattle.frame_codec.specs.Streams.{Feeds, FeedsFrame, HasPublishNext, HasQueryNext, SeesFrame}
+use Rattle.frame_codec.specs.declared.frame.Frame.TheVariants.{Query}
+use Rattle.frame_codec.specs.declared.ahead.QueryHead.{QueryHead}
+use Rattle.pir_schemes.specs.declared.scheme.Scheme.{Scheme}
+use Rattle.pir_schemes.specs.Schemes.{scheme_of_byte}
 use Rattle.server_core.specs.declared.standing.Standing.{Standing}
 use Rattle.server_core.specs.declared.standing.Standing.TheVariants.{Stranger, Closed}
-use Rattle.server_core.specs.Serving.{Setting, setting_of, ServesAll, ServedAll, MayPublish, is_closed}
+use Rattle.server_core.specs.declared.session.Coming.{Coming}
+use Rattle.server_core.specs.declared.session.Coming.TheVariants.{Short, LongAnswer, Publication}
+use Rattle.server_core.specs.Serving.{Setting, setting_of, ServesAll, ServedAll, MayPublish, is_closed, is_welcome, words_asked}
 
 -- who the session speaks for, and the bytes of its unfinished frame, which are None once its stream has failed
 pub record Session : Type 0 where
@@ -156,6 +162,26 @@ reading_end (Err fault) = Err fault
 pub record WouldPublish (s : Session) (piece : List ℕ) (store : StoreState) : Type 0 where
   pub next : HasPublishNext s.unfinished piece
   pub may : MayPublish s.standing store
+
+-- The next frame of a session's stream, which a piece completes, is a query that is answered unless memory is refused: the session is welcome,
+-- there is this scheme, and its version and the count of its words are those of the store.
+pub record WouldAnswer (s : Session) (piece : List ℕ) (store : StoreState) (scheme : Scheme) : Type 0 where
+  pub head : QueryHead
+  pub next : HasQueryNext s.unfinished piece head
+  pub welcome : is_welcome s.standing ≡ true
+  pub scheme_is : scheme_of_byte head.scheme ≡ Some scheme
+  pub version_is : head.version ≡ store.version
+  pub count_is : head.count ≡ words_asked (setting_of store) scheme store.edition.records
+
+-- These are the words of the next frame of a session's stream, which a piece completes.
+abbrev pub HasWordsNext : Session → List ℕ → List ℕ → Type 0
+HasWordsNext s piece words = (scheme : ℕ) × (version : ℕ) × SeesFrame s.unfinished piece (Ok (Some (Query scheme version words)))
+
+-- what feeding a piece of a session's stream would do first
+abbrev pub IsComing : Coming → Session → List ℕ → StoreState → Type 0
+IsComing Short s piece store = WouldPublish s piece store → ⊥
+IsComing (LongAnswer scheme) s piece store = WouldAnswer s piece store scheme
+IsComing Publication s piece store = WouldPublish s piece store
 
 -- The first frame that a piece completes is served, or a fault in its place is reported: so many bytes of the piece are used up.
 pub record ServesFrame (x : Setting) (h : History) (old : Session) (piece : List ℕ) (count : ℕ) (h2 : History) (new : Session) (replies : List Frame) : Type 0 where

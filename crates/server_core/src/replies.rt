@@ -245,14 +245,28 @@ pub fn room_for_answer<K: Kernel>(
     ensures items { out.new.items ≡ out.old.items }
     ensures room { vec_capacity out.old ≤ vec_capacity out.new }
 {
-    let count = answer_count(scheme, store.layout(), store.dimension());
-    out.reserve(ANSWER_HEAD + 4 * count)?;
+    room_for_answer_frame(store, scheme, out)?;
     store.answer_room(scheme)
 }
 
+/// Room in `out` for the frame of the answer to a query of a scheme. What `out` holds stays.
+#[tactic(auto, using(crate::proofs::AnswerSizes::few_words))]
+pub fn room_for_answer_frame<K: Kernel>(
+    store: &Store<K>,
+    scheme: Scheme,
+    out: &mut Vec<u8>,
+) -> Result<(), AllocError>
+    ensures space { OnOk result (HasRoom
+        (14 + 4 * words_answered (setting_of store.now) scheme store.now.edition.records) out.new) }
+    ensures items { out.new.items ≡ out.old.items }
+    ensures room { vec_capacity out.old ≤ vec_capacity out.new }
+{
+    let count = answer_count(scheme, store.layout(), store.dimension());
+    out.reserve(ANSWER_HEAD + 4 * count)?;
+    Ok(())
+}
+
 /// Adds the answer to a query, for which there is room. It takes no memory.
-///
-/// The answer's words are moved into the reply, and their bytes written once.
 #[tactic(auto, using(crate::proofs::AnswerSizes::size_of_answer, crate::proofs::AnswerSizes::few_words))]
 pub fn put_answer<K: Kernel>(
     store: &Store<K>,
@@ -274,9 +288,30 @@ pub fn put_answer<K: Kernel>(
     ensures fits { IsFrame (Answer (scheme_byte scheme) store.now.version
         (answer_words scheme store.now.edition.plan store.now.edition.records words.now)) }
 {
+    let answer = store.answer_in(room, words.as_slice());
+    put_made_answer(store, scheme, answer, out);
+}
+
+/// Adds an answer that is made, for whose frame there is room. It takes no memory.
+///
+/// The answer's words are moved into the reply, and their bytes written once.
+#[tactic(auto, using(crate::proofs::AnswerSizes::few_words))]
+pub fn put_made_answer<K: Kernel>(
+    store: &Store<K>,
+    scheme: Scheme,
+    answer: Vec<u32>,
+    out: &mut Vec<u8>,
+)
+    requires len { length answer.items ≡
+        words_answered (setting_of store.now) scheme store.now.edition.records }
+    requires space { HasRoom
+        (14 + 4 * words_answered (setting_of store.now) scheme store.now.edition.records) out.old }
+    ensures items { out.new.items ≡ out.old.items ++ encoding
+        (Answer (scheme_byte scheme) store.now.version answer.items) }
+    ensures fits { IsFrame (Answer (scheme_byte scheme) store.now.version answer.items) }
+{
     // Called for what it says of the sizes: they are within the limits.
     store.layout();
-    let answer = store.answer_in(room, words.as_slice());
     let reply = Frame::Answer {
         scheme: scheme.byte(),
         version: store.version(),

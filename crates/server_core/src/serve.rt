@@ -1,15 +1,18 @@
 //! Frames, served one after another.
 
-ghost use Rattle.std.specs.Prelude.{◌≡◌, ◌≤◌, ◌+◌, ◌++◌, vec_len, vec_capacity, OnErr, IfOk};
+ghost use Rattle.std.specs.Prelude.{◌≡◌, ◌≤◌, ◌+◌, ◌++◌, length, vec_len, vec_capacity, OnOk, OnErr, IfOk};
 ghost use Rattle.frame_codec.specs.Frames.{IsFrame, encoding};
-ghost use Rattle.frame_codec.specs.declared.frame.Frame.TheVariants.{Append, DeltaAsk, Edit, Hello, HintAsk, Publish, Query};
+ghost use Rattle.frame_codec.specs.declared.frame.Frame.TheVariants.{Answer, Append, DeltaAsk, Edit, Hello, HintAsk, Publish, Query};
 ghost use Rattle.frame_codec.specs.Refusals.{refused};
+ghost use Rattle.pir_schemes.specs.Schemes.{scheme_byte};
+ghost use Rattle.pir_schemes.specs.Retrievals.{answer_words};
 ghost use Rattle.version_store.specs.Histories.{History, StandsFor};
-ghost use Rattle.server_core.specs.Serving.{setting_of, is_publisher_key, is_reader_key, outcome_of_frame, HasRoom, HasOutcome, Serves, ServedAll, BrokenOff, IsFull, MayPublish, PublishesIf};
+ghost use Rattle.server_core.specs.Serving.{setting_of, is_publisher_key, is_reader_key, outcome_of_frame, words_asked, HasRoom, HasOutcome, Serves, ServedAll, BrokenOff, IsFull, MayPublish, PublishesIf};
 
 use crate::replies::{
-    SHORT_REPLY, part_of_hint, put_answer, put_delta, put_done, put_no_delta, put_part,
-    put_refused, put_stale, put_welcome, room_for_answer, room_for_rows,
+    SHORT_REPLY, part_of_hint, put_answer, put_delta, put_done, put_made_answer, put_no_delta,
+    put_part, put_refused, put_stale, put_welcome, room_for_answer, room_for_answer_frame,
+    room_for_rows,
 };
 use crate::standing::Standing;
 use frame_codec::{Bytes, Bytes32, Frame, Refusal, Words};
@@ -133,7 +136,7 @@ fn serve_delta_ask<K: Kernel>(
 
 /// Answers a query.
 fn serve_query<K: Kernel>(
-    store: &Store<K>,
+    store: &mut Store<K>,
     standing: Standing,
     scheme: u8,
     version: u64,
@@ -141,26 +144,60 @@ fn serve_query<K: Kernel>(
     out: &mut Vec<u8>,
 )
     requires { vec_len out.old + 64 ≤ vec_capacity out.old }
-    ensures { (h : History) → StandsFor store.now h →
-        Serves (setting_of store.now) h standing
-        (Query scheme version words.now) store.now standing out.old.items out.new.items }
+    ensures served { (h : History) → StandsFor store.old h →
+        Serves (setting_of store.old) h standing
+        (Query scheme version words.now) store.new standing out.old.items out.new.items }
+    ensures same { store.new ≡ store.old }
 {
     if !standing.is_welcome() {
-        return put_refused(Refusal::NotWelcome, out);
+        put_refused(Refusal::NotWelcome, out);
+        return;
     }
     let Some(scheme) = Scheme::of_byte(scheme) else {
-        return put_refused(Refusal::BadScheme, out);
+        put_refused(Refusal::BadScheme, out);
+        return;
     };
     if version != store.version() {
-        return put_stale(store, out);
+        put_stale(store, out);
+        return;
     }
     if words.as_slice().len() != store.query_words(scheme) {
-        return put_refused(Refusal::BadQueryLength, out);
+        put_refused(Refusal::BadQueryLength, out);
+        return;
     }
-    let Ok(room) = room_for_answer(store, scheme, out) else {
-        return put_refused(Refusal::Memory, out);
-    };
+    if answer_query(store, scheme, words, out).is_err() {
+        put_refused(Refusal::Memory, out);
+    }
+}
+
+/// Adds the answer to a query of as many words as one has: the one that was made in steps, if it is this query's, else it is
+/// made here. Only refused memory gives an `Err`, and then nothing was added.
+#[tactic(auto, using(crate::proofs::AnswerSizes::size_of_answer))]
+fn answer_query<K: Kernel>(
+    store: &mut Store<K>,
+    scheme: Scheme,
+    words: &Words,
+    out: &mut Vec<u8>,
+) -> Result<(), AllocError>
+    requires { length words.now ≡
+        words_asked (setting_of store.old) scheme store.old.edition.records }
+    ensures same { store.new ≡ store.old }
+    ensures ok { OnOk result (out.new.items ≡ out.old.items ++ encoding
+        (Answer (scheme_byte scheme) store.old.version
+        (answer_words scheme store.old.edition.plan store.old.edition.records words.now))) }
+    ensures fits { OnOk result (IsFrame (Answer (scheme_byte scheme) store.old.version
+        (answer_words scheme store.old.edition.plan store.old.edition.records words.now))) }
+    ensures err { OnErr result (out.new.items ≡ out.old.items) }
+    ensures room { OnErr result (vec_capacity out.old ≤ vec_capacity out.new) }
+{
+    if let Some(answer) = store.take_answer(scheme, words.as_slice()) {
+        room_for_answer_frame(store, scheme, out)?;
+        put_made_answer(store, scheme, answer, out);
+        return Ok(());
+    }
+    let room = room_for_answer(store, scheme, out)?;
     put_answer(store, scheme, room, words, out);
+    Ok(())
 }
 
 /// Edits a record of the draft.

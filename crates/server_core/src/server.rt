@@ -4,12 +4,13 @@ ghost use Rattle.std.specs.Prelude.{◌≡◌, ◌≢◌, ◌⊎◌, ◌≤◌, 
 ghost use Rattle.digit_pack.specs.Layout.{is_layout};
 ghost use Rattle.pir_schemes.specs.Plans.{fits, shape_at};
 ghost use Rattle.version_store.specs.Histories.{History, StandsFor, after_edit, after_append, published, held_appended, held_published};
-ghost use Rattle.server_core.specs.Cores.{session_of, is_open, PublishesNext, FeedsCore, FeedsCoreFirst, IsFirstUnreadBy, OnMemory, OnNoSession, unfinished_in};
+ghost use Rattle.server_core.specs.Cores.{session_of, is_open, IsComingIn, PublishesNext, FeedsCore, FeedsCoreFirst, IsFirstUnreadBy, OnMemory, OnNoSession, unfinished_in};
 ghost use Rattle.server_core.specs.Serving.{setting_of, IsFull, PublishesIf};
 ghost use Rattle.server_core.specs.Sessions as sessions;
 
-use crate::session::Session;
+use crate::session::{Coming, Session};
 use matrix_u32::Kernel;
+use pir_schemes::Scheme;
 use std::alloc::Global;
 use std::collections::BTreeMap;
 use std::marker::Model;
@@ -47,6 +48,10 @@ pub struct ServerCore<K: Kernel> {
     alloc: Global,
     store: Store<K>,
     sessions: BTreeMap<u64, Session>,
+    // The session whose answer is begun, and not made to its end.
+    answering: Option<u64>,
+    // A session that waits for that end, to publish.
+    publishing: Option<u64>,
 }
 
 impl<K: Kernel> Model for ServerCore<K> {
@@ -67,6 +72,8 @@ impl<K: Kernel> ServerCore<K> {
             alloc,
             store,
             sessions: BTreeMap::new(alloc),
+            answering: None,
+            publishing: None,
         }
     }
 
@@ -100,6 +107,8 @@ impl<K: Kernel> ServerCore<K> {
             session_of self.new.sessions other ≡ session_of self.old.sessions other }
         ensures store { self.new.store ≡ self.old.store }
     {
+        self.forget_answer(id);
+        self.forget_publication(id);
         self.sessions.remove(&id).is_some()
     }
 
@@ -143,14 +152,138 @@ impl<K: Kernel> ServerCore<K> {
         }
     }
 
-    /// Whether a piece of the stream of this number's session may be fed now. It may not, and one step is made, when its next frame is
-    /// a query whose answer is long and is not made yet: then the same piece is to come here again. Nor may it when it waits for
-    /// another session's answer that was begun, or is a long query while a publication waits. Contracts see nothing of it: feeding at once gives the same replies,
-    /// in one long turn.
+    /// Whether a piece of the stream of this number's session may be fed now, as far as long answers are concerned. One that is
+    /// made in steps is begun and made here, one step a call, and the feed that follows gives it.
+    ///
+    /// While this answers false the same piece is to come here again, after the other sessions have had their turns. A piece may not be fed
+    ///
+    /// - when its next frame is a query whose answer lacks a step, is not begun while another session's is, or would be
+    ///   begun while a publication waits;
+    /// - when its next frame publishes, and another session's answer is begun, which the publication would give up.
+    ///
+    /// All other pieces may be fed. Contracts see nothing of this: fed at once each piece is answered the same, only that the
+    /// whole answer is made in the feed.
     pub fn prepare(&mut self, id: u64, piece: &[u8]) -> bool
         ensures { self.new ≡ self.old }
     {
+        self.forget_closed();
+        match self.coming(id, piece) {
+            Coming::Short => {
+                self.forget_answer(id);
+                self.forget_publication(id);
+                true
+            }
+            Coming::LongAnswer(scheme) => {
+                self.forget_publication(id);
+                self.prepare_answer(id, piece, scheme)
+            }
+            Coming::Publication => {
+                self.forget_answer(id);
+                self.prepare_publication(id)
+            }
+        }
+    }
+
+    /// What feeding a piece would do first. Without a session nothing takes long.
+    fn coming(&self, id: u64, piece: &[u8]) -> Coming
+        ensures { IsComingIn result (session_of self.now.sessions id) piece.now self.now.store }
+    {
+        match self.sessions.get(&id) {
+            Some(session) => session.coming(&self.store, piece),
+            None => Coming::Short,
+        }
+    }
+
+    /// Whether a session may publish now. If it may not it is remembered, so that no more answers are begun before.
+    fn prepare_publication(&mut self, id: u64) -> bool
+        ensures { self.new ≡ self.old }
+    {
+        if self.answering.is_some() {
+            self.publishing = Some(id);
+            return false;
+        }
+        self.forget_publication(id);
         true
+    }
+
+    /// Makes a step of the answer to a session's next query, and answers whether this may be fed now.
+    fn prepare_answer(&mut self, id: u64, piece: &[u8], scheme: Scheme) -> bool
+        ensures { self.new ≡ self.old }
+    {
+        if self.answering == Some(id) {
+            return self.make_step();
+        }
+        if self.answering.is_some() || self.publishing.is_some() {
+            return false;
+        }
+        // Without memory to begin it the query is fed, and answered or refused at once.
+        if !self.begin_answer(id, piece, scheme) {
+            return true;
+        }
+        self.make_step()
+    }
+
+    /// Begins the answer to a session's next query, and answers whether there was memory for it.
+    fn begin_answer(&mut self, id: u64, piece: &[u8], scheme: Scheme) -> bool
+        ensures { self.new ≡ self.old }
+    {
+        let Some(session) = self.sessions.get(&id) else {
+            return false;
+        };
+        let Some(words) = session.next_words(piece, self.store.query_words(scheme)) else {
+            return false;
+        };
+        if self.store.begin_answer(scheme, words).is_err() {
+            return false;
+        }
+        self.answering = Some(id);
+        true
+    }
+
+    /// Makes a step of the answer that is begun, and answers whether none is left.
+    fn make_step(&mut self) -> bool
+        ensures { self.new ≡ self.old }
+    {
+        let is_made = self.store.step_answer();
+        if is_made {
+            self.answering = None;
+        }
+        is_made
+    }
+
+    /// Gives up the answer of a session that is closed, and waits no more for such a one's publication.
+    fn forget_closed(&mut self)
+        ensures { self.new ≡ self.old }
+    {
+        if let Some(id) = self.answering {
+            if !self.is_open(id) {
+                self.forget_answer(id);
+            }
+        }
+        if let Some(id) = self.publishing {
+            if !self.is_open(id) {
+                self.forget_publication(id);
+            }
+        }
+    }
+
+    /// Gives up the answer that is begun, if it is this session's.
+    fn forget_answer(&mut self, id: u64)
+        ensures { self.new ≡ self.old }
+    {
+        if self.answering == Some(id) {
+            self.store.drop_answer();
+            self.answering = None;
+        }
+    }
+
+    /// Waits no more for a publication, if it is this session's.
+    fn forget_publication(&mut self, id: u64)
+        ensures { self.new ≡ self.old }
+    {
+        if self.publishing == Some(id) {
+            self.publishing = None;
+        }
     }
 
     /// The store.

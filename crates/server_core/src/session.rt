@@ -1,22 +1,34 @@
 //! One session.
 
-ghost use Rattle.std.specs.Prelude.{◌≡◌, ◌≤◌, ◌<◌, ◌⊎◌, ◌↔◌, ◌++◌, length, ℕ, List, [], ◌∷◌, IsTrue, IfOk, IsErr, IsOk, OnErr, OnOk, false};
+ghost use Rattle.std.specs.Prelude.{◌≡◌, ◌≤◌, ◌<◌, ◌⊎◌, ◌↔◌, ◌++◌, length, ℕ, List, [], ◌∷◌, IsTrue, IfOk, IfSome, IsErr, IsOk, OnErr, OnOk, false};
 ghost use Rattle.frame_codec.specs.declared.frame.Frame.TheVariants.{Publish};
 ghost use Rattle.frame_codec.specs.Streams.{unfinished_size};
 ghost use Rattle.frame_codec.specs.Refusals.{refused};
 ghost use Rattle.frame_codec.specs.Frames.{IsFrame, encoding};
 ghost use Rattle.version_store.specs.Histories.{History, StandsFor};
 ghost use Rattle.server_core.specs.Serving.{setting_of, is_closed, IsFull, MayPublish, PublishesIf};
-ghost use Rattle.server_core.specs.Sessions.{new_session, frames_taken, bytes_used, reading_end, HasTaken, Ended, Fed, FedFirst, ServedFrames, ServedOpen, StoppedFrames, IsUnjudged, IsUnread, IsFirstUnread, WouldPublish};
+ghost use Rattle.server_core.specs.Sessions.{new_session, frames_taken, bytes_used, reading_end, HasTaken, Ended, Fed, FedFirst, ServedFrames, ServedOpen, StoppedFrames, IsUnjudged, HasWordsNext, IsComing, IsUnread, IsFirstUnread, WouldAnswer, WouldPublish};
 
 use crate::replies::{SHORT_REPLY, put_refused};
 use crate::serve::{serve_frame, serve_frames};
 use crate::standing::Standing;
-use frame_codec::{Frame, ReadFault, Reader, Refusal, Taken};
+use frame_codec::{Frame, ReadFault, Reader, Refusal, Taken, Words};
 use matrix_u32::Kernel;
+use pir_schemes::Scheme;
 use std::alloc::{AllocError, Global};
 use std::marker::Model;
 use version_store::Store;
+
+/// What feeding a piece of a session's stream would do first.
+#[derive(Clone, Copy, Debug, PartialEq, Eq)]
+pub enum Coming {
+    /// Nothing that takes long.
+    Short,
+    /// It would answer a query in this scheme, whose answer can be made in steps before.
+    LongAnswer(Scheme),
+    /// It would publish, unless memory is refused.
+    Publication,
+}
 
 /// Who a session speaks for, and what has come of its next frame. The stream of an open one has not failed.
 #[derive(Drop)]
@@ -69,6 +81,51 @@ impl Session {
             && self.reader.publishes_next(piece)
             && store.is_marked()
             && store.version() < u64::MAX
+    }
+
+    /// What feeding a piece would do first. This takes no memory.
+    pub fn coming<K: Kernel>(&self, store: &Store<K>, piece: &[u8]) -> Coming
+        ensures { IsComing result self.now piece.now store.now }
+    {
+        if self.publishes_next(store, piece) {
+            return Coming::Publication;
+        }
+        match self.long_answer_next(store, piece) {
+            Some(scheme) => Coming::LongAnswer(scheme),
+            None => Coming::Short,
+        }
+    }
+
+    /// The scheme of the next frame of the stream, which a piece completes, if that is a query to be answered and its answer is
+    /// made in more than one step.
+    fn long_answer_next<K: Kernel>(&self, store: &Store<K>, piece: &[u8]) -> Option<Scheme>
+        ensures { IfSome result (λ scheme. WouldAnswer self.now piece.now store.now scheme) }
+    {
+        if !self.standing.is_welcome() {
+            return None;
+        }
+        let head = self.reader.query_next(piece)?;
+        let scheme = Scheme::of_byte(head.scheme)?;
+        if head.version != store.version() || head.count != store.query_words(scheme) {
+            return None;
+        }
+        if store.has_steps(scheme) {
+            Some(scheme)
+        } else {
+            None
+        }
+    }
+
+    /// The words of the next frame of the stream, which a piece completes, if that is a query of so many words. There is
+    /// none where memory is refused, too.
+    pub fn next_words(&self, piece: &[u8], count: usize) -> Option<Vec<u32>>
+        ensures words { IfSome result (λ words. HasWordsNext self.now piece.now words.items) }
+        ensures count { IfSome result (λ words. length words.items ≡ count) }
+    {
+        match self.reader.next_frame(piece) {
+            Ok(Some(Frame::Query { words, .. })) => words_of_count(words, count),
+            _ => None,
+        }
     }
 
     /// Takes the next piece of the stream, and adds the replies to the frames that are whole now. A closed
@@ -140,6 +197,17 @@ impl Session {
         self.standing = standing;
         Ok(count)
     }
+}
+
+/// These words, if they are so many.
+fn words_of_count(words: Words, count: usize) -> Option<Vec<u32>>
+    ensures words { IfSome result (λ found. found.items ≡ words) }
+    ensures count { IfSome result (λ found. length found.items ≡ count) }
+{
+    if words.as_slice().len() != count {
+        return None;
+    }
+    Some(words.into_vec())
 }
 
 /// How many bytes of a piece, which has so many, are used up: those that were read, and after a fault all.
