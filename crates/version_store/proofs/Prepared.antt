@@ -1,5 +1,5 @@
 -- The answer that is made in steps.
-use Rattle.std.proofs.Common.{◌≡◌, ℕ, ◌*◌, ◌≤◌, arith, ap, sym, subst, refl, ◌∙◌, List, length, true, false, Bool}
+use Rattle.std.proofs.Common.{◌≡◌, ℕ, ◌*◌, arith, ap, sym, subst, ◌∙◌, List, length, true, false, Bool}
 use Rattle.std.proofs.lemmas.List.{take_all}
 use Rattle.std.specs.declared.vec.Vec.{Vec}
 use Rattle.std.specs.declared.alloc.Global.{Global}
@@ -17,7 +17,6 @@ use Rattle.pir_schemes.specs.Plans.{digits_at, second_public}
 use Rattle.pir_schemes.specs.Retrievals.{server_hint, answer_words}
 use Rattle.version_store.specs.Editions.{Records, version_shape}
 use Rattle.version_store.specs.Preparing.{IsMakingFor}
-use Rattle.version_store.specs.declared.preparing.Making.{Making}
 use Rattle.version_store.specs.declared.preparing.Making.TheVariants.{Simple, Double}
 use Rattle.version_store.proofs.DoubleLemmas.{server_rows}
 

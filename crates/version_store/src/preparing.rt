@@ -97,9 +97,17 @@ impl Preparation {
         ensures { (e : Records) → IsMakingFor e self.query.items self.making →
             GivesAnswer e scheme query.now result }
     {
-        if !are_same(&self.query, query) {
-            return Err(Some(self));
+        if are_same(&self.query, query) {
+            return self.into_whole(scheme);
         }
+        Err(Some(self))
+    }
+
+    /// The answer to the query that was begun, if it is whole and of this scheme; else what was begun.
+    fn into_whole(self, scheme: Scheme) -> Result<Vec<u32>, Option<Preparation>>
+        ensures { (e : Records) → IsMakingFor e self.query.items self.making →
+            GivesAnswer e scheme self.query.items result }
+    {
         let Preparation { query, making } = self;
         match (scheme, making) {
             (Scheme::Simple, Making::Simple(made, out)) => {

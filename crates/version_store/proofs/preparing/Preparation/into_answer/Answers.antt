@@ -1,20 +1,8 @@
-use Rattle.std.proofs.Common.{◌≡◌, ℕ, List, arith, ap, sym, subst, ◌∙◌}
-use Rattle.pir_schemes.specs.declared.scheme.Scheme.{Scheme}
-use Rattle.pir_schemes.specs.Retrievals.{answer_words}
-use Rattle.version_store.specs.Preparing.{IsMakingFor}
-use Rattle.version_store.proofs.Prepared.{simple_whole, double_whole}
+use Rattle.std.proofs.Common.{◌≡◌, ℕ, List, sym, subst, ◌∙◌}
+use Rattle.version_store.specs.Preparing.{GivesAnswer}
 use Rattle.version_store.proofs.preparing.Preparation.into_answer.Goals as goal
 
-pub returns-then-made-len : goal.returns-then-made-len
-returns-then-made-len c e h =
-    let same : c.args.self.query.items ≡ c.args.query.now = sym c.deref.ensures.value ∙ c.if-not-are_same.ensures in
-    simple_whole e c.args.self.query.items c.args.query.now c.in-Simple-Simple.made c.in-Simple-Simple.out
-    (subst (IsMakingFor e c.args.self.query.items) c.in-Simple-Simple.is-1 h) (c.if-made-len.true ∙ c.len.ensures ∙ c.in-Simple-Simple.out.ok.0) same
-    ∙ ap (λ (s : Scheme). answer_words s e.plan e.records c.args.query.now) (sym c.in-Simple-Simple.is-0)
-
-pub returns-then-whole : goal.returns-then-whole
-returns-then-whole c e h =
-    let same : c.args.self.query.items ≡ c.args.query.now = sym c.deref.ensures.value ∙ c.if-not-are_same.ensures in
-    double_whole e c.args.self.query.items c.args.query.now c.in-Double-Double.whole c.in-Double-Double.steps c.into_words.result.items
-    (subst (IsMakingFor e c.args.self.query.items) c.in-Double-Double.is-1 h) c.if-whole.true same c.into_words.ensures
-    ∙ ap (λ (s : Scheme). answer_words s e.plan e.records c.args.query.now) (sym c.in-Double-Double.is-0)
+pub returns-then-are_same : goal.returns-then-are_same
+returns-then-are_same c e h =
+    let same : c.args.self.query.items ≡ c.args.query.now = sym c.deref.ensures.value ∙ c.are_same.ensures.0 c.if-are_same.true in
+    subst (λ (q : List ℕ). GivesAnswer e c.args.scheme q c.into_whole.result) same (c.into_whole.ensures e h)
