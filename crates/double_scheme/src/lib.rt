@@ -32,4 +32,4 @@ pub use hints::setup;
 pub use queries::{QueryRoom, query};
 pub use records::recover;
 pub use simple_scheme::RecoverError;
-pub use steps::{AnswerSteps, STEP, put_rows, rows_in_step};
+pub use steps::{AnswerSteps, STEP_DIGITS, put_rows, rows_in_step};

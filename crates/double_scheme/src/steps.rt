@@ -13,9 +13,9 @@ use digit_pack::{DigitStore, Layout, split_count};
 use matrix_u32::{Kernel, Matrix};
 use std::alloc::{AllocError, Global};
 
-/// How many digits a step reads at most, but for one whole row of them: 2^25, which a processor of today multiplies in less than 10
+/// How many digits a step reads at most, unless one row has more: 2^25, which a processor of today multiplies in less than 10
 /// milliseconds, also by two words each.
-pub const STEP: usize = 33_554_432;
+pub const STEP_DIGITS: usize = 33_554_432;
 
 /// How far an answer is.
 #[derive(Clone, Copy)]
@@ -46,7 +46,7 @@ pub fn rows_in_step(cols: usize, left: usize) -> usize
     ensures some { 0 < result }
     ensures within { result ≤ left }
 {
-    left.min(STEP / cols.max(1)).max(1)
+    left.min(STEP_DIGITS / cols.max(1)).max(1)
 }
 
 /// Writes the words of some more rows of digits times x, after those that are there.

@@ -5,6 +5,8 @@ use Rattle.service_core.specs.Calls.{Call, Read, ReadLater, ReadFails, Write, Wr
 use Rattle.service_core.specs.Links.{LinkState}
 use Rattle.service_core.specs.Turns.{ReadsOnce, ServesOnce, Publishes, WritesOnce, TakesTurn, StopsAtFrame}
 use Rattle.service_core.specs.Saving.{Notes, saved_after, WritesOnlySaved, SavesBeforeWriting, TurnsSaveBeforeWriting}
+use Rattle.service_core.specs.declared.turns.Served.{Served}
+use Rattle.service_core.specs.declared.turns.Served.TheVariants.{Done, PutOff}
 use Rattle.service_core.specs.declared.turns.Fault.{Fault}
 use Rattle.service_core.specs.declared.turns.Fault.TheVariants as fault
 
@@ -85,14 +87,14 @@ back_leaves : (version saved was now : ℕ) (a b : List Call) → Leaves version
     Leaves version saved now b
 back_leaves version saved was now a b l n e = then_ version saved (was + 1) now a b (TakeBack (was + 1)) l n (tt, omega (arith, e))
 
--- a frame that is served
-serves_leave : (version saved id now : ℕ) (old new : LinkState) (before after : Core) (a b : List Call) →
-    Leaves version saved before.store.version a → ServesOnce Notes id now old before a (Ok tt) new after b
+-- a frame that is served, or put off
+serves_leave : (version saved id now : ℕ) (old new : LinkState) (before after : Core) (served : Served) (a b : List Call) →
+    Leaves version saved before.store.version a → ServesOnce Notes id now old before a (Ok served) new after b
     → Leaves version saved after.store.version b
-serves_leave version saved id now old new before after a b l (inl nothing) =
+serves_leave version saved id now old new before after Done a b l (inl nothing) =
     left_of version saved before.store.version after.store.version b (same version saved before.store.version a b l nothing.3)
     (ap (λ (c : Core). c.store.version) (sym nothing.2))
-serves_leave version saved id now old new before after a b l (inr some) = elim some.1 [
+serves_leave version saved id now old new before after Done a b l (inr some) = elim some.1 [
   | inl plain ↦ left_of version saved before.store.version after.store.version b (same version saved before.store.version a b l plain.no_call) (sym plain.version_is)
   | inr p ↦
       let m = appends_leave version saved (Ok tt) id now old new before after a b l p in
@@ -102,6 +104,9 @@ serves_leave version saved id now old new before after a b l (inr some) = elim s
         | inr back ↦ back_leaves version saved before.store.version after.store.version p.appended_by b m back.1 back.0
       ]
 ]
+serves_leave version saved id now old new before after PutOff a b l nothing =
+    left_of version saved before.store.version after.store.version b (same version saved before.store.version a b l nothing.3)
+    (ap (λ (c : Core). c.store.version) (sym nothing.2))
 
 -- what is written is of the version that is there
 writes_leave : (version saved now : ℕ) (old new : LinkState) (answer : Result (Unit {0}) Fault) (a b : List Call) → Leaves version saved version a →
@@ -114,15 +119,16 @@ writes_leave version saved now old new (Err fault.Read) a b l w = absurd w
 writes_leave version saved now old new (Err fault.Memory) a b l w = absurd w
 writes_leave version saved now old new (Err fault.Save) a b l w = absurd w
 
-given : (before after : ℕ) (answer : Result (Unit {0}) Fault) (calls : List Call) → Leaves after before after calls → SavesBeforeWriting before after answer calls
+given : (before after : ℕ) (answer : Result Served Fault) (calls : List Call) → Leaves after before after calls → SavesBeforeWriting before after answer calls
 given before after answer calls l = record { writes = l.writes; saved = λ n. l.left_is }
 
-takes : (id now : ℕ) (old new : LinkState) (before after : Core) (answer : Result (Unit {0}) Fault) (calls : List Call) →
-    TakesTurn Notes id now old before [] answer new after calls → SavesBeforeWriting before.store.version after.store.version answer calls
-takes id now old new before after answer calls t =
+takes : (id now : ℕ) (old new : LinkState) (before after : Core) (served : Served) (answer : Result (Unit {0}) Fault) (said : Result Served Fault)
+    (calls : List Call) → TakesTurn Notes id now old before [] served answer new after calls
+    → SavesBeforeWriting before.store.version after.store.version said calls
+takes id now old new before after served answer said calls t =
     let r = reads_leave after.store.version before.store.version old t.filled t.read_by t.reads in
-    let s = serves_leave after.store.version before.store.version id now t.filled t.answered before after t.read_by t.served_by r t.serves in
-    given before.store.version after.store.version answer calls
+    let s = serves_leave after.store.version before.store.version id now t.filled t.answered before after served t.read_by t.served_by r t.serves in
+    given before.store.version after.store.version said calls
     (writes_leave after.store.version before.store.version now t.answered new answer t.served_by calls s t.writes)
 
 -- memory was refused to the frame at hand
@@ -167,7 +173,7 @@ stops_all id now old new before after calls t =
     ]
 
 -- a read after which no frame is served
-only_read : (before after : Core) (answer : Result (Unit {0}) Fault) (calls : List Call) (call : Call) →
+only_read : (before after : Core) (answer : Result Served Fault) (calls : List Call) (call : Call) →
     Adds after.store.version before.store.version call before.store.version → Notes [] call calls → after ≡ before
     → SavesBeforeWriting before.store.version after.store.version answer calls
 only_read before after answer calls call a n e =
@@ -176,10 +182,11 @@ only_read before after answer calls call a n e =
     given w v answer calls (left_of v w w v calls (then_ v w w w [] calls call (none v w) n a) (ap (λ (c : Core). c.store.version) (sym e)))
 
 pub turns_save_before_writing : TurnsSaveBeforeWriting
-turns_save_before_writing id now old new before after (Ok done) calls t = takes id now old new before after (Ok tt) calls t
+turns_save_before_writing id now old new before after (Ok served) calls t = takes id now old new before after served (Ok tt) (Ok served) calls t
 turns_save_before_writing id now old new before after (Err fault.Read) calls t =
     only_read before after (Err fault.Read) calls ReadFails (tt, refl) t.0.1 t.1
-turns_save_before_writing id now old new before after (Err fault.Write) calls (inl t) = takes id now old new before after (Err fault.Write) calls t
+turns_save_before_writing id now old new before after (Err fault.Write) calls (inl t) =
+    takes id now old new before after t.0 (Err fault.Write) (Err fault.Write) calls t.1
 turns_save_before_writing id now old new before after (Err fault.Write) calls (inr t) = stops_for_append id now old new before after calls t
 turns_save_before_writing id now old new before after (Err fault.Memory) calls (inl t) =
     only_read before after (Err fault.Memory) calls (Read 65536 t.0.1.0) (tt, refl) t.0.1.1 t.1

@@ -4,6 +4,7 @@ use Rattle.server_core.specs.Cores.{Core}
 use Rattle.service_core.specs.Calls.{Call, Write, Append, TakeBack}
 use Rattle.service_core.specs.Links.{LinkState}
 use Rattle.service_core.specs.Turns.{IsTurn}
+use Rattle.service_core.specs.declared.turns.Served.{Served}
 use Rattle.service_core.specs.declared.turns.Fault.{Fault}
 use Rattle.service_core.specs.declared.turns.Fault.TheVariants as fault
 
@@ -28,11 +29,11 @@ WritesOnlySaved version saved (_ ∷ calls) = WritesOnlySaved version saved call
 
 -- What a turn's calls leave: bytes are written only while the version that is served is there after a crash, so that no write comes
 -- between an append and the publication or the taking back of it; and that version is there when the turn is over, unless none may follow.
-pub record SavesBeforeWriting (before after : ℕ) (answer : Result (Unit {0}) Fault) (calls : List Call) : Type 0 where
+pub record SavesBeforeWriting (before after : ℕ) (answer : Result Served Fault) (calls : List Call) : Type 0 where
   pub writes : WritesOnlySaved after before calls
   pub saved : answer ≢ Err fault.Save → saved_after before calls ≡ after
 
 -- each turn writes only what is there after a crash
 abbrev pub TurnsSaveBeforeWriting : Type 0
-TurnsSaveBeforeWriting = (id now : ℕ) (old new : LinkState) (before after : Core) (answer : Result (Unit {0}) Fault) (calls : List Call) →
+TurnsSaveBeforeWriting = (id now : ℕ) (old new : LinkState) (before after : Core) (answer : Result Served Fault) (calls : List Call) →
     IsTurn Notes id now old before [] answer new after calls → SavesBeforeWriting before.store.version after.store.version answer calls

@@ -12,6 +12,8 @@ use Rattle.service_core.specs.Calls.{Call, Read, ReadLater, ReadFails, Write, Wr
 use Rattle.service_core.specs.Sizes.{most_owed}
 use Rattle.service_core.specs.Links.{LinkState, MayRead, MayServe, MovesTo, Answers, after_receipt, after_end, after_write, after_frame}
 use Rattle.service_core.specs.Runs.{DoesToCore, Serves, OthersStay}
+use Rattle.service_core.specs.declared.turns.Served.{Served}
+use Rattle.service_core.specs.declared.turns.Served.TheVariants.{Done, PutOff}
 use Rattle.service_core.specs.declared.turns.Fault.{Fault}
 use Rattle.service_core.specs.declared.turns.Fault.TheVariants as fault
 
@@ -114,11 +116,13 @@ pub record FailsToAppend {C : Type 0} (does : C → Call → C → Type 0) (call
   pub core_is : after ≡ before
 
 -- One frame at most, where one may be served. If it publishes, the publication is appended before: if nothing of that is left, nothing
--- is served, and if a part of it may be left, or it could not be taken back, nothing may be written any more.
-abbrev pub ServesOnce : {C : Type 0} → (C → Call → C → Type 0) → ℕ → ℕ → LinkState → Core → C → Result (Unit {0}) Fault → LinkState → Core → C → Type 0
-ServesOnce does id now old before a (Ok done) new after b =
+-- is served, and if a part of it may be left, or it could not be taken back, nothing may be written any more. A frame that is put off
+-- changes nothing, and no call is made for it.
+abbrev pub ServesOnce : {C : Type 0} → (C → Call → C → Type 0) → ℕ → ℕ → LinkState → Core → C → Result Served Fault → LinkState → Core → C → Type 0
+ServesOnce does id now old before a (Ok Done) new after b =
     ((MayServe old → ⊥) × (new ≡ old) × (after ≡ before) × (b ≡ a))
     ⊎ (MayServe old × (ServesPlain id now old before a (Ok tt) new after b ⊎ Publishes does id now old before a (Ok tt) new after b))
+ServesOnce does id now old before a (Ok PutOff) new after b = MayServe old × (new ≡ old) × (after ≡ before) × (b ≡ a)
 ServesOnce does id now old before a (Err fault.Memory) new after b =
     MayServe old × (ServesPlain id now old before a (Err fault.Memory) new after b ⊎ Publishes does id now old before a (Err fault.Memory) new after b)
 ServesOnce does id now old before a (Err fault.Write) new after b = MayServe old × FailsToAppend does AppendUndone id old before a new after b
@@ -135,14 +139,14 @@ WritesOnce does now old a (Err fault.Write) new b = (0 < length old.owed) × doe
 WritesOnce does now old a (Err _) new b = ⊥
 
 -- a turn that came to its end, or was stopped by a write that failed
-pub record TakesTurn {C : Type 0} (does : C → Call → C → Type 0) (id now : ℕ) (old : LinkState) (before : Core) (a : C) (answer : Result (Unit {0}) Fault)
-    (new : LinkState) (after : Core) (b : C) : Type 0 where
+pub record TakesTurn {C : Type 0} (does : C → Call → C → Type 0) (id now : ℕ) (old : LinkState) (before : Core) (a : C) (served : Served)
+    (answer : Result (Unit {0}) Fault) (new : LinkState) (after : Core) (b : C) : Type 0 where
   pub filled : LinkState
   pub answered : LinkState
   pub read_by : C
   pub served_by : C
   pub reads : ReadsOnce does old a (Ok tt) filled read_by
-  pub serves : ServesOnce does id now filled before read_by (Ok tt) answered after served_by
+  pub serves : ServesOnce does id now filled before read_by (Ok served) answered after served_by
   pub writes : WritesOnce does now answered served_by answer new b
 
 -- one that the frame at hand stopped
@@ -154,11 +158,12 @@ pub record StopsAtFrame {C : Type 0} (does : C → Call → C → Type 0) (id no
   pub serves : ServesOnce does id now filled before read_by (Err e) new after b
 
 -- A turn of a connection: one read at most, one frame at most, whose publication is appended before it is made, and one write at most.
-abbrev pub IsTurn : {C : Type 0} → (C → Call → C → Type 0) → ℕ → ℕ → LinkState → Core → C → Result (Unit {0}) Fault → LinkState → Core → C → Type 0
-IsTurn does id now old before a (Ok done) new after b = TakesTurn does id now old before a (Ok tt) new after b
+abbrev pub IsTurn : {C : Type 0} → (C → Call → C → Type 0) → ℕ → ℕ → LinkState → Core → C → Result Served Fault → LinkState → Core → C → Type 0
+IsTurn does id now old before a (Ok served) new after b = TakesTurn does id now old before a served (Ok tt) new after b
 IsTurn does id now old before a (Err fault.Read) new after b = ReadsOnce does old a (Err fault.Read) new b × (after ≡ before)
 IsTurn does id now old before a (Err fault.Write) new after b =
-    TakesTurn does id now old before a (Err fault.Write) new after b ⊎ StopsAtFrame does id now old before a fault.Write new after b
+    ((served : Served) × TakesTurn does id now old before a served (Err fault.Write) new after b)
+    ⊎ StopsAtFrame does id now old before a fault.Write new after b
 IsTurn does id now old before a (Err fault.Memory) new after b =
     (ReadsOnce does old a (Err fault.Memory) new b × (after ≡ before)) ⊎ StopsAtFrame does id now old before a fault.Memory new after b
 IsTurn does id now old before a (Err fault.Save) new after b = StopsAtFrame does id now old before a fault.Save new after b

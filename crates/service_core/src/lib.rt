@@ -2,7 +2,8 @@
 //! bytes owed and not yet written, and the moment of the last progress; and the turn of a connection.
 //!
 //! A connection is one [`Link`], and a call has no other one at hand: so no connection can change what is kept for
-//! another. A [`turn`] reads once at most, serves one frame at most, and writes once at most. A publication is appended to the
+//! another. A [`turn`] reads once at most, serves one frame at most, and writes once at most. A frame that may not be served yet
+//! is put off, and its bytes stay. A publication is appended to the
 //! log of publications before it is made, and taken back if it is not made then. No byte is written while the version
 //! that is served is not the one that is there after a crash.
 #![tactic(auto)]
@@ -15,4 +16,4 @@ mod turns;
 
 pub use link::{Link, PIECE_LEN};
 pub use outside::{AppendFailed, Outside, SaveFailed, Stop};
-pub use turns::{Fault, turn};
+pub use turns::{Fault, Served, turn};

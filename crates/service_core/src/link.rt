@@ -149,6 +149,14 @@ impl Link {
         core.publishes_next(id, self.unserved.as_slice())
     }
 
+    /// Whether the next frame of what was received may be served now, to the session of a number. While it may not, each call does a
+    /// part of what is to be done before: the same bytes are to come here again.
+    pub fn prepare_next<K: Kernel>(&self, core: &mut ServerCore<K>, id: u64) -> bool
+        ensures { core.new ≡ core.old }
+    {
+        core.prepare(id, self.unserved.as_slice())
+    }
+
     /// Serves one frame at most of what was received, to the session of a number.
     ///
     /// # Errors

@@ -13,6 +13,15 @@ use matrix_u32::Kernel;
 use server_core::ServerCore;
 use thiserror::Error;
 
+/// What became of the frame at hand in a turn.
+#[derive(Clone, Copy, Debug, PartialEq, Eq)]
+pub enum Served {
+    /// It was served, or none may be.
+    Done,
+    /// It was put off: nothing was served, and its bytes are still there for the next turn.
+    PutOff,
+}
+
 /// Why a turn ended early.
 #[derive(Clone, Copy, Debug, PartialEq, Eq, Error)]
 pub enum Fault {
@@ -115,14 +124,15 @@ fn serve_appended<K: Kernel, O: Outside<K>>(
     served
 }
 
-/// Serves one frame at most, where one may be served. If it publishes, the publication is appended before.
+/// Serves one frame at most, where one may be served and it is not put off. If it publishes, the publication is appended
+/// before.
 fn serve_once<K: Kernel, O: Outside<K>>(
     link: &mut Link,
     core: &mut ServerCore<K>,
     outside: &mut O,
     id: u64,
     now: u64,
-) -> Result<(), Fault>
+) -> Result<Served, Fault>
     requires saved { O.saved outside.old ≡ core.old.store.version }
     requires there { session_of core.old.sessions id ≢ None }
     ensures serves { ServesOnce O.does id now link.old core.old outside.old result link.new core.new
@@ -131,13 +141,22 @@ fn serve_once<K: Kernel, O: Outside<K>>(
     ensures others { OthersStay id core.old core.new }
 {
     if !link.may_serve() {
-        return Ok(());
+        return Ok(Served::Done);
+    }
+    if !link.prepare_next(core, id) {
+        return Ok(Served::PutOff);
     }
     if !link.publishes_next(core, id) {
-        return serve_frame(link, core, id, now);
+        return match serve_frame(link, core, id, now) {
+            Ok(()) => Ok(Served::Done),
+            Err(fault) => Err(fault),
+        };
     }
     match outside.append(core.store()) {
-        Ok(()) => serve_appended(link, core, outside, id, now),
+        Ok(()) => match serve_appended(link, core, outside, id, now) {
+            Ok(()) => Ok(Served::Done),
+            Err(fault) => Err(fault),
+        },
         Err(AppendFailed::Undone) => Err(Fault::Write),
         Err(AppendFailed::Lost) => Err(Fault::Save),
     }
@@ -169,7 +188,9 @@ fn write_once<K: Kernel, O: Outside<K>>(
 
 /// A turn of a connection, whose session has this number, at a moment in milliseconds: one read at most, one frame at
 /// most, and one write at most. If the frame publishes, the publication is appended before, and taken back if it is not
-/// made then, since memory was refused to it. `buffer` has [`crate::PIECE_LEN`] bytes.
+/// made then, since memory was refused to it. A frame that may not be served yet is put off: nothing is appended or
+/// served, and its connection is to have another turn without waiting for its socket. `buffer` has [`crate::PIECE_LEN`]
+/// bytes.
 ///
 /// # Errors
 ///
@@ -185,7 +206,7 @@ pub fn turn<K: Kernel, O: Outside<K>>(
     id: u64,
     now: u64,
     buffer: &mut [u8],
-) -> Result<(), Fault>
+) -> Result<Served, Fault>
     requires saved { O.saved outside.old ≡ core.old.store.version }
     requires there { session_of core.old.sessions id ≢ None }
     requires room { length buffer.old ≡ 65536 }
@@ -198,12 +219,12 @@ pub fn turn<K: Kernel, O: Outside<K>>(
         Ok(()) => {}
         Err(fault) => return Err(fault),
     }
-    match serve_once(link, core, outside, id, now) {
-        Ok(()) => {}
+    let served = match serve_once(link, core, outside, id, now) {
+        Ok(served) => served,
         Err(fault) => return Err(fault),
-    }
+    };
     match write_once(link, core, outside, now) {
-        Ok(()) => Ok(()),
+        Ok(()) => Ok(served),
         Err(fault) => Err(fault),
     }
 }

@@ -5,7 +5,7 @@ use Rattle.service_loop.specs.Holding.{held_by}
 use Rattle.service_core.specs.Runs.{OthersStay, DoesToCore, Closes}
 use Rattle.service_loop.specs.declared.connection.Connection.{Connection}
 use Rattle.service_loop.specs.declared.connection.Outcome.{Outcome}
-use Rattle.service_loop.specs.declared.connection.Outcome.TheVariants.{Busy, Waits, Over, Closed}
+use Rattle.service_loop.specs.declared.connection.Outcome.TheVariants.{Busy, PutOff, Waits, Over, Closed}
 use Rattle.service_loop.specs.Judging.{GoesOn}
 use Rattle.service_loop.specs.Places.{connection_at, OthersStayOrGo}
 use Rattle.service_loop.specs.Sessions.{Settles, SessionsStayOrGo, AreNoted}
@@ -15,6 +15,7 @@ use Rattle.service_loop.proofs.Noted.{left_noted, back_noted, settled_noted}
 -- a turn's end as it goes on, or as it is over
 pub either_end : (P : Type 0) (o : Outcome) → (GoesOn o → P) → ((GoesOn o → ⊥) → P) → P
 either_end P Busy first second = first tt
+either_end P PutOff first second = first tt
 either_end P Waits first second = first tt
 either_end P Over first second = second (λ h. h)
 either_end P (Closed why) first second = second (λ h. h)

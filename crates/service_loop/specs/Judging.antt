@@ -3,13 +3,20 @@ use Rattle.std.specs.Prelude.{◌≡◌, ◌≤◌, ◌+◌, ◌-◌, ◌^◌, �
 use Rattle.service_core.specs.Links.{MayServe}
 use Rattle.service_loop.specs.declared.connection.Connection.{Connection}
 use Rattle.service_loop.specs.declared.connection.Outcome.{Outcome}
-use Rattle.service_loop.specs.declared.connection.Outcome.TheVariants.{Busy, Waits}
+use Rattle.service_loop.specs.declared.connection.Outcome.TheVariants.{Busy, PutOff, Waits}
 
 -- a turn after which a connection would go on
 abbrev pub GoesOn : Outcome → Type 0
 GoesOn Busy = Unit {0}
+GoesOn PutOff = Unit {0}
 GoesOn Waits = Unit {0}
 GoesOn _ = ⊥
+
+-- a turn after which there is more to do at once: a frame that was put off is tried again without waiting for the socket
+abbrev pub HasMore : Outcome → Type 0
+HasMore Busy = Unit {0}
+HasMore PutOff = Unit {0}
+HasMore _ = ⊥
 
 -- no frame of a connection that is not over may be served, and there was no progress for so many milliseconds
 pub record IsIdle (c : Connection) (now idle : ℕ) : Type 0 where

@@ -4,5 +4,6 @@ pub mod Lines
 pub mod Places
 pub mod Sessions
 pub mod Stopping
+pub mod Timing
 pub mod Visiting
 pub mod Watching

@@ -4,7 +4,7 @@ ghost use Rattle.std.specs.Prelude.{◌≡◌, ◌≢◌, ◌↔◌, None, IfOk,
 ghost use Rattle.server_core.specs.Cores.{session_of};
 ghost use Rattle.service_core.specs.Runs.{OthersStay};
 ghost use Rattle.service_loop.specs.Holding.{held_by};
-ghost use Rattle.service_loop.specs.Judging.{GoesOn, IsIdle, due_of};
+ghost use Rattle.service_loop.specs.Judging.{GoesOn, HasMore, IsIdle, due_of};
 ghost use Rattle.service_loop.specs.Stopping.{EndsWriting, IsQuiet};
 
 use crate::device::{Device, Saver};
@@ -12,7 +12,7 @@ use crate::kept::Kept;
 use crate::report::{Closing, RunFault};
 use crate::watch::Watch;
 use mio::net::TcpStream;
-use service_core::{Fault, Link, PIECE_LEN, turn};
+use service_core::{Fault, Link, PIECE_LEN, Served, turn};
 use std::io::{ErrorKind, Read};
 use std::net::{Shutdown, SocketAddr};
 
@@ -51,6 +51,8 @@ pub struct Connection {
 pub enum Outcome {
     /// There is more to do at once.
     Busy,
+    /// Its frame was put off: there is more to do at once, and the frame goes on waiting.
+    PutOff,
     /// It waits for its socket.
     Waits,
     /// The connection came to its end.
@@ -65,8 +67,18 @@ impl Outcome {
         ensures { IsTrue result ↔ GoesOn self }
     {
         match self {
-            Outcome::Busy | Outcome::Waits => true,
+            Outcome::Busy | Outcome::PutOff | Outcome::Waits => true,
             Outcome::Over | Outcome::Closed(_) => false,
+        }
+    }
+
+    /// Whether there is more to do at once.
+    pub fn has_more(self) -> bool
+        ensures { IsTrue result ↔ HasMore self }
+    {
+        match self {
+            Outcome::Busy | Outcome::PutOff => true,
+            Outcome::Waits | Outcome::Over | Outcome::Closed(_) => false,
         }
     }
 }
@@ -119,8 +131,8 @@ impl Connection {
         }
     }
 
-    /// Makes a turn: one read at most, one frame, and one write, or, where all was written, a read that is forgotten. No
-    /// other connection's session changes.
+    /// Makes a turn: one read at most, one frame, unless it is put off, and one write, or, where all was written, a read that is
+    /// forgotten. No other connection's session changes.
     ///
     /// # Errors
     ///
@@ -148,7 +160,8 @@ impl Connection {
         }
         let (kept, ended) = self.serve(rt, now, kept, buffer)?;
         match ended {
-            Ok(()) => Ok((kept, self.next(now))),
+            Ok(Served::Done) => Ok((kept, self.next(now))),
+            Ok(Served::PutOff) => Ok((kept, Outcome::PutOff)),
             Err(fault) => Ok((kept, Outcome::Closed(Closing::Turn(fault)))),
         }
     }
@@ -217,7 +230,7 @@ impl Connection {
         now: u64,
         kept: Kept<S>,
         buffer: &mut [u8],
-    ) -> Result<(Kept<S>, Result<(), Fault>), RunFault>
+    ) -> Result<(Kept<S>, Result<Served, Fault>), RunFault>
         requires there { session_of kept.core.sessions self.old.id ≢ None }
         requires room { length buffer.old ≡ 65536 }
         ensures id { self.new.id ≡ self.old.id }
@@ -252,13 +265,13 @@ impl Connection {
         self.readable = readable;
         self.writable = writable;
         match ended {
-            Ok(()) => Ok((
+            Ok(served) => Ok((
                 Kept {
                     core,
                     saver,
                     counters,
                 },
-                Ok(()),
+                Ok(served),
             )),
             Err(Fault::Save) => Err(RunFault::Write),
             Err(fault) => Ok((

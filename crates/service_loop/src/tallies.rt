@@ -3,6 +3,7 @@
 ghost use Rattle.std.specs.Prelude.{◌≡◌, ◌≢◌, ◌++◌, ◌∷◌, ◌-◌, [], ℕ, List, None, IfSome};
 ghost use Rattle.service_watch.specs.Counts.{Amount, IsTally, slot_of};
 ghost use Rattle.service_watch.specs.Durations.{IsSpread};
+ghost use Rattle.service_loop.specs.Timing.{time_of};
 
 use service_watch::{Counted, Counters, Histogram, ReplyHead};
 
@@ -18,6 +19,19 @@ pub struct TurnTimes {
     pub began: u64,
     /// When it ended.
     pub ended: u64,
+    /// How many microseconds the turns before it took that put its frame off.
+    pub spent: u64,
+}
+
+impl TurnTimes {
+    /// How many microseconds it took, with the turns before it that put its frame off.
+    pub fn took(self) -> u64
+        ensures { result ≡ time_of self }
+    {
+        self.ended
+            .saturating_sub(self.began)
+            .saturating_add(self.spent)
+    }
 }
 
 /// What was counted, and how long things took.
@@ -25,7 +39,7 @@ pub struct TurnTimes {
 pub struct Tallies {
     /// What was counted of connections.
     pub counts: Counters,
-    /// How long the turns took in which a query was answered.
+    /// How long the turns took in which a query was answered, each with those before that put it off.
     pub answered: Histogram,
     /// How long frames waited for the turn in which their reply was made.
     pub waited: Histogram,
@@ -67,7 +81,8 @@ impl Tallies {
         self.counts.add(what, amount);
     }
 
-    /// Notes the reply of a turn, if it made one: how long its frame had waited, and, if it is an answer, how long the turn took.
+    /// Notes the reply of a turn, if it made one: how long its frame had waited, with the turns that put it off, and, if it is an
+    /// answer, how long the turn took, with those.
     pub fn note_turn(&mut self, turn: TurnTimes, reply: Option<ReplyHead>)
         ensures none { reply ≡ None → self.new ≡ self.old }
         ensures waited { IfSome reply (λ r. (times : List ℕ) →
@@ -81,8 +96,7 @@ impl Tallies {
         self.counts.add(Counted::Reply(kind, first), 1);
         let waited = turn.began.saturating_sub(turn.waits_since);
         self.waited.observe(waited);
-        let took = turn.ended.saturating_sub(turn.began);
-        note_answer(&mut self.answered, kind, took);
+        note_answer(&mut self.answered, kind, turn.took());
     }
 
     /// Notes a publication that a turn made, at a moment in seconds since 1970 began.

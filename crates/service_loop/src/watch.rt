@@ -1,8 +1,12 @@
 //! What is seen of the streams of connections.
 
-ghost use Rattle.std.specs.Prelude.{◌≡◌, ◌-◌, length};
+ghost use Rattle.std.specs.Prelude.{◌≡◌, ◌-◌, None, Some, length, unwrap_or};
+ghost use Rattle.service_loop.specs.Judging.{HasMore};
+ghost use Rattle.service_loop.specs.Timing.{time_of};
 ghost use Rattle.service_loop.specs.Watching.{seen_reply};
 
+use crate::connection::Outcome;
+use crate::tallies::TurnTimes;
 use service_watch::{FrameScan, ReplyHead, head_of_reply};
 
 /// What was seen of a connection's streams.
@@ -16,8 +20,11 @@ pub struct Watch {
     pub scan: FrameScan,
     /// How many microseconds the append of a publication took in this turn; 0 if there was none.
     pub saved: u64,
-    /// When its last turn ended, in microseconds since the start, if that left more to do.
+    /// When its last turn ended, in microseconds since the start, if that left more to do. If the frame of that turn was put off, this is
+    /// when that frame began to wait.
     pub left_more: Option<u64>,
+    /// How many microseconds the turns took that have put its frame off.
+    pub spent: u64,
 }
 
 impl Watch {
@@ -29,6 +36,54 @@ impl Watch {
             scan: FrameScan::new(),
             saved: 0,
             left_more: None,
+            spent: 0,
+        }
+    }
+
+    /// The times of a turn that began and ended at these moments, in a round whose events were reported at a moment before; all are in
+    /// microseconds since the start.
+    pub fn times(&self, polled: u64, began: u64, ended: u64) -> TurnTimes
+        ensures { result ≡ record {
+          waits_since = unwrap_or self.now.left_more polled;
+          began = began;
+          ended = ended;
+          spent = self.now.spent;
+        } }
+    {
+        TurnTimes {
+            waits_since: self.left_more.unwrap_or(polled),
+            began,
+            ended,
+            spent: self.spent,
+        }
+    }
+
+    /// Notes since when the frame waits that is at hand after a turn, and how long turns took that have put it off.
+    pub fn note_end(&mut self, turn: TurnTimes, outcome: Outcome)
+        ensures put_off { outcome ≡ Outcome.PutOff →
+            (self.new.left_more ≡ Some turn.waits_since) × (self.new.spent ≡ time_of turn) }
+        ensures busy { outcome ≡ Outcome.Busy →
+            (self.new.left_more ≡ Some turn.ended) × (self.new.spent ≡ 0) }
+        ensures waits { (HasMore outcome → ⊥) →
+            (self.new.left_more ≡ None) × (self.new.spent ≡ 0) }
+        ensures rest { self.new ≡ record self.old {
+          left_more = self.new.left_more;
+          spent = self.new.spent;
+        } }
+    {
+        match outcome {
+            Outcome::PutOff => {
+                self.left_more = Some(turn.waits_since);
+                self.spent = turn.took();
+            }
+            Outcome::Busy => {
+                self.left_more = Some(turn.ended);
+                self.spent = 0;
+            }
+            Outcome::Waits | Outcome::Over | Outcome::Closed(_) => {
+                self.left_more = None;
+                self.spent = 0;
+            }
         }
     }
 

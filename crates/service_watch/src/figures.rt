@@ -71,7 +71,7 @@ pub fn metrics_text(alloc: Global, figures: &Figures) -> Result<String, AllocErr
         alloc,
         &mut text,
         "vulandrai_answer_seconds",
-        "How long the turns took in which a query was answered.",
+        "How long the turns took in which a query was answered, and those before that put it off.",
         &figures.answered,
     )?;
     push_histogram(

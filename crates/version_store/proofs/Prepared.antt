@@ -59,6 +59,6 @@ double_begun e l n query steps shape dimension long begun =
       long ∙ ap double_query_count (sym shape),
       made.room.layout ∙ sym shape,
       subst (λ (k : Shape). IsMadeSoFar k (digits_at e.plan e.records) (server_hint e.plan e.records) (second_public (version_shape e) e.plan.dimension e.plan.seed) query steps)
-      (sym shape) made,
+          (sym shape) made,
       (λ is. let no : false ≡ true = is in cc),
     )

@@ -20,7 +20,7 @@ use crate::held_records::HeldRecords;
 use crate::preparing::Preparation;
 use crate::rows::{FollowRoom, follow_rows};
 use digit_pack::{DigitStore, Layout};
-use double_scheme::STEP;
+use double_scheme::STEP_DIGITS;
 use matrix_u32::{Kernel, Matrix};
 use pir_schemes::{Plan, Scheme};
 use seed_expand::expand;
@@ -204,10 +204,10 @@ impl<K: Kernel> Edition<K> {
         let digits = layout.rows().saturating_mul(layout.cols());
         let server = self.server.rows().saturating_mul(self.server.cols());
         match scheme {
-            Scheme::Simple => digits > STEP,
+            Scheme::Simple => digits > STEP_DIGITS,
             Scheme::Double => {
                 let parts = server.saturating_mul(layout.digits_per_record());
-                digits.saturating_add(parts) > STEP
+                digits.saturating_add(parts) > STEP_DIGITS
             }
         }
     }

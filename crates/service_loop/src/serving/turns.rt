@@ -96,6 +96,8 @@ impl Service {
             return Ok(kept);
         }
         self.visits_all = false;
+        // What was noted has its turn among all, and none a second one.
+        self.ready.clear();
         for place in 0..self.places.len() {
             kept = self.visit(rt, place, kept)?;
         }
@@ -175,17 +177,11 @@ impl Service {
         let began = self.micros(rt);
         let (mut kept, outcome) = connection.take_turn(rt, now, kept, &mut self.buffer)?;
         let published = published_between(before, kept.core.store().version());
-        let busy = matches!(outcome, Outcome::Busy);
-        let ended = self.micros(rt);
-        kept.counters = noted_turn(
-            rt,
-            kept.counters,
-            &connection.watch,
-            began,
-            ended,
-            published,
-        );
-        connection.watch.left_more = if busy { Some(ended) } else { None };
+        let turn = connection
+            .watch
+            .times(kept.counters.polled, began, self.micros(rt));
+        kept.counters = noted_turn(rt, kept.counters, &connection.watch, turn, published);
+        connection.watch.note_end(turn, outcome);
         self.log.note_turn(
             rt,
             connection.id,
@@ -219,6 +215,7 @@ impl Service {
             (self.new.places.connections.items ≡ self.old.places.connections.items)
             × DoesToCore kept.old.core (Closes connection.id) kept.new.core }
         ensures busy { outcome ≡ Outcome.Busy → result ≡ true }
+        ensures put_off { outcome ≡ Outcome.PutOff → result ≡ true }
         ensures waits { outcome ≡ Outcome.Waits → result ≡ false }
         ensures again { (GoesOn outcome → ⊥) → result ≡ self.old.acceptable }
         ensures limits { self.new.limits ≡ self.old.limits }
@@ -230,7 +227,7 @@ impl Service {
     {
         if outcome.goes_on() {
             self.settle(rt, kept, place, connection);
-            return matches!(outcome, Outcome::Busy);
+            return outcome.has_more();
         }
         let (id, address) = (connection.id, connection.address);
         match outcome {
@@ -290,20 +287,14 @@ impl Service {
     }
 }
 
-// What was counted, with a turn that began and ended at these moments, and the version that it published.
+// What was counted, with a turn of these times, and the version that it published.
 fn noted_turn(
     rt: &HostRuntime,
     mut tallies: Tallies,
     watch: &Watch,
-    began: u64,
-    ended: u64,
+    turn: TurnTimes,
     published: Option<u64>,
 ) -> Tallies {
-    let turn = TurnTimes {
-        waits_since: watch.left_more.unwrap_or(tallies.polled),
-        began,
-        ended,
-    };
     tallies.note_turn(turn, watch.reply);
     if published.is_some() {
         tallies.note_publication(turn, watch.saved, unix_millis(rt) / 1000);

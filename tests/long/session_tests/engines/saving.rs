@@ -4,7 +4,7 @@
 
 use lane_kernels::Lanes;
 use server_core::ServerCore;
-use service_core::{AppendFailed, Fault, Link, Outside, PIECE_LEN, SaveFailed, Stop, turn};
+use service_core::{AppendFailed, Fault, Link, Outside, PIECE_LEN, SaveFailed, Served, Stop, turn};
 use std::alloc::{AllocError, Global};
 use std::process::Abort;
 use std::test::Fail;
@@ -145,7 +145,7 @@ fn take_turns(
             return Ok(None);
         }
         match turn(&mut link, core, device, id, u64::from(now), &mut buffer) {
-            Ok(()) => {}
+            Ok(Served::Done | Served::PutOff) => {}
             Err(fault) => return Ok(Some(fault)),
         }
     }
@@ -290,7 +290,7 @@ fn who_makes_no_progress_is_expired(rt: HostRuntime) -> Result<(), Fail> {
     let mut device = Device::new(alloc, &GREETING[..4], 1, 1)?;
     let mut buffer = Vec::from_elem(alloc, 0u8, PIECE_LEN)?;
     for now in 0..20 {
-        assert_eq!(&rt; turn(&mut link, &mut core, &mut device, 7, now, &mut buffer), Ok(()));
+        assert_eq!(&rt; turn(&mut link, &mut core, &mut device, 7, now, &mut buffer), Ok(Served::Done));
     }
     // Four bytes came since its opening, and no frame.
     assert!(&rt; !link.is_expired(9, 10));

@@ -1,4 +1,4 @@
-use Rattle.std.proofs.Common.{◌≡◌, ◌≤◌, ◌∙◌, length, false, ap, arith}
+use Rattle.std.proofs.Common.{◌≡◌, ◌≤◌, ◌∙◌, [], length, false, ap, arith}
 use Rattle.service_loop.specs.declared.serving.Limits.{Limits}
 use Rattle.service_loop.specs.Places.{HasNoIdle, HasTurnIfMarked}
 use Rattle.service_loop.proofs.Idle.{stays_moved, here_moved, below_next, each_place}
@@ -40,4 +40,4 @@ returns-clause-marked g c = λ all.
     let end = c.loop-place-test.false in
     let le : length c.args.self.now.places.connections.items ≤ c.loop-place.place = omega (arith, is, end) in
     all_marked c.args.self.now.places.connections.items c.loop-place.self.places.connections.items c.loop-place.place false c.loop-place.self.visits_all
-    c.args.self.now.ready.items c.loop-place.self.ready.items le c.loop-place.invariant.marks_stay c.loop-place.invariant.marked
+    [] c.loop-place.self.ready.items le c.loop-place.invariant.marks_stay c.loop-place.invariant.marked

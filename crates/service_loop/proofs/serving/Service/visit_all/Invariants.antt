@@ -1,4 +1,4 @@
-use Rattle.std.proofs.Common.{◌≡◌, ◌<◌, ℕ, false}
+use Rattle.std.proofs.Common.{◌≡◌, ◌<◌, ℕ, [], false}
 use Rattle.service_loop.specs.Places.{HasNoIdle, HasTurnIfMarked}
 use Rattle.service_loop.specs.Sessions.{AreNoted}
 use Rattle.service_loop.proofs.serving.Service.visit_all.Given as goal
@@ -10,7 +10,7 @@ invariant-loop-place g l = record {
   scanned : l.self.scanned ≡ l.fn.self.scanned;
   stays : (i : ℕ) → HasNoIdle l.fn.self.places.connections.items i l.fn.self.scanned l.fn.self.limits.idle
       → HasNoIdle l.self.places.connections.items i l.fn.self.scanned l.fn.self.limits.idle;
-  marks_stay : (i : ℕ) → HasTurnIfMarked l.fn.self.places.connections.items false l.fn.self.ready.items i
+  marks_stay : (i : ℕ) → HasTurnIfMarked l.fn.self.places.connections.items false [] i
       → HasTurnIfMarked l.self.places.connections.items l.self.visits_all l.self.ready.items i;
   marked : (i : ℕ) → i < l.place → HasTurnIfMarked l.self.places.connections.items l.self.visits_all l.self.ready.items i;
   idle : (i : ℕ) → i < l.place → HasNoIdle l.self.places.connections.items i l.fn.self.scanned l.fn.self.limits.idle;

@@ -49,12 +49,14 @@ invariant_of-self g c =
     let e : Records = c.self.inside.layer in
     let draft : List (List ℕ) = draft_of e.records c.args.changes.now.entries in
     let long : length draft ≡ length e.records =
-    length-list_of (length e.records) (λ i. bytes_or (change_at c.args.changes.now.entries i) (record_at e.records i)) in
-    (version_followed e c.apply_changes.new.layer draft c.hint.result.now c.self.inside.a2 c.self.inside.server c.follow_rows.new.server c.self.inside.client
-    c.follow_rows.new.client
-    c.width-w.result c.args.marks.now c.apply_changes.new.marks c.apply_changes.ensures.records long c.hint.ensures.value
-    (c.requires.marks ∙ sym (ap (λ e. digit_rows (version_shape e)) c.self.view_is)) c.apply_changes.ensures.marks
-    (c.width-w.ensures.value ∙ ap (λ l. l.width) c.layout.ensures.value) c.follow_rows.ensures c.self.invariant.0, tt)
+    length-list_of (length e.records) (λ i. bytes_or (change_at c.args.changes.now.entries i) (record_at e.records i)) in (
+      version_followed e c.apply_changes.new.layer draft c.hint.result.now c.self.inside.a2 c.self.inside.server c.follow_rows.new.server c.self.inside.client
+          c.follow_rows.new.client
+          c.width-w.result c.args.marks.now c.apply_changes.new.marks c.apply_changes.ensures.records long c.hint.ensures.value
+          (c.requires.marks ∙ sym (ap (λ e. digit_rows (version_shape e)) c.self.view_is)) c.apply_changes.ensures.marks
+          (c.width-w.ensures.value ∙ ap (λ l. l.width) c.layout.ensures.value) c.follow_rows.ensures c.self.invariant.0,
+      tt,
+    )
 
 pub returns-clause-marks : goal.returns-clause-marks
 returns-clause-marks g c =

@@ -25,11 +25,13 @@ invariant_of-result g c =
     let digits : WordMatrix = digits_at e.plan e.records in
     let a1 : WordMatrix = first_public (version_shape e) e.plan.dimension e.plan.seed in
     let server : c.in_ok-server.server ≡ server_hint_of e.plan.width digits a1 =
-    c.in_ok-server.ensures.server digits a1 refl (c.hint.ensures.value ∙ simple_hint e) ∙ ap (λ w. server_hint_of w digits a1) width in
-    (made_of e a2 c.in_ok-server.server c.in_ok-server.client public (record {
-      server = server;
-      client = c.in_ok-server.ensures.client ∙ ap (λ m. product m a2) server;
-    }), tt)
+    c.in_ok-server.ensures.server digits a1 refl (c.hint.ensures.value ∙ simple_hint e) ∙ ap (λ w. server_hint_of w digits a1) width in (
+      made_of e a2 c.in_ok-server.server c.in_ok-server.client public (record {
+        server = server;
+        client = c.in_ok-server.ensures.client ∙ ap (λ m. product m a2) server;
+      }),
+      tt,
+    )
 
 pub setup-requires-clause-room : goal.setup-requires-clause-room
 setup-requires-clause-room g c =
