@@ -18,7 +18,7 @@ fn make<K: Kernel>(
     Ok(())
 }
 
-// The words of an answer that is there; none are [] here.
+// The answer that was begun, if it is given.
 fn taken<K: Kernel>(store: &mut Store<K>, scheme: Scheme, words: &[u32]) -> Option<Vec<u32>> {
     store.take_answer(scheme, words)
 }
