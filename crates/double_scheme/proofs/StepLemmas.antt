@@ -1,6 +1,7 @@
 -- Answers that are made in steps.
-use Rattle.std.proofs.Common.{◌≡◌, ℕ, ◌+◌, ◌-◌, ◌*◌, ◌/◌, ◌%◌, ◌<◌, ◌≤◌, arith, ap, sym, subst, refl, ◌∙◌, List, [], ◌++◌, length, take, drop, mul_comm}
+use Rattle.std.proofs.Common.{◌≡◌, ℕ, ◌+◌, ◌-◌, ◌*◌, ◌/◌, ◌%◌, ◌<◌, ◌≤◌, arith, ap, sym, subst, refl, ◌∙◌, List, [], ◌++◌, length, take, drop, mul_comm, mul-le-mul_right, mul-le-mul_left, le_trans, max, min}
 use Rattle.std.proofs.lemmas.List.{get_or-take, get_or-drop, length-drop, length-take-le, length-append, take_all, take_at}
+use Rattle.std.proofs.Math.Nat.{div-mul-le_self, le-max_left, min-le_right}
 use Rattle.std.proofs.Math.Seq.{take-add}
 use Rattle.std.proofs.lemmas.Slice.{take-put_mid}
 use borrow.Rule.Slice.PartMut.{put_mid}
@@ -14,7 +15,7 @@ use Rattle.digit_pack.specs.Products.{rows_times_vector}
 use Rattle.digit_pack.specs.Digits.{decomposed}
 use Rattle.digit_pack.specs.Layout.{Shape, digit_cols, digit_rows, digits_per_record}
 use Rattle.double_scheme.specs.Double.{one_column, first_answer_of, part_answer_of, part_answers_of, part_of_query, words_of_part, double_answer}
-use Rattle.double_scheme.specs.Steps.{HasFirst, HasColumn, HasParts, HasStepsRoom, IsMadeSoFar, IsMadeUntil, IsWholeAt}
+use Rattle.double_scheme.specs.Steps.{HasFirst, HasColumn, HasParts, HasPartRows, HasStepsRoom, IsMadeSoFar, IsMadeUntil, IsWholeAt, rows_made}
 use Rattle.double_scheme.specs.declared.steps.Stage.{Stage}
 use Rattle.double_scheme.specs.declared.steps.Stage.TheVariants.{Column, Parts}
 use Rattle.double_scheme.proofs.Lengths.{length-answer_of}
@@ -113,25 +114,30 @@ parts_begun l d h a2 first query words n rows is before at =
     ∙ sym (take_at (product first a2).words rest n long)
     ∙ ap (λ (m : WordMatrix). take n ((product m a2).words ++ part_answers_of l h m query)) is
 
+-- of a part no row is there
+pub no_part_rows : (l : Shape) (h : WordMatrix) (query : List ℕ) (s : AnswerSteps) (d : ℕ) → d ≤ digits_per_record l → HasPartRows l h query s d 0
+no_part_rows l h query s d inside = record {
+  within = inside;
+  rows_within = omega arith;
+  x_rows = refl;
+  y_rows = λ _. refl;
+}
+
 -- the column is there, and with it the parts begin
-pub column_begun : (l : Shape) (d h a2 : WordMatrix) (query : List ℕ) (s t : AnswerSteps) (made : ℕ) → length query ≡ digit_cols l + digits_per_record l * digit_rows l →
-    d.rows ≡ digit_rows l → d.cols ≡ digit_cols l → HasStepsRoom l a2.cols s → HasColumn l d query s made → digit_rows l ≤ made → HasStepsRoom l a2.cols t →
-    t.first ≡ decomposed l.width (transpose (one_column s.column.items)) → HasFirst (length (product t.first a2).words) (product t.first a2).words t.words.items →
+pub column_begun : (l : Shape) (d h a2 : WordMatrix) (query column : List ℕ) (t : AnswerSteps) (made : ℕ) → length query ≡ digit_cols l + digits_per_record l * digit_rows l →
+    d.cols ≡ digit_cols l → length column ≡ d.rows → HasFirst made (times_vector d (take d.cols query)) column → made ≡ d.rows → HasStepsRoom l a2.cols t →
+    t.first ≡ decomposed l.width (transpose (one_column column)) → HasFirst (length (product t.first a2).words) (product t.first a2).words t.words.items →
     HasParts l d h a2 query t 0 0
-column_begun l d h a2 query s t made long rows cols room column all after first hint =
+column_begun l d h a2 query column t made long cols room so_far all after first hint =
     let prefix : List ℕ = take (digit_cols l) query in
-    let end : made ≡ d.rows = omega (arith, column.within, all, rows) in
     let wide : length prefix ≡ d.cols = length-take-le (digit_cols l) query (omega (arith, long)) ∙ sym cols in
-    let is : t.first ≡ first_answer_of l.width d prefix =
-    first ∙ first_of_column l.width d prefix s.column.items wide (room.column_len ∙ sym rows)
-    (subst (λ n. HasFirst n (times_vector d prefix) s.column.items) end column.rows) in
+    let there : HasFirst d.rows (times_vector d prefix) column =
+    subst (λ n. HasFirst d.rows (times_vector d (take n query)) column) cols (subst (λ n. HasFirst n (times_vector d (take d.cols query)) column) all so_far) in
+    let is : t.first ≡ first_answer_of l.width d prefix = first ∙ first_of_column l.width d prefix column wide room there in
     record {
-      within = omega arith;
-      rows_within = omega arith;
+      rows = no_part_rows l h query t 0 (omega arith);
       first_is = is;
       so_far = parts_begun l d h a2 t.first query t.words.items (a2.cols * split_count l.width + 0 * words_of_part l.width a2.cols) after.first_rows is hint (omega arith);
-      x_rows = refl;
-      y_rows = λ _. refl;
     }
 
 -- the parts that are joined are the answer's
@@ -160,7 +166,7 @@ whole_at l d h a2 query s (Parts p r) room made rows whole =
     let k : ℕ = digits_per_record l in
     let each : ℕ = words_of_part l.width a2.cols in
     let n : ℕ = a2.cols * split_count l.width + p * each in
-    let all : p ≡ k = omega (arith, whole, made.within) in
+    let all : p ≡ k = omega (arith, whole, made.rows.within) in
     let count : n ≡ a2.cols * split_count l.width + k * each = ap (λ q. a2.cols * split_count l.width + q * each) all in
     sym (take_all n s.words.items (omega (arith, count, room.words_len)))
     ∙ made.so_far
@@ -170,3 +176,34 @@ whole_at l d h a2 query s (Parts p r) room made rows whole =
 pub whole_words : (l : Shape) (d h a2 : WordMatrix) (query : List ℕ) (s : AnswerSteps) → IsMadeSoFar l d h a2 query s → h.rows ≡ a2.cols * split_count l.width →
     IsWholeAt l s.stage → s.words.items ≡ double_answer l d h a2 query
 whole_words l d h a2 query s made rows whole = whole_at l d h a2 query s s.stage made.room made.made rows whole
+
+-- so many rows have no more digits than may be read
+pub few_digits : (cols left m digits most result : ℕ) → m ≡ max cols 1 → most ≡ digits / m → result ≡ min left most → result * cols ≤ digits
+few_digits cols left m digits most result widest div least =
+    let few : result ≤ most = subst (λ n. n ≤ most) (sym least) (min-le_right left most) in
+    let wide : cols ≤ m = subst (λ n. cols ≤ n) (sym widest) (le-max_left cols 1) in
+    let in_step : most * m ≤ digits = subst (λ n. n * m ≤ digits) (sym div) (div-mul-le_self digits m) in
+    let rows : result * cols ≤ most * cols = mul-le-mul_right cols few in
+    let all : most * cols ≤ most * m = mul-le-mul_left most wide in
+    le_trans rows (le_trans all in_step)
+
+-- each row is a step forward, the end of the column is one, and the end of a part
+pub column_further : (l : Shape) (h r q : ℕ) → r < q → rows_made l h (Column r) < rows_made l h (Column q)
+column_further l h r q more = more
+
+pub column_ends : (l : Shape) (h r : ℕ) → r ≤ digit_rows l → rows_made l h (Column r) < rows_made l h (Parts 0 0)
+column_ends l h r within =
+    let more : r < digit_rows l + 1 + 0 * (h + 1) + 0 = omega (arith, within) in
+    more
+
+pub row_further : (l : Shape) (h d r q : ℕ) → r < q → rows_made l h (Parts d r) < rows_made l h (Parts d q)
+row_further l h d r q further =
+    let more : digit_rows l + 1 + d * (h + 1) + r < digit_rows l + 1 + d * (h + 1) + q = omega (arith, further) in
+    more
+
+pub part_further : (l : Shape) (h d r e : ℕ) → r ≤ h → d < e → rows_made l h (Parts d r) < rows_made l h (Parts e 0)
+part_further l h d r e within further =
+    let next : d + 1 ≤ e = omega (arith, further) in
+    let each : (d + 1) * (h + 1) ≤ e * (h + 1) = mul-le-mul_right (h + 1) next in
+    let more : digit_rows l + 1 + d * (h + 1) + r < digit_rows l + 1 + e * (h + 1) + 0 = omega (arith, within, each) in
+    more

@@ -31,15 +31,20 @@ pub record HasColumn (l : Shape) (digits : WordMatrix) (query : List ℕ) (s : A
   pub within : n ≤ digit_rows l
   pub rows : HasFirst n (times_vector digits (take (digit_cols l) query)) s.column.items
 
--- From the parts on: the answer is there up to part d, and of this part and the next one the words of the first r rows of the server's hint.
-pub record HasParts (l : Shape) (digits server_hint a2 : WordMatrix) (query : List ℕ) (s : AnswerSteps) (d r : ℕ) : Type 0 where
+-- Of part d and of the next one, if there is one, the words of the first r rows of the server's hint are there.
+pub record HasPartRows (l : Shape) (server_hint : WordMatrix) (query : List ℕ) (s : AnswerSteps) (d r : ℕ) : Type 0 where
   pub within : d ≤ digits_per_record l
   pub rows_within : r ≤ server_hint.rows
-  pub first_is : s.first ≡ first_answer_of l.width digits (take (digit_cols l) query)
-  pub so_far : HasFirst (a2.cols * split_count l.width + d * words_of_part l.width a2.cols) (double_answer l digits server_hint a2 query) s.words.items
   pub x_rows : HasFirst r (times_vector server_hint (part_of_query l query d)) s.x.items
   pub y_rows : d + 1 < digits_per_record l → HasFirst r (times_vector server_hint (part_of_query l query (d + 1))) s.y.items
 
+-- From the parts on: the answer is there up to part d, and of this part and the next one the words of the first r rows of the server's hint.
+pub record HasParts (l : Shape) (digits server_hint a2 : WordMatrix) (query : List ℕ) (s : AnswerSteps) (d r : ℕ) : Type 0 where
+  pub rows : HasPartRows l server_hint query s d r
+  pub first_is : s.first ≡ first_answer_of l.width digits (take (digit_cols l) query)
+  pub so_far : HasFirst (a2.cols * split_count l.width + d * words_of_part l.width a2.cols) (double_answer l digits server_hint a2 query) s.words.items
+
+-- What is there at a stage: some rows of the first layer's answer, or the answer up to a part.
 abbrev pub IsMadeUntil : Shape → WordMatrix → WordMatrix → WordMatrix → List ℕ → AnswerSteps → Stage → Type 0
 IsMadeUntil l digits server_hint a2 query s (Column n) = HasColumn l digits query s n
 IsMadeUntil l digits server_hint a2 query s (Parts d r) = HasParts l digits server_hint a2 query s d r
@@ -53,3 +58,9 @@ pub record IsMadeSoFar (l : Shape) (digits server_hint a2 : WordMatrix) (query :
 abbrev pub IsWholeAt : Shape → Stage → Type 0
 IsWholeAt l (Column n) = ⊥
 IsWholeAt l (Parts d r) = digits_per_record l ≤ d
+
+-- How far an answer is, as one number that each step makes greater, where the server's hint has h rows: the rows of the first layer's answer,
+-- then for each part the rows of the server's hint, and one for the end of each of these.
+abbrev pub rows_made : Shape → ℕ → Stage → ℕ
+rows_made l h (Column n) = n
+rows_made l h (Parts d r) = digit_rows l + 1 + d * (h + 1) + r

@@ -1,20 +1,20 @@
 //! An answer that is made in steps, each of which reads a bounded part of the digits.
 
-ghost use Rattle.std.specs.Prelude.{◌≡◌, ◌+◌, ◌*◌, ◌≤◌, ◌<◌, ◌↔◌, ◌++◌, ℕ, List, IfOk, IsTrue, length, take, drop};
+ghost use Rattle.std.specs.Prelude.{◌≡◌, ◌+◌, ◌*◌, ◌≤◌, ◌<◌, ◌⊎◌, ◌↔◌, ◌++◌, ℕ, List, IfOk, IsTrue, length, take, drop};
 ghost use Rattle.matrix_u32.specs.Matrix.{WordMatrix, product, times_vector, transpose};
 ghost use Rattle.digit_pack.specs.Digits.{decomposed};
 ghost use Rattle.lane_kernels.specs.Digit.{split_count};
 ghost use Rattle.digit_pack.specs.Layout.{digit_rows, digit_cols, digits_per_record};
 ghost use Rattle.double_scheme.specs.Double.{one_column, first_answer_of, part_answer_of, part_answers_of, part_of_query, words_of_part, double_query_count, double_answer};
-ghost use Rattle.double_scheme.specs.Steps.{HasColumn, HasFirst, HasParts, HasStepsRoom, IsMadeSoFar, IsMadeUntil, IsWholeAt};
+ghost use Rattle.double_scheme.specs.Steps.{HasColumn, HasFirst, HasParts, HasPartRows, HasStepsRoom, IsMadeSoFar, IsMadeUntil, IsWholeAt, rows_made};
 
 use crate::answers::{answer_count, part_of, put_digits, zeros};
 use digit_pack::{DigitStore, Layout, split_count};
 use matrix_u32::{Kernel, Matrix};
 use std::alloc::{AllocError, Global};
 
-/// How many digits a step reads at most, unless one row has more: 2^25, which a processor of today multiplies in less than 10
-/// milliseconds, also by two words each.
+/// How many digits a step reads, unless one row has more: 2^25, which a processor of today multiplies in some 10 milliseconds, also by
+/// two words each.
 pub const STEP_DIGITS: usize = 33_554_432;
 
 /// How far an answer is.
@@ -40,13 +40,23 @@ pub struct AnswerSteps {
     words: Vec<u32>,
 }
 
-/// How many rows of digits a step makes, of so many that are left: at least one.
-pub fn rows_in_step(cols: usize, left: usize) -> usize
+/// How many rows of digits are made, of so many that are left: at least one, and else no more than have the digits that may be read.
+pub fn rows_in_step(most_digits: usize, cols: usize, left: usize) -> usize
     requires { 0 < left }
     ensures some { 0 < result }
     ensures within { result ≤ left }
+    ensures bounded { result ≡ 1 ⊎ result * cols ≤ most_digits }
 {
-    left.min(STEP_DIGITS / cols.max(1)).max(1)
+    let most = most_digits / cols.max(1);
+    if most < 2 {
+        return 1;
+    }
+    left.min(most)
+}
+
+// How many digits were read from one count of rows to another one.
+fn digits_read(before: usize, now: usize, cols: usize) -> usize {
+    now.saturating_sub(before).saturating_mul(cols)
 }
 
 /// Writes the words of some more rows of digits times x, after those that are there.
@@ -199,6 +209,7 @@ fn end_both<K: Kernel, S: DigitStore>(
         HasFirst (S.digits server_hint.now).rows (times_vector
         (S.digits server_hint.now) (part_of_query layout.now query.now (part + 1))) y.old }
     ensures next { result ≤ digits_per_record layout.now }
+    ensures further { part < result }
     ensures joined { (prefix : List ℕ) → length prefix ≡ (S.digits server_hint.now).rows →
         HasFirst ((S.digits server_hint.now).rows + part * length x.old) (prefix ++
         part_answers_of layout.now (S.digits server_hint.now) first.now query.now) words.old →
@@ -241,53 +252,99 @@ fn put_first_hint<K: Kernel>(
     prefix.copy_from_slice(hint);
 }
 
-// Writes the words of some more rows of the server's hint for a part and, if there is one, for the part after it.
+// Writes the words of some more rows of the first layer's answer, if any is left, and answers how many are there then.
+fn put_column_rows<K: Kernel, S: DigitStore>(
+    kernel: K,
+    digits: &S,
+    query: &[u32],
+    most_digits: usize,
+    made: usize,
+    column: &mut [u32],
+) -> usize
+    requires cols { (S.digits digits.now).cols ≤ length query.now }
+    requires within { made ≤ (S.digits digits.now).rows }
+    requires room { length column.old ≡ (S.digits digits.now).rows }
+    requires so_far { HasFirst made (times_vector (S.digits digits.now)
+        (take (S.digits digits.now).cols query.now)) column.old }
+    ensures so_far { HasFirst result (times_vector (S.digits digits.now)
+        (take (S.digits digits.now).cols query.now)) column.new }
+    ensures within { result ≤ (S.digits digits.now).rows }
+    ensures len { length column.new ≡ length column.old }
+    ensures forward { (S.digits digits.now).rows ≤ result ⊎ made < result }
+{
+    let left = column.len() - made;
+    if left == 0 {
+        return made;
+    }
+    let count = rows_in_step(most_digits, digits.cols(), left);
+    put_rows(
+        kernel,
+        digits,
+        part_of(query, 0, digits.cols()),
+        made,
+        count,
+        column,
+    );
+    made + count
+}
+
+// Writes the words of some more rows of the server's hint, if any is left, for a part and, if there is one, for the part after it, and
+// answers how many are there then.
 fn put_part_rows<K: Kernel, S: DigitStore>(
     kernel: K,
     layout: &Layout,
     server_hint: &S,
     query: &[u32],
     part: usize,
-    first: usize,
-    count: usize,
+    most_digits: usize,
+    made: usize,
     x_out: &mut [u32],
     y_out: &mut [u32],
-)
+) -> usize
     requires query { length query.now ≡ double_query_count layout.now }
     requires server_cols { (S.digits server_hint.now).cols ≡ digit_rows layout.now }
     requires part { part < digits_per_record layout.now }
-    requires inside { first + count ≤ (S.digits server_hint.now).rows }
+    requires within { made ≤ (S.digits server_hint.now).rows }
     requires x_room { (S.digits server_hint.now).rows ≤ length x_out.old }
     requires y_room { (S.digits server_hint.now).rows ≤ length y_out.old }
-    requires x_so_far { HasFirst first (times_vector (S.digits server_hint.now)
+    requires x_so_far { HasFirst made (times_vector (S.digits server_hint.now)
         (part_of_query layout.now query.now part)) x_out.old }
     requires y_so_far { part + 1 < digits_per_record layout.now →
-        HasFirst first (times_vector (S.digits server_hint.now)
+        HasFirst made (times_vector (S.digits server_hint.now)
         (part_of_query layout.now query.now (part + 1))) y_out.old }
-    ensures x { HasFirst (first + count) (times_vector (S.digits server_hint.now)
+    ensures x { HasFirst result (times_vector (S.digits server_hint.now)
         (part_of_query layout.now query.now part)) x_out.new }
     ensures y { part + 1 < digits_per_record layout.now →
-        HasFirst (first + count) (times_vector (S.digits server_hint.now)
+        HasFirst result (times_vector (S.digits server_hint.now)
         (part_of_query layout.now query.now (part + 1))) y_out.new }
+    ensures within { result ≤ (S.digits server_hint.now).rows }
     ensures x_len { length x_out.new ≡ length x_out.old }
     ensures y_len { length y_out.new ≡ length y_out.old }
+    ensures forward { (S.digits server_hint.now).rows ≤ result ⊎ made < result }
 {
+    let left = server_hint.rows() - made;
+    if left == 0 {
+        return made;
+    }
+    let count = rows_in_step(most_digits, server_hint.cols(), left);
     let parts = layout.digits_per_record();
     let x = query_part(layout, query, part);
     if part + 1 < parts {
         let y = query_part(layout, query, part + 1);
-        put_two_rows(kernel, server_hint, x, y, first, count, x_out, y_out);
+        put_two_rows(kernel, server_hint, x, y, made, count, x_out, y_out);
     } else {
-        put_rows(kernel, server_hint, x, first, count, x_out);
+        put_rows(kernel, server_hint, x, made, count, x_out);
     }
+    made + count
 }
 
 impl AnswerSteps {
     /// The memory of an answer on a layout, under public matrices of `dimension` columns, with no step made. It is taken by sizes alone.
     pub fn new(alloc: Global, layout: &Layout, dimension: usize) -> Result<AnswerSteps, AllocError>
         requires { dimension ≤ 1024 }
-        ensures { IfOk result (λ s. (digits server_hint a2 : WordMatrix) (query : List ℕ) →
+        ensures so_far { IfOk result (λ s. (digits server_hint a2 : WordMatrix) (query : List ℕ) →
             a2.cols ≡ dimension → IsMadeSoFar layout.now digits server_hint a2 query s) }
+        ensures begun { IfOk result (λ s. s.stage ≡ Stage.Column 0) }
     {
         let rows = layout.rows();
         let digits = split_count(layout.width());
@@ -305,7 +362,8 @@ impl AnswerSteps {
     }
 
     /// Makes one more step of the answer to the words of a query, and answers whether no step is left: then it is whole. The digits, the
-    /// server's hint, the second public matrix and the query are the same in all steps.
+    /// server's hint, the second public matrix and the query are the same in all steps. Each step makes a row more at least, so
+    /// that the steps come to an end.
     pub fn step<K: Kernel, S: DigitStore>(
         &mut self,
         kernel: K,
@@ -326,9 +384,18 @@ impl AnswerSteps {
         ensures so_far { IsMadeSoFar self.old.layout (S.digits digits.now)
             (S.digits server_hint.now) a2.now query.now self.new }
         ensures whole { IsTrue result ↔ IsWholeAt self.old.layout self.new.stage }
+        ensures forward { IsWholeAt self.old.layout self.old.stage ⊎
+            rows_made self.old.layout (S.digits server_hint.now).rows self.old.stage <
+            rows_made self.old.layout (S.digits server_hint.now).rows self.new.stage }
     {
-        self.advance(kernel, digits, server_hint, a2, query);
-        self.is_whole()
+        let mut left = STEP_DIGITS;
+        let mut is_whole = self.is_whole();
+        while left > 0 && !is_whole {
+            let read = self.advance(kernel, digits, server_hint, a2, query, left);
+            left = left.saturating_sub(read.max(1));
+            is_whole = self.is_whole();
+        }
+        is_whole
     }
 
     // Whether no step is left.
@@ -341,7 +408,7 @@ impl AnswerSteps {
         }
     }
 
-    // Makes one more step.
+    // Makes some more rows, which have so many digits at most, unless one has more, and answers how many were read.
     fn advance<K: Kernel, S: DigitStore>(
         &mut self,
         kernel: K,
@@ -349,7 +416,8 @@ impl AnswerSteps {
         server_hint: &S,
         a2: &Matrix,
         query: &[u32],
-    )
+        most_digits: usize,
+    ) -> usize
         requires query { length query.now ≡ double_query_count self.old.layout }
         requires rows { (S.digits digits.now).rows ≡ digit_rows self.old.layout }
         requires cols { (S.digits digits.now).cols ≡ digit_cols self.old.layout }
@@ -361,12 +429,15 @@ impl AnswerSteps {
             (S.digits server_hint.now) a2.now query.now self.old }
         ensures so_far { IsMadeSoFar self.old.layout (S.digits digits.now)
             (S.digits server_hint.now) a2.now query.now self.new }
+        ensures forward { IsWholeAt self.old.layout self.old.stage ⊎
+            rows_made self.old.layout (S.digits server_hint.now).rows self.old.stage <
+            rows_made self.old.layout (S.digits server_hint.now).rows self.new.stage }
         ensures layout { self.new.layout ≡ self.old.layout }
     {
         match self.stage {
-            Stage::Column(made) => self.make_column(kernel, digits, a2, query, made),
+            Stage::Column(made) => self.make_column(kernel, digits, a2, query, most_digits, made),
             Stage::Parts(part, made) => {
-                self.make_parts(kernel, digits, server_hint, a2, query, part, made);
+                self.make_parts(kernel, server_hint, query, most_digits, part, made)
             }
         }
     }
@@ -382,15 +453,16 @@ impl AnswerSteps {
         self.words
     }
 
-    // Makes some more rows of the first layer's answer or, if all are there, its digits and their hint.
+    // Makes some more rows of the first layer's answer and, if all are there then, its digits and their hint.
     fn make_column<K: Kernel, S: DigitStore>(
         &mut self,
         kernel: K,
         digits: &S,
         a2: &Matrix,
         query: &[u32],
+        most_digits: usize,
         made: usize,
-    )
+    ) -> usize
         requires query { length query.now ≡ double_query_count self.old.layout }
         requires rows { (S.digits digits.now).rows ≡ digit_rows self.old.layout }
         requires cols { (S.digits digits.now).cols ≡ digit_cols self.old.layout }
@@ -399,16 +471,19 @@ impl AnswerSteps {
         requires column { HasColumn self.old.layout (S.digits digits.now) query.now self.old made }
         ensures so_far { (server_hint : WordMatrix) → IsMadeSoFar self.old.layout (S.digits digits.now)
             server_hint a2.now query.now self.new }
+        ensures forward { (hint_rows : ℕ) → rows_made self.old.layout hint_rows (Stage.Column made) <
+            rows_made self.old.layout hint_rows self.new.stage }
         ensures layout { self.new.layout ≡ self.old.layout }
     {
-        let (rows, cols) = (self.layout.rows(), self.layout.cols());
-        if made >= rows {
-            return self.make_first(kernel, a2);
+        let column = &mut self.column;
+        let now_made = put_column_rows(kernel, digits, query, most_digits, made, column);
+        let read = digits_read(made, now_made, digits.cols());
+        if now_made < self.layout.rows() {
+            self.stage = Stage::Column(now_made);
+            return read;
         }
-        let count = rows_in_step(cols, rows - made);
-        let prefix = part_of(query, 0, cols);
-        put_rows(kernel, digits, prefix, made, count, &mut self.column);
-        self.stage = Stage::Column(made + count);
+        self.make_first(kernel, a2);
+        read
     }
 
     // Makes the digits of the first layer's answer, of which all rows are there, and their hint.
@@ -428,90 +503,85 @@ impl AnswerSteps {
         self.stage = Stage::Parts(0, 0);
     }
 
-    // Makes some more rows of a part and of the one after it or, if all are there, ends them.
+    // Makes some more rows of a part and of the one after it and, if all are there then, ends them.
     fn make_parts<K: Kernel, S: DigitStore>(
         &mut self,
         kernel: K,
-        digits: &S,
         server_hint: &S,
-        a2: &Matrix,
         query: &[u32],
+        most_digits: usize,
         part: usize,
         made: usize,
-    )
+    ) -> usize
         requires query { length query.now ≡ double_query_count self.old.layout }
         requires server_rows { (S.digits server_hint.now).rows ≡
-            a2.now.cols * split_count self.old.layout.width }
+            self.old.hint.cols * split_count self.old.layout.width }
         requires server_cols { (S.digits server_hint.now).cols ≡ digit_rows self.old.layout }
+        requires room { HasStepsRoom self.old.layout self.old.hint.cols self.old }
         requires stage { self.old.stage ≡ Stage.Parts part made }
-        requires so_far { IsMadeSoFar self.old.layout (S.digits digits.now)
-            (S.digits server_hint.now) a2.now query.now self.old }
-        ensures so_far { IsMadeSoFar self.old.layout (S.digits digits.now)
-            (S.digits server_hint.now) a2.now query.now self.new }
+        requires rows { HasPartRows self.old.layout (S.digits server_hint.now) query.now self.old
+            part made }
+        ensures so_far { (digits a2 : WordMatrix) → a2.cols ≡ self.old.hint.cols →
+            HasParts self.old.layout digits (S.digits server_hint.now) a2 query.now self.old part made →
+            IsMadeSoFar self.old.layout digits (S.digits server_hint.now) a2 query.now self.new }
+        ensures forward { digits_per_record self.old.layout ≤ part ⊎
+            rows_made self.old.layout (S.digits server_hint.now).rows (Stage.Parts part made) <
+            rows_made self.old.layout (S.digits server_hint.now).rows self.new.stage }
         ensures layout { self.new.layout ≡ self.old.layout }
     {
         if part >= self.layout.digits_per_record() {
-            return;
+            return 0;
         }
-        if made < server_hint.rows() {
-            self.make_part_rows(kernel, digits, server_hint, a2, query, part, made);
-        } else {
-            self.end_parts(kernel, digits, server_hint, a2, query, part, made);
-        }
-    }
-
-    // Makes some more rows of a part and of the one after it.
-    fn make_part_rows<K: Kernel, S: DigitStore>(
-        &mut self,
-        kernel: K,
-        _digits: &S,
-        server_hint: &S,
-        _a2: &Matrix,
-        query: &[u32],
-        part: usize,
-        made: usize,
-    )
-        requires query { length query.now ≡ double_query_count self.old.layout }
-        requires server_rows { (S.digits server_hint.now).rows ≡
-            _a2.now.cols * split_count self.old.layout.width }
-        requires server_cols { (S.digits server_hint.now).cols ≡ digit_rows self.old.layout }
-        requires part { part < digits_per_record self.old.layout }
-        requires made { made < (S.digits server_hint.now).rows }
-        requires room { HasStepsRoom self.old.layout _a2.now.cols self.old }
-        requires parts { HasParts self.old.layout (S.digits _digits.now)
-            (S.digits server_hint.now) _a2.now query.now self.old part made }
-        ensures so_far { IsMadeSoFar self.old.layout (S.digits _digits.now)
-            (S.digits server_hint.now) _a2.now query.now self.new }
-        ensures layout { self.new.layout ≡ self.old.layout }
-    {
-        let count = rows_in_step(server_hint.cols(), server_hint.rows() - made);
         let (layout, x, y) = (&self.layout, &mut self.x, &mut self.y);
-        put_part_rows(kernel, layout, server_hint, query, part, made, count, x, y);
-        self.stage = Stage::Parts(part, made + count);
+        let now_made = put_part_rows(
+            kernel,
+            layout,
+            server_hint,
+            query,
+            part,
+            most_digits,
+            made,
+            x,
+            y,
+        );
+        let read = digits_read(made, now_made, server_hint.cols());
+        if now_made < server_hint.rows() {
+            self.stage = Stage::Parts(part, now_made);
+            return read;
+        }
+        self.end_parts(kernel, server_hint, query, part, now_made);
+        read
     }
 
     // Ends a part and the one after it, of which all rows are there.
     fn end_parts<K: Kernel, S: DigitStore>(
         &mut self,
         kernel: K,
-        _digits: &S,
         server_hint: &S,
-        _a2: &Matrix,
         query: &[u32],
         part: usize,
-        _made: usize,
+        made: usize,
     )
         requires query { length query.now ≡ double_query_count self.old.layout }
         requires server_rows { (S.digits server_hint.now).rows ≡
-            _a2.now.cols * split_count self.old.layout.width }
+            self.old.hint.cols * split_count self.old.layout.width }
         requires server_cols { (S.digits server_hint.now).cols ≡ digit_rows self.old.layout }
         requires part { part < digits_per_record self.old.layout }
-        requires made { (S.digits server_hint.now).rows ≤ _made }
-        requires room { HasStepsRoom self.old.layout _a2.now.cols self.old }
-        requires parts { HasParts self.old.layout (S.digits _digits.now)
-            (S.digits server_hint.now) _a2.now query.now self.old part _made }
-        ensures so_far { IsMadeSoFar self.old.layout (S.digits _digits.now)
-            (S.digits server_hint.now) _a2.now query.now self.new }
+        requires made { (S.digits server_hint.now).rows ≤ made }
+        requires room { HasStepsRoom self.old.layout self.old.hint.cols self.old }
+        requires rows { HasPartRows self.old.layout (S.digits server_hint.now) query.now self.old
+            part made }
+        ensures so_far { (digits a2 : WordMatrix) → a2.cols ≡ self.old.hint.cols →
+            self.old.first ≡ first_answer_of self.old.layout.width digits
+            (take (digit_cols self.old.layout) query.now) →
+            HasFirst (a2.cols * split_count self.old.layout.width
+            + part * words_of_part self.old.layout.width a2.cols)
+            (double_answer self.old.layout digits (S.digits server_hint.now) a2 query.now)
+            self.old.words.items →
+            IsMadeSoFar self.old.layout digits (S.digits server_hint.now) a2 query.now self.new }
+        ensures forward { (d : ℕ) → d ≤ (S.digits server_hint.now).rows →
+            rows_made self.old.layout (S.digits server_hint.now).rows (Stage.Parts part d) <
+            rows_made self.old.layout (S.digits server_hint.now).rows self.new.stage }
         ensures layout { self.new.layout ≡ self.old.layout }
     {
         let (layout, first, words) = (&self.layout, &self.first, &mut self.words);

@@ -55,10 +55,10 @@ fn both_ways_on<K: Kernel, S: DigitStore>(
     rt: &(impl Abort + AllocGlobal),
     kernel: K,
 ) -> Result<(), Fail> {
-    // Two steps for the first layer, and two for each two parts: of one, three and four digits to a record.
-    both_ways::<K, S>(rt, kernel, &Layout::new(8, 1, 1, 2)?, 1, 4)?;
-    both_ways::<K, S>(rt, kernel, &Layout::new(6, 2, 2, 3)?, 2, 6)?;
-    both_ways::<K, S>(rt, kernel, &Layout::new(8, 4, 3, 10)?, 5, 6)
+    // One step for the first layer, and one for each two parts: of one, three and four digits to a record.
+    both_ways::<K, S>(rt, kernel, &Layout::new(8, 1, 1, 2)?, 1, 2)?;
+    both_ways::<K, S>(rt, kernel, &Layout::new(6, 2, 2, 3)?, 2, 3)?;
+    both_ways::<K, S>(rt, kernel, &Layout::new(8, 4, 3, 10)?, 5, 3)
 }
 
 #[test]

@@ -4,39 +4,39 @@ use Rattle.lane_kernels.specs.Digit.{split_count}
 use Rattle.matrix_u32.specs.Matrix.{WordMatrix, times_vector}
 use Rattle.digit_pack.specs.Layout.{Shape, digit_cols, digits_per_record}
 use Rattle.double_scheme.specs.Double.{double_answer, first_answer_of, part_of_query, words_of_part}
-use Rattle.double_scheme.specs.Steps.{HasFirst}
+use Rattle.double_scheme.specs.Steps.{HasFirst, HasStepsRoom}
 use Rattle.double_scheme.specs.declared.steps.AnswerSteps.{AnswerSteps}
-use Rattle.double_scheme.proofs.StepLemmas.{parts_joined, room_after}
+use Rattle.double_scheme.proofs.StepLemmas.{no_part_rows, part_further, parts_joined, room_after}
 use Rattle.double_scheme.proofs.steps.AnswerSteps.end_parts.Goals as goal
 
 pub returns-clause-so_far : goal.returns-clause-so_far
-returns-clause-so_far g c =
+returns-clause-so_far g c d a2 cols first_is so_far =
     let s : AnswerSteps = c.args.self.now in
     let l : Shape = s.layout in
-    let d : WordMatrix = g.S.DigitStore.digits c.args._digits.now in
     let h : WordMatrix = g.S.DigitStore.digits c.args.server_hint.now in
-    let a2 : WordMatrix = c.args._a2.now in
     let query : List ℕ = c.args.query.now in
+    let room : HasStepsRoom l a2.cols s = subst (λ n. HasStepsRoom l n s) (sym cols) c.requires.room in
     let x : _ = with_items_is s.x c.end_both-next.new.x (c.end_both-next.ensures.x_len ∙ ap length c.deref_mut.ensures.value ∙ sym s.x.ok.0) in
     let y : _ = with_items_is s.y c.end_both-next.new.y (c.end_both-next.ensures.y_len ∙ ap length c.deref_mut-2.ensures.value ∙ sym s.y.ok.0) in
     let words : _ = with_items_is s.words c.end_both-next.new.words (c.end_both-next.ensures.words_len ∙ ap length c.deref_mut-3.ensures.value ∙ sym s.words.ok.0) in
-    let len : length c.deref_mut.result.now ≡ words_of_part l.width a2.cols = ap length c.deref_mut.ensures.value ∙ c.requires.room.x_len in
+    let len : length c.deref_mut.result.now ≡ words_of_part l.width a2.cols = ap length c.deref_mut.ensures.value ∙ room.x_len in
     let before : HasFirst (a2.cols * split_count l.width + c.args.part * words_of_part l.width a2.cols) (double_answer l d h a2 query) c.deref_mut-3.result.now =
     subst (HasFirst (a2.cols * split_count l.width + c.args.part * words_of_part l.width a2.cols) (double_answer l d h a2 query)) (sym c.deref_mut-3.ensures.value)
-    c.requires.parts.so_far in
+    so_far in
     record {
-      room = room_after l a2.cols s _ c.requires.room refl refl refl refl
+      room = room_after l a2.cols s _ room refl refl refl refl
           (ap length words ∙ c.end_both-next.ensures.words_len ∙ ap length c.deref_mut-3.ensures.value)
           (ap length x ∙ c.end_both-next.ensures.x_len ∙ ap length c.deref_mut.ensures.value)
           (ap length y ∙ c.end_both-next.ensures.y_len ∙ ap length c.deref_mut-2.ensures.value);
       made = record {
-        within = c.end_both-next.ensures.next;
-        rows_within = omega arith;
-        first_is = c.requires.parts.first_is;
+        rows = no_part_rows l h query _ c.end_both-next.result c.end_both-next.ensures.next;
+        first_is = first_is;
         so_far = subst (HasFirst (a2.cols * split_count l.width + c.end_both-next.result * words_of_part l.width a2.cols) (double_answer l d h a2 query)) (sym words)
             (parts_joined l d h a2 s.first query c.deref_mut-3.result.now c.end_both-next.new.words c.args.part c.end_both-next.result (length c.deref_mut.result.now)
-            c.requires.server_rows c.requires.room.first_rows c.requires.parts.first_is len c.end_both-next.ensures.joined before);
-        x_rows = refl;
-        y_rows = λ _. refl;
+            (c.requires.server_rows ∙ ap (λ n. n * split_count l.width) (sym cols)) room.first_rows first_is len c.end_both-next.ensures.joined before);
       };
     }
+
+pub returns-clause-forward : goal.returns-clause-forward
+returns-clause-forward g c r within =
+    part_further c.args.self.now.layout (g.S.DigitStore.digits c.args.server_hint.now).rows c.args.part r c.end_both-next.result within c.end_both-next.ensures.further
