@@ -12,6 +12,7 @@ use Rattle.simple_scheme.specs.Simple.{simple_answer}
 use Rattle.double_scheme.specs.Double.{double_answer, double_query_count}
 use Rattle.double_scheme.specs.Steps.{IsMadeSoFar, IsWholeAt}
 use Rattle.double_scheme.specs.declared.steps.AnswerSteps.{AnswerSteps}
+use Rattle.double_scheme.specs.declared.steps.Stage.TheVariants.{Column}
 use Rattle.pir_schemes.specs.declared.scheme.Scheme.TheVariants as scheme
 use Rattle.pir_schemes.specs.Plans.{digits_at, second_public}
 use Rattle.pir_schemes.specs.Retrievals.{server_hint, answer_words}
@@ -46,19 +47,19 @@ double_whole e query words whole steps answer h is same gives =
     let a2 : WordMatrix = second_public l e.plan.dimension e.plan.seed in
     let shape : steps.layout ≡ l = h.1 in
     subst (λ (k : Shape). (IsMadeSoFar k d server a2 query steps → server.rows ≡ a2.cols * split_count k.width → IsWholeAt k steps.stage → answer ≡ double_answer k d server a2 query)) shape
-    (gives d server a2 query) h.2 (server_rows e) (h.3 is)
+    (gives d server a2 query) h.2 (server_rows e) (h.3.0 is)
     ∙ ap (double_answer l d server a2) same
 
 -- a DoublePIR answer of which no step was made
 pub double_begun : (e : Records) (l : Shape) (n : ℕ) (query : List ℕ) (steps : AnswerSteps) → version_shape e ≡ l → e.plan.dimension ≡ n →
-    length query ≡ double_query_count l → ((d h a2 : WordMatrix) (q : List ℕ) → a2.cols ≡ n → IsMadeSoFar l d h a2 q steps) →
+    length query ≡ double_query_count l → ((d h a2 : WordMatrix) (q : List ℕ) → a2.cols ≡ n → IsMadeSoFar l d h a2 q steps) → steps.stage ≡ Column 0 →
     IsMakingFor e query (Double false steps)
-double_begun e l n query steps shape dimension long begun =
+double_begun e l n query steps shape dimension long begun stage =
     let made : IsMadeSoFar l (digits_at e.plan e.records) (server_hint e.plan e.records) (second_public (version_shape e) e.plan.dimension e.plan.seed) query steps =
     begun (digits_at e.plan e.records) (server_hint e.plan e.records) (second_public (version_shape e) e.plan.dimension e.plan.seed) query dimension in (
       long ∙ ap double_query_count (sym shape),
       made.room.layout ∙ sym shape,
       subst (λ (k : Shape). IsMadeSoFar k (digits_at e.plan e.records) (server_hint e.plan e.records) (second_public (version_shape e) e.plan.dimension e.plan.seed) query steps)
           (sym shape) made,
-      (λ is. let no : false ≡ true = is in cc),
+      ((λ is. let no : false ≡ true = is in cc), (λ whole. absurd (subst (IsWholeAt (version_shape e)) stage whole))),
     )

@@ -1,10 +1,10 @@
 -- An answer that is made in steps.
-use Rattle.std.specs.Prelude.{◌≡◌, ℕ, ◌≤◌, List, length, true, Option, Some, None, Result, Ok, Err}
+use Rattle.std.specs.Prelude.{◌≡◌, ◌↔◌, ℕ, ◌≤◌, List, length, true, Option, Some, None, Result, Ok, Err}
 use Rattle.std.specs.declared.vec.Vec.{Vec}
 use Rattle.std.specs.declared.alloc.Global.{Global}
 use Rattle.matrix_u32.specs.Matrix.{times_vector}
 use Rattle.digit_pack.specs.Layout.{digit_rows}
-use Rattle.double_scheme.specs.Steps.{HasFirst, IsMadeSoFar, IsWholeAt}
+use Rattle.double_scheme.specs.Steps.{HasFirst, IsMadeSoFar, IsWholeAt, rows_made}
 use Rattle.pir_schemes.specs.declared.scheme.Scheme.{Scheme}
 use Rattle.pir_schemes.specs.declared.scheme.Scheme.TheVariants as scheme
 use Rattle.pir_schemes.specs.Plans.{digits_at, second_public}
@@ -23,7 +23,22 @@ IsMakingFor e query (Double whole steps) =
     (length query ≡ query_count scheme.Double (version_shape e)) × (steps.layout ≡ version_shape e)
     × IsMadeSoFar (version_shape e) (digits_at e.plan e.records) (server_hint e.plan e.records)
     (second_public (version_shape e) e.plan.dimension e.plan.seed) query steps
-    × (whole ≡ true → IsWholeAt (version_shape e) steps.stage)
+    × (whole ≡ true ↔ IsWholeAt (version_shape e) steps.stage)
+
+-- the scheme of an answer
+abbrev pub scheme_made : Making → Scheme
+scheme_made (Simple made out) = scheme.Simple
+scheme_made (Double whole steps) = scheme.Double
+
+-- All of an answer is there.
+abbrev pub IsAllMade : Making → Type 0
+IsAllMade (Simple made out) = made ≡ length out.items
+IsAllMade (Double whole steps) = whole ≡ true
+
+-- how much of an answer on a version is there, as one number that each step makes greater
+abbrev pub amount_made : Records → Making → ℕ
+amount_made e (Simple made out) = made
+amount_made e (Double whole steps) = rows_made (version_shape e) (server_hint e.plan e.records).rows steps.stage
 
 -- the answer that was begun, if there is one, is that of a query on this version
 abbrev pub IsPrepared : Records → Option Preparation → Type 0

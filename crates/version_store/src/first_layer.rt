@@ -1,6 +1,6 @@
 //! The records of one version, with what SimplePIR makes from them.
 
-ghost use Rattle.std.specs.Prelude.{◌≡◌, ◌-◌, ◌*◌, ◌^◌, ◌++◌, ◌<◌, ◌≤◌, [], IfOk, OnOk, OnErr, true, false, length, take, drop, replicate, slice_set, vec_capacity};
+ghost use Rattle.std.specs.Prelude.{◌≡◌, ◌⊎◌, ◌-◌, ◌*◌, ◌^◌, ◌++◌, ◌<◌, ◌≤◌, [], IfOk, OnOk, OnErr, true, false, length, take, drop, replicate, slice_set, vec_capacity};
 ghost use Rattle.std.specs.List.{list_all};
 ghost use Rattle.digit_pack.specs.Slots.{is_form};
 ghost use Rattle.digit_pack.specs.Layout.{IsLayout, is_wide, digit_rows, digit_cols, digits_per_record, record_at, records_in};
@@ -19,7 +19,7 @@ use crate::held_records::HeldRecords;
 use digit_pack::{
     DigitStore, Layout, MAX_RECORD_LEN, Wide3, copy_record, is_wide, nth_record, pack, write_record,
 };
-use double_scheme::{put_rows, rows_in_step};
+use double_scheme::{STEP_DIGITS, put_rows, rows_in_step};
 use matrix_u32::{Kernel, Matrix};
 use pir_schemes::{Plan, Scheme};
 use seed_expand::expand;
@@ -210,6 +210,7 @@ impl FirstLayer {
         ensures so_far { HasFirst result (times_vector
             (digits_at self.now.plan self.now.records) query.now) out.new }
         ensures within { result ≤ digit_rows (version_shape self.now) }
+        ensures forward { made ≡ digit_rows (version_shape self.now) ⊎ made < result }
         ensures len { length out.new ≡ length out.old }
     {
         let left = out.len() - made;
@@ -217,7 +218,7 @@ impl FirstLayer {
             return made;
         }
         let digits = self.digits();
-        let count = rows_in_step(query.len(), left);
+        let count = rows_in_step(STEP_DIGITS, query.len(), left);
         put_rows(kernel, digits, query, made, count, out);
         made + count
     }

@@ -1,17 +1,17 @@
 //! The answer that is made in steps.
 
-ghost use Rattle.std.specs.Prelude.{◌≡◌, ◌≤◌, ◌+◌, ◌*◌, ◌↔◌, ℕ, List, IfOk, IsTrue, length, true};
+ghost use Rattle.std.specs.Prelude.{◌≡◌, ◌≤◌, ◌<◌, ◌+◌, ◌*◌, ◌⊎◌, ◌↔◌, ℕ, List, IfOk, IfErr, IsTrue, Some, is_ok, length, true};
 ghost use Rattle.matrix_u32.specs.Matrix.{WordMatrix, times_vector};
 ghost use Rattle.digit_pack.specs.Layout.{digit_rows};
 ghost use Rattle.double_scheme.specs.Steps.{HasFirst};
 ghost use Rattle.pir_schemes.specs.Plans.{digits_at};
 ghost use Rattle.pir_schemes.specs.Retrievals.{query_count};
 ghost use Rattle.version_store.specs.Editions.{Records, IsMadeTwice, version_shape};
-ghost use Rattle.version_store.specs.Preparing.{GivesAnswer, IsMakingFor, IsPrepared};
+ghost use Rattle.version_store.specs.Preparing.{GivesAnswer, IsAllMade, IsMakingFor, IsPrepared, amount_made, scheme_made};
 
 use crate::first_layer::{Digits, FirstLayer};
 use digit_pack::Layout;
-use double_scheme::{AnswerSteps, put_rows, rows_in_step};
+use double_scheme::AnswerSteps;
 use matrix_u32::{Kernel, Matrix};
 use pir_schemes::Scheme;
 use std::alloc::{AllocError, Global};
@@ -43,8 +43,10 @@ impl Preparation {
     ) -> Result<Preparation, AllocError>
         requires query { length query.items ≡ query_count scheme layout.now }
         requires dimension { dimension ≤ 1024 }
-        ensures { IfOk result (λ p. (e : Records) → version_shape e ≡ layout.now →
+        ensures begun { IfOk result (λ p. (e : Records) → version_shape e ≡ layout.now →
             e.plan.dimension ≡ dimension → IsMakingFor e p.query.items p.making) }
+        ensures query { IfOk result (λ p. p.query ≡ query) }
+        ensures scheme { IfOk result (λ p. scheme_made p.making ≡ scheme) }
     {
         match scheme {
             Scheme::Simple => {
@@ -60,7 +62,8 @@ impl Preparation {
         }
     }
 
-    /// The same with one more step made, and whether none is left.
+    /// The same with one more step made, and whether none is left. There is more of the answer after each step, so that they come to an
+    /// end.
     pub(crate) fn stepped<K: Kernel>(
         self,
         kernel: K,
@@ -70,7 +73,12 @@ impl Preparation {
     ) -> (Preparation, bool)
         requires so_far { IsMakingFor layer.now self.query.items self.making }
         requires made { (client : WordMatrix) × IsMadeTwice layer.now a2.now server.now client }
-        ensures { IsMakingFor layer.now result.0.query.items result.0.making }
+        ensures so_far { IsMakingFor layer.now result.0.query.items result.0.making }
+        ensures query { result.0.query ≡ self.query }
+        ensures scheme { scheme_made result.0.making ≡ scheme_made self.making }
+        ensures whole { IsTrue result.1 ↔ IsAllMade result.0.making }
+        ensures forward { IsAllMade self.making ⊎
+            amount_made layer.now self.making < amount_made layer.now result.0.making }
     {
         let Preparation { query, making } = self;
         match making {
@@ -94,8 +102,11 @@ impl Preparation {
         scheme: Scheme,
         query: &[u32],
     ) -> Result<Vec<u32>, Option<Preparation>>
-        ensures { (e : Records) → IsMakingFor e self.query.items self.making →
+        ensures answer { (e : Records) → IsMakingFor e self.query.items self.making →
             GivesAnswer e scheme query.now result }
+        ensures given { IsAllMade self.making → scheme_made self.making ≡ scheme →
+            self.query.items ≡ query.now → IsTrue (is_ok result) }
+        ensures kept { IfErr result (λ kept. kept ≡ Some self) }
     {
         if are_same(&self.query, query) {
             return self.into_whole(scheme);
@@ -105,8 +116,11 @@ impl Preparation {
 
     /// The answer to the query that was begun, if it is whole and of this scheme; else what was begun.
     fn into_whole(self, scheme: Scheme) -> Result<Vec<u32>, Option<Preparation>>
-        ensures { (e : Records) → IsMakingFor e self.query.items self.making →
+        ensures answer { (e : Records) → IsMakingFor e self.query.items self.making →
             GivesAnswer e scheme self.query.items result }
+        ensures given { IsAllMade self.making → scheme_made self.making ≡ scheme →
+            IsTrue (is_ok result) }
+        ensures kept { IfErr result (λ kept. kept ≡ Some self) }
     {
         let Preparation { query, making } = self;
         match (scheme, making) {

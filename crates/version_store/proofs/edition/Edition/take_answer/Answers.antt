@@ -8,5 +8,5 @@ invariant_of-self-in-Err g c =
     let e : Records = c.self.inside.layer in (
       c.self.invariant.0,
       subst (GivesAnswer e c.args.scheme c.args.query.now) c.in-Err.is
-          (c.into_answer.ensures e (subst (IsPrepared e) (sym c.take.ensures.value ∙ c.in_ok-prepared.was) c.self.invariant.1)),
+          (c.into_answer.ensures.answer e (subst (IsPrepared e) (sym c.take.ensures.value ∙ c.in_ok-prepared.was) c.self.invariant.1)),
     )

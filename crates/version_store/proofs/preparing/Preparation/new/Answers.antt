@@ -9,7 +9,7 @@ use Rattle.version_store.specs.Editions.{version_shape}
 use Rattle.version_store.proofs.Prepared.{double_begun}
 use Rattle.version_store.proofs.preparing.Preparation.new.Goals as goal
 
-pub returns-in_ok-steps-in-Double : goal.returns-in_ok-steps-in-Double
-returns-in_ok-steps-in-Double c e shape dimension =
+pub returns-in_ok-steps-in-Double-clause-begun : goal.returns-in_ok-steps-in-Double-clause-begun
+returns-in_ok-steps-in-Double-clause-begun c e shape dimension =
     double_begun e c.args.layout.now c.args.dimension c.args.query.items c.in_ok-steps-in-Double.steps shape dimension
-    (c.requires.query ∙ ap (λ (s : Scheme). query_count s c.args.layout.now) c.in-Double.is) c.in_ok-steps-in-Double.ensures
+    (c.requires.query ∙ ap (λ (s : Scheme). query_count s c.args.layout.now) c.in-Double.is) c.in_ok-steps-in-Double.ensures.so_far c.in_ok-steps-in-Double.ensures.begun
