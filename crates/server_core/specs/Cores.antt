@@ -1,13 +1,14 @@
 -- What callers see of a server.
-use Rattle.std.specs.Prelude.{◌≡◌, ℕ, List, Bool, false, not, Option, Some, None, Result, Ok, Err}
+use Rattle.std.specs.Prelude.{◌≡◌, ◌⊎◌, ℕ, List, Bool, false, not, Option, Some, None, Result, Ok, Err}
 use Rattle.std.specs.Map.{lookup}
 use Rattle.std.specs.BTreeMap.{is_at}
 use Rattle.std.specs.Ordering.{nat_cmp}
 use Rattle.std.specs.declared.alloc.AllocError.{AllocError}
 use Rattle.frame_codec.specs.Streams.{unfinished_size}
+use Rattle.pir_schemes.specs.declared.scheme.Scheme.{Scheme}
 use Rattle.version_store.specs.Histories.{StoreState, History}
 use Rattle.server_core.specs.Serving.{Setting, is_closed}
-use Rattle.server_core.specs.Sessions.{Session, Fed, FedFirst, IsComing, IsFirstUnread, WouldPublish}
+use Rattle.server_core.specs.Sessions.{Session, Fed, FedFirst, IsComing, IsFirstUnread, WouldAnswer, WouldPublish}
 use Rattle.server_core.specs.declared.session.Coming.{Coming}
 use Rattle.server_core.specs.declared.session.Coming.TheVariants.{Short}
 use Rattle.server_core.specs.declared.server.FeedError.{FeedError}
@@ -40,6 +41,17 @@ WouldPublishIn (Some s) piece store = WouldPublish s piece store
 -- A piece of the stream of this number's session makes its next frame a publication, which is made unless memory is refused.
 abbrev pub PublishesNext : Core → ℕ → List ℕ → Type 0
 PublishesNext core id piece = WouldPublishIn (session_of core.sessions id) piece core.store
+
+-- The next frame of a session's stream, which a piece completes, is a query that is answered in a scheme, if there is a session.
+abbrev pub WouldAnswerIn : Option Session → List ℕ → StoreState → Scheme → Type 0
+WouldAnswerIn None piece store scheme = ⊥
+WouldAnswerIn (Some s) piece store scheme = WouldAnswer s piece store scheme
+
+-- A piece of the stream of this number's session may be put off: its next frame is a query that is answered, or a publication that is made,
+-- unless memory is refused.
+abbrev pub MayWait : Core → ℕ → List ℕ → Type 0
+MayWait core id piece =
+    ((scheme : Scheme) × WouldAnswerIn (session_of core.sessions id) piece core.store scheme) ⊎ PublishesNext core id piece
 
 -- what feeding a piece would do first; nothing that takes long where there is no session
 abbrev pub IsComingIn : Coming → Option Session → List ℕ → StoreState → Type 0

@@ -4,7 +4,7 @@ ghost use Rattle.std.specs.Prelude.{◌≡◌, ◌≢◌, ◌⊎◌, ◌≤◌, 
 ghost use Rattle.digit_pack.specs.Layout.{is_layout};
 ghost use Rattle.pir_schemes.specs.Plans.{fits, shape_at};
 ghost use Rattle.version_store.specs.Histories.{History, StandsFor, after_edit, after_append, published, held_appended, held_published};
-ghost use Rattle.server_core.specs.Cores.{session_of, is_open, IsComingIn, PublishesNext, FeedsCore, FeedsCoreFirst, IsFirstUnreadBy, OnMemory, OnNoSession, unfinished_in};
+ghost use Rattle.server_core.specs.Cores.{session_of, is_open, IsComingIn, MayWait, PublishesNext, FeedsCore, FeedsCoreFirst, IsFirstUnreadBy, OnMemory, OnNoSession, unfinished_in};
 ghost use Rattle.server_core.specs.Serving.{setting_of, IsFull, PublishesIf};
 ghost use Rattle.server_core.specs.Sessions as sessions;
 
@@ -161,10 +161,11 @@ impl<K: Kernel> ServerCore<K> {
     ///   begun while a publication waits;
     /// - when its next frame publishes, and another session's answer is begun, which the publication would give up.
     ///
-    /// All other pieces may be fed. Contracts see nothing of this: fed at once each piece is answered the same, only that the
+    /// All other pieces may be fed. Contracts see no more of this: fed at once each piece is answered the same, only that the
     /// whole answer is made in the feed.
     pub fn prepare(&mut self, id: u64, piece: &[u8]) -> bool
-        ensures { self.new ≡ self.old }
+        ensures same { self.new ≡ self.old }
+        ensures only { result ≡ false → MayWait self.old id piece.now }
     {
         self.forget_closed();
         match self.coming(id, piece) {

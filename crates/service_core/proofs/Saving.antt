@@ -105,8 +105,8 @@ serves_leave version saved id now old new before after Done a b l (inr some) = e
       ]
 ]
 serves_leave version saved id now old new before after PutOff a b l nothing =
-    left_of version saved before.store.version after.store.version b (same version saved before.store.version a b l nothing.3)
-    (ap (λ (c : Core). c.store.version) (sym nothing.2))
+    left_of version saved before.store.version after.store.version b (same version saved before.store.version a b l nothing.4)
+    (ap (λ (c : Core). c.store.version) (sym nothing.3))
 
 -- what is written is of the version that is there
 writes_leave : (version saved now : ℕ) (old new : LinkState) (answer : Result (Unit {0}) Fault) (a b : List Call) → Leaves version saved version a →

@@ -5,7 +5,7 @@ use Rattle.std.specs.declared.alloc.AllocError.{AllocError}
 use Rattle.frame_codec.specs.declared.frame.Frame.{Frame}
 use Rattle.frame_codec.specs.Frames.{IsFrame, encoding}
 use Rattle.version_store.specs.Histories.{History, StandsFor}
-use Rattle.server_core.specs.Cores.{Core, session_of, PublishesNext}
+use Rattle.server_core.specs.Cores.{Core, session_of, MayWait, PublishesNext}
 use Rattle.server_core.specs.Serving.{Setting, setting_of, is_closed}
 use Rattle.server_core.specs.Sessions.{Session, FeedsFirst}
 use Rattle.service_core.specs.Calls.{Call, Read, ReadLater, ReadFails, Write, WriteLater, WriteFails, Append, AppendUndone, AppendLost, TakeBack, TakeBackFails}
@@ -116,13 +116,13 @@ pub record FailsToAppend {C : Type 0} (does : C → Call → C → Type 0) (call
   pub core_is : after ≡ before
 
 -- One frame at most, where one may be served. If it publishes, the publication is appended before: if nothing of that is left, nothing
--- is served, and if a part of it may be left, or it could not be taken back, nothing may be written any more. A frame that is put off
--- changes nothing, and no call is made for it.
+-- is served, and if a part of it may be left, or it could not be taken back, nothing may be written any more. Only a query or a publication
+-- is put off; that changes nothing, and no call is made for it.
 abbrev pub ServesOnce : {C : Type 0} → (C → Call → C → Type 0) → ℕ → ℕ → LinkState → Core → C → Result Served Fault → LinkState → Core → C → Type 0
 ServesOnce does id now old before a (Ok Done) new after b =
     ((MayServe old → ⊥) × (new ≡ old) × (after ≡ before) × (b ≡ a))
     ⊎ (MayServe old × (ServesPlain id now old before a (Ok tt) new after b ⊎ Publishes does id now old before a (Ok tt) new after b))
-ServesOnce does id now old before a (Ok PutOff) new after b = MayServe old × (new ≡ old) × (after ≡ before) × (b ≡ a)
+ServesOnce does id now old before a (Ok PutOff) new after b = MayServe old × MayWait before id old.unserved × (new ≡ old) × (after ≡ before) × (b ≡ a)
 ServesOnce does id now old before a (Err fault.Memory) new after b =
     MayServe old × (ServesPlain id now old before a (Err fault.Memory) new after b ⊎ Publishes does id now old before a (Err fault.Memory) new after b)
 ServesOnce does id now old before a (Err fault.Write) new after b = MayServe old × FailsToAppend does AppendUndone id old before a new after b

@@ -1,7 +1,7 @@
 //! A connection.
 
-ghost use Rattle.std.specs.Prelude.{◌≡◌, ◌≢◌, ◌≤◌, ◌<◌, ◌+◌, ◌-◌, ◌^◌, ◌↔◌, min, cond, List, ℕ, None, [], length, IsTrue, OnOk, OnErr};
-ghost use Rattle.server_core.specs.Cores.{session_of, PublishesNext};
+ghost use Rattle.std.specs.Prelude.{◌≡◌, ◌≢◌, ◌≤◌, ◌<◌, ◌+◌, ◌-◌, ◌^◌, ◌↔◌, min, cond, List, ℕ, None, [], length, IsTrue, OnOk, OnErr, false};
+ghost use Rattle.server_core.specs.Cores.{session_of, MayWait, PublishesNext};
 ghost use Rattle.server_core.specs.Serving.{PublishesIf};
 ghost use Rattle.service_core.specs.Links.{accepted, after_end, after_receipt, after_write, is_progress, IsDone, MayRead, MayServe};
 ghost use Rattle.service_core.specs.Runs.{OthersStay};
@@ -152,7 +152,8 @@ impl Link {
     /// Whether the next frame of what was received may be served now, to the session of a number. While it may not, each call does a
     /// part of what is to be done before: the same bytes are to come here again.
     pub fn prepare_next<K: Kernel>(&self, core: &mut ServerCore<K>, id: u64) -> bool
-        ensures { core.new ≡ core.old }
+        ensures same { core.new ≡ core.old }
+        ensures only { result ≡ false → MayWait core.old id self.now.unserved }
     {
         core.prepare(id, self.unserved.as_slice())
     }
