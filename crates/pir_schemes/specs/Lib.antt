@@ -1,6 +1,7 @@
-pub mod Schemes
+pub mod Costs
+pub mod Laws
 pub mod Parts
 pub mod Plans
 pub mod Retrievals
 pub mod Rooms
-pub mod Laws
+pub mod Schemes

@@ -10,6 +10,7 @@
 #![tactic(auto)]
 
 mod certainty;
+mod choosing;
 mod counts;
 pub mod laws;
 mod parts;
@@ -20,6 +21,7 @@ mod scheme;
 mod slots;
 
 pub use certainty::is_certain;
+pub use choosing::{HintsHeld, cheaper_scheme};
 pub use counts::{answer_count, hint_len, hint_rows, query_count};
 pub use parts::{DELTA_ROWS, PART_WORDS, part_len, part_words};
 pub use plan::{Plan, SecretSeed};
