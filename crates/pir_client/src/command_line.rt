@@ -1,6 +1,6 @@
 //! The command line.
 
-ghost use Rattle.std.specs.Prelude.{◌≡◌, Some, IfOk, codes};
+ghost use Rattle.std.specs.Prelude.{◌≡◌, Some, IfOk, IfSome, codes};
 ghost use Rattle.clap.specs.Matches.{found_of, first_value};
 ghost use Rattle.pir_client.specs.Tasks.{TaskFits, IsDimension, IsTimeout, IsNumberIfGiven, IsServerGiven, IsHostGiven, ReadsGet, ReadsPut, ReadsAppend, ReadsPublish, scheme_text};
 
@@ -193,7 +193,12 @@ fn get_command<'a>(alloc: Global) -> Result<Command<'a>, AllocError> {
             "The least number of words, 1 to 1024, that the server's secrets may have",
         )
         .required(false))?
-        .arg(option(alloc, "scheme", "NAME", "simple or double"))?
+        .arg(option(
+            alloc,
+            "scheme",
+            "NAME",
+            "simple or double; with --state also auto: the one that moves fewer bytes for the records named",
+        ))?
         .arg(word(
             alloc,
             "INDEX",
@@ -203,7 +208,7 @@ fn get_command<'a>(alloc: Global) -> Result<Command<'a>, AllocError> {
 }
 
 const GET_EXAMPLE: &str =
-    "Prints 'retrieved INDEX VERSION HEX', HEX being the record's bytes, or - where it has none.\n\nWith --state DIR a wide store is known by its greeting; without it --wide says that the store is one. With --state DIR each run draws a seed of its own from the system's random source, and keeps none. The folder keeps public hints alone, one for\neach scheme and store, so that a second get need not fetch one; it may be copied, restored or removed at any time. A server of a lower version\nthan was seen before is warned of beside the result, and with --no-older refused: 'fault: Older'.\nA hint's parts that have come stay there, so that a get whose connection was cut goes on with the next one.\n\nWith --seed and --number it is you who must never use a number twice with one seed, not even after a get that failed: two such retrievals can\ntell the server what they ask.\n\nSecrets of fewer than 1024 words hide INDEX less: the server chooses their number. --least-dimension 1024 ends a get\nwith 'fault: BadWelcome' if they are fewer, before INDEX is asked for; without it a warning is printed, and with --state fewer than 1024 are refused.\n\nExample: pir_client get --state DIR --port 7000 --scheme simple 1\nExample: pir_client get --port 7000 --seed 1111111111111111111111111111111111111111111111111111111111111111 --number 0 --scheme simple 1\n\nWith --verbose a fault has a second line, 'cause: TEXT', that says what failed and where.";
+    "Prints 'retrieved INDEX VERSION HEX', HEX being the record's bytes, or - where it has none.\n\nWith --state DIR a wide store is known by its greeting; without it --wide says that the store is one. With --state DIR each run draws a seed of its own from the system's random source, and keeps none. The folder keeps public hints alone, one for\neach scheme and store, so that a second get need not fetch one; it may be copied, restored or removed at any time. With --scheme auto the hints kept and the number of records decide the scheme, and not which records\nthey are. A server of a lower version\nthan was seen before is warned of beside the result, and with --no-older refused: 'fault: Older'.\nA hint's parts that have come stay there, so that a get whose connection was cut goes on with the next one.\n\nWith --seed and --number it is you who must never use a number twice with one seed, not even after a get that failed: two such retrievals can\ntell the server what they ask.\n\nSecrets of fewer than 1024 words hide INDEX less: the server chooses their number. --least-dimension 1024 ends a get\nwith 'fault: BadWelcome' if they are fewer, before INDEX is asked for; without it a warning is printed, and with --state fewer than 1024 are refused.\n\nExample: pir_client get --state DIR --port 7000 --scheme simple 1\nExample: pir_client get --port 7000 --seed 1111111111111111111111111111111111111111111111111111111111111111 --number 0 --scheme simple 1\n\nWith --verbose a fault has a second line, 'cause: TEXT', that says what failed and where.";
 
 // The command `state`.
 fn state_command<'a>(alloc: Global) -> Result<Command<'a>, AllocError> {
@@ -371,10 +376,20 @@ pub fn scheme_given<'a>(found: &ArgMatches<'a>) -> Result<Scheme, BadLine<'a>>
         Some (scheme_text scheme)) }
 {
     let name = text_at(found, "scheme", SCHEME_TAKES)?;
+    match scheme_named(name) {
+        Some(scheme) => Ok(scheme),
+        None => Err(BadLine::Given(SCHEME_TAKES, name)),
+    }
+}
+
+/// The scheme of a name.
+pub fn scheme_named(name: &str) -> Option<Scheme>
+    ensures { IfSome result (λ scheme. name.now ≡ scheme_text scheme) }
+{
     match name {
-        "simple" => Ok(Scheme::Simple),
-        "double" => Ok(Scheme::Double),
-        _ => Err(BadLine::Given(SCHEME_TAKES, name)),
+        "simple" => Some(Scheme::Simple),
+        "double" => Some(Scheme::Double),
+        _ => None,
     }
 }
 

@@ -1,15 +1,15 @@
 //! What a command line asks of a client's folder.
 
-ghost use Rattle.std.specs.Prelude.{◌≡◌, Some, IfOk};
+ghost use Rattle.std.specs.Prelude.{◌≡◌, Some, IfOk, codes};
 ghost use Rattle.std.specs.Option.{unwrap_or};
-ghost use Rattle.clap.specs.Matches.{found_of};
-ghost use Rattle.pir_client.specs.FolderTasks.{ReadsFolderGet, ReadsFolder};
+ghost use Rattle.clap.specs.Matches.{found_of, first_value};
+ghost use Rattle.pir_client.specs.FolderTasks.{ReadsFolderGet, ReadsFolder, choice_text};
 
-use crate::command_line::{INDEX_TAKES, least_dimension, scheme_given, server_at};
+use crate::choosing::SchemeChoice;
+use crate::command_line::{INDEX_TAKES, least_dimension, scheme_named, server_at};
 use crate::server::Address;
 use clap::ArgMatches;
 use command_words::{BadLine, decimal, text_at};
-use session_core::Scheme;
 use std::alloc::Global;
 
 /// How many seconds a server may take if no number is given.
@@ -17,6 +17,8 @@ const TIMEOUT: u64 = 30;
 
 /// The least number of words that a secret has where none is given: the publication's.
 const WHOLE_SECRET: usize = 1024;
+
+const CHOICE_TAKES: &str = "--scheme takes simple, double or auto";
 
 const STATE_TAKES: &str = "--state takes the name of a folder";
 
@@ -32,7 +34,7 @@ pub enum FolderTask<'a> {
         no_older: bool,
         // Whether it is said how much of a hint has come.
         progress: bool,
-        scheme: Scheme,
+        choice: SchemeChoice,
         indices: Vec<u32>,
     },
     /// To print which hints it has.
@@ -54,9 +56,9 @@ pub fn folder_get_task<'a>(
 {
     let state = text_at(found, "state", STATE_TAKES)?;
     let server = patient(server_at(found)?);
-    let scheme = scheme_given(found)?;
     let least = least_dimension(found)?.unwrap_or(WHOLE_SECRET);
     let indices = indices_given(alloc, found)?;
+    let choice = choice_given(found, indices.len())?;
     let no_older = found.get_flag("no-older");
     let progress = found.get_flag("progress");
     Ok(FolderTask::Get {
@@ -65,9 +67,25 @@ pub fn folder_get_task<'a>(
         least,
         no_older,
         progress,
-        scheme,
+        choice,
         indices,
     })
+}
+
+// The scheme given, or the cheaper one for so many records.
+#[tactic(auto, unfolding(crate::specs::FolderTasks::choice_text))]
+fn choice_given<'a>(found: &ArgMatches<'a>, times: usize) -> Result<SchemeChoice, BadLine<'a>>
+    ensures { IfOk result (λ choice. first_value (found_of found.now) (codes "scheme") ≡
+        Some (choice_text choice)) }
+{
+    let name = text_at(found, "scheme", CHOICE_TAKES)?;
+    if name == "auto" {
+        return Ok(SchemeChoice::Cheaper(times.min(u32::MAX as usize) as u32));
+    }
+    match scheme_named(name) {
+        Some(scheme) => Ok(SchemeChoice::One(scheme)),
+        None => Err(BadLine::Given(CHOICE_TAKES, name)),
+    }
 }
 
 // A server that may take half a minute if no number of seconds is given.

@@ -1,5 +1,6 @@
 //! The commands of a client that keeps hints in a folder. A folder has no secret: each run draws a seed of its own.
 
+use crate::choosing::SchemeChoice;
 use crate::failures::{folder_failure, retrieve_failure};
 use crate::folder_tasks::FolderTask;
 use crate::server::Address;
@@ -10,7 +11,6 @@ use client_state::{Folder, FolderFault, OldFolder};
 use command_words::{Failed, Failure, printed};
 use hint_file::state_lines;
 use rehearsal::shown_bytes;
-use session_core::Scheme;
 use std::alloc::AllocError;
 use std::random::RandomSource;
 
@@ -26,16 +26,16 @@ pub fn done_in_folder(rt: &HostRuntime, task: FolderTask<'_>) -> Result<(), Fail
             least,
             no_older,
             progress,
-            scheme,
+            choice,
             indices,
         } => {
             let seed = fresh_seed(rt)?;
             let folder = Folder::open(rt, state).map_err(|fault| folder_failed(rt, state, fault))?;
             let old = taken_over(&folder)?;
             let session = if no_older {
-                session_of_no_older(rt, folder, &server, seed, least, scheme)?
+                session_of_no_older(rt, folder, &server, seed, least, choice)?
             } else {
-                Session::begin(rt, folder, &server, seed, least, scheme)?
+                Session::begin(rt, folder, &server, seed, least, choice)?
             };
             let session = if progress {
                 session.with_progress()
@@ -85,14 +85,14 @@ fn session_of_no_older<'a>(
     address: &Address<'_>,
     seed: [u8; 32],
     least: usize,
-    scheme: Scheme,
+    choice: SchemeChoice,
 ) -> Result<Session<'a>, Failed> {
     let mut older = Older {
         version: 0,
         seen: 0,
     };
     for _ in 0..CONNECTIONS {
-        let session = Session::begin(rt, folder, address, seed, least, scheme)?;
+        let session = Session::begin(rt, folder, address, seed, least, choice)?;
         match session.warnings().older {
             None => return Ok(session),
             Some(found) => older = found,

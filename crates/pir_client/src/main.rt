@@ -8,6 +8,7 @@
 #![tactic(auto)]
 
 mod causes;
+mod choosing;
 mod command_line;
 mod commands;
 mod delta_only;

@@ -5,6 +5,7 @@
 
 ghost use Rattle.client_commands.specs.Transcripts.{IsRecordAsked};
 
+use crate::choosing::SchemeChoice;
 use crate::delta_only::{DeltaOnly, DeltaReader, DeltaWriter};
 use crate::failures::failure_of;
 use crate::fetching::fetch;
@@ -69,7 +70,7 @@ impl<'a> Session<'a> {
         address: &Address<'_>,
         seed: [u8; 32],
         least: usize,
-        scheme: Scheme,
+        choice: SchemeChoice,
     ) -> Result<Session<'a>, Failed> {
         let server = Server::connect(rt, address)?;
         let mut client = ClientCore::new(rt.alloc(), Lanes, seed, 0);
@@ -77,6 +78,10 @@ impl<'a> Session<'a> {
             |fault| server.failed(address, failure_of(fault)),
         )?;
         check_dimension(&client, least).map_err(|fault| server.failed(address, failure_of(fault)))?;
+        let scheme = match client.known() {
+            Some(now) => choice.scheme(&folder, &now)?,
+            None => Scheme::Simple,
+        };
         let mut session = Session {
             rt,
             folder,
