@@ -1,4 +1,4 @@
-// The work of crates/kernel_bench in C, on the same words: gcc -O3 -march=native, by scripts/bench, time_open and time_get.
+// The work of crates/kernel_bench in C, on the same words: gcc -O3 -march=native, by scripts/bench, time_open, time_get and time_wide.
 //
 // The packed product has the loop structure of the published implementation of SimplePIR: three digits of
 // ten bits in a word, eight rows at once, each digit masked out. That of one row at once stands beside it.
@@ -8,7 +8,8 @@
 // A line has the name of the work, the time of its quickest turn, the bytes read and the products added in
 // a second, and a sum of the words that were made, parted by tabs. With the argument `plain` the plain triple loop is
 // timed, too. With `rate` each packed product alone is made 200 times one after another, as a server makes them for queries
-// in one stream, and its line has the mean.
+// in one stream, and its line has the mean. With `wide ROWS COLS` the packed products are made of a matrix of so many digits of nine bits, as
+// queries of a wide store are answered.
 
 #include <stdint.h>
 #include <stdio.h>
@@ -229,6 +230,43 @@ static void rate(const word *digits, sizes n)
     free(x), free(padded), free(out), free(packed);
 }
 
+// Two vectors at once: two rows of the matrix, which are read once for both.
+KERNEL void packed_two(const word *a, size_t rows, size_t width, const word *x, const word *y, word *x_out, word *y_out)
+{
+    for (size_t i = 0; i + 2 <= rows; i += 2) {
+        word sums[4] = {0};
+        const word *two = a + i * width;
+        for (size_t j = 0; j < width; j++)
+            for (int r = 0; r < 2; r++) {
+                word w = two[r * width + j], d0 = w & DIGIT, d1 = (w >> 10) & DIGIT, d2 = (w >> 20) & DIGIT;
+                sums[r] += d0 * x[3 * j] + d1 * x[3 * j + 1] + d2 * x[3 * j + 2];
+                sums[2 + r] += d0 * y[3 * j] + d1 * y[3 * j + 1] + d2 * y[3 * j + 2];
+            }
+        for (int r = 0; r < 2; r++) {
+            x_out[i + r] = sums[r];
+            y_out[i + r] = sums[2 + r];
+        }
+    }
+}
+
+// The packed products of a wide store.
+static void wide(sizes n)
+{
+    size_t count = n.rows * n.cols, packed_count = n.rows * n.width;
+    // Three digits of nine bits in a word, each in ten bits of it.
+    word *packed = filled(packed_count, 1, 511u | 511u << 10 | 511u << 20), *out = zeros(n.rows), *other = zeros(n.rows), one;
+    word *x = filled(3 * n.width, 3, ~0u), *y = filled(3 * n.width, 8, ~0u);
+    double took = LEAST(3, one = read_all(packed, packed_count));
+    say("read the packed matrix", packed_count, 0, took, &one, 1);
+    took = LEAST(3, packed_one(packed, n.rows, n.width, x, out));
+    say("packed matrix by vector, one row at once", packed_count, count, took, out, n.rows);
+    took = LEAST(3, packed_eight(packed, n.rows, n.width, x, out));
+    say("packed matrix by vector", packed_count, count, took, out, n.rows);
+    took = LEAST(3, packed_two(packed, n.rows, n.width, x, y, out, other));
+    say("packed matrix by two vectors", packed_count, 2 * count, took, out, n.rows);
+    free(packed), free(out), free(other), free(x), free(y);
+}
+
 // The words of a hint, read once.
 static void hint_read(sizes n)
 {
@@ -256,6 +294,11 @@ int main(int argc, char **argv)
 {
     // The plain triple loop takes seconds: it is done where it is asked for.
     int is_plain = argc > 1 && !strcmp(argv[1], "plain");
+    if (argc > 3 && !strcmp(argv[1], "wide")) {
+        size_t rows = strtoul(argv[2], NULL, 10), cols = strtoul(argv[3], NULL, 10);
+        wide((sizes){.rows = rows, .cols = cols, .width = (cols + 2) / 3, .secret = 1024});
+        return 0;
+    }
     sizes n = {.rows = 4096, .cols = 4096, .width = (4096 + 2) / 3, .secret = 1024};
     size_t count = n.rows * n.cols, made = n.rows * n.secret;
     double products = (double)count * n.secret;
