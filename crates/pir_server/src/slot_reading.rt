@@ -1,6 +1,8 @@
 //! Lines of hex, read as the slots of their records.
 
-ghost use Rattle.std.specs.Prelude.{◌≡◌, ◌≤◌, ◌-◌, length, min, take, drop};
+ghost use Rattle.std.specs.Prelude.{◌≡◌, ◌-◌, ℕ, List, Some, length, min, take, drop, IfOk};
+ghost use Rattle.command_words.specs.Values.{bytes_in};
+ghost use Rattle.digit_pack.specs.Slots.{slot_of};
 
 use crate::making::{bad_line, record_of_line};
 use command_words::{Failed, Failure};
@@ -77,17 +79,7 @@ impl<R: Read + Drop> SlotReader<R> {
         if !self.next_line()? {
             return Ok(false);
         }
-        let Ok(text) = str::from_utf8(&self.line) else {
-            return Err(bad_line(
-                self.alloc,
-                self.number,
-                "a byte that is no character of a line",
-            ));
-        };
-        let bytes = record_of_line(self.alloc, self.number, text, usize::from(self.slot_len))?;
-        let mut slot = vec![in self.alloc; 0; usize::from(self.slot_len)]?;
-        fill_slot(&bytes, &mut slot);
-        self.slot = slot;
+        self.slot = slot_of_line(self.alloc, self.number, &self.line, self.slot_len)?;
         self.given = 0;
         self.number = self.number.saturating_add(1);
         Ok(true)
@@ -171,4 +163,18 @@ fn give_out(slot: &[u8], given: usize, buffer: &mut [u8]) -> usize
     let n = rest.len().min(buffer.len());
     buffer[..n].copy_from_slice(&rest[..n]);
     n
+}
+
+// The slot of the record in a line, the number of which is counted from 0.
+fn slot_of_line(alloc: Global, number: usize, line: &[u8], slot_len: u16) -> Result<Vec<u8>, Failed>
+    ensures { IfOk result (λ slot. (bytes : List ℕ) × (bytes_in line.now ≡ Some bytes)
+        × (slot.items ≡ slot_of slot_len bytes)) }
+{
+    let Ok(text) = str::from_utf8(line) else {
+        return Err(bad_line(alloc, number, "a byte that is no character of a line"));
+    };
+    let bytes = record_of_line(alloc, number, text, usize::from(slot_len))?;
+    let mut slot = vec![in alloc; 0; usize::from(slot_len)]?;
+    fill_slot(&bytes, &mut slot);
+    Ok(slot)
 }
