@@ -1,7 +1,8 @@
 //! The command `make` where the number of the records is given: they are written as they are read.
 
-ghost use Rattle.std.specs.Prelude.{◌≡◌, ◌≤◌, ℕ, List, length, IfOk, IfSome};
-ghost use Rattle.std.specs.Io.KnownBytes.{Consumes, IsAtEnd};
+ghost use Rattle.std.specs.Prelude.{◌≡◌, ◌≤◌, ℕ, List, length, IfOk, IfSome, OnOk};
+ghost use Rattle.snapshot_file.specs.Snapshots.{records_len};
+ghost use Rattle.pir_server.specs.ReadIn.{IsReadWhole};
 
 use crate::causes::failed_at;
 use crate::files::{OwnFile, write_read};
@@ -66,7 +67,10 @@ fn make_of_input<R: Read>(
     making: &Making<'_>,
     header: &Header,
     reader: &mut R,
-) -> Result<(), Failed> {
+) -> Result<(), Failed>
+    ensures { OnOk result (IsReadWhole (records_len header.now)
+        (R.remaining reader.old) (R.remaining reader.new)) }
+{
     match write_out_file(rt, making, header, reader) {
         Ok(()) => Ok(()),
         Err(Unwritten::Input(fault)) => Err(bad_input(rt.alloc(), header, fault)),
@@ -87,7 +91,10 @@ fn write_out_file<R: Read>(
     making: &Making<'_>,
     header: &Header,
     reader: &mut R,
-) -> Result<(), Unwritten> {
+) -> Result<(), Unwritten>
+    ensures { OnOk result (IsReadWhole (records_len header.now)
+        (R.remaining reader.old) (R.remaining reader.new)) }
+{
     let mut file = match OwnFile::to_write(rt, making.out) {
         Ok(file) => file,
         Err(failure) => return Err(Unwritten::File(failure, 0)),
@@ -112,9 +119,8 @@ fn bad_input(alloc: Global, header: &Header, fault: InputFault) -> Failed {
 
 // Reads to the end, and answers how many bytes came; none where there are more than so many.
 fn rest_of<R: Read>(alloc: Global, reader: &mut R, most: usize) -> Result<Option<usize>, Failed>
-    ensures { IfOk result (λ found. IfSome found (λ n. (n ≤ most) × (bytes : List ℕ)
-        × (length bytes ≡ n) × Consumes (R.remaining reader.old) (R.remaining reader.new) bytes
-        × IsAtEnd (R.remaining reader.new))) }
+    ensures { IfOk result (λ found. IfSome found (λ n. (n ≤ most)
+        × IsReadWhole n (R.remaining reader.old) (R.remaining reader.new))) }
 {
     let mut buffer = piece_buffer(alloc)?;
     let mut taken = 0;

@@ -1,7 +1,8 @@
 //! Snapshot files.
 
-ghost use Rattle.std.specs.Prelude.{◌≡◌, ℕ, List, IfOk};
-ghost use Rattle.snapshot_file.specs.Snapshots.{snapshot_bytes};
+ghost use Rattle.std.specs.Prelude.{◌≡◌, ℕ, List, IfOk, OnOk};
+ghost use Rattle.snapshot_file.specs.Snapshots.{records_len, snapshot_bytes};
+ghost use Rattle.pir_server.specs.ReadIn.{IsReadWhole};
 ghost use Rattle.version_store.specs.Openings.{IsSound, held_of, snapshot_of};
 ghost use Rattle.publication_log.specs.Publications.{Published};
 ghost use Rattle.publication_log.specs.Entries.{chain_bytes};
@@ -323,7 +324,10 @@ pub fn write_read<R: Read>(
     file: &mut OwnFile<'_>,
     header: &Header,
     reader: &mut R,
-) -> Result<(), Unwritten> {
+) -> Result<(), Unwritten>
+    ensures { OnOk result (IsReadWhole (records_len header.now)
+        (R.remaining reader.old) (R.remaining reader.new)) }
+{
     if !file.is_file() {
         return write_read_in_place(rt, file.place.name(), header, reader);
     }
@@ -341,7 +345,10 @@ fn write_read_in_place<R: Read>(
     name: &str,
     header: &Header,
     reader: &mut R,
-) -> Result<(), Unwritten> {
+) -> Result<(), Unwritten>
+    ensures { OnOk result (IsReadWhole (records_len header.now)
+        (R.remaining reader.old) (R.remaining reader.new)) }
+{
     let Ok(file) = File::create(rt, name) else {
         return Err(Unwritten::File(NO_FILE, 0));
     };
