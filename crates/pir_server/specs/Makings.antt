@@ -2,7 +2,7 @@
 use Rattle.std.specs.Prelude.{ℕ, ◌+◌, ◌%◌, if◌then◌else◌}
 use Rattle.sha2.specs.Sha256.{sha256}
 use Rattle.snapshot_file.specs.declared.snapshot.Header.{Header}
-use Rattle.pir_server.specs.declared.command_line.Making.{Making}
+use Rattle.pir_server.specs.declared.make_line.Making.{Making}
 use Rattle.pir_server.specs.declared.making.Keys.{Keys}
 
 -- the fields of version 1 of so many records: the form, or the wide one of it; secrets of 1024 words; and the digest of the publisher's key

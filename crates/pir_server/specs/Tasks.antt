@@ -7,7 +7,7 @@ use Rattle.command_words.specs.declared.secrets.Secret.{Secret}
 use Rattle.command_words.specs.Secrets.{IsSecretOf}
 use Rattle.service_watch.specs.declared.entries.LogFormat.{LogFormat}
 use Rattle.service_watch.specs.declared.entries.LogFormat.TheVariants.{Text, Json}
-use Rattle.pir_server.specs.declared.command_line.Making.{Making}
+use Rattle.pir_server.specs.declared.make_line.Making.{Making}
 use Rattle.pir_server.specs.declared.command_line.Migrating.{Migrating}
 use Rattle.pir_server.specs.declared.command_line.Widening.{Widening}
 use Rattle.pir_server.specs.declared.command_line.BackingUp.{BackingUp}
@@ -33,13 +33,19 @@ abbrev pub IsFlagGiven : Found → List ℕ → Bool → Type 0
 IsFlagGiven found name flag =
     (one_text found name ≡ None → flag ≡ false) × (one_text found name ≡ Some (codes "true") → flag ≡ true)
 
--- a new store, as the options of `make` ask for it, but whether it must be new
+-- what was given for a name is this number in decimal digits, or nothing was given and there is none
+abbrev pub IsNumberIf : Found → List ℕ → Option ℕ → Type 0
+IsNumberIf found name n =
+    MatchOption (first_value found name) (n ≡ None) (λ text. IsNumeral 10 text × (n ≡ Some (digits_value 10 text)))
+
+-- a new store, as the options of `make` ask for it, but whether it must be new and whether is said how much was read
 abbrev pub ReadsMake : Found → Making → Type 0
 ReadsMake found making =
     (first_value found (codes "out") ≡ Some making.out.now) × IsNumberOr 1 found (codes "form") making.form
     × IsFlagGiven found (codes "wide") making.wide
     × IsNumberGiven found (codes "width") making.width × IsNumberGiven found (codes "record") making.record_len
-    × IsNumberGiven found (codes "groups") making.groups × IsSecretGiven found (codes "seed") making.seed
+    × IsNumberGiven found (codes "groups") making.groups × IsNumberIf found (codes "count") making.count
+    × IsSecretGiven found (codes "seed") making.seed
     × IsSecretGiven found (codes "key") making.key
 
 -- a move into slots, as those of `migrate` do
@@ -63,11 +69,6 @@ abbrev pub ReadsServe : Found → Serving → Type 0
 ReadsServe found serving =
     (first_value found (codes "file") ≡ Some serving.file.now) × IsNumberGiven found (codes "port") serving.port
     × IsNumberGiven found (codes "connections") serving.connections
-
--- what was given for a name is this number in decimal digits, or nothing was given and there is none
-abbrev pub IsNumberIf : Found → List ℕ → Option ℕ → Type 0
-IsNumberIf found name n =
-    MatchOption (first_value found name) (n ≡ None) (λ text. IsNumeral 10 text × (n ≡ Some (digits_value 10 text)))
 
 -- How a log's lines are written, if that was given.
 abbrev pub ReadsFormat : Found → Option LogFormat → Type 0

@@ -1,25 +1,19 @@
 //! The command line.
 
-ghost use Rattle.std.specs.Prelude.{IfOk, codes};
+ghost use Rattle.std.specs.Prelude.{IfOk};
 ghost use Rattle.clap.specs.Matches.{found_of};
-ghost use Rattle.pir_server.specs.Tasks.{IsNumberOr, ReadsBackup, ReadsMake, ReadsMigrate, ReadsRekey, ReadsServe, ReadsWiden};
+ghost use Rattle.pir_server.specs.Tasks.{ReadsBackup, ReadsMigrate, ReadsRekey, ReadsServe, ReadsWiden};
 
+use crate::make_line::{Making, make_command, making_of};
 use crate::run_line::{Running, run_command, running_of};
-use clap::{Arg, ArgAction, ArgMatches, Command};
+use clap::{ArgMatches, Command};
 use command_words::{BadLine, Secret, key_at, number_at, option, seed_at, text_at, verbose_flag};
 use std::alloc::{AllocError, Global};
 
-const OUT_TAKES: &str = "--out takes a file's name";
+/// What `--out` takes, as a bad one is reported.
+pub const OUT_TAKES: &str = "--out takes a file's name";
 
 const FILE_TAKES: &str = "--file takes a file's name";
-
-const FORM_TAKES: &str = "--form takes 1 or 2";
-
-const WIDTH_TAKES: &str = "--width takes a number from 6 to 10";
-
-const RECORD_TAKES: &str = "--record takes a number from 0 to 65535";
-
-const GROUPS_TAKES: &str = "--groups takes a number from 0 to 65535";
 
 /// What `--seed` takes, as a bad one is reported.
 pub const SEED_TAKES: &str =
@@ -32,29 +26,6 @@ pub const KEY_TAKES: &str =
 const PORT_TAKES: &str = "--port takes a number from 0 to 65535";
 
 const CONNECTIONS_TAKES: &str = "--connections takes a number from 0 to 4294967295";
-
-/// What `make` is to make.
-#[derive(Clone, Copy)]
-pub struct Making<'a> {
-    /// The file that is written.
-    pub out: &'a str,
-    /// Whether it must be new.
-    pub new: bool,
-    /// 1 for records of one length, 2 for records of their own lengths in slots.
-    pub form: u8,
-    /// Whether the store is a wide one.
-    pub wide: bool,
-    /// How many bits a digit has.
-    pub width: u8,
-    /// How many bytes a record has, or its slot.
-    pub record_len: u16,
-    /// How many records stand in a column of the digit matrix.
-    pub groups: u16,
-    /// The key of the public matrix.
-    pub seed: Secret<'a>,
-    /// The publisher's key.
-    pub key: Secret<'a>,
-}
 
 /// What `serve` is to serve.
 #[derive(Clone, Copy)]
@@ -138,69 +109,6 @@ pub struct Asked<'a> {
     /// Whether the cause of a failure is to be said, too.
     pub verbose: bool,
 }
-
-// The command `make`.
-fn make_command<'a>(alloc: Global) -> Result<Command<'a>, AllocError> {
-    Command::new(alloc, "make")
-        .about("Makes a snapshot file, at version 1, of the records on standard input")
-        .after_help(MAKE_EXAMPLE)
-        .arg(verbose_flag(alloc))?
-        .arg(option(alloc, "out", "FILE", "The snapshot file to write"))?
-        .arg(
-            Arg::new(alloc, "new")
-                .long("new")
-                .help("Makes no file where something stands at its name")
-                .action(ArgAction::SetTrue),
-        )?
-        .arg(option(
-            alloc,
-            "form",
-            "F",
-            "1 (also if not given): records of R bytes, one after the other; 2: of up to R - 2 bytes, a line of hex each, or -",
-        )
-        .required(false))?
-        .arg(
-            Arg::new(alloc, "wide")
-                .long("wide")
-                .help(
-                    "Makes a wide store, of up to 32768 rows and columns, which clients greet as one",
-                )
-                .action(ArgAction::SetTrue),
-        )?
-        .arg(option(
-            alloc,
-            "width",
-            "W",
-            "How many bits a digit has, 6 to 10, or to 9 in a wide store: more make it faster and leave less room for noise",
-        ))?
-        .arg(option(
-            alloc,
-            "record",
-            "R",
-            "How many bytes a record has, 1 to 256; in form 2 those of its slot, 2 to 256, of which two hold its length",
-        ))?
-        .arg(option(
-            alloc,
-            "groups",
-            "G",
-            "How many records stand in one column, so that the digit matrix has G * ceil(8 R / W) rows (at most 4096, or 32768)",
-        ))?
-        .arg(option(
-            alloc,
-            "seed",
-            "HEX",
-            "The public seed of the matrix that all clients use: 32 bytes as 64 hex digits, or @FILE",
-        ))?
-        .arg(option(
-            alloc,
-            "key",
-            "HEX",
-            "The publisher's key: 32 bytes as 64 hex digits, not all 0, or @FILE; the snapshot keeps its SHA-256 alone",
-        ))
-}
-
-const MAKE_EXAMPLE: &str =
-    "Prints 'made COUNT 1', COUNT being how many records there are. Secrets will have 1024 words.\n\nA seed is for one store alone: whoever keeps a hint of another store with this seed and these sizes would read wrong records.\n\nExample, two records of one byte:\n  printf '\\012\\310' | pir_server make --new --out two.pir --width 8 --record 1 --groups 1 \\\n    --seed $(openssl rand -hex 32) \\\n    --key 0101010101010101010101010101010101010101010101010101010101010101\n\nExample, one record of one byte and one of none:\n  printf '0a\\n-\\n' | pir_server make --new --out slots.pir --form 2 --width 8 --record 3 --groups 1 \\\n    --seed $(openssl rand -hex 32) \\\n    --key 0101010101010101010101010101010101010101010101010101010101010101\n\nWith --verbose a fault has a second line, 'cause: TEXT', that says what failed and where.";
 
 // The command `migrate`.
 fn migrate_command<'a>(alloc: Global) -> Result<Command<'a>, AllocError> {
@@ -389,37 +297,7 @@ fn whole_command<'a>(alloc: Global) -> Result<Command<'a>, AllocError> {
 const VERSION: &str = "0.2.0";
 
 const EXIT_STATUSES: &str =
-    "Without a command: once.\n\nA value @FILE of --seed or --key is read from that file; one on the command line itself stands in the list of\nprocesses, for other users of this machine to see.\n\nExit status: 0 done, 2 a bad command line, 3 a fault, 4 out of memory.\n\nA fault is one line on standard error, 'fault: NAME':\n  File           a file can't be opened or made, or is none, as a folder or a pipe\n  Read, Write    reading or writing failed\n  BadRecords     the input of make is not whole records, or lines that are none, or too many bytes\n  BadLayout      no store has these sizes\n  NotSnapshot, Short, BadDigest, TrailingBytes, BadSlot   a file that is no whole snapshot\n  BadLog         the log beside the file is damaged, or is none of its snapshot\n  NotFormOne     the records that migrate is to move stand in slots already\n  TooWide        no store has records of two bytes more\n  NotOrdinary    the store that widen is to move is a wide one already\n  BadWidth       its digits have 10 bits, and in a wide store at most 9\n  Locked         another process serves or replaces the file\n  Exists         something stands where make --new is to make a file\n  Connect        the port can't be listened on\n  BadInput       the input of once can't be served; its last reply is Refused 1\n  TurnsUsedUp    more reads than a session has\n  Memory         memory was refused (status 4)\n\nWith --verbose a second line 'cause: TEXT' says what failed and where.";
-
-// What the words of `make` ask for.
-fn making_of<'a>(found: &ArgMatches<'a>) -> Result<Making<'a>, BadLine<'a>>
-    ensures { IfOk result (ReadsMake (found_of found.now)) }
-{
-    Ok(Making {
-        out: text_at(found, "out", OUT_TAKES)?,
-        new: found.get_flag("new"),
-        form: form_of(found)?,
-        wide: found.get_flag("wide"),
-        width: number_at(found, "width", u64::from(u8::MAX), WIDTH_TAKES)? as u8,
-        record_len: number_at(found, "record", u64::from(u16::MAX), RECORD_TAKES)? as u16,
-        groups: number_at(found, "groups", u64::from(u16::MAX), GROUPS_TAKES)? as u16,
-        seed: seed_at(found, "seed", SEED_TAKES)?,
-        key: key_at(found, "key", KEY_TAKES)?,
-    })
-}
-
-// The form of a new store: 1 where none is given.
-fn form_of<'a>(found: &ArgMatches<'a>) -> Result<u8, BadLine<'a>>
-    ensures { IfOk result (IsNumberOr 1 (found_of found.now) (codes "form")) }
-{
-    let Some(text) = found.get_str("form") else {
-        return Ok(1);
-    };
-    match number_at(found, "form", 2, FORM_TAKES)? {
-        0 => Err(BadLine::Given(FORM_TAKES, text)),
-        form => Ok(form as u8),
-    }
-}
+    "Without a command: once.\n\nA value @FILE of --seed or --key is read from that file; one on the command line itself stands in the list of\nprocesses, for other users of this machine to see.\n\nExit status: 0 done, 2 a bad command line, 3 a fault, 4 out of memory.\n\nA fault is one line on standard error, 'fault: NAME':\n  File           a file can't be opened or made, or is none, as a folder or a pipe\n  Read, Write    reading or writing failed\n  BadRecords     the input of make is not whole records, or not as many as --count says, or lines that are none, or too many bytes\n  BadLayout      no store has these sizes\n  NotSnapshot, Short, BadDigest, TrailingBytes, BadSlot   a file that is no whole snapshot\n  BadLog         the log beside the file is damaged, or is none of its snapshot\n  NotFormOne     the records that migrate is to move stand in slots already\n  TooWide        no store has records of two bytes more\n  NotOrdinary    the store that widen is to move is a wide one already\n  BadWidth       its digits have 10 bits, and in a wide store at most 9\n  Locked         another process serves or replaces the file\n  Exists         something stands where make --new is to make a file\n  Connect        the port can't be listened on\n  BadInput       the input of once can't be served; its last reply is Refused 1\n  TurnsUsedUp    more reads than a session has\n  Memory         memory was refused (status 4)\n\nWith --verbose a second line 'cause: TEXT' says what failed and where.";
 
 // What the words of `migrate` ask for.
 fn migrating_of<'a>(found: &ArgMatches<'a>) -> Result<Migrating<'a>, BadLine<'a>>

@@ -6,9 +6,10 @@ ghost use Rattle.pir_server.specs.Moves.{HasRecordsOf, IsWideOf};
 
 use crate::backing_up::back_up;
 use crate::causes::failed_at;
-use crate::command_line::{Making, Migrating, SEED_TAKES, Task, Widening, task_of};
+use crate::command_line::{Migrating, SEED_TAKES, Task, Widening, task_of};
 use crate::compacting::compact_file;
 use crate::files::{OwnFile, RecordsOf, write_anew};
+use crate::make_line::Making;
 use crate::making::make;
 use crate::moving::{moved, widened};
 use crate::pairs::whole_of;

@@ -1,7 +1,8 @@
 //! Snapshot files.
 
-ghost use Rattle.std.specs.Prelude.{◌≡◌, ℕ, List, IfOk};
-ghost use Rattle.snapshot_file.specs.Snapshots.{snapshot_bytes};
+ghost use Rattle.std.specs.Prelude.{◌≡◌, ℕ, List, IfOk, OnOk};
+ghost use Rattle.snapshot_file.specs.Snapshots.{records_len, snapshot_bytes};
+ghost use Rattle.pir_server.specs.ReadIn.{IsReadWhole};
 ghost use Rattle.version_store.specs.Openings.{IsSound, held_of, snapshot_of};
 ghost use Rattle.publication_log.specs.Publications.{Published};
 ghost use Rattle.publication_log.specs.Entries.{chain_bytes};
@@ -14,6 +15,7 @@ use crate::file_version::{
 };
 use crate::last_bytes::LastBytes;
 use crate::logs::{OwnLog, log_failure, replay_failure};
+use crate::reading_in::{Unwritten, how_unwritten, replace_read};
 use command_words::Failure;
 use log_replay::earlier_count;
 use log_replay::laws::last_sixteen_suffice;
@@ -25,11 +27,11 @@ use session_core::{
     Header, Lanes, MigrateError, Snapshot, SnapshotFault, Store, WidenError, WriteFault,
     read_snapshot_and_digest, write_snapshot, write_snapshot_bytes,
 };
-use snapshot_file::write_snapshot_from;
+use snapshot_file::{write_snapshot_from, write_snapshot_read};
 use std::alloc::Global;
 use std::fs;
 use std::fs::File;
-use std::io::Write;
+use std::io::{Read, Write};
 use version_store::Opening;
 
 /// The snapshot of a store's current version, as a file is to hold it.
@@ -111,7 +113,7 @@ impl Versioned for OpeningOf<'_> {
 pub const NO_FILE: Failure = Failure::Fault("File");
 
 /// The failure of a file that can't be written.
-const NOT_WRITTEN: Failure = Failure::Fault("Write");
+pub const NOT_WRITTEN: Failure = Failure::Fault("Write");
 
 /// A file that no other process serves or replaces, until the value is dropped. What is no file, as a terminal, has no lock.
 ///
@@ -309,6 +311,56 @@ pub fn write_anew<C: Versioned>(
     let has = write_file(rt, file, content)?;
     remove_other_logs(rt, file.name(), "");
     Ok(has)
+}
+
+/// Writes the snapshot of a header and of all bytes that a reader has, which must be as many as the header's records have, in the place
+/// of a file, or makes it. The logs of other snapshots are removed after.
+///
+/// # Errors
+///
+/// Those of [`replace_read`], and of a device that can't be written to. A part of the snapshot may have gone to a device then.
+pub fn write_read<R: Read>(
+    rt: &HostRuntime,
+    file: &mut OwnFile<'_>,
+    header: &Header,
+    reader: &mut R,
+) -> Result<(), Unwritten>
+    ensures { OnOk result (IsReadWhole (records_len header.now)
+        (R.remaining reader.old) (R.remaining reader.new)) }
+{
+    if !file.is_file() {
+        return write_read_in_place(rt, file.place.name(), header, reader);
+    }
+    let Ok(name) = String::from_str(rt.alloc(), file.name()) else {
+        return Err(Unwritten::File(Failure::Memory, 0));
+    };
+    replace_read(rt, &mut file.place, name.as_str(), header, reader)?;
+    remove_other_logs(rt, name.as_str(), "");
+    Ok(())
+}
+
+// Writes such a snapshot to what is no file.
+fn write_read_in_place<R: Read>(
+    rt: &HostRuntime,
+    name: &str,
+    header: &Header,
+    reader: &mut R,
+) -> Result<(), Unwritten>
+    ensures { OnOk result (IsReadWhole (records_len header.now)
+        (R.remaining reader.old) (R.remaining reader.new)) }
+{
+    let Ok(file) = File::create(rt, name) else {
+        return Err(Unwritten::File(NO_FILE, 0));
+    };
+    let mut file = SteadyFile::new(file);
+    match write_snapshot_read(rt.alloc(), header, reader, &mut file) {
+        Ok(_) => {}
+        Err(fault) => return Err(how_unwritten(fault)),
+    }
+    match file.sync() {
+        Ok(()) => Ok(()),
+        Err(_) => Err(Unwritten::File(NOT_WRITTEN, header.records_len())),
+    }
 }
 
 /// The digest at a snapshot's end.

@@ -5,8 +5,8 @@
 //! Exit statuses: 0 done, 2 a bad command line, 3 a fault, 4 out of memory. What was done is printed on
 //! standard output; a failure is one line on standard error.
 //!
-//! Its tests are in `tests/command_line`, `tests/causes`, `tests/streams`, `tests/order`, `tests/log`, `tests/loopback`, `tests/service`
-//! and `tests/once`.
+//! Its tests are in `tests/command_line`, `tests/causes`, `tests/streams`, `tests/order`, `tests/log`, `tests/loopback`, `tests/making`,
+//! `tests/service` and `tests/once`.
 #![tactic(auto)]
 
 mod backing_up;
@@ -14,19 +14,24 @@ mod causes;
 mod command_line;
 mod commands;
 mod compacting;
+mod counted;
 mod file_version;
 mod files;
 mod last_bytes;
 mod logs;
+mod make_line;
 mod making;
 mod moving;
 mod pairs;
+mod progress;
+mod reading_in;
 mod rekeying;
 mod run_line;
 mod running;
 mod saving;
 mod serving;
 mod showing;
+mod slot_reading;
 
 use std::process::ExitCode;
 

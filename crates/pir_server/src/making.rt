@@ -1,12 +1,16 @@
 //! The command `make`.
 
-ghost use Rattle.std.specs.Prelude.{◌≡◌, ◌≤◌, ◌+◌, ◌*◌, ◌/◌, length, IfOk};
+ghost use Rattle.std.specs.Prelude.{◌≡◌, ◌≤◌, ◌<◌, ◌+◌, ◌*◌, ◌/◌, ◌^◌, Some, length, IfOk};
 ghost use Rattle.std.specs.Io.KnownBytes.{Consumes, IsAtEnd};
+ghost use Rattle.command_words.specs.Values.{bytes_in};
 ghost use Rattle.pir_server.specs.Makings.{header_made};
 
 use crate::causes::failed_at;
-use crate::command_line::{KEY_TAKES, Making, SEED_TAKES};
+use crate::command_line::{KEY_TAKES, SEED_TAKES};
+use crate::counted::make_counted;
 use crate::files::{OwnFile, RecordsOf, write_anew};
+use crate::make_line::Making;
+use crate::progress::{Progress, Watched, Whole};
 use command_words::{Failed, Failure, bytes_from_hex};
 use connection_io::{piece_buffer, read_piece};
 use digit_pack::{LayoutError, is_wide, write_slot};
@@ -27,17 +31,17 @@ const MAX_WIDE_RECORD_BYTES: usize = 1_207_959_552;
 const DIMENSION: u16 = 1024;
 
 /// The failure of a file that is to be new, where something stands at its name.
-const EXISTS: Failure = Failure::Fault("Exists");
+pub const EXISTS: Failure = Failure::Fault("Exists");
 
 /// The failure of record bytes that no store takes.
-const BAD_RECORDS: Failure = Failure::Fault("BadRecords");
+pub const BAD_RECORDS: Failure = Failure::Fault("BadRecords");
 
 /// The failure of sizes that no store has.
 const BAD_LAYOUT: Failure = Failure::Fault("BadLayout");
 
-// The keys of a new store.
+/// The keys of a new store.
 #[derive(Clone, Copy)]
-struct Keys {
+pub struct Keys {
     // The key of the public matrix.
     seed: [u8; 32],
     // The publisher's key.
@@ -49,7 +53,7 @@ struct Keys {
 ///
 /// # Errors
 ///
-/// In this order: those of the files of the seed and of the key (`File`, `Value`), `Exists` where the file is to be new and something
+/// With `--count` the records are written as they are read, as [`make_counted`] says. Without it, in this order: those of the files of the seed and of the key (`File`, `Value`), `Exists` where the file is to be new and something
 /// stands at its name, those of the input (`Read`,
 /// `BadRecords` where there are more bytes than the largest store has), `BadLayout` where no store has this layout,
 /// `BadRecords` where these are not whole records or a line is none that fits, those of the file (`Locked` where another
@@ -68,16 +72,30 @@ pub fn make(rt: &HostRuntime, making: &Making<'_>) -> Result<u32, Failed> {
     if making.new && Place::of(rt, making.out)?.is_taken() {
         return Err(failed_at(rt, making.out, EXISTS));
     }
-    if making.form == 2 {
-        make_of_lines(rt, making, &keys)
+    match making.count {
+        Some(count) => make_counted(rt, making, &header_of(making, &keys, count as usize)),
+        None if making.form == 2 => make_of_lines(rt, making, &keys),
+        None => make_of_bytes(rt, making, &keys),
+    }
+}
+
+/// Who tells of an input of this size, where that is asked for.
+pub fn progress_of<'a>(
+    rt: &'a HostRuntime,
+    making: &Making<'_>,
+    whole: Whole,
+) -> Option<Progress<'a>> {
+    if making.progress {
+        Progress::new(rt, whole)
     } else {
-        make_of_bytes(rt, making, &keys)
+        None
     }
 }
 
 // Makes a store of form 1. The input is the bytes of its records.
 fn make_of_bytes(rt: &HostRuntime, making: &Making<'_>, keys: &Keys) -> Result<u32, Failed> {
-    let records = read_input(rt.alloc(), &mut rt.reader(), most_bytes(making.wide))?;
+    let mut input = Watched::new(rt.reader(), progress_of(rt, making, Whole::Unknown));
+    let records = read_input(rt.alloc(), &mut input, most_bytes(making.wide))?;
     let header = header_of(making, keys, whole_records(making, records.len()));
     if !header.is_accepted() {
         return Err(bad_layout(rt.alloc(), &header));
@@ -88,8 +106,8 @@ fn make_of_bytes(rt: &HostRuntime, making: &Making<'_>, keys: &Keys) -> Result<u
     write_made(rt, making, &header, &records)
 }
 
-// The most bytes that the records of a store have. Lines of hex have fewer than twice those of their slots.
-fn most_bytes(wide: bool) -> usize
+/// The most bytes that the records of a store have. Lines of hex have fewer than twice those of their slots.
+pub fn most_bytes(wide: bool) -> usize
     ensures { result ≤ 1207959552 }
 {
     if wide {
@@ -101,12 +119,13 @@ fn most_bytes(wide: bool) -> usize
 
 // Makes a store of form 2. The input has a line for each record.
 fn make_of_lines(rt: &HostRuntime, making: &Making<'_>, keys: &Keys) -> Result<u32, Failed> {
-    let input = read_input(rt.alloc(), &mut rt.reader(), 2 * most_bytes(making.wide))?;
-    let header = header_of(making, keys, lines_in(&input));
+    let mut input = Watched::new(rt.reader(), progress_of(rt, making, Whole::Unknown));
+    let lines = read_input(rt.alloc(), &mut input, 2 * most_bytes(making.wide))?;
+    let header = header_of(making, keys, lines_in(&lines));
     if !header.is_accepted() {
         return Err(bad_layout(rt.alloc(), &header));
     }
-    let records = slots_of(rt.alloc(), &header, &input)?;
+    let records = slots_of(rt.alloc(), &header, &lines)?;
     write_made(rt, making, &header, &records)
 }
 
@@ -161,23 +180,39 @@ fn fill_slots(alloc: Global, layout: &Layout, slots: &mut [u8], text: &str) -> R
         let Some(line) = lines.next() else {
             return Err(bad_line(alloc, i, "there is none"));
         };
-        match bytes_from_hex(alloc, line)? {
-            Some(bytes) if bytes.len() + 2 <= layout.record_len() => {
-                write_slot(layout, slots, i, &bytes);
-            }
-            Some(_) => return Err(bad_line(
-                alloc,
-                i,
-                "the record has more bytes than --record less 2",
-            )),
-            None => return Err(bad_line(alloc, i, "no pairs of hex digits, and not -")),
-        }
+        let bytes = record_of_line(alloc, i, line, layout.record_len())?;
+        write_slot(layout, slots, i, &bytes);
     }
     Ok(())
 }
 
-// How a line that is no record of its store fails; the first line has the number 1.
-fn bad_line(alloc: Global, line: usize, why: &str) -> Failed {
+/// The record in a line, the number of which is counted from 0. It fits into a slot of so many bytes.
+///
+/// # Errors
+///
+/// `BadRecords` where the line is none that fits, `Memory`.
+pub fn record_of_line(
+    alloc: Global,
+    line: usize,
+    text: &str,
+    slot_len: usize,
+) -> Result<Vec<u8>, Failed>
+    ensures read { IfOk result (λ bytes. bytes_in text.now ≡ Some bytes.items) }
+    ensures fits { IfOk result (λ bytes. length bytes.items + 2 ≤ slot_len) }
+{
+    match bytes_from_hex(alloc, text)? {
+        Some(bytes) if bytes.len() + 2 <= slot_len => Ok(bytes),
+        Some(_) => Err(bad_line(
+            alloc,
+            line,
+            "the record has more bytes than --record less 2",
+        )),
+        None => Err(bad_line(alloc, line, "no pairs of hex digits, and not -")),
+    }
+}
+
+/// How a line that is no record of its store fails; the first line, which is said to be line 1, has the number 0.
+pub fn bad_line(alloc: Global, line: usize, why: &str) -> Failed {
     let number = line as u128 + 1;
     let cause = format!(in alloc; "standard input, line {number}: {why}");
     Failed::by(BAD_RECORDS, cause)
@@ -192,8 +227,8 @@ fn no_whole_records(alloc: Global, header: &Header, bytes: usize) -> Failed {
     Failed::by(BAD_RECORDS, cause)
 }
 
-// How sizes that no store has fail: the limit that they break.
-fn bad_layout(alloc: Global, header: &Header) -> Failed {
+/// How sizes that no store has fail: the limit that they break.
+pub fn bad_layout(alloc: Global, header: &Header) -> Failed {
     let cause = match header.layout() {
         Err(limit) if is_wide(u16::from(header.form)) => format!(in alloc; "{}", wide_limit(limit)),
         Err(limit) => format!(in alloc; "{limit}"),
@@ -262,15 +297,15 @@ fn read_input<R: Read>(alloc: Global, reader: &mut R, most: usize) -> Result<Vec
     Err(too_much(alloc, most))
 }
 
-// How an input of more bytes than the largest store has fails.
-fn too_much(alloc: Global, most: usize) -> Failed {
+/// How an input of more bytes than the largest store has fails.
+pub fn too_much(alloc: Global, most: usize) -> Failed {
     let cause = format!(in alloc; "standard input: more than {most} bytes");
     Failed::by(BAD_RECORDS, cause)
 }
 
 // The header of version 1 of so many records.
 fn header_of(making: &Making<'_>, keys: &Keys, count: usize) -> Header
-    requires { count ≤ 2415919105 }
+    requires { count < 2 ^ 32 }
     ensures { result ≡ header_made making.now keys.now count }
 {
     Header {

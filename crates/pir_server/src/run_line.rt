@@ -77,7 +77,7 @@ pub struct Running<'a> {
 
 /// The command `run`.
 pub fn run_command<'a>(alloc: Global) -> Result<Command<'a>, AllocError> {
-    Command::new(alloc, "run")
+    let command = Command::new(alloc, "run")
         .about(
             "Serves a snapshot file, many connections side by side, until it is killed or, with --until-eof, standard input ends",
         )
@@ -94,7 +94,13 @@ pub fn run_command<'a>(alloc: Global) -> Result<Command<'a>, AllocError> {
             "listen",
             "ADDR:PORT",
             "The address and the port to listen on, as 127.0.0.1:7000 or [::1]:7000; port 0 takes any that is free",
-        ))?
+        ))?;
+    with_end(alloc, with_telling(alloc, with_bounds(alloc, command)?)?)
+}
+
+// A command with the bounds of connections, memory and the log.
+fn with_bounds<'a>(alloc: Global, command: Command<'a>) -> Result<Command<'a>, AllocError> {
+    command
         .arg(optional(
             alloc,
             "most",
@@ -124,7 +130,12 @@ pub fn run_command<'a>(alloc: Global) -> Result<Command<'a>, AllocError> {
             "most-per-peer",
             "N",
             "How many connections one IP address may have at once, 1 to 65535; one more is closed at once (not bounded if not given)",
-        ))?
+        ))
+}
+
+// A command with what says how the server does.
+fn with_telling<'a>(alloc: Global, command: Command<'a>) -> Result<Command<'a>, AllocError> {
+    command
         .arg(optional(
             alloc,
             "status",
@@ -136,35 +147,44 @@ pub fn run_command<'a>(alloc: Global) -> Result<Command<'a>, AllocError> {
             "log",
             "FORMAT",
             "Writes a line on standard error for each event, with its time, as text or as json (only the faults of connections if not given)",
+        ))
+}
+
+// A command with what says how the server ends, and whether it is quiet.
+fn with_end<'a>(alloc: Global, command: Command<'a>) -> Result<Command<'a>, AllocError> {
+    command
+        .arg(flag(
+            alloc,
+            "until-eof",
+            "Stops at the end of standard input, which must be a pipe, a socket or a terminal: accepts nothing more, serves what was begun, and ends with status 0",
         ))?
-        .arg(
-            Arg::new(alloc, "until-eof")
-                .long("until-eof")
-                .help(
-                    "Stops at the end of standard input, which must be a pipe, a socket or a terminal: accepts nothing more, serves what was begun, and ends with status 0",
-                )
-                .action(ArgAction::SetTrue),
-        )?
         .arg(optional(
             alloc,
             "grace",
             "SECONDS",
             "How many seconds at most what was begun is served after the end of standard input, 1 to 3600 (10 if not given)",
         ))?
-        .arg(
-            Arg::new(alloc, "quiet")
-                .long("quiet")
-                .help("Leaves out the lines on standard error about faults of connections")
-                .action(ArgAction::SetTrue),
-        )
+        .arg(flag(
+            alloc,
+            "quiet",
+            "Leaves out the lines on standard error about faults of connections",
+        ))
 }
 
 const RUN_EXAMPLE: &str =
     "Prints 'listening ADDR:PORT' once it listens, and 'status ADDR:PORT' after that with --status. A connection that ends with a fault is reported on standard error,\nas 'connection: NAME', and the others go on. A publication is acknowledged only once its log has it on the disk; if it\ncan't be appended the connection is closed, and the version before is served on. What is sent is not encrypted: listen on 127.0.0.1 or [::1] unless a tunnel or a proxy\nstands before the port.\n\nExample: pir_server run --file two.pir --listen 127.0.0.1:7000\n\nWith --verbose a fault has a second line, 'cause: TEXT', that says what failed and where.";
 
-// An option that may be left out.
-fn optional<'a>(alloc: Global, name: &'a str, value: &'a str, help: &'a str) -> Arg<'a> {
+/// An option that may be left out.
+pub fn optional<'a>(alloc: Global, name: &'a str, value: &'a str, help: &'a str) -> Arg<'a> {
     option(alloc, name, value, help).required(false)
+}
+
+/// An option that takes no value.
+pub fn flag<'a>(alloc: Global, name: &'a str, help: &'a str) -> Arg<'a> {
+    Arg::new(alloc, name)
+        .long(name)
+        .help(help)
+        .action(ArgAction::SetTrue)
 }
 
 /// What the words of `run` ask for.
@@ -205,8 +225,12 @@ fn format_at<'a>(found: &ArgMatches<'a>) -> Result<Option<LogFormat>, BadLine<'a
     }
 }
 
-// The number given for an option, from 1 to the most, if there is one.
-fn number_if<'a>(
+/// The number given for an option, from 1 to the most, if there is one.
+///
+/// # Errors
+///
+/// `Given` where it is no such number.
+pub fn number_if<'a>(
     found: &ArgMatches<'a>,
     name: &str,
     most: u64,

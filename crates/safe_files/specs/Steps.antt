@@ -1,5 +1,5 @@
 -- The steps by which a file is replaced, and in which order they are taken.
-use Rattle.std.specs.Prelude.{ℕ, List, [], ◌∷◌, Option, Result, Ok, Err}
+use Rattle.std.specs.Prelude.{ℕ, List, [], ◌∷◌, drop, Option, Result, Ok, Err, ⊤}
 use Rattle.std.specs.List.{FoldsTo}
 use Rattle.std.specs.Io.KnownBytes.{Appends}
 use Rattle.safe_files.specs.declared.replacing.ReplaceFault.{ReplaceFault}
@@ -53,6 +53,19 @@ course shown (Err Memory) = Makes ∷ Removes ∷ []
 course shown (Err Sync) = Makes ∷ SyncFails ∷ Removes ∷ []
 course shown (Err Rename) = Makes ∷ Syncs shown ∷ RenameFails ∷ Removes ∷ []
 course shown (Err SyncFolder) = Makes ∷ Syncs shown ∷ Renames shown ∷ SyncFolderFails ∷ []
+
+-- what may fail once the new file was written
+abbrev pub IsFinishFault : ReplaceFault → Type 0
+IsFinishFault Make = ⊥
+IsFinishFault Write = ⊥
+IsFinishFault Memory = ⊥
+IsFinishFault Sync = ⊤
+IsFinishFault Rename = ⊤
+IsFinishFault SyncFolder = ⊤
+
+-- All steps of a replacement but the first, the making of the new file, in their order: those that are left once it was written.
+abbrev pub finishing : {T : Type 0} → Option (List ℕ) → Result T ReplaceFault → List Step
+finishing shown result = drop 1 (course shown result)
 
 -- All steps by which a file that stands is sent to the device, in their order.
 abbrev pub settling : {T : Type 0} → Option (List ℕ) → Result T SettleFault → List Step

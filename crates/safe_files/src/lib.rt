@@ -25,7 +25,7 @@ pub use disk::{Disk, DiskFailed};
 pub use laws::{done_is_new, each_moment_is_whole, refused_is_old, settled_is_new};
 pub use locking::{FileLock, LockFault, lock};
 pub use place::{Place, open_file, replace_file};
-pub use replacing::{ReplaceFault, SettleFault, replace, settle};
+pub use replacing::{ReplaceFault, SettleFault, finish, replace, settle};
 pub use steady::SteadyFile;
 
 #[cfg(test)]

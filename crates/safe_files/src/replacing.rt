@@ -1,7 +1,8 @@
 //! A file replaced, step by step.
 
+ghost use Rattle.std.specs.Prelude.{IfErr};
 ghost use Rattle.std.specs.List.{FoldsTo};
-ghost use Rattle.safe_files.specs.Steps.{Replaces, settling};
+ghost use Rattle.safe_files.specs.Steps.{Replaces, IsFinishFault, finishing, settling};
 
 use crate::content::{Content, ContentFault};
 use crate::disk::Disk;
@@ -64,6 +65,21 @@ pub fn replace<D: Disk, C: Content>(
             return Err(ReplaceFault::Memory);
         }
     }
+    finish(disk, file)
+}
+
+/// The second half of a replacement, for who wrote the new file's bytes otherwise than from a [`Content`]: sends it to the device,
+/// gives it the old one's name, and sends the folder to the device.
+///
+/// `Ok` comes only after all three. A new file that was not given the name is removed.
+///
+/// # Errors
+///
+/// `Sync`, `Rename` and `SyncFolder`, each exactly when its step failed.
+pub fn finish<D: Disk>(disk: &mut D, file: D::File) -> Result<(), ReplaceFault>
+    ensures steps { FoldsTo D.does disk.old (finishing (D.File.contents file) result) disk.new }
+    ensures refused { IfErr result IsFinishFault }
+{
     if disk.sync(&file).is_err() {
         disk.remove();
         return Err(ReplaceFault::Sync);

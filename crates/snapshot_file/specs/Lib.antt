@@ -4,3 +4,4 @@ pub mod Widenings
 pub mod Verdicts
 pub mod Laws
 pub mod Names
+pub mod Copies

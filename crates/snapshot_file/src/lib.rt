@@ -7,6 +7,7 @@
 //! Its tests are in `frame_tests::snapshots` and `tests/long/frame_tests`.
 #![tactic(auto)]
 
+mod copying;
 mod header;
 pub mod laws;
 mod migration;
@@ -17,6 +18,7 @@ mod streaming;
 mod widening;
 mod writing;
 
+pub use copying::{CopyFault, write_snapshot_read};
 pub use header::snapshot_digest;
 pub use migration::{MigrateError, migrate};
 pub use reading::{read_after_header, read_header, read_snapshot, read_snapshot_and_digest};
