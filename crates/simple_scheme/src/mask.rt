@@ -97,7 +97,7 @@ impl Mask {
 
     /// Adds the noise to words, and delta at `place`: to the products of a matrix and the secret, which makes them the
     /// encryption under that matrix.
-    pub fn cover(&self, w: u32, place: usize, out: &mut [u32])
+    pub(crate) fn cover(&self, w: u32, place: usize, out: &mut [u32])
         requires width { (6 ≤ w) × (w ≤ 10) }
         requires place { place < length out.old }
         requires size { length self.now.noise ≡ length out.old }
