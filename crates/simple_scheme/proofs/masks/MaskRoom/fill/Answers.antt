@@ -5,8 +5,8 @@ use Rattle.simple_scheme.specs.Masks.{MaskSizes, secrets_of, row_products}
 use Rattle.simple_scheme.proofs.MaskColumns.{masks_are}
 use Rattle.simple_scheme.proofs.masks.MaskRoom.fill.Goals as goal
 
-pub returns : goal.returns
-returns g c =
+pub returns-clause-masks : goal.returns-clause-masks
+returns-clause-masks g c =
     let seed : List ℕ = c.args.seed.now in
     let m : ℕ = c.args.self.rows in
     let n : ℕ = c.args.self.dimension in
@@ -21,3 +21,12 @@ returns g c =
     ∙ ap (λ (k : ℕ). row_products (a m k) (s c.self.inside.secrets.rows k)) wide
     ∙ ap (λ (k : ℕ). row_products (a m n) (s k n)) many
     ∙ masks_are (a m n) seed c.args.first c.args.self.count n refl
+
+pub returns-clause-rows : goal.returns-clause-rows
+returns-clause-rows g c = ap (λ (x : WordMatrix). x.rows) c.put_products.ensures ∙ ap (λ (x : MaskSizes). x.rows) c.self.view_is
+
+pub returns-clause-count : goal.returns-clause-count
+returns-clause-count g c =
+    ap (λ (x : WordMatrix). x.cols) c.put_products.ensures
+    ∙ ap (λ (x : WordMatrix). x.rows) c.draw_secrets.ensures
+    ∙ ap (λ (x : MaskSizes). x.count) c.self.view_is
