@@ -1,4 +1,4 @@
-use Rattle.std.proofs.Common.{◌≡◌, ℕ, ap, sym, arith, ◌∙◌}
+use Rattle.std.proofs.Common.{◌≡◌, ap, sym, arith, ◌∙◌}
 use Rattle.simple_scheme.proofs.MaskColumns.{masks-rows, masks-cols}
 use Rattle.pir_schemes.specs.declared.query_masks.MasksFor.{MasksFor}
 use Rattle.pir_schemes.specs.Masks.{public_over}
