@@ -4,6 +4,7 @@ pub mod Replies
 pub mod Rooms
 pub mod Feeding
 pub mod Laws
+pub mod Preparing
 pub mod Resuming
 pub mod Endings
 pub mod Shapes

@@ -11,11 +11,11 @@ ghost use Rattle.client_core.specs.Calls.{Want, refusal, hello_refusal, change_r
 use crate::state::{Call, CallFault, ClientState, Hint, ServerInfo};
 use frame_codec::{Bytes, Frame, Words, write_frame};
 use matrix_u32::Kernel;
-use pir_schemes::{QueryRoom, Scheme, SecretSeed, query_count};
+use pir_schemes::{QueryMasks, QueryRoom, Scheme, SecretSeed, query_count};
 use std::alloc::Global;
 
-// The number after the last retrieval of a seed.
-const NUMBERS_END: u64 = 1 << 62;
+/// The number after the last retrieval of a seed.
+pub(crate) const NUMBERS_END: u64 = 1 << 62;
 
 // How many bytes the frame of a query has before its words.
 const QUERY_HEAD: usize = 14;
@@ -212,10 +212,13 @@ pub(crate) fn ask_room(
 }
 
 /// The bytes of the query for a record. It takes no memory.
+///
+/// Masks that have that of its retrieval spare the public matrix.
 #[tactic(auto, using(crate::proofs::Queries::length_of_query, crate::proofs::Queries::size_of_query))]
 pub(crate) fn query_bytes<K: Kernel>(
     kernel: K,
     room: AskRoom,
+    masks: &Option<QueryMasks>,
     scheme: Scheme,
     known: &ServerInfo,
     seed: &[u8; 32],
@@ -234,7 +237,8 @@ pub(crate) fn query_bytes<K: Kernel>(
         seed.now number index)) }
 {
     let AskRoom { words, mut bytes } = room;
-    let words = words.fill(kernel, &SecretSeed::new(*seed), number, index as usize);
+    let seed = SecretSeed::new(*seed);
+    let words = words.fill_masked(kernel, masks, &seed, number, index as usize);
     let frame = Frame::Query {
         scheme: scheme.byte(),
         version: known.version,

@@ -17,13 +17,14 @@ use crate::calls::{
     query_bytes, scheme_of, spend_number,
 };
 use crate::parts::Parts;
+use crate::preparing::{next_masks, serve_next};
 use crate::resuming::{SavedClient, may_hold};
 use crate::state::{Call, CallFault, ClientFault, ClientState, Event, Hint, ServerInfo};
 use crate::taking::take_replies;
 use frame_codec::{Bytes, Bytes32, Frame, Reader};
 use matrix_u32::Kernel;
-use pir_schemes::{Scheme, client_profile};
-use std::alloc::Global;
+use pir_schemes::{QueryMasks, Scheme, SecretSeed, client_profile};
+use std::alloc::{AllocError, Global};
 use std::marker::Model;
 
 /// What comes of a piece of the server's stream: the bytes to send next, the events in order, and the fault
@@ -42,6 +43,8 @@ pub struct ClientCore<K: Kernel> {
     kernel: K,
     reader: Reader,
     state: ClientState,
+    // What was prepared of queries, of which contracts see nothing.
+    masks: Option<QueryMasks>,
 }
 
 impl<K: Kernel> Model for ClientCore<K> {
@@ -110,6 +113,7 @@ impl<K: Kernel> ClientCore<K> {
                 call: Call::Idle,
                 failed: false,
             },
+            masks: None,
         }
     }
 
@@ -259,6 +263,31 @@ impl<K: Kernel> ClientCore<K> {
         Ok(bytes)
     }
 
+    /// Prepares the next `count` retrievals by SimplePIR, at most 16: their secrets are drawn, and each row of the public matrix is
+    /// made once for all of them, before any record is named. What comes of it is kept until other retrievals are prepared. An
+    /// `ask` makes its query of it, if it was made for the number of that and the number of columns known then; else as if
+    /// nothing were prepared. Nothing is done before the Welcome, nor where the next retrieval is prepared.
+    ///
+    /// No call and no reply is another for it, and no number is spent. Only refused memory gives an `Err`, and then nothing is
+    /// prepared.
+    pub fn prepare_queries(&mut self, count: usize) -> Result<(), AllocError>
+        ensures { self.new ≡ self.old }
+    {
+        let Some(known) = self.state.known else {
+            return Ok(());
+        };
+        let seed = SecretSeed::new(self.state.seed);
+        let number = self.state.number;
+        if serve_next(&self.masks, &known, &seed, number) {
+            return Ok(());
+        }
+        // Given up first, so that no two are held at once.
+        self.masks = None;
+        let masks = next_masks(self.alloc, self.kernel, &known, &seed, number, count)?;
+        self.masks = Some(masks);
+        Ok(())
+    }
+
     /// Asks for record `index` of the version whose hint is held, by a query of the hint's scheme that hides which. Gives
     /// the bytes to send.
     ///
@@ -286,6 +315,7 @@ impl<K: Kernel> ClientCore<K> {
         let bytes = query_bytes(
             self.kernel,
             room,
+            &self.masks,
             scheme,
             &known,
             &self.state.seed,

@@ -13,6 +13,7 @@ mod client;
 mod deltas;
 pub mod laws;
 mod parts;
+mod preparing;
 mod replies;
 mod resuming;
 mod state;

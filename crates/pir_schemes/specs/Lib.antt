@@ -1,5 +1,6 @@
 pub mod Costs
 pub mod Laws
+pub mod Masks
 pub mod Parts
 pub mod Plans
 pub mod Retrievals

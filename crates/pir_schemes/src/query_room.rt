@@ -6,6 +6,7 @@ ghost use Rattle.pir_schemes.specs.Retrievals.{query_words};
 ghost use Rattle.pir_schemes.specs.Rooms.{scheme_asked, IsSchemeRoom};
 
 use crate::plan::{Plan, SecretSeed};
+use crate::query_masks::QueryMasks;
 use crate::scheme::Scheme;
 use digit_pack::Layout;
 use matrix_u32::Kernel;
@@ -83,6 +84,35 @@ impl QueryRoom {
                 let second = WordSource::at(&plan.seed, 1, 0);
                 room.fill(kernel, first, second, seed, number, i)
             }
+        }
+    }
+
+    /// The same query. It is made of masks, without the public matrix, where there are masks that serve it and it is one of
+    /// SimplePIR.
+    #[tactic(auto, unfolding(crate::specs::Retrievals::query_words))]
+    pub fn fill_masked<K: Kernel>(
+        self,
+        kernel: K,
+        masks: &Option<QueryMasks>,
+        seed: &SecretSeed,
+        number: u64,
+        i: usize,
+    ) -> Vec<u32>
+        requires number { number < 2 ^ 62 }
+        requires record { i < self.count }
+        ensures { result.items ≡ query_words self.scheme (shape_at self.plan self.count)
+            self.plan.dimension self.plan.seed seed.now number i }
+    {
+        let Some(masks) = masks else {
+            return self.fill(kernel, seed, number, i);
+        };
+        if !masks.serve(&self.plan, self.count, seed, number) {
+            return self.fill(kernel, seed, number, i);
+        }
+        let QueryRoom { plan, count, words } = self;
+        match words {
+            SchemeRoom::Simple(room) => masks.fill(room, number, i),
+            words => QueryRoom { plan, count, words }.fill(kernel, seed, number, i),
         }
     }
 }

@@ -1,3 +1,4 @@
 pub mod Lists
+pub mod MaskColumns
 pub mod Recovering
 pub mod Rows

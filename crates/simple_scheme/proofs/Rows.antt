@@ -26,6 +26,15 @@ no_rows a m rows cols zeros r c = record {
   same = λ p q hp hq. absurd (omega arith);
 }
 
+-- nor of any matrix as large
+pub no_rows_of : (a m : WordMatrix) → m.rows ≡ a.rows → m.cols ≡ a.cols → IsWhole m → HasRowsOf a 0 m
+no_rows_of a m high wide whole = record {
+  rows = high;
+  cols = wide;
+  whole = whole;
+  same = λ p q hp hq. absurd (omega arith);
+}
+
 -- one more row
 pub one_row : (a m : WordMatrix) (i n : ℕ) (words : List ℕ) → n ≡ i + 1 → i < a.rows → words ≡ row a i → HasRowsOf a i m →
     HasRowsOf a n (written_row m i words)

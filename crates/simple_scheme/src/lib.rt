@@ -12,10 +12,12 @@
 mod hints;
 pub mod laws;
 mod mask;
+mod masks;
 mod queries;
 mod records;
 
 pub use hints::setup;
 pub use mask::{Mask, draw_noise};
+pub use masks::{MaskRoom, QueryMasks};
 pub use queries::{QueryRoom, answer, put_query, put_query_under, query};
 pub use records::{RecoverError, read_digits, record_of_digits, recover};

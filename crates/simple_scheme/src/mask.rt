@@ -3,7 +3,7 @@
 ghost use Rattle.std.specs.Prelude.{◌≡◌, ◌+◌, ◌^◌, ◌<◌, ◌≤◌, length, IfOk};
 ghost use Rattle.seed_expand.specs.Words.{words_from, rows_from};
 ghost use Rattle.noise_table.specs.Noise.{noise_from};
-ghost use Rattle.regev_core.specs.Encryption.{cipher};
+ghost use Rattle.regev_core.specs.Encryption.{cipher, with_noise};
 ghost use Rattle.simple_scheme.specs.Rooms.{HasSize};
 
 use matrix_u32::{Kernel, Matrix};
@@ -94,10 +94,21 @@ impl Mask {
         expand_times(kernel, source, &self.secret, &mut self.row, out);
         regev_core::add_noise(&self.noise, place, w, out);
     }
+
+    /// Adds the noise to words, and delta at `place`: to the products of a matrix and the secret, which makes them the
+    /// encryption under that matrix.
+    pub(crate) fn cover(&self, w: u32, place: usize, out: &mut [u32])
+        requires width { (6 ≤ w) × (w ≤ 10) }
+        requires place { place < length out.old }
+        requires size { length self.now.noise ≡ length out.old }
+        ensures { out.new ≡ with_noise w out.old self.now.noise place }
+    {
+        regev_core::add_noise(&self.noise, place, w, out);
+    }
 }
 
-// Fills a slice with the words of a stream of the seed, from a place on.
-fn draw_words(seed: &[u8; 32], stream: u64, place: u64, out: &mut [u32])
+/// Fills a slice with the words of a stream of the seed, from a place on.
+pub(crate) fn draw_words(seed: &[u8; 32], stream: u64, place: u64, out: &mut [u32])
     ensures { out.new ≡ words_from seed.now stream place (length out.old) }
 {
     seed_expand::source_gives_words();

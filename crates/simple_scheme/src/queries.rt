@@ -1,12 +1,15 @@
 //! Queries and their answers.
 
-ghost use Rattle.std.specs.Prelude.{◌≡◌, ◌^◌, ◌<◌, IfOk, length};
+ghost use Rattle.std.specs.Prelude.{◌≡◌, ℕ, ◌+◌, ◌^◌, ◌<◌, IfOk, length};
+ghost use Rattle.matrix_u32.specs.Matrix.{WordMatrix};
 ghost use Rattle.digit_pack.specs.Layout.{digit_cols, column_of};
 ghost use Rattle.seed_expand.specs.Words.{rows_from};
 ghost use Rattle.simple_scheme.specs.Simple.{secret, query_noise, simple_query, simple_answer};
 ghost use Rattle.simple_scheme.specs.Rooms.{HasSize};
+ghost use Rattle.simple_scheme.specs.Masks.{masks_of};
 
 use crate::mask::Mask;
+use crate::masks::QueryMasks;
 use digit_pack::{DigitStore, Layout};
 use matrix_u32::{Kernel, Matrix};
 use seed_expand::WordSource;
@@ -75,6 +78,33 @@ impl QueryRoom {
         );
         out
     }
+
+    /// The query for record i of masks: of retrieval c of them, whose number is `number`. Under the public matrix that they were
+    /// made of, and with their seed, this is the query as [`query`] says it. No memory is taken.
+    pub fn fill_masked(
+        self,
+        masks: &QueryMasks,
+        c: usize,
+        seed: &[u8; 32],
+        number: u64,
+        i: usize,
+    ) -> Vec<u32>
+        requires number { number < 2 ^ 62 }
+        requires record { i < self.layout.count }
+        requires rows { masks.now.rows ≡ digit_cols self.layout }
+        requires retrieval { c < masks.now.cols }
+        ensures { (a1 : WordMatrix) → (first count : ℕ) →
+            masks.now ≡ masks_of a1 seed.now first count → number ≡ first + c →
+            result.items ≡ simple_query self.layout a1 seed.now number i }
+    {
+        let QueryRoom {
+            layout,
+            mut mask,
+            words: mut out,
+        } = self;
+        put_masked_query(masks, c, seed, number, &layout, i, &mut mask, &mut out);
+        out
+    }
 }
 
 /// Writes the query for record i. The mask has the size of `a1`, and what it held is lost.
@@ -122,6 +152,32 @@ pub fn put_query_under<K: Kernel>(
 {
     let column = draw_for(seed, number, layout, i, mask);
     mask.encrypt_under(kernel, source, layout.width(), column, out);
+}
+
+// Writes the query for record i of masks: of retrieval c of them, whose number is `number`. What the mask held is lost.
+fn put_masked_query(
+    masks: &QueryMasks,
+    c: usize,
+    seed: &[u8; 32],
+    number: u64,
+    layout: &Layout,
+    i: usize,
+    mask: &mut Mask,
+    out: &mut [u32],
+)
+    requires number { number < 2 ^ 62 }
+    requires record { i < layout.now.count }
+    requires rows { masks.now.rows ≡ digit_cols layout.now }
+    requires retrieval { c < masks.now.cols }
+    requires mask { length mask.old.noise ≡ digit_cols layout.now }
+    requires room { length out.old ≡ digit_cols layout.now }
+    ensures { (a1 : WordMatrix) → (first count : ℕ) →
+        masks.now ≡ masks_of a1 seed.now first count → number ≡ first + c →
+        out.new ≡ simple_query layout.now a1 seed.now number i }
+{
+    let column = draw_for(seed, number, layout, i, mask);
+    masks.put_column(c, out);
+    mask.cover(layout.width(), column, out);
 }
 
 // Draws what hides the column of record i in a retrieval, and gives the column.

@@ -4,11 +4,14 @@ use digit_pack::{DigitStore, Flat, Layout, Packed3, pack};
 use lane_kernels::Lanes;
 use matrix_u32::{Kernel, Matrix, Plain};
 use seed_expand::{WordSource, expand};
-use simple_scheme::{QueryRoom, RecoverError, answer, query, recover, setup};
+use simple_scheme::{MaskRoom, QueryRoom, RecoverError, answer, query, recover, setup};
 use std::process::Abort;
 use std::test::Fail;
 
 const ZERO_SEED: [u8; 32] = [0; 32];
+
+// A client's seed.
+const SEED: [u8; 32] = [7; 32];
 
 // A store of two records, and the public matrix of the zero seed with one column.
 fn two_records<S: DigitStore>(
@@ -223,6 +226,36 @@ fn answers_that_give_no_record(rt: HostRuntime) -> Result<(), Fail> {
     let long = read(&rt, &[words[0], words[1], words[2], 0])?.err();
     assert_eq!(rt; long, Some(RecoverError::BadLength));
     Ok(())
+}
+
+// The queries of three retrievals, from number 3 on, made of masks and each by itself, for the first and the last of ten
+// records in four columns.
+fn masks_give_the_queries<K: Kernel>(
+    rt: &(impl Abort + AllocGlobal),
+    kernel: K,
+) -> Result<(), Fail> {
+    let layout = Layout::new(8, 2, 3, 10)?;
+    let a1 = expand(rt.alloc(), &ZERO_SEED, 0, 0, 4, 5)?;
+    let source = WordSource::at(&ZERO_SEED, 0, 0);
+    let masks = MaskRoom::new(rt.alloc(), &layout, 5, 3)?.fill(kernel, source, &SEED, 3);
+    assert!(rt; layout.count() == 10 && layout.cols() == 4);
+    for c in 0..3usize {
+        let number = 3 + c as u64;
+        for i in [0, 9] {
+            assert!(rt; i < layout.count() && a1.rows() == layout.cols());
+            let wanted = query(rt.alloc(), kernel, &SEED, number, &a1, &layout, i)?;
+            let room = QueryRoom::new(rt.alloc(), &layout, 5)?;
+            let words = room.fill_masked(&masks, c, &SEED, number, i);
+            assert_eq!(rt; words.as_slice(), wanted.as_slice());
+        }
+    }
+    Ok(())
+}
+
+#[test]
+fn queries_of_masks(rt: HostRuntime) -> Result<(), Fail> {
+    masks_give_the_queries(&rt, Plain)?;
+    masks_give_the_queries(&rt, Lanes)
 }
 
 #[test]

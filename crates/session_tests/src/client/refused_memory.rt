@@ -115,6 +115,23 @@ fn a_refused_ask_spends_its_number_on<K: Kernel>(
     Ok(())
 }
 
+// Where memory is refused to a preparation, the next asks are made all the same.
+#[test]
+fn a_refused_preparation_changes_nothing(rt: HostRuntime) -> Result<(), Fail> {
+    a_refused_preparation_changes_nothing_on(&rt, Plain)?;
+    a_refused_preparation_changes_nothing_on(&rt, Lanes)
+}
+
+fn a_refused_preparation_changes_nothing_on<K: Kernel>(
+    rt: &(impl Abort + AllocGlobal),
+    kernel: K,
+) -> Result<(), Fail> {
+    let mut client = ready(rt, kernel)?;
+    let _ = client.prepare_queries(2);
+    asks(rt, &mut client);
+    Ok(())
+}
+
 // A sync of the other scheme drops the hint, but not where it is refused.
 fn keeps_its_hint<K: Kernel>(rt: &impl Abort, client: &mut ClientCore<K>) {
     let refusal = call(client, Wanted::Sync(Scheme::Double)).err();
