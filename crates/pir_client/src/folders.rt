@@ -114,7 +114,10 @@ fn get_records(
     indices: &[u32],
 ) -> Result<(), Failed> {
     let mut unread = None;
+    let mut left = indices.len();
     for index in indices {
+        session.prepare(left);
+        left = left.saturating_sub(1);
         match session.retrieve(*index) {
             Ok(got) => print_record(rt, &got)?,
             Err(RetrieveError::DamagedHint) => unread = Some(*index),

@@ -148,6 +148,14 @@ impl<'a> Session<'a> {
         }
     }
 
+    /// Prepares so many retrievals at once, if they are by SimplePIR and more than one. Their records have no part in it. Without
+    /// memory for it each is made by itself.
+    pub fn prepare(&mut self, count: usize) {
+        if self.scheme == Scheme::Simple && count > 1 {
+            let _ = self.client.prepare_queries(count);
+        }
+    }
+
     /// Retrieves a record: again under a new number, with the hint of the next version, where the answer is stale.
     pub fn retrieve(&mut self, index: u32) -> Result<Retrieved, RetrieveError> {
         for _ in 0..STALE_ANSWERS {
