@@ -1,6 +1,4 @@
 //! Queries that were prepared are those that are sent without.
-//!
-//! Proved by `tests/long/run --prove`.
 
 use super::*;
 
@@ -12,6 +10,28 @@ const TEN: Store = Store {
 };
 
 const TEN_HINT: [u32; 3] = [1, 2, 3];
+
+// Has no contract, as `call` has none.
+fn prepares<K: Kernel>(client: &mut ClientCore<K>, count: usize) -> Result<(), Fail> {
+    client.prepare_queries(count)?;
+    Ok(())
+}
+
+fn skips_to_thirteen<K: Kernel>(client: &mut ClientCore<K>) {
+    client.skip_to(13);
+}
+
+// Feeds a piece, and compares what is reported, whatever is then to be sent.
+fn reports<K: Kernel>(
+    rt: &(impl Abort + AllocGlobal),
+    client: &mut ClientCore<K>,
+    piece: &[u8],
+    wanted: &str,
+) -> Result<(), Fail> {
+    let fed = client.feed(piece);
+    assert_eq!(rt; reported(rt, &fed)?.as_str(), wanted);
+    Ok(())
+}
 
 // A reply that ends an ask without a record.
 fn refusal(rt: &(impl Abort + AllocGlobal)) -> Result<Vec<u8>, Fail> {
@@ -41,15 +61,15 @@ fn asks_more_than_was_prepared<K: Kernel>(
 ) -> Result<(), Fail> {
     let mut prepared = synced(rt, TEN, 5, &TEN_HINT, kernel)?;
     let mut bare = synced(rt, TEN, 5, &TEN_HINT, kernel)?;
-    prepared.prepare_queries(3)?;
+    prepares(&mut prepared, 3)?;
     counts(rt, &prepared, 5);
     for index in [3, 5, 7, 9] {
         ask_alike(rt, &mut prepared, &mut bare, index)?;
     }
-    prepared.prepare_queries(2)?;
+    prepares(&mut prepared, 2)?;
     ask_alike(rt, &mut prepared, &mut bare, 0)?;
     // The next one is prepared, so nothing is done.
-    prepared.prepare_queries(9)?;
+    prepares(&mut prepared, 9)?;
     ask_alike(rt, &mut prepared, &mut bare, 0)?;
     ask_alike(rt, &mut prepared, &mut bare, 0)
 }
@@ -66,15 +86,15 @@ fn prepares_without_a_hint<K: Kernel>(
     kernel: K,
 ) -> Result<(), Fail> {
     let mut prepared = newcomer(rt, 0, kernel);
-    prepared.prepare_queries(4)?;
+    prepares(&mut prepared, 4)?;
     let_in(rt, &mut prepared, TEN)?;
     let mut bare = guest(rt, TEN, 0, kernel)?;
-    prepared.prepare_queries(40)?;
+    prepares(&mut prepared, 40)?;
     fetches(rt, &mut prepared, 1, &TEN_HINT)?;
     fetches(rt, &mut bare, 1, &TEN_HINT)?;
     ask_alike(rt, &mut prepared, &mut bare, 1)?;
-    prepared.skip_to(13);
-    bare.skip_to(13);
+    skips_to_thirteen(&mut prepared);
+    skips_to_thirteen(&mut bare);
     for index in [2, 4, 6, 8] {
         ask_alike(rt, &mut prepared, &mut bare, index)?;
     }
@@ -97,8 +117,7 @@ fn moves_to_thirteen<K: Kernel>(
     feeds(rt, client, reply.as_slice(), "stale 2 ")?;
     makes(client, Wanted::Sync(Scheme::Simple))?;
     let reply = no_delta(rt, 2, 13)?;
-    let fed = client.feed(reply.as_slice());
-    assert_eq!(rt; reported(rt, &fed)?.as_str(), "");
+    reports(rt, client, reply.as_slice(), "")?;
     let reply = part(rt, 0, 2, 0, &TEN_HINT)?;
     feeds(rt, client, reply.as_slice(), "synced simple 2 ")
 }
@@ -109,11 +128,11 @@ fn asks_of_more_columns<K: Kernel>(
 ) -> Result<(), Fail> {
     let mut prepared = synced(rt, TEN, 0, &TEN_HINT, kernel)?;
     let mut bare = synced(rt, TEN, 0, &TEN_HINT, kernel)?;
-    prepared.prepare_queries(16)?;
+    prepares(&mut prepared, 16)?;
     moves_to_thirteen(rt, &mut prepared)?;
     moves_to_thirteen(rt, &mut bare)?;
     ask_alike(rt, &mut prepared, &mut bare, 12)?;
-    prepared.prepare_queries(2)?;
+    prepares(&mut prepared, 2)?;
     ask_alike(rt, &mut prepared, &mut bare, 12)?;
     ask_alike(rt, &mut prepared, &mut bare, 3)
 }
@@ -132,10 +151,10 @@ fn prepares_the_last_numbers<K: Kernel>(
     let last = (1 << 62) - 2;
     let mut prepared = synced(rt, TEN, last, &TEN_HINT, kernel)?;
     let mut bare = synced(rt, TEN, last, &TEN_HINT, kernel)?;
-    prepared.prepare_queries(16)?;
+    prepares(&mut prepared, 16)?;
     ask_alike(rt, &mut prepared, &mut bare, 9)?;
     ask_alike(rt, &mut prepared, &mut bare, 9)?;
-    prepared.prepare_queries(16)?;
+    prepares(&mut prepared, 16)?;
     refuses(rt, &mut prepared, Wanted::Ask(9), CallFault::SeedUsedUp);
     Ok(())
 }
