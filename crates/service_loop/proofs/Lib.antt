@@ -4,3 +4,4 @@ pub mod Idle
 pub mod Leaving
 pub mod Marks
 pub mod Noted
+pub mod Turned

@@ -116,8 +116,8 @@ impl<S: Saver> Outside<Lanes> for Device<'_, S> {
     }
 }
 
-// How many microseconds have passed since a moment; 0 where the clock can't be read.
-fn micros_since(rt: &HostRuntime, moment: Option<Instant>) -> u64 {
+/// How many microseconds have passed since a moment; 0 where there is none, or the clock can't be read.
+pub fn micros_since(rt: &HostRuntime, moment: Option<Instant>) -> u64 {
     let Some(moment) = moment else {
         return 0;
     };

@@ -14,6 +14,7 @@ mod serving;
 mod status;
 mod stopping;
 mod tallies;
+mod turning;
 mod watch;
 
 pub use device::Saver;

@@ -81,14 +81,27 @@ impl Tallies {
         self.counts.add(what, amount);
     }
 
-    /// Notes the reply of a turn, if it made one: how long its frame had waited, with the turns that put it off, and, if it is an
-    /// answer, how long the turn took, with those.
+    /// Notes the reply of a turn, if it made one: counts it, and notes how long its frame had waited, with the turns that put it off,
+    /// and, if it is an answer, how long the turn took, with those.
     pub fn note_turn(&mut self, turn: TurnTimes, reply: Option<ReplyHead>)
         ensures none { reply ≡ None → self.new ≡ self.old }
+        ensures counts { IfSome reply (λ r. (events : List Amount) →
+            IsTally self.old.counts.counts events → IsTally self.new.counts.counts
+            (events ++ record { slot = slot_of (Counted.Reply r.kind r.first); much = 1 } ∷ [])) }
         ensures waited { IfSome reply (λ r. (times : List ℕ) →
             IsSpread self.old.waited.bins self.old.waited.sum times →
             IsSpread self.new.waited.bins self.new.waited.sum
             (times ++ (turn.began - turn.waits_since) ∷ [])) }
+        ensures answered { IfSome reply (λ r. r.kind ≡ 0x85 → (times : List ℕ) →
+            IsSpread self.old.answered.bins self.old.answered.sum times →
+            IsSpread self.new.answered.bins self.new.answered.sum (times ++ time_of turn ∷ [])) }
+        ensures others { IfSome reply (λ r. r.kind ≢ 0x85 →
+            self.new.answered ≡ self.old.answered) }
+        ensures rest { self.new ≡ record self.old {
+          counts = self.new.counts;
+          answered = self.new.answered;
+          waited = self.new.waited;
+        } }
     {
         let Some(ReplyHead { kind, first }) = reply else {
             return;

@@ -20,6 +20,8 @@ pub struct Watch {
     pub scan: FrameScan,
     /// How many microseconds the append of a publication took in this turn; 0 if there was none.
     pub saved: u64,
+    /// The version that was published in this turn.
+    pub published: Option<u64>,
     /// When its last turn ended, in microseconds since the start, if that left more to do. If the frame of that turn was put off, this is
     /// when that frame began to wait.
     pub left_more: Option<u64>,
@@ -35,6 +37,7 @@ impl Watch {
             reply: None,
             scan: FrameScan::new(),
             saved: 0,
+            published: None,
             left_more: None,
             spent: 0,
         }

@@ -4,7 +4,7 @@ use Rattle.std.specs.List.{sum_by}
 use Rattle.service_watch.specs.declared.counters.Cause.{Cause}
 use Rattle.service_watch.specs.declared.counters.Cause.TheVariants as cause
 use Rattle.service_watch.specs.declared.counters.Counted.{Counted}
-use Rattle.service_watch.specs.declared.counters.Counted.TheVariants.{Accepted, Closed, Frame, Reply, BytesIn, BytesOut, LeftOut}
+use Rattle.service_watch.specs.declared.counters.Counted.TheVariants.{Accepted, Closed, Frame, Reply, BytesIn, BytesOut}
 
 -- where connections that are over for a cause are counted
 abbrev pub cause_slot : Cause → ℕ
@@ -44,7 +44,6 @@ slot_of (Frame kind) = frame_slot kind
 slot_of (Reply kind first) = reply_slot kind first
 slot_of BytesIn = 18
 slot_of BytesOut = 19
-slot_of LeftOut = 20
 
 -- what a word says of a number: itself, or the most that it can
 abbrev pub saturating : ℕ → ℕ

@@ -40,8 +40,6 @@ pub enum Counted {
     BytesIn,
     /// So many bytes were written.
     BytesOut,
-    /// A line of the log was left out.
-    LeftOut,
 }
 
 /// How often each thing happened, or how much of it. A count that a word can't say stays at the most that it can.
@@ -90,7 +88,6 @@ impl Counted {
             Counted::Reply(kind, first) => reply_slot(kind, first),
             Counted::BytesIn => 18,
             Counted::BytesOut => 19,
-            Counted::LeftOut => 20,
         }
     }
 }

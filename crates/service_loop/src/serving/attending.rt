@@ -1,7 +1,7 @@
 //! Those who ask how the service does, after the turns of a round.
 
 use super::Service;
-use crate::device::Saver;
+use crate::device::{Saver, micros_since};
 use crate::kept::Kept;
 use crate::report::RunFault;
 use crate::status::Status;
@@ -72,9 +72,6 @@ impl Service {
 
     // Microseconds since the start; 0 where the clock can't be read.
     pub(super) fn micros(&self, rt: &HostRuntime) -> u64 {
-        match self.start.elapsed(rt) {
-            Ok(elapsed) => u64::try_from(elapsed.as_micros()).unwrap_or(u64::MAX),
-            Err(_) => 0,
-        }
+        micros_since(rt, Some(self.start))
     }
 }

@@ -1,16 +1,12 @@
 //! The turns of connections, and what becomes of them.
 
 ghost use Rattle.std.specs.Prelude.{◌≡◌, ◌≤◌, ◌<◌, ℕ, slice_get, None, IfOk, IfSome, OnOk, length, true, false};
-ghost use Rattle.service_loop.specs.Watching.{published_between};
 
 use super::Service;
 use crate::connection::{Connection, Outcome};
 use crate::device::Saver;
 use crate::kept::Kept;
-use crate::lines::unix_millis;
 use crate::report::{Closing, RunFault};
-use crate::tallies::{Tallies, TurnTimes};
-use crate::watch::Watch;
 use service_watch::{Cause, Counted, Event};
 use std::mem;
 
@@ -173,25 +169,22 @@ impl Service {
         let Some(mut connection) = self.places.take(place) else {
             return Ok((kept, false));
         };
-        let before = kept.core.store().version();
-        let began = self.micros(rt);
-        let (mut kept, outcome) = connection.take_turn(rt, now, kept, &mut self.buffer)?;
-        let published = published_between(before, kept.core.store().version());
-        let turn = connection
-            .watch
-            .times(kept.counters.polled, began, self.micros(rt));
-        kept.counters = noted_turn(rt, kept.counters, &connection.watch, turn, published);
-        connection.watch.note_end(turn, outcome);
+        let (mut kept, outcome) = connection.take_counted_turn(
+            rt,
+            self.start,
+            now,
+            kept,
+            &mut self.buffer,
+        )?;
         self.log.note_turn(
             rt,
             connection.id,
             connection.address,
             connection.watch.reply,
-            published,
+            connection.watch.published,
         );
-        connection.note_held(&kept);
-        let outcome = connection.retired(now, self.phase.is_stopping(), outcome);
-        let outcome = connection.judged(now, self.limits.idle, outcome);
+        let stops = self.phase.is_stopping();
+        let outcome = connection.end_turn(now, stops, self.limits.idle, &kept, outcome);
         let more = self.conclude(rt, &mut kept, place, connection, outcome);
         Ok((kept, more))
     }
@@ -285,26 +278,4 @@ impl Service {
             now
         })
     }
-}
-
-// What was counted, with a turn of these times, and the version that it published.
-fn noted_turn(
-    rt: &HostRuntime,
-    mut tallies: Tallies,
-    watch: &Watch,
-    turn: TurnTimes,
-    published: Option<u64>,
-) -> Tallies {
-    tallies.note_turn(turn, watch.reply);
-    if published.is_some() {
-        tallies.note_publication(turn, watch.saved, unix_millis(rt) / 1000);
-    }
-    tallies
-}
-
-// The version that a turn published, from those before and after it.
-fn published_between(before: u64, after: u64) -> Option<u64>
-    ensures { result ≡ published_between before after }
-{
-    if before == after { None } else { Some(after) }
 }

@@ -1,15 +1,22 @@
-use Rattle.std.proofs.Common.{◌≡◌, List, Option, Some, IfSome, false, sym, ap, subst, ◌∙◌}
-use Rattle.server_core.specs.Cores.{session_of}
-use Rattle.service_loop.specs.Holding.{held_by}
+use Rattle.std.proofs.Common.{◌≡◌, ◌≤◌, List, Option, None, Some, IfSome, false, sym, subst, ◌∙◌}
 use Rattle.service_loop.specs.declared.connection.Connection.{Connection}
 use Rattle.service_loop.specs.Judging.{HasBeenIdle}
-use Rattle.service_loop.specs.Places.{connection_at}
+use Rattle.service_loop.specs.declared.serving.Service.{Service}
+use Rattle.service_loop.specs.Places.{all_held, connection_at}
 use Rattle.service_loop.specs.Sessions.{AreNoted, SessionsStayOrGo}
-use Rattle.service_loop.proofs.Idle.{concluded_holds, judged_active, stays_idle}
+use Rattle.service_loop.proofs.Idle.{concluded_holds, stays_idle}
 use Rattle.service_loop.proofs.Leaving.{is_within}
 use Rattle.service_loop.proofs.Noted.{freed_noted}
 use Rattle.service_loop.proofs.Concluding.{concluded_others, concluded_sessions, concluded_noted}
 use Rattle.service_loop.proofs.serving.Service.take_turn_at.Goals as goal
+
+-- no more is held than is allowed
+is_bounded : (s : Service) → all_held s.places.connections.items ≤ s.limits.memory
+is_bounded s = subst (λ n. n ≤ s.limits.memory) s.places.is_sum (subst (λ n. s.places.held ≤ n) s.limited s.places.within)
+
+-- what is there is not none
+is_there : (o : Option Connection) (k : Connection) → Some k ≡ o → o ≡ None → ⊥
+is_there o k there none = let no : Some k ≡ None = there ∙ none in cc
 
 pub returns-in_default-clause-noted : goal.returns-in_default-clause-noted
 returns-in_default-clause-noted g c = subst (λ (k : List (Option Connection)). AreNoted k c.args.kept.core c.args.self.now.next_id) (sym c.in_default.ensures.places)
@@ -17,61 +24,64 @@ returns-in_default-clause-noted g c = subst (λ (k : List (Option Connection)). 
 
 pub returns-clause-noted : goal.returns-clause-noted
 returns-clause-noted g c =
-    let before = c.args.self.now.places.connections.items in
-    let there : connection_at before c.args.place ≡ Some c.in-Some.connection = sym c.in-Some.ensures.taken in
-    let note = c.note_held.ensures in
-    let mid = c.in_ok-kept.kept.core in
-    let d = c.retired-outcome.new.self in
-    let retired = c.retired-outcome.ensures in
-    let same : c.note_held.new.self.id ≡ c.take_turn.new.self.id = ap (λ (k : Connection). k.id) note in
-    let id : d.id ≡ c.in-Some.connection.id = retired.id ∙ (same ∙ c.in_ok-kept.ensures.id) in
-    let held : c.note_held.new.self.held ≡ held_by (session_of mid.sessions c.note_held.new.self.id) c.note_held.new.self.link =
-    ap (λ (k : Connection). k.held) note ∙ sym (ap (λ (k : Connection). held_by (session_of mid.sessions k.id) k.link) note) in
-    let is : d.held ≡ held_by (session_of mid.sessions d.id) d.link =
-    retired.held ∙ (held ∙ (sym (ap (λ k. held_by (session_of mid.sessions k) c.note_held.new.self.link) retired.id)
-    ∙ sym (ap (λ l. held_by (session_of mid.sessions d.id) l) retired.link))) in
     subst (λ n. AreNoted c.conclude-more.new.self.places.connections.items c.conclude-more.new.kept.core n) (sym c.conclude-more.ensures.number)
-    (concluded_noted c.judged-outcome.result c.args.place c.in-Some.connection d before c.take.new.self.connections.items
-    c.args.kept.core mid c.conclude-more.new.self.places.connections.items c.conclude-more.new.kept.core c.in-Some.ensures.places
-    c.conclude-more.ensures.goes_on c.conclude-more.ensures.over id c.in_ok-kept.ensures.others
-    c.args.self.now.next_id (is_within before c.args.place c.in-Some.connection there) there c.requires.noted is)
+    (concluded_noted c.end_turn-outcome.result c.args.place c.in-Some.connection c.end_turn-outcome.new.self c.args.self.now.places.connections.items
+    c.take.new.self.connections.items c.args.kept.core c.in_ok-kept.kept.core c.conclude-more.new.self.places.connections.items
+    c.conclude-more.new.kept.core c.in-Some.ensures.places c.conclude-more.ensures.goes_on c.conclude-more.ensures.over
+    (c.end_turn-outcome.ensures.id ∙ c.in_ok-kept.ensures.id) c.in_ok-kept.ensures.others c.args.self.now.next_id
+    (is_within c.args.self.now.places.connections.items c.args.place c.in-Some.connection (sym c.in-Some.ensures.taken))
+    (sym c.in-Some.ensures.taken) c.requires.noted c.end_turn-outcome.ensures.held)
 
 pub returns-clause-others : goal.returns-clause-others
 returns-clause-others g c =
-    let d = c.retired-outcome.new.self in
-    let id : d.id ≡ c.in-Some.connection.id = c.retired-outcome.ensures.id ∙ (ap (λ (k : Connection). k.id) c.note_held.ensures ∙ c.in_ok-kept.ensures.id) in
-    concluded_others c.judged-outcome.result c.args.place c.in-Some.connection d c.args.self.now.places.connections.items
-    c.take.new.self.connections.items c.args.kept.core c.in_ok-kept.kept.core c.conclude-more.new.self.places.connections.items c.conclude-more.new.kept.core
-    c.in-Some.ensures.places c.conclude-more.ensures.goes_on c.conclude-more.ensures.over id c.in_ok-kept.ensures.others
+    concluded_others c.end_turn-outcome.result c.args.place c.in-Some.connection c.end_turn-outcome.new.self c.args.self.now.places.connections.items
+    c.take.new.self.connections.items c.args.kept.core c.in_ok-kept.kept.core c.conclude-more.new.self.places.connections.items
+    c.conclude-more.new.kept.core c.in-Some.ensures.places c.conclude-more.ensures.goes_on c.conclude-more.ensures.over
+    (c.end_turn-outcome.ensures.id ∙ c.in_ok-kept.ensures.id) c.in_ok-kept.ensures.others
 
 pub returns-clause-sessions : goal.returns-clause-sessions
 returns-clause-sessions g c =
-    let d = c.retired-outcome.new.self in
-    let id : d.id ≡ c.in-Some.connection.id = c.retired-outcome.ensures.id ∙ (ap (λ (k : Connection). k.id) c.note_held.ensures ∙ c.in_ok-kept.ensures.id) in
     subst (λ (o : Option Connection). IfSome o (λ k. SessionsStayOrGo k.id c.args.kept.core c.conclude-more.new.kept.core)) c.in-Some.ensures.taken
-    (concluded_sessions c.judged-outcome.result c.args.place c.in-Some.connection d c.args.self.now.places.connections.items
-    c.take.new.self.connections.items c.args.kept.core c.in_ok-kept.kept.core c.conclude-more.new.self.places.connections.items c.conclude-more.new.kept.core
-    c.in-Some.ensures.places c.conclude-more.ensures.goes_on c.conclude-more.ensures.over id c.in_ok-kept.ensures.others)
+    (concluded_sessions c.end_turn-outcome.result c.args.place c.in-Some.connection c.end_turn-outcome.new.self c.args.self.now.places.connections.items
+    c.take.new.self.connections.items c.args.kept.core c.in_ok-kept.kept.core c.conclude-more.new.self.places.connections.items
+    c.conclude-more.new.kept.core c.in-Some.ensures.places c.conclude-more.ensures.goes_on c.conclude-more.ensures.over
+    (c.end_turn-outcome.ensures.id ∙ c.in_ok-kept.ensures.id) c.in_ok-kept.ensures.others)
 
 pub returns-clause-idle : goal.returns-clause-idle
 returns-clause-idle g c =
-    let before = c.args.self.now.places.connections.items in
-    let scanned = c.args.self.now.scanned in
-    let idle = c.args.self.now.limits.idle in
-    let d = c.retired-outcome.new.self in
-    let there : connection_at before c.args.place ≡ Some c.in-Some.connection = sym c.in-Some.ensures.taken in
-    concluded_holds (λ k. HasBeenIdle k scanned idle → ⊥) c.judged-outcome.result c.args.place d before c.take.new.self.connections.items
-    c.in_ok-kept.kept.core c.conclude-more.new.self.places.connections.items c.conclude-more.new.kept.core c.in-Some.ensures.places
-    (is_within before c.args.place c.in-Some.connection there) c.conclude-more.ensures.goes_on c.conclude-more.ensures.over
-    (λ on was. judged_active c.retired-outcome.result c.judged-outcome.result d c.in_ok-now.now idle c.judged-outcome.ensures.idle
-    c.judged-outcome.ensures.over on (stays_idle d scanned c.in_ok-now.now idle c.in_ok-now.ensures was))
+    concluded_holds (λ k. HasBeenIdle k c.args.self.now.scanned c.args.self.now.limits.idle → ⊥) c.end_turn-outcome.result c.args.place
+    c.end_turn-outcome.new.self c.args.self.now.places.connections.items c.take.new.self.connections.items c.in_ok-kept.kept.core
+    c.conclude-more.new.self.places.connections.items c.conclude-more.new.kept.core c.in-Some.ensures.places
+    (is_within c.args.self.now.places.connections.items c.args.place c.in-Some.connection (sym c.in-Some.ensures.taken))
+    c.conclude-more.ensures.goes_on c.conclude-more.ensures.over
+    (λ on was. c.end_turn-outcome.ensures.active on (stays_idle c.end_turn-outcome.new.self c.args.self.now.scanned c.in_ok-now.now
+    c.args.self.now.limits.idle c.in_ok-now.ensures was))
 
 pub returns-clause-unmarked : goal.returns-clause-unmarked
 returns-clause-unmarked g c =
-    let before = c.args.self.now.places.connections.items in
-    let d = c.retired-outcome.new.self in
-    let there : connection_at before c.args.place ≡ Some c.in-Some.connection = sym c.in-Some.ensures.taken in
-    let unmarked : d.queued ≡ false = c.retired-outcome.ensures.queued ∙ (ap (λ (k : Connection). k.queued) c.note_held.ensures ∙ c.in_ok-kept.ensures.queued) in
-    concluded_holds (λ k. k.queued ≡ false) c.judged-outcome.result c.args.place d before c.take.new.self.connections.items
-    c.in_ok-kept.kept.core c.conclude-more.new.self.places.connections.items c.conclude-more.new.kept.core c.in-Some.ensures.places
-    (is_within before c.args.place c.in-Some.connection there) c.conclude-more.ensures.goes_on c.conclude-more.ensures.over (λ _. unmarked)
+    concluded_holds (λ k. k.queued ≡ false) c.end_turn-outcome.result c.args.place c.end_turn-outcome.new.self c.args.self.now.places.connections.items
+    c.take.new.self.connections.items c.in_ok-kept.kept.core c.conclude-more.new.self.places.connections.items c.conclude-more.new.kept.core
+    c.in-Some.ensures.places (is_within c.args.self.now.places.connections.items c.args.place c.in-Some.connection (sym c.in-Some.ensures.taken))
+    c.conclude-more.ensures.goes_on c.conclude-more.ensures.over (λ _. c.end_turn-outcome.ensures.queued ∙ c.in_ok-kept.ensures.queued)
+
+pub returns-clause-limits : goal.returns-clause-limits
+returns-clause-limits g c = c.conclude-more.ensures.limits
+
+pub returns-clause-scanned : goal.returns-clause-scanned
+returns-clause-scanned g c = c.conclude-more.ensures.scanned
+
+pub returns-clause-turns : goal.returns-clause-turns
+returns-clause-turns g c = c.conclude-more.ensures.turns
+
+pub returns-clause-all : goal.returns-clause-all
+returns-clause-all g c = c.conclude-more.ensures.all
+
+pub returns-clause-ready : goal.returns-clause-ready
+returns-clause-ready g c = c.conclude-more.ensures.ready
+
+pub returns-clause-bounded : goal.returns-clause-bounded
+returns-clause-bounded g c = is_bounded c.conclude-more.new.self
+
+pub returns-clause-free : goal.returns-clause-free
+returns-clause-free g c = λ none. absurd (is_there (connection_at c.args.self.now.places.connections.items c.args.place) c.in-Some.connection
+    c.in-Some.ensures.taken none)

@@ -1,6 +1,6 @@
-use Rattle.std.proofs.Common.{◌≡◌, ◌≤◌, ◌<◌, ◌++◌, ◌+◌, ◌∷◌, [], ℕ, List, length, drop, get_or, add-one, append_assoc, append-nil, drop-cons, sym, subst, ap, ◌∙◌, arith}
+use Rattle.std.proofs.Common.{◌≡◌, ◌<◌, ◌++◌, ◌+◌, ℕ, List, length, drop, get_or, add-one, append_assoc, append-nil, drop-cons, sym, subst, ap, ◌∙◌}
 use Rattle.std.proofs.Math.ListN.{drop_of_length-le}
-use Rattle.service_watch.specs.Counts.{Amount, IsTally}
+use Rattle.service_watch.specs.Counts.{IsTally}
 use Rattle.service_watch.specs.Scans.{frames_in, scan_after, frame_of, ended_kind, after_byte}
 use Rattle.service_watch.specs.declared.scans.FrameScan.{FrameScan}
 use Rattle.service_watch.proofs.scans.FrameScan.count.Goals as goal
