@@ -1,7 +1,7 @@
 //! Answers that are made in steps: the same words as those that are made at once.
 
 use super::*;
-use double_scheme::AnswerSteps;
+use double_scheme::{AnswerSteps, rows_in_step};
 
 const MOST_STEPS: u32 = 1000;
 
@@ -32,7 +32,6 @@ fn both_ways<K: Kernel, S: DigitStore>(
     kernel: K,
     layout: &Layout,
     n: usize,
-    wanted: u32,
 ) -> Result<(), Fail> {
     let mut bytes = vec![in rt.alloc(); 0u8; layout.count() * layout.record_len()]?;
     for i in 0..bytes.len() {
@@ -47,7 +46,8 @@ fn both_ways<K: Kernel, S: DigitStore>(
     let at_once = answer(rt.alloc(), kernel, layout, &digits, &server, &a2, &words)?;
     let (in_steps, count) = stepped(rt, kernel, layout, &digits, &server, &a2, &words)?;
     are_words(rt, &in_steps, &at_once);
-    assert_eq!(rt; count, wanted);
+    // So few digits are read in one step.
+    assert_eq!(rt; count, 1);
     Ok(())
 }
 
@@ -55,16 +55,23 @@ fn both_ways_on<K: Kernel, S: DigitStore>(
     rt: &(impl Abort + AllocGlobal),
     kernel: K,
 ) -> Result<(), Fail> {
-    // One step for the first layer, and one for each two parts: of one, three and four digits to a record.
-    both_ways::<K, S>(rt, kernel, &Layout::new(8, 1, 1, 2)?, 1, 2)?;
-    both_ways::<K, S>(rt, kernel, &Layout::new(6, 2, 2, 3)?, 2, 3)?;
-    both_ways::<K, S>(rt, kernel, &Layout::new(8, 4, 3, 10)?, 5, 3)
+    // One, three and four digits to a record: each two parts of an answer are made together.
+    both_ways::<K, S>(rt, kernel, &Layout::new(8, 1, 1, 2)?, 1)?;
+    both_ways::<K, S>(rt, kernel, &Layout::new(6, 2, 2, 3)?, 2)?;
+    both_ways::<K, S>(rt, kernel, &Layout::new(8, 4, 3, 10)?, 5)
 }
 
 #[test]
 fn the_same_words_in_steps_as_at_once(rt: HostRuntime) -> Result<(), Fail> {
     both_ways_on::<Plain, Flat>(&rt, Plain)?;
     both_ways_on::<Lanes, Packed3>(&rt, Lanes)
+}
+
+#[test]
+fn as_many_rows_as_may_be_read(rt: HostRuntime) {
+    for (most, cols, left, wanted) in [(12, 3, 7, 4), (11, 3, 7, 3), (100, 3, 7, 7), (2, 3, 7, 1), (0, 3, 7, 1), (5, 0, 7, 5)] {
+        assert_eq!(rt; rows_in_step(most, cols, left), wanted);
+    }
 }
 
 // Some rows of a store are those of the whole product, by one vector and by two.
