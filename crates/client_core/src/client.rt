@@ -263,7 +263,7 @@ impl<K: Kernel> ClientCore<K> {
         Ok(bytes)
     }
 
-    /// Prepares the next `count` retrievals by SimplePIR, at most 16: their secrets are drawn, and each row of the public matrix is
+    /// Prepares the next `count` retrievals, at most 16: their secrets are drawn, and each row of the first public matrix is
     /// made once for all of them, before any record is named. What comes of it is kept until other retrievals are prepared. An
     /// `ask` makes its query of it, if it was made for the number of that and the number of columns known then; else as if
     /// nothing were prepared. Nothing is done before the Welcome, nor where the next retrieval is prepared.

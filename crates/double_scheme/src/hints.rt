@@ -9,6 +9,7 @@ ghost use Rattle.double_scheme.specs.Double.{server_hint_of, client_hint_of};
 
 use digit_pack::{DigitStore, split_count, word_digit};
 use matrix_u32::{Kernel, Matrix};
+use simple_scheme::{HintWatcher, Unwatched};
 use std::alloc::{AllocError, Global};
 
 // The columns of a matrix as rows, each word as a column of its digits. A column is read once, into a list of its
@@ -109,8 +110,37 @@ pub fn setup<K: Kernel, S: DigitStore>(
     ensures client_sizes { IfOk result (λ hints. (hints.1.rows ≡ a2.now.cols * split_count w) ×
         (hints.1.cols ≡ a2.now.cols)) }
 {
+    setup_watched(alloc, kernel, hint, a2, w, &mut Unwatched)
+}
+
+/// The same hints; that of the client is watched while its rows are made.
+pub fn setup_watched<K: Kernel, S: DigitStore, W: HintWatcher>(
+    alloc: Global,
+    kernel: K,
+    hint: &Matrix,
+    a2: &Matrix,
+    w: u32,
+    watcher: &mut W,
+) -> Result<(S, Matrix), AllocError>
+    requires width { (6 ≤ w) × (w ≤ 10) }
+    requires rows { a2.now.rows ≡ hint.now.rows }
+    requires cols { a2.now.cols ≡ hint.now.cols }
+    requires room { hint.now.cols * split_count w * hint.now.rows ≤ S.most }
+    requires col_limit { hint.now.cols ≤ 1024 }
+    ensures server { IfOk result (λ hints. (digits a1 : WordMatrix) → a1.rows ≡ digits.cols →
+        hint.now ≡ hint_of digits a1 →
+        S.digits hints.0 ≡ server_hint_of w digits a1) }
+    ensures read_across { IfOk result (λ hints. S.digits hints.0 ≡
+        decomposed w (transpose hint.now)) }
+    ensures client { IfOk result (λ hints. hints.1 ≡ client_hint_of (S.digits hints.0) a2.now) }
+    ensures server_sizes { IfOk result (λ hints.
+        ((S.digits hints.0).rows ≡ a2.now.cols * split_count w) ×
+        ((S.digits hints.0).cols ≡ hint.now.rows)) }
+    ensures client_sizes { IfOk result (λ hints. (hints.1.rows ≡ a2.now.cols * split_count w) ×
+        (hints.1.cols ≡ a2.now.cols)) }
+{
     matrix_u32::laws::product_transposes();
     let server: S = decompose(alloc, hint, w)?;
-    let client = simple_scheme::setup(alloc, kernel, &server, a2)?;
+    let client = simple_scheme::setup_watched(alloc, kernel, &server, a2, watcher)?;
     Ok((server, client))
 }

@@ -28,7 +28,7 @@ mod secrets;
 mod steps;
 
 pub use answers::{AnswerRoom, answer, answer_count};
-pub use hints::setup;
+pub use hints::{setup, setup_watched};
 pub use queries::{QueryRoom, query};
 pub use records::recover;
 pub use simple_scheme::RecoverError;

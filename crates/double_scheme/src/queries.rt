@@ -1,10 +1,11 @@
 //! Queries.
 
-ghost use Rattle.std.specs.Prelude.{◌≡◌, ◌+◌, ◌*◌, ◌^◌, ◌<◌, ◌≤◌, IfOk, length};
+ghost use Rattle.std.specs.Prelude.{◌≡◌, ℕ, ◌+◌, ◌*◌, ◌^◌, ◌<◌, ◌≤◌, IfOk, length};
 ghost use Rattle.matrix_u32.specs.Matrix.{WordMatrix};
 ghost use Rattle.digit_pack.specs.Layout.{digit_rows, digit_cols, digits_per_record};
 ghost use Rattle.seed_expand.specs.Words.{rows_from};
 ghost use Rattle.regev_core.specs.Encryption.{with_noise};
+ghost use Rattle.simple_scheme.specs.Masks.{masks_of};
 ghost use Rattle.double_scheme.specs.Double.{part_noise, part_queries_of, double_query_count, double_query};
 ghost use Rattle.double_scheme.specs.Rooms.{HasPartRoom, HasProducts};
 
@@ -12,7 +13,7 @@ use crate::secrets::{part_secrets, put_matrix_products, put_products, zero_produ
 use digit_pack::Layout;
 use matrix_u32::{Kernel, Matrix};
 use seed_expand::WordSource;
-use simple_scheme::{Mask, draw_noise, put_query, put_query_under};
+use simple_scheme::{Mask, QueryMasks, draw_noise, put_masked_query, put_query, put_query_under};
 use std::alloc::{AllocError, Global};
 use std::marker::Model;
 
@@ -106,6 +107,41 @@ impl QueryRoom {
         } = self;
         let (prefix, parts) = out.split_at_mut(layout.cols());
         put_query_under(kernel, first, seed, number, &layout, i, &mut mask, prefix);
+        put_parts_under(kernel, second, seed, number, &layout, i, room, parts);
+        out
+    }
+
+    /// The query for record i, whose prefix is made of masks: of retrieval c of them, whose number is `number`. Its parts are
+    /// made by one pass over the second public matrix, whose words a source gives, row by row. Under the first public
+    /// matrix that the masks were made of, and with their seed, this is the query as [`query`] says it. No memory is taken.
+    pub fn fill_masked<K: Kernel>(
+        self,
+        kernel: K,
+        masks: &QueryMasks,
+        c: usize,
+        second: WordSource,
+        seed: &[u8; 32],
+        number: u64,
+        i: usize,
+    ) -> Vec<u32>
+        requires number { number < 2 ^ 62 }
+        requires record { i < self.layout.count }
+        requires rows { masks.now.rows ≡ digit_cols self.layout }
+        requires retrieval { c < masks.now.cols }
+        ensures { (a1 : WordMatrix) → (first count : ℕ) →
+            masks.now ≡ masks_of a1 seed.now first count → number ≡ first + c →
+            result.items ≡ double_query self.layout a1
+            (rows_from second (digit_rows self.layout) self.second_dimension)
+            seed.now number i }
+    {
+        let QueryRoom {
+            layout,
+            mut mask,
+            parts: room,
+            words: mut out,
+        } = self;
+        let (prefix, parts) = out.split_at_mut(layout.cols());
+        put_masked_query(masks, c, seed, number, &layout, i, &mut mask, prefix);
         put_parts_under(kernel, second, seed, number, &layout, i, room, parts);
         out
     }

@@ -22,7 +22,7 @@ const OTHERS: [(u8, u32); 2] = [(0x86, 12), (0x8f, 1)];
 enum Reply {
     // The part, which is in the buffer.
     Part,
-    // Another version, or a refusal. Whoever asks again is told so again.
+    // Another version, or a refusal. Whoever asks again gets the same again.
     Other,
 }
 

@@ -148,10 +148,10 @@ impl<'a> Session<'a> {
         }
     }
 
-    /// Prepares so many retrievals at once, if they are by SimplePIR and more than one. Their records have no part in it. Without
-    /// memory for it each is made by itself.
+    /// Prepares so many retrievals at once, if they are more than one. Their records have no part in it. Without memory for it each
+    /// is made by itself.
     pub fn prepare(&mut self, count: usize) {
-        if self.scheme == Scheme::Simple && count > 1 {
+        if count > 1 {
             let _ = self.client.prepare_queries(count);
         }
     }

@@ -1,4 +1,4 @@
--- Masks: of the queries of several retrievals by SimplePIR all that no record is named for.
+-- Masks: of the first layers of the queries of several retrievals all that no record is named for.
 use Rattle.std.specs.Prelude.{◌≡◌, ℕ, ◌+◌, ◌<◌, ◌≤◌, List}
 use Rattle.matrix_u32.specs.Matrix.{WordMatrix}
 use Rattle.seed_expand.specs.Words.{public_rows}

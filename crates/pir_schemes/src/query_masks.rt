@@ -1,15 +1,17 @@
-//! Queries by SimplePIR that are made ahead, several at once, but for what names a record.
+//! The first layers of several queries, made ahead at once but for what names a record.
 
 ghost use Rattle.std.specs.Prelude.{◌≡◌, ◌↔◌, ◌+◌, ◌^◌, ◌<◌, ◌≤◌, IfOk, IsTrue};
-ghost use Rattle.digit_pack.specs.Layout.{digit_cols};
+ghost use Rattle.digit_pack.specs.Layout.{digit_cols, digit_rows};
+ghost use Rattle.seed_expand.specs.Words.{public_rows};
 ghost use Rattle.simple_scheme.specs.Simple.{simple_query};
+ghost use Rattle.double_scheme.specs.Double.{double_query};
 ghost use Rattle.pir_schemes.specs.Plans.{IsPlan, shape_at};
 ghost use Rattle.pir_schemes.specs.Masks.{Serve, public_over};
 
 use crate::plan::{Plan, SecretSeed};
 use matrix_u32::Kernel;
 use seed_expand::{WordSource, source_gives_rows};
-use simple_scheme::{MaskRoom, QueryRoom};
+use simple_scheme::MaskRoom;
 use std::alloc::{AllocError, Global};
 use std::marker::Model;
 
@@ -55,8 +57,9 @@ fn is_among(first: u64, count: usize, number: u64) -> bool
     first <= number && number - first < count as u64
 }
 
-/// The masks of several retrievals by SimplePIR, which the queries of these are made of once their records are named
-/// (`QueryRoom::fill_masked`). Each row of the public matrix is made once for all of them.
+/// The masks of several retrievals, by either scheme, which their queries are made of once their records are named
+/// (`QueryRoom::fill_masked`): all of a query by SimplePIR, of one by DoublePIR its first part, which is as long. Each row of the
+/// first public matrix is made once for all of them.
 ///
 /// A contract sees what they are made for.
 #[derive(Drop)]
@@ -127,17 +130,43 @@ impl QueryMasks {
         self.made.have(plan, records, seed, number)
     }
 
-    /// The query for record i of retrieval `number`, which is one of them. It takes no memory.
-    pub(crate) fn fill(&self, room: QueryRoom, number: u64, i: usize) -> Vec<u32>
+    /// The query by SimplePIR for record i of retrieval `number`, which is one of them. It takes no memory.
+    pub(crate) fn fill(&self, room: simple_scheme::QueryRoom, number: u64, i: usize) -> Vec<u32>
         requires low { self.now.first ≤ number }
         requires high { number < self.now.first + self.now.count }
         requires number { number < 2 ^ 62 }
         requires columns { digit_cols room.layout ≡ self.now.cols }
         requires record { i < room.layout.count }
-        ensures { result.items ≡ simple_query room.layout (public_over self.now.plan self.now.cols)
-            self.now.seed number i }
+        ensures { result.items ≡
+            simple_query room.layout (public_over self.now.plan self.now.cols) self.now.seed number i }
     {
         let c = (number - self.made.first) as usize;
         room.fill_masked(&self.masks, c, self.made.seed.bytes(), number, i)
+    }
+
+    /// The query by DoublePIR for record i of retrieval `number`, which is one of them. The rows of the second public matrix are
+    /// made for it alone. It takes no memory.
+    pub(crate) fn fill_double<K: Kernel>(
+        &self,
+        kernel: K,
+        room: double_scheme::QueryRoom,
+        number: u64,
+        i: usize,
+    ) -> Vec<u32>
+        requires low { self.now.first ≤ number }
+        requires high { number < self.now.first + self.now.count }
+        requires number { number < 2 ^ 62 }
+        requires columns { digit_cols room.layout ≡ self.now.cols }
+        requires record { i < room.layout.count }
+        ensures { result.items ≡
+            double_query room.layout (public_over self.now.plan self.now.cols)
+            (public_rows self.now.plan.seed 1 0 (digit_rows room.layout) room.second_dimension)
+            self.now.seed number i }
+    {
+        let c = (number - self.made.first) as usize;
+        source_gives_rows();
+        let second = WordSource::at(&self.made.plan.seed, 1, 0);
+        let seed = self.made.seed.bytes();
+        room.fill_masked(kernel, &self.masks, c, second, seed, number, i)
     }
 }

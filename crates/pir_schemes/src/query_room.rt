@@ -87,8 +87,7 @@ impl QueryRoom {
         }
     }
 
-    /// The same query. It is made of masks, without the public matrix, where there are masks that serve it and it is one of
-    /// SimplePIR.
+    /// The same query. It is made of masks, without the first public matrix, if there are masks that serve it.
     #[tactic(auto, unfolding(crate::specs::Retrievals::query_words))]
     pub fn fill_masked<K: Kernel>(
         self,
@@ -109,10 +108,10 @@ impl QueryRoom {
         if !masks.serve(&self.plan, self.count, seed, number) {
             return self.fill(kernel, seed, number, i);
         }
-        let QueryRoom { plan, count, words } = self;
+        let QueryRoom { words, .. } = self;
         match words {
             SchemeRoom::Simple(room) => masks.fill(room, number, i),
-            words => QueryRoom { plan, count, words }.fill(kernel, seed, number, i),
+            SchemeRoom::Double(room) => masks.fill_double(kernel, room, number, i),
         }
     }
 }

@@ -1,4 +1,4 @@
--- What is said of an input while it is read.
+-- What is said of an input while it is read, and of a hint while it is made.
 use Rattle.std.specs.Prelude.{ℕ, ◌+◌, ◌-◌, ◌*◌, ◌/◌, List, ◌++◌, Option, None, Some, codes, decimal}
 
 -- how many seconds are left, rounded up, where some of a whole took so many milliseconds, and the rest goes on likewise
@@ -9,3 +9,8 @@ seconds_left passed done whole = (passed * (whole - done) / done + 999) / 1000
 abbrev pub progress_line : ℕ → Option ℕ → List ℕ
 progress_line bytes None = codes "input: " ++ (decimal bytes ++ codes " bytes")
 progress_line bytes (Some left) = codes "input: " ++ (decimal bytes ++ (codes " bytes, " ++ (decimal left ++ codes " s left")))
+
+-- the line after so many rows of a hint, of so many in all, with the seconds that are left
+abbrev pub hint_line : ℕ → ℕ → ℕ → List ℕ
+hint_line made rows left =
+    codes "hint: " ++ (decimal made ++ (codes " of " ++ (decimal rows ++ (codes " rows, " ++ (decimal left ++ codes " s left\n")))))

@@ -83,7 +83,7 @@ ReadsGrace found grace =
     (stops : Bool) × IsFlagGiven found (codes "until-eof") stops
     × MatchBool stops (IsSomeAnd grace (IsNumberOr 10 found (codes "grace"))) ((grace ≡ None) × (first_value found (codes "grace") ≡ None))
 
--- connections side by side, as those of `run` do, but the addresses and whether it is quiet
+-- connections side by side, as those of `run` do, but the addresses, whether it is quiet, and whether is said how far the hints are
 abbrev pub ReadsRun : Found → Running → Type 0
 ReadsRun found running =
     (first_value found (codes "file") ≡ Some running.file.now) × IsNumberOr 256 found (codes "most") running.most

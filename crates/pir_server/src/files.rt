@@ -32,7 +32,7 @@ use std::alloc::Global;
 use std::fs;
 use std::fs::File;
 use std::io::{Read, Write};
-use version_store::Opening;
+use version_store::{HintWatcher, Opening};
 
 /// The snapshot of a store's current version, as a file is to hold it.
 #[derive(Clone, Copy)]
@@ -224,15 +224,17 @@ pub fn kept_file(rt: &HostRuntime, file: &mut OwnFile<'_>) -> Result<KeptFile, F
 }
 
 /// The store of a snapshot that a file has, after the publications of its log, and the version that both have: the store's. All but the
-/// last 16 publications are made on the records alone, before any hint is: the store is the same.
+/// last 16 publications are made on the records alone, before any hint is: the store is the same. Its hints are watched while their
+/// rows are made, first that of SimplePIR and then that of DoublePIR.
 ///
 /// # Errors
 ///
 /// `BadLog` where one of the publications can't follow; `Memory`.
-pub fn store_after(
+pub fn store_after<W: HintWatcher>(
     rt: &HostRuntime,
     read: ReadVersion,
     publications: Publications<'_>,
+    watcher: &mut W,
 ) -> Result<(Store<Lanes>, FileVersion), Failure>
     requires { IsSound read.opening.header read.opening.bytes }
     ensures version { IfOk result (λ it. it.1.version ≡ it.0.version) }
@@ -247,14 +249,15 @@ pub fn store_after(
         Ok(taken) => taken,
         Err(fault) => return Err(replay_failure(fault)),
     };
-    open_and_replay(rt, taken, publications.without_first(earlier))
+    open_and_replay(rt, taken, publications.without_first(earlier), watcher)
 }
 
 // The store of a snapshot after publications, and the version of both.
-fn open_and_replay(
+fn open_and_replay<W: HintWatcher>(
     rt: &HostRuntime,
     read: ReadVersion,
     publications: Publications<'_>,
+    watcher: &mut W,
 ) -> Result<(Store<Lanes>, FileVersion), Failure>
     requires { read.has.version ≡ read.opening.header.version }
     ensures version { IfOk result (λ it. it.1.version ≡ it.0.version) }
@@ -264,7 +267,7 @@ fn open_and_replay(
         (held_of read.opening.header read.opening.bytes)) }
 {
     let ReadVersion { opening, has, .. } = read;
-    let mut store = opening.open(rt.alloc(), Lanes)?;
+    let mut store = opening.open_watched(rt.alloc(), Lanes, watcher)?;
     match replay_version(&mut store, has, publications) {
         Ok(has) => Ok((store, has)),
         Err(fault) => Err(replay_failure(fault)),

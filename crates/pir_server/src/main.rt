@@ -17,6 +17,7 @@ mod compacting;
 mod counted;
 mod file_version;
 mod files;
+mod hint_lines;
 mod last_bytes;
 mod logs;
 mod make_line;

@@ -79,7 +79,7 @@ pub fn make(rt: &HostRuntime, making: &Making<'_>) -> Result<u32, Failed> {
     }
 }
 
-/// Who tells of an input of this size, where that is asked for.
+/// What reports on an input of this size, if that is asked for.
 pub fn progress_of<'a>(
     rt: &'a HostRuntime,
     making: &Making<'_>,

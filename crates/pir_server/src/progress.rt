@@ -11,6 +11,62 @@ use std::time::Instant;
 /// How many milliseconds pass at least before the first line, and between two.
 const BETWEEN: u128 = 1000;
 
+/// When something began, and when the last line was printed, or else the first thing began.
+#[derive(Drop)]
+pub struct Pace<'a> {
+    rt: &'a HostRuntime,
+    began: Instant,
+    said: Instant,
+}
+
+impl<'a> Pace<'a> {
+    /// Something begins. None where the system has no clock.
+    pub fn new(rt: &'a HostRuntime) -> Option<Pace<'a>> {
+        let Ok(began) = Instant::now(rt) else {
+            return None;
+        };
+        Some(Pace {
+            rt,
+            began,
+            said: began,
+        })
+    }
+
+    /// Something else begins. The last line stays the last one.
+    pub fn begin(&mut self) {
+        if let Ok(now) = Instant::now(self.rt) {
+            self.began = now;
+        }
+    }
+
+    /// Whether a second has passed since the last line. From then on that is this one.
+    pub fn is_due(&mut self) -> bool {
+        let Ok(now) = Instant::now(self.rt) else {
+            return false;
+        };
+        let is_due = match self.said.elapsed(self.rt) {
+            Ok(passed) => passed.as_millis() >= BETWEEN,
+            Err(_) => false,
+        };
+        if is_due {
+            self.said = now;
+        }
+        is_due
+    }
+
+    /// How many seconds the rest takes, rounded up, if it goes on as the part that is done.
+    pub fn left(&self, done: u64, whole: u64) -> Option<u128> {
+        let Ok(passed) = self.began.elapsed(self.rt) else {
+            return None;
+        };
+        if done == 0 {
+            return None;
+        }
+        let passed = passed.as_millis().min(u128::from(u64::MAX)) as u64;
+        Some(seconds_left(passed, done, whole))
+    }
+}
+
 /// How much there is to read, where that is known.
 #[derive(Clone, Copy)]
 pub enum Whole {
@@ -25,10 +81,7 @@ pub enum Whole {
 /// How much of an input has been read.
 #[derive(Drop)]
 pub struct Progress<'a> {
-    rt: &'a HostRuntime,
-    // When the reading began, and when the last line was printed, or else the reading began.
-    began: Instant,
-    said: Instant,
+    pace: Pace<'a>,
     whole: Whole,
     bytes: u64,
     lines: u64,
@@ -37,13 +90,11 @@ pub struct Progress<'a> {
 impl<'a> Progress<'a> {
     /// Of an input of this size nothing has been read. None where the system has no clock.
     pub fn new(rt: &'a HostRuntime, whole: Whole) -> Option<Progress<'a>> {
-        let Ok(began) = Instant::now(rt) else {
+        let Some(pace) = Pace::new(rt) else {
             return None;
         };
         Some(Progress {
-            rt,
-            began,
-            said: began,
+            pace,
             whole,
             bytes: 0,
             lines: 0,
@@ -57,45 +108,26 @@ impl<'a> Progress<'a> {
             let ends = piece.iter().filter(|byte| **byte == b'\n').count();
             self.lines = self.lines.saturating_add(ends as u64);
         }
-        if self.is_due() {
+        if self.pace.is_due() {
             self.say();
         }
     }
 
-    // Whether a second has passed since the last line.
-    fn is_due(&self) -> bool {
-        match self.said.elapsed(self.rt) {
-            Ok(passed) => passed.as_millis() >= BETWEEN,
-            Err(_) => false,
-        }
-    }
-
     // Prints a line.
-    fn say(&mut self) {
-        let Ok(now) = Instant::now(self.rt) else {
-            return;
-        };
-        self.said = now;
-        if let Ok(line) = progress_line(self.rt.alloc(), self.bytes, self.left()) {
-            let _ = eprintln!(self.rt; "{line}");
+    fn say(&self) {
+        let rt = self.pace.rt;
+        if let Ok(line) = progress_line(rt.alloc(), self.bytes, self.left()) {
+            let _ = eprintln!(rt; "{line}");
         }
     }
 
     // How many seconds are left, where that can be known.
     fn left(&self) -> Option<u128> {
-        let (done, whole) = match self.whole {
-            Whole::Bytes(whole) => (self.bytes, whole),
-            Whole::Lines(whole) => (self.lines, whole),
-            Whole::Unknown => return None,
-        };
-        let Ok(passed) = self.began.elapsed(self.rt) else {
-            return None;
-        };
-        if done == 0 {
-            return None;
+        match self.whole {
+            Whole::Bytes(whole) => self.pace.left(self.bytes, whole),
+            Whole::Lines(whole) => self.pace.left(self.lines, whole),
+            Whole::Unknown => None,
         }
-        let passed = passed.as_millis().min(u128::from(u64::MAX)) as u64;
-        Some(seconds_left(passed, done, whole))
     }
 }
 
@@ -126,7 +158,7 @@ pub struct Watched<'a, R> {
 }
 
 impl<'a, R: Read> Watched<'a, R> {
-    /// A reader, and who is to tell of it, if anyone is.
+    /// A reader, and what reports on it, if anything does.
     pub fn new(reader: R, progress: Option<Progress<'a>>) -> Watched<'a, R>
         ensures { result.reader ≡ reader }
     {

@@ -73,6 +73,8 @@ pub struct Running<'a> {
     pub log: Option<LogFormat>,
     /// Whether the faults of connections are left out on standard error.
     pub quiet: bool,
+    /// Whether it is said there how many rows of the hints are made.
+    pub progress: bool,
 }
 
 /// The command `run`.
@@ -168,11 +170,16 @@ fn with_end<'a>(alloc: Global, command: Command<'a>) -> Result<Command<'a>, Allo
             alloc,
             "quiet",
             "Leaves out the lines on standard error about faults of connections",
+        ))?
+        .arg(flag(
+            alloc,
+            "progress",
+            "Says on standard error, each second until it listens, how many rows of the hints are made, and how many seconds are left",
         ))
 }
 
 const RUN_EXAMPLE: &str =
-    "Prints 'listening ADDR:PORT' once it listens, and 'status ADDR:PORT' after that with --status. A connection that ends with a fault is reported on standard error,\nas 'connection: NAME', and the others go on. A publication is acknowledged only once its log has it on the disk; if it\ncan't be appended the connection is closed, and the version before is served on. What is sent is not encrypted: listen on 127.0.0.1 or [::1] unless a tunnel or a proxy\nstands before the port.\n\nExample: pir_server run --file two.pir --listen 127.0.0.1:7000\n\nWith --verbose a fault has a second line, 'cause: TEXT', that says what failed and where.";
+    "Prints 'listening ADDR:PORT' once it listens, and 'status ADDR:PORT' after that with --status. Before that it makes the hints, first SimplePIR's and then DoublePIR's: with --progress standard error has lines 'hint: K of ALL rows, SECONDS s left' of either. A connection that ends with a fault is reported on standard error,\nas 'connection: NAME', and the others go on. A publication is acknowledged only once its log has it on the disk; if it\ncan't be appended the connection is closed, and the version before is served on. What is sent is not encrypted: listen on 127.0.0.1 or [::1] unless a tunnel or a proxy\nstands before the port.\n\nExample: pir_server run --file two.pir --listen 127.0.0.1:7000\n\nWith --verbose a fault has a second line, 'cause: TEXT', that says what failed and where.";
 
 /// An option that may be left out.
 pub fn optional<'a>(alloc: Global, name: &'a str, value: &'a str, help: &'a str) -> Arg<'a> {
@@ -210,6 +217,7 @@ pub fn running_of<'a>(found: &ArgMatches<'a>) -> Result<Running<'a>, BadLine<'a>
         status: status_at(found)?,
         log: format_at(found)?,
         quiet: found.get_flag("quiet"),
+        progress: found.get_flag("progress"),
     })
 }
 

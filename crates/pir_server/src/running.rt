@@ -5,6 +5,7 @@ ghost use Rattle.std.specs.Prelude.{◌≡◌, ◌-◌, min, max, IfOk};
 use crate::causes::{failed_at, not_listening};
 use crate::compacting::compacted_past;
 use crate::files::{OwnFile, kept_file, store_after};
+use crate::hint_lines::HintLines;
 use crate::logs::{BAD_LOG, log_failure};
 use crate::run_line::Running;
 use crate::saving::LogSaver;
@@ -39,7 +40,8 @@ pub fn run_file(rt: &HostRuntime, running: &Running<'_>) -> Result<(), Failed> {
         Err(failure) => return Err(failed_at(rt, running.file, failure)),
     };
     let limit = bytes_of_mib(running.log_limit);
-    let (store, saver) = match open_to_run(rt, &mut file, limit) {
+    let mut lines = HintLines::new(rt, running.progress);
+    let (store, saver) = match open_to_run(rt, &mut file, limit, &mut lines) {
         Ok(both) => both,
         Err(failure) => return Err(failed_at(rt, running.file, failure)),
     };
@@ -84,11 +86,13 @@ fn bytes_of_mib(count: u64) -> usize {
     usize::try_from(count.saturating_mul(MIB)).unwrap_or(usize::MAX)
 }
 
-// The store of a file and its log, and what appends to that log. A log of more than so many bytes is made shorter first.
+// The store of a file and its log, and what appends to that log. A log of more than so many bytes is made shorter first. Lines
+// on the hints are printed while these are made.
 fn open_to_run(
     rt: &HostRuntime,
     file: &mut OwnFile<'_>,
     limit: usize,
+    lines: &mut HintLines<'_>,
 ) -> Result<(Store<Lanes>, LogSaver), Failure>
     ensures { IfOk result (λ it. it.1.has.version ≡ it.0.version) }
 {
@@ -103,7 +107,7 @@ fn open_to_run(
         let line = format!(in rt.alloc(); "log: cut {torn} bytes\n")?;
         say_line(&line);
     }
-    let (store, has) = store_after(rt, kept.read, opened.publications())?;
+    let (store, has) = store_after(rt, kept.read, opened.publications(), lines)?;
     match LogSaver::of(opened.into_log(), has) {
         Some(saver) => Ok((store, saver)),
         None => Err(BAD_LOG),

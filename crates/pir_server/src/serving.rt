@@ -14,6 +14,7 @@ use session_core::{Lanes, ServeFault, ServerCore, Store, serve};
 use std::io;
 use std::net::{Ipv4Addr, Shutdown, SocketAddr, TcpListener, TcpStream};
 use std::time::Duration;
+use version_store::Unwatched;
 
 /// The most reads that one connection's session makes.
 const TURNS: u64 = 1_000_000;
@@ -81,8 +82,8 @@ fn open_to_serve(
 {
     let kept = kept_file(rt, file)?;
     match read_log_file(rt, kept.own.name.as_str(), &kept.own.header) {
-        Ok(Some(log)) => store_after(rt, kept.read, log.publications()),
-        Ok(None) => store_after(rt, kept.read, Publications { rest: &[] }),
+        Ok(Some(log)) => store_after(rt, kept.read, log.publications(), &mut Unwatched),
+        Ok(None) => store_after(rt, kept.read, Publications { rest: &[] }, &mut Unwatched),
         Err(fault) => Err(log_failure(fault)),
     }
 }

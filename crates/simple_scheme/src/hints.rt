@@ -13,17 +13,46 @@ use std::alloc::{AllocError, Global};
 // all rows of the public matrix pass.
 const BLOCK: usize = 64;
 
+/// Who makes a hint calls one of these after some rows of it, again and again. No hint is another for it.
+pub trait HintWatcher {
+    /// So many rows of the hint are made, of so many in all.
+    fn see(&mut self, made: usize, rows: usize);
+}
+
+/// Nothing watches a hint that is made.
+#[derive(Clone, Copy)]
+pub struct Unwatched;
+
+impl HintWatcher for Unwatched {
+    fn see(&mut self, _made: usize, _rows: usize) {}
+}
+
 /// The hint of a matrix of digits: the digits times the public matrix `a1`, which has a row for each column
 /// of digits. It has as many rows as the digits, and as many columns as `a1`; a hint of at most 33,554,432
 /// words is a condition, so that only memory can be wanting.
 ///
 /// The digits are read once each, some rows at a time, and these rows are given back before the next are read.
-#[tactic(auto, unfolding(crate::specs::Simple::hint_of))]
 pub fn setup<K: Kernel, S: DigitStore>(
     alloc: Global,
     kernel: K,
     digits: &S,
     a1: &Matrix,
+) -> Result<Matrix, AllocError>
+    requires rows { a1.now.rows ≡ (S.digits digits.now).cols }
+    requires size { (S.digits digits.now).rows * a1.now.cols ≤ 33554432 }
+    ensures { IfOk result (λ hint. hint ≡ hint_of (S.digits digits.now) a1.now) }
+{
+    setup_watched(alloc, kernel, digits, a1, &mut Unwatched)
+}
+
+/// The same hint, which is watched while its rows are made.
+#[tactic(auto, unfolding(crate::specs::Simple::hint_of))]
+pub fn setup_watched<K: Kernel, S: DigitStore, W: HintWatcher>(
+    alloc: Global,
+    kernel: K,
+    digits: &S,
+    a1: &Matrix,
+    watcher: &mut W,
 ) -> Result<Matrix, AllocError>
     requires rows { a1.now.rows ≡ (S.digits digits.now).cols }
     requires size { (S.digits digits.now).rows * a1.now.cols ≤ 33554432 }
@@ -38,6 +67,7 @@ pub fn setup<K: Kernel, S: DigitStore>(
         let count = BLOCK.min(rows - start);
         put_rows(alloc, kernel, digits, a1, start, count, &mut hint)?;
         start += count;
+        watcher.see(start, rows);
     }
     Ok(hint)
 }

@@ -16,8 +16,8 @@ mod masks;
 mod queries;
 mod records;
 
-pub use hints::setup;
+pub use hints::{HintWatcher, Unwatched, setup, setup_watched};
 pub use mask::{Mask, draw_noise};
 pub use masks::{MaskRoom, QueryMasks};
-pub use queries::{QueryRoom, answer, put_query, put_query_under, query};
+pub use queries::{QueryRoom, answer, put_masked_query, put_query, put_query_under, query};
 pub use records::{RecoverError, read_digits, record_of_digits, recover};

@@ -82,8 +82,8 @@ impl MaskRoom {
         first: u64,
     ) -> QueryMasks
         requires numbers { first + self.count ≤ 2 ^ 62 }
-        ensures masks { result ≡ masks_of (rows_from source self.rows self.dimension) seed.now first
-            self.count }
+        ensures masks { result ≡
+            masks_of (rows_from source self.rows self.dimension) seed.now first self.count }
         ensures rows { result.rows ≡ self.rows }
         ensures count { result.cols ≡ self.count }
     {

@@ -154,8 +154,9 @@ pub fn put_query_under<K: Kernel>(
     mask.encrypt_under(kernel, source, layout.width(), column, out);
 }
 
-// Writes the query for record i of masks: of retrieval c of them, whose number is `number`. What the mask held is lost.
-fn put_masked_query(
+/// Writes the query for record i of masks: of retrieval c of them, whose number is `number`. Under the public matrix that the masks
+/// were made of, and with their seed, this is the query as [`query`] says it. What the mask held is lost.
+pub fn put_masked_query(
     masks: &QueryMasks,
     c: usize,
     seed: &[u8; 32],

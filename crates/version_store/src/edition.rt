@@ -24,6 +24,7 @@ use double_scheme::STEP_DIGITS;
 use matrix_u32::{Kernel, Matrix};
 use pir_schemes::{Plan, Scheme};
 use seed_expand::expand;
+use simple_scheme::HintWatcher;
 use std::alloc::{AllocError, Global};
 use std::marker::Model;
 
@@ -54,13 +55,15 @@ impl<K: Kernel> Model for Edition<K> {
 
 impl<K: Kernel> Edition<K> {
     /// The edition of the records that are held: their digits, the public matrices of the plan, and the hints by the schemes'
-    /// `setup`. `layout` has the plan's sizes. Only refused memory gives an `Err`.
-    pub fn open(
+    /// `setup`, first that of SimplePIR and then that of DoublePIR, each watched while its rows are made. `layout` has the
+    /// plan's sizes. Only refused memory gives an `Err`.
+    pub fn open<W: HintWatcher>(
         alloc: Global,
         kernel: K,
         plan: Plan,
         layout: Layout,
         held: HeldRecords,
+        watcher: &mut W,
     ) -> Result<Edition<K>, AllocError>
         requires sizes { shape_at plan layout.count ≡ layout }
         requires dimension { (1 ≤ plan.dimension) × (plan.dimension ≤ 1024) }
@@ -75,16 +78,17 @@ impl<K: Kernel> Edition<K> {
           records = records_held plan layout.count (bytes_held_by held);
         }) }
     {
-        let layer = FirstLayer::open(alloc, kernel, plan, layout, held)?;
+        let layer = FirstLayer::open(alloc, kernel, plan, layout, held, watcher)?;
         let layout = layer.layout();
         let dimension = usize::from(plan.dimension);
         let a2 = expand(alloc, &plan.seed, 1, 0, layout.rows(), dimension)?;
-        let (server, client) = double_scheme::setup(
+        let (server, client) = double_scheme::setup_watched(
             alloc,
             kernel,
             layer.hint(),
             &a2,
             layout.width(),
+            watcher,
         )?;
         Ok(Edition {
             kernel,

@@ -23,6 +23,7 @@ use double_scheme::{STEP_DIGITS, put_rows, rows_in_step};
 use matrix_u32::{Kernel, Matrix};
 use pir_schemes::{Plan, Scheme};
 use seed_expand::expand;
+use simple_scheme::{HintWatcher, setup_watched};
 use snapshot_file::RecordSource;
 use std::alloc::{AllocError, Global};
 use std::marker::Model;
@@ -73,13 +74,14 @@ impl RecordSource for FirstLayer {
 
 impl FirstLayer {
     /// What is made of the records that are held: their digits, the first public matrix of the plan, and the hint by `setup`.
-    /// `layout` has the plan's sizes. Only refused memory gives an `Err`.
-    pub fn open<K: Kernel>(
+    /// `layout` has the plan's sizes. The hint is watched while its rows are made. Only refused memory gives an `Err`.
+    pub fn open<K: Kernel, W: HintWatcher>(
         alloc: Global,
         kernel: K,
         plan: Plan,
         layout: Layout,
         held: HeldRecords,
+        watcher: &mut W,
     ) -> Result<FirstLayer, AllocError>
         requires sizes { shape_at plan layout.count ≡ layout }
         requires dimension { (1 ≤ plan.dimension) × (plan.dimension ≤ 1024) }
@@ -98,7 +100,7 @@ impl FirstLayer {
         let dimension = usize::from(plan.dimension);
         let a1 = expand(alloc, &plan.seed, 0, 0, layout.cols(), dimension)?;
         digits.rows();
-        let hint = simple_scheme::setup(alloc, kernel, &digits, &a1)?;
+        let hint = setup_watched(alloc, kernel, &digits, &a1, watcher)?;
         Ok(FirstLayer {
             plan,
             layout,

@@ -21,6 +21,7 @@ mod unopened;
 pub use answer_room::AnswerRoom;
 pub use opening::{OpenError, plan_in};
 pub use pir_schemes::{Plan, Scheme};
+pub use simple_scheme::{HintWatcher, Unwatched};
 pub use snapshot_file::{
     Header, MigrateError, Snapshot, SnapshotFault, WriteFault, migrate, read_snapshot,
     read_snapshot_and_digest, snapshot_digest,

@@ -34,6 +34,7 @@ use digit_pack::{Layout, is_wide};
 use hint_update::DeltaLog;
 use matrix_u32::Kernel;
 use pir_schemes::{Plan, Scheme, part_words};
+use simple_scheme::{HintWatcher, Unwatched};
 use snapshot_file::{
     Header, Snapshot, SnapshotFault, WriteFault, write_snapshot_bytes, write_snapshot_from,
 };
@@ -213,16 +214,17 @@ impl<K: Kernel> Store<K> {
         let header = snapshot.header();
         let form = u16::from(header.form);
         let held = HeldRecords::from_bytes(alloc, form, layout, snapshot.records)?;
-        Ok(Store::hold(alloc, kernel, &header, held)?)
+        Ok(Store::hold(alloc, kernel, &header, held, &mut Unwatched)?)
     }
 
     /// The store of the records that are held for the fields of a snapshot, with an empty draft; its hints are made by the schemes'
-    /// `setup`. The store keeps the allocator. Only refused memory gives an `Err`.
-    pub(crate) fn hold(
+    /// `setup`, watched while their rows are made. The store keeps the allocator. Only refused memory gives an `Err`.
+    pub(crate) fn hold<W: HintWatcher>(
         alloc: Global,
         kernel: K,
         header: &Header,
         held: HeldRecords,
+        watcher: &mut W,
     ) -> Result<Store<K>, AllocError>
         requires { IsHeldFor header.now held }
         ensures held { IfOk result (λ s. s ≡ held_of header.now (bytes_held_by held)) }
@@ -233,7 +235,7 @@ impl<K: Kernel> Store<K> {
         // The sizes are within the limits: no refusal is left.
         let layout = header.layout().unwrap();
         let count = layout.count();
-        let edition = Edition::open(alloc, kernel, plan, layout, held)?;
+        let edition = Edition::open(alloc, kernel, plan, layout, held, watcher)?;
         let log = DeltaLog::new(alloc, header.version)?;
         Ok(Store {
             alloc,

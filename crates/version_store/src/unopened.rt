@@ -20,6 +20,7 @@ use crate::store::Store;
 use digit_pack::is_wide;
 use matrix_u32::Kernel;
 use pir_schemes::Plan;
+use simple_scheme::{HintWatcher, Unwatched};
 use snapshot_file::{
     Header, RecordSource, SnapshotFault, read_after_header, read_header, read_records_into,
 };
@@ -171,8 +172,22 @@ impl Opening {
         ensures history { IfOk result (λ s. StandsFor s
             (opened self.header.version (records_for self.header self.bytes))) }
     {
+        self.open_watched(alloc, kernel, &mut Unwatched)
+    }
+
+    /// The same store, of which each hint is watched while its rows are made: first SimplePIR's, and then DoublePIR's.
+    pub fn open_watched<K: Kernel, W: HintWatcher>(
+        self,
+        alloc: Global,
+        kernel: K,
+        watcher: &mut W,
+    ) -> Result<Store<K>, AllocError>
+        ensures held { IfOk result (λ s. s ≡ held_of self.header self.bytes) }
+        ensures history { IfOk result (λ s. StandsFor s
+            (opened self.header.version (records_for self.header self.bytes))) }
+    {
         let Opening { header, held } = self;
-        Store::hold(alloc, kernel, &header, held)
+        Store::hold(alloc, kernel, &header, held, watcher)
     }
 }
 

@@ -8,6 +8,7 @@ use double_scheme::{QueryRoom, answer, query, recover, setup};
 use lane_kernels::Lanes;
 use matrix_u32::{Kernel, Matrix, Plain};
 use seed_expand::{WordSource, expand};
+use simple_scheme::MaskRoom;
 use std::process::Abort;
 use std::test::Fail;
 
@@ -159,6 +160,28 @@ fn a_query_under_rows_made_in_turn(rt: HostRuntime) -> Result<(), Fail> {
     let second = WordSource::at(&ZERO_SEED, 1, 0);
     let in_turn = room.fill(Lanes, first, second, &ZERO_SEED, 3, 7);
     assert_eq!(rt; in_turn.as_slice(), whole.as_slice());
+    Ok(())
+}
+
+// Queries whose prefix is made of the masks of three retrievals, from number 3 on, and the same made at once.
+#[test]
+fn queries_of_masks(rt: HostRuntime) -> Result<(), Fail> {
+    let layout = Layout::new(8, 2, 3, 10)?;
+    assert!(rt; layout.cols() == 4 && layout.rows() <= 4096 && layout.count() == 10);
+    let a1 = expand(rt.alloc(), &ZERO_SEED, 0, 0, layout.cols(), 5)?;
+    let a2 = expand(rt.alloc(), &ZERO_SEED, 1, 0, layout.rows(), 5)?;
+    let source = WordSource::at(&ZERO_SEED, 0, 0);
+    let masks = MaskRoom::new(rt.alloc(), &layout, 5, 3)?.fill(Lanes, source, &ZERO_SEED, 3);
+    for c in 0..3usize {
+        let number = 3 + c as u64;
+        for i in [0, 9] {
+            let wanted = query(rt.alloc(), Lanes, &ZERO_SEED, number, &a1, &a2, &layout, i)?;
+            let room = QueryRoom::new(rt.alloc(), &layout, 5, 5)?;
+            let second = WordSource::at(&ZERO_SEED, 1, 0);
+            let words = room.fill_masked(Lanes, &masks, c, second, &ZERO_SEED, number, i);
+            are_words(&rt, words.as_slice(), wanted.as_slice());
+        }
+    }
     Ok(())
 }
 

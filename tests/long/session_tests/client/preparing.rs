@@ -80,6 +80,42 @@ fn prepared_asks_send_the_same(rt: HostRuntime) -> Result<(), Fail> {
     asks_more_than_was_prepared(&rt, Lanes)
 }
 
+// Asks for a hint of DoublePIR, and takes its four words.
+fn fetches_double<K: Kernel>(
+    rt: &(impl Abort + AllocGlobal),
+    client: &mut ClientCore<K>,
+) -> Result<(), Fail> {
+    makes(client, Wanted::Sync(Scheme::Double))?;
+    let frame = part(rt, 1, 1, 0, &[4, 3, 2, 1])?;
+    feeds(rt, client, frame.as_slice(), "synced double 1 ")
+}
+
+// Asks by DoublePIR for one record more than was prepared. What is prepared then serves one ask of each scheme.
+fn asks_by_both_schemes<K: Kernel>(
+    rt: &(impl Abort + AllocGlobal),
+    kernel: K,
+) -> Result<(), Fail> {
+    let mut prepared = guest(rt, TEN, 5, kernel)?;
+    let mut bare = guest(rt, TEN, 5, kernel)?;
+    prepares(&mut prepared, 3)?;
+    fetches_double(rt, &mut prepared)?;
+    fetches_double(rt, &mut bare)?;
+    for index in [3, 5, 7, 9] {
+        ask_alike(rt, &mut prepared, &mut bare, index)?;
+    }
+    prepares(&mut prepared, 2)?;
+    ask_alike(rt, &mut prepared, &mut bare, 2)?;
+    fetches(rt, &mut prepared, 1, &TEN_HINT)?;
+    fetches(rt, &mut bare, 1, &TEN_HINT)?;
+    ask_alike(rt, &mut prepared, &mut bare, 2)
+}
+
+#[test]
+fn prepared_asks_of_double_send_the_same(rt: HostRuntime) -> Result<(), Fail> {
+    asks_by_both_schemes(&rt, Plain)?;
+    asks_by_both_schemes(&rt, Lanes)
+}
+
 // Two clients that are let in prepare before they have a hint, one of them after it has left numbers alone.
 fn prepares_without_a_hint<K: Kernel>(
     rt: &(impl Abort + AllocGlobal),

@@ -4,7 +4,7 @@ use super::refused_memory::holds_the_same;
 use super::*;
 use snapshot_file::{SnapshotFault, write_snapshot_bytes, write_snapshot_from};
 use test_support::Input;
-use version_store::Opening;
+use version_store::{HintWatcher, Opening};
 
 // Record i of three bytes, in a form of slots one of at most one byte.
 fn record(form: u8, i: usize) -> [u8; 3] {
@@ -208,6 +208,42 @@ fn records_changed_before_a_store_is_opened(rt: HostRuntime) -> Result<(), Fail>
             assert_eq!(rt; version(&opened), 2);
             holds_the_same(&rt, &opened, &store);
         }
+    }
+    Ok(())
+}
+
+// What was seen of hints while they were made: the rows that were there, of how many.
+#[derive(Drop)]
+struct Seen {
+    counts: Vec<(usize, usize)>,
+}
+
+impl HintWatcher for Seen {
+    fn see(&mut self, made: usize, rows: usize) {
+        let _ = self.counts.push((made, rows));
+    }
+}
+
+// 300 groups of 3 digits are 900 rows, 64 of which are made at a time; the hint of DoublePIR has four.
+#[test]
+fn hints_are_seen_while_they_are_made(rt: HostRuntime) -> Result<(), Fail> {
+    for form in [1, 129] {
+        let header = header(form, 300, 300);
+        let bytes = records(rt.alloc(), form, 300)?;
+        let file = file_of(rt.alloc(), &header, &bytes)?;
+        let (opening, _digest) = Opening::read(rt.alloc(), &mut file.as_slice())?;
+        let mut seen = Seen {
+            counts: Vec::new(rt.alloc()),
+        };
+        let store = opening.open_watched(rt.alloc(), Lanes, &mut seen)?;
+        let mut wanted = Vec::new(rt.alloc());
+        for block in 1..15 {
+            wanted.push((64 * block, 900))?;
+        }
+        wanted.extend_from_slice(&[(900, 900), (4, 4)])?;
+        assert_eq!(rt; seen.counts.as_slice(), wanted.as_slice());
+        let whole = open(rt.alloc(), Lanes, header.with_records(bytes))?;
+        holds_the_same(&rt, &store, &whole);
     }
     Ok(())
 }

@@ -33,8 +33,8 @@ invariant_of-result g c =
       tt,
     )
 
-pub setup-requires-clause-room : goal.setup-requires-clause-room
-setup-requires-clause-room g c =
+pub setup_watched-requires-clause-room : goal.setup-requires-clause-room
+setup_watched-requires-clause-room g c =
     let e : Records = c.in_ok-layer.layer in
     let ok = c.layout-layout.ensures.plan in
     let low : c.hint.result.now.cols ≤ 1024 = omega (arith, c.hint.ensures.cols, ok.high) in

@@ -3,7 +3,7 @@ use Rattle.matrix_u32.specs.Sum.{dot}
 use Rattle.matrix_u32.specs.Matrix.{WordMatrix, row, column, product}
 use Rattle.simple_scheme.specs.Simple.{hint_of}
 use Rattle.simple_scheme.proofs.Rows.{no_rows, more_rows, all_rows}
-use Rattle.simple_scheme.proofs.hints.setup.Goals as goal
+use Rattle.simple_scheme.proofs.hints.setup_watched.Goals as goal
 
 pub loop-start-init : goal.loop-start-init
 loop-start-init g c = record {

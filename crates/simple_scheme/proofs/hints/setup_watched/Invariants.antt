@@ -1,7 +1,7 @@
 use Rattle.std.proofs.Common.{◌≤◌, ◌-◌}
 use Rattle.matrix_u32.specs.Matrix.{product}
 use Rattle.simple_scheme.proofs.Rows.{HasRowsOf}
-use Rattle.simple_scheme.proofs.hints.setup.Given as goal
+use Rattle.simple_scheme.proofs.hints.setup_watched.Given as goal
 
 abbrev pub invariant-loop-start : goal.invariant-loop-start
 invariant-loop-start g l = record {

@@ -5,7 +5,7 @@ use Rattle.lane_kernels.specs.Digit.{split_count}
 use Rattle.digit_pack.specs.Digits.{decomposed}
 use Rattle.simple_scheme.specs.Simple.{hint_of}
 use Rattle.double_scheme.proofs.Sizes.{few_kept}
-use Rattle.double_scheme.proofs.hints.setup.Goals as goal
+use Rattle.double_scheme.proofs.hints.setup_watched.Goals as goal
 
 pub returns-clause-server : goal.returns-clause-server
 unfolding hint_of
@@ -16,8 +16,8 @@ pub returns-clause-client : goal.returns-clause-client
 unfolding hint_of
 returns-clause-client g c = c.in_ok-client.ensures
 
-pub setup-requires-clause-size : goal.setup-requires-clause-size
-setup-requires-clause-size g c =
+pub setup_watched-requires-clause-size : goal.setup_watched-requires-clause-size
+setup_watched-requires-clause-size g c =
     let rows : (g.S.DigitStore.digits c.in_ok-server.server).rows ≡ c.args.hint.now.cols * split_count c.args.w =
     ap (λ (m : WordMatrix). m.rows) c.in_ok-server.ensures in
     let few = few_kept c.args.w c.args.hint.now.cols c.args.a2.now.cols c.requires.width.0 c.requires.col_limit
