@@ -33,7 +33,7 @@ invariant_of-result g c =
       tt,
     )
 
-pub setup_watched-requires-clause-room : goal.setup-requires-clause-room
+pub setup_watched-requires-clause-room : goal.setup_watched-requires-clause-room
 setup_watched-requires-clause-room g c =
     let e : Records = c.in_ok-layer.layer in
     let ok = c.layout-layout.ensures.plan in
