@@ -1,0 +1,5 @@
+pub mod OneChange
+pub mod SeveralChanges
+pub mod NetChanges
+pub mod Rows
+pub mod OneRecord

@@ -1,0 +1,71 @@
+-- Hints that are moved by the records that changed.
+use Rattle.std.specs.Prelude.{⊤, All, ◌≡◌, ◌≢◌, ℕ, ◌+◌, ◌-◌, ◌*◌, ◌%◌, ◌/◌, ◌^◌, ◌<◌, ◌==◌, if◌then◌else◌, List, [], ◌∷◌, length, slice_set}
+use Rattle.matrix_u32.specs.Matrix.{WordMatrix, entry, matrix_of}
+use Rattle.lane_kernels.specs.Digit.{digit}
+use Rattle.digit_pack.specs.Digits.{number_of}
+use Rattle.digit_pack.specs.Layout.{Shape, column_of, digits_per_record, record_at}
+
+-- a record that changed: its number, and the bytes that it had and has in the digits
+pub record ChangedRecord : Type 0 where
+  pub index : ℕ
+  pub old : List ℕ
+  pub new : List ℕ
+
+-- digit d of a record
+abbrev pub record_digit : Shape → List ℕ → ℕ → ℕ
+record_digit l bytes d = digit l.width (number_of 8 bytes) d
+
+-- the change of digit d, modulo 2 ^ 32
+abbrev pub digit_change : Shape → ChangedRecord → ℕ → ℕ
+digit_change l c d = record_digit l c.new d + (2 ^ 32 - record_digit l c.old d)
+
+-- word k of row r of a hint after a record changed: if the record has a digit in this row, its change is added, times word k of the
+-- public matrix's row of the record's column
+abbrev pub word_after_change : Shape → WordMatrix → ℕ → ℕ → ChangedRecord → ℕ → ℕ
+word_after_change l a1 r k c x =
+    if r / digits_per_record l == c.index % l.groups
+    then (x + digit_change l c (r % digits_per_record l) * entry a1 (column_of l c.index) k) % 2 ^ 32 else x
+
+-- after several changes, one after another
+abbrev pub word_after : Shape → WordMatrix → ℕ → ℕ → List ChangedRecord → ℕ → ℕ
+word_after l a1 r k [] x = x
+word_after l a1 r k (c ∷ more) x = word_after l a1 r k more (word_after_change l a1 r k c x)
+
+-- a hint after changes
+abbrev pub moved : Shape → WordMatrix → List ChangedRecord → WordMatrix → WordMatrix
+moved l a1 changes hint = matrix_of hint.rows hint.cols (λ r k. word_after l a1 r k changes (entry hint r k))
+
+-- records after changes
+abbrev pub records_after : List ChangedRecord → List (List ℕ) → List (List ℕ)
+records_after [] records = records
+records_after (c ∷ more) records = records_after more (slice_set records c.index c.new)
+
+-- each change is of a record that there is, and that has the old bytes when its turn comes
+abbrev pub AreChangesOf : Shape → List ChangedRecord → List (List ℕ) → Type 0
+AreChangesOf l [] records = ⊤
+AreChangesOf l (c ∷ more) records =
+    (c.index < l.count) × (c.index < length records) × (record_at records c.index ≡ c.old) × AreChangesOf l more (slice_set records c.index c.new)
+
+-- a change that leads from one list of records to another: its record has the old bytes in the one, and the new ones in the other
+pub record IsChangeBetween (l : Shape) (before after : List (List ℕ)) (c : ChangedRecord) : Type 0 where
+  pub inside : c.index < l.count
+  pub there : c.index < length before
+  pub old : record_at before c.index ≡ c.old
+  pub new : record_at after c.index ≡ c.new
+
+-- no record is named twice
+abbrev pub NameOnce : List ChangedRecord → Type 0
+NameOnce [] = ⊤
+NameOnce (c ∷ more) = All (λ d. c.index ≢ d.index) more × NameOnce more
+
+-- changes that lead from one list of records to another, in any order: each record that differs is named, and none twice
+pub record LeadTo (l : Shape) (changes : List ChangedRecord) (before after : List (List ℕ)) : Type 0 where
+  pub each : All (IsChangeBetween l before after) changes
+  pub once : NameOnce changes
+  pub others : (i : ℕ) → All (λ c. c.index ≢ i) changes → record_at after i ≡ record_at before i
+
+-- a row of the first public matrix: of which seed, of which column of digits, and of how many words
+pub record RowOfPublic : Type 0 where
+  pub seed : List ℕ
+  pub column : ℕ
+  pub dimension : ℕ

@@ -1,0 +1,22 @@
+-- Laws of hints that are moved.
+use Rattle.std.specs.Prelude.{◌≡◌, ◌≤◌, ◌∷◌, [], List, ℕ}
+use Rattle.matrix_u32.specs.Matrix.{WordMatrix, product}
+use Rattle.digit_pack.specs.Layout.{Shape, IsShape, digit_matrix, digit_cols}
+use Rattle.hint_changes.specs.Changes.{ChangedRecord, AreChangesOf, LeadTo, moved, records_after}
+
+-- the hint of some records, moved by changes of them, is the one made from scratch of the records after
+abbrev pub MovedHintIsMadeFromScratch : Type 0
+MovedHintIsMadeFromScratch = (l : Shape) (changes : List ChangedRecord) (records : List (List ℕ)) (a1 : WordMatrix) →
+    IsShape l → digit_cols l ≤ a1.rows → AreChangesOf l changes records →
+    moved l a1 changes (product (digit_matrix l records) a1) ≡ product (digit_matrix l (records_after changes records)) a1
+
+-- the hint of some records, moved by changes that lead to others, in any order, is the one made from scratch of these
+abbrev pub ChangesMoveTheHint : Type 0
+ChangesMoveTheHint = (l : Shape) (changes : List ChangedRecord) (before after : List (List ℕ)) (a1 : WordMatrix) →
+    IsShape l → digit_cols l ≤ a1.rows → LeadTo l changes before after →
+    moved l a1 changes (product (digit_matrix l before) a1) ≡ product (digit_matrix l after) a1
+
+-- changes are made one by one
+abbrev pub ChangesAreMadeOneByOne : Type 0
+ChangesAreMadeOneByOne = (l : Shape) (a1 hint : WordMatrix) (c : ChangedRecord) (more : List ChangedRecord) →
+    moved l a1 (c ∷ more) hint ≡ moved l a1 more (moved l a1 (c ∷ []) hint)

@@ -1,0 +1,24 @@
+//! Laws of hints that are moved, over the definitions alone. A caller that calls one of these functions has its law at
+//! hand in its proof; the call costs nothing.
+
+ghost use Rattle.hint_changes.specs.Laws.{ChangesAreMadeOneByOne, ChangesMoveTheHint, MovedHintIsMadeFromScratch};
+
+/// The hint of some records, moved by changes of them one after another, is the one that is made from scratch of the records
+/// after these changes.
+pub fn moved_hint_is_made_from_scratch()
+    ensures { MovedHintIsMadeFromScratch }
+{
+}
+
+/// The hint of some records, moved by changes that lead to others, in whatever order these stand, is the one that is made from
+/// scratch of the others.
+pub fn changes_move_the_hint()
+    ensures { ChangesMoveTheHint }
+{
+}
+
+/// A hint is moved by several changes as by the first of them and then by the others.
+pub fn changes_are_made_one_by_one()
+    ensures { ChangesAreMadeOneByOne }
+{
+}

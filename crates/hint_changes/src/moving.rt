@@ -1,0 +1,110 @@
+//! A hint moved by one record.
+
+ghost use Rattle.std.specs.Prelude.{◌≡◌, ◌≢◌, ◌⊎◌, ℕ, ◌+◌, ◌-◌, ◌*◌, ◌%◌, ◌^◌, ◌<◌, ◌≤◌, ◌∷◌, [], length, slice_index};
+ghost use Rattle.matrix_u32.specs.Matrix.{WordMatrix, IsWhole, entry};
+ghost use Rattle.seed_expand.specs.Words.{public_rows};
+ghost use Rattle.digit_pack.specs.Layout.{column_of, digit_cols, digit_rows};
+ghost use Rattle.hint_changes.specs.Changes.{moved};
+
+use crate::public_row::PublicRow;
+use digit_pack::{Layout, pack};
+use hint_update::update_simple;
+use matrix_u32::{Kernel, Matrix};
+
+/// The most digits that a record has.
+const MOST_DIGITS: usize = 342;
+
+/// Moves a SimplePIR hint by record `index`, which had bytes `old` in the digits and has `new`, under the first public matrix of a seed,
+/// of which `public` becomes the row of the record's column. It takes no memory.
+///
+/// Each row of the hint in which a digit of the record changed has the change of that digit times this row added; the others stay.
+pub fn move_record<K: Kernel>(
+    kernel: K,
+    layout: &Layout,
+    public: &mut PublicRow,
+    hint: &mut Matrix,
+    index: usize,
+    old: &[u8],
+    new: &[u8],
+)
+    requires index { index < layout.now.count }
+    requires old { length old.now ≡ layout.now.record_len }
+    requires new { length new.now ≡ layout.now.record_len }
+    requires rows { hint.old.rows ≡ digit_rows layout.now }
+    requires cols { hint.old.cols ≡ public.old.dimension }
+    ensures hint { hint.new ≡ moved layout.now
+        (public_rows public.old.seed 0 0 (digit_cols layout.now) public.old.dimension)
+        (record { index = index; old = old.now; new = new.now } ∷ []) hint.old }
+    ensures public { public.new ≡ record public.old { column = column_of layout.now index } }
+{
+    // Called for what it says of the columns: there are at most 32,768.
+    layout.cols();
+    let (_, column) = layout.place(index);
+    public.turn_to(column);
+    move_under(kernel, layout, public.words(), hint, index, old, new);
+}
+
+// The same with `public` as one row: that of the record's column, of whatever public matrix.
+fn move_under<K: Kernel>(
+    kernel: K,
+    layout: &Layout,
+    public: &Matrix,
+    hint: &mut Matrix,
+    index: usize,
+    old: &[u8],
+    new: &[u8],
+)
+    requires index { index < layout.now.count }
+    requires old { length old.now ≡ layout.now.record_len }
+    requires new { length new.now ≡ layout.now.record_len }
+    requires rows { hint.old.rows ≡ digit_rows layout.now }
+    requires public { public.now.rows ≡ 1 }
+    requires cols { hint.old.cols ≡ public.now.cols }
+    ensures { (a1 : WordMatrix) → ((k : ℕ) → k < hint.old.cols →
+        entry public.now 0 k ≡ entry a1 (column_of layout.now index) k) →
+        hint.new ≡ moved layout.now a1
+        (record { index = index; old = old.now; new = new.now } ∷ []) hint.old }
+{
+    let (first, _) = layout.place(index);
+    let count = layout.digits_per_record();
+    let mut before = digit_room();
+    let mut after = digit_room();
+    let before = &mut before[..count];
+    let after = &mut after[..count];
+    pack(layout, old, before);
+    pack(layout, new, after);
+    move_rows(kernel, hint, public, first, before, after);
+}
+
+// Room for the digits of a record. They are not said, which keeps them out of the proofs.
+fn digit_room() -> [u32; MOST_DIGITS] {
+    [0; MOST_DIGITS]
+}
+
+// Moves rows of a hint, from one on, by digits that change, each times the one row of `public`.
+fn move_rows<K: Kernel>(
+    kernel: K,
+    hint: &mut Matrix,
+    public: &Matrix,
+    first: usize,
+    old: &[u32],
+    new: &[u32],
+)
+    requires rows { first + length old.now ≤ hint.old.rows }
+    requires same { length new.now ≡ length old.now }
+    requires public { public.now.rows ≡ 1 }
+    requires cols { hint.old.cols ≡ public.now.cols }
+    ensures shape { (hint.new.rows ≡ hint.old.rows) × (hint.new.cols ≡ hint.old.cols) ×
+        IsWhole hint.new }
+    ensures moved { (d k : ℕ) → d < length old.now → k < hint.old.cols →
+        entry hint.new (first + d) k ≡ (entry hint.old (first + d) k +
+        (slice_index new.now d + (2 ^ 32 - slice_index old.now d)) * entry public.now 0 k) % 2 ^ 32 }
+    ensures kept { (r k : ℕ) → r < hint.old.rows → k < hint.old.cols →
+        (r < first) ⊎ (first + length old.now ≤ r) → entry hint.new r k ≡ entry hint.old r k }
+{
+    // Called for what it says of the hint: there are rows * cols words.
+    hint.rows();
+    for d in 0..old.len() {
+        update_simple(kernel, hint, public, first + d, 0, old[d], new[d]);
+    }
+}

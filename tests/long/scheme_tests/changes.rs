@@ -1,0 +1,139 @@
+//! Hints moved by records that changed, and the same made from scratch.
+
+use digit_pack::{Layout, Wide3, digits_of_records};
+use hint_changes::{PublicRow, move_record};
+use lane_kernels::Lanes;
+use matrix_u32::{Kernel, Matrix, Plain};
+use seed_expand::expand;
+use std::process::Abort;
+use std::test::Fail;
+
+const SEED: [u8; 32] = [9; 32];
+
+const DIMENSION: usize = 3;
+
+const LEN: usize = 4;
+
+// Records of four bytes that stand one after another, with the hint that was moved by each change of them.
+#[derive(Drop)]
+struct Moved {
+    layout: Layout,
+    bytes: Vec<u8>,
+    hint: Matrix,
+    public: PublicRow,
+}
+
+// The hint of these records, made from scratch.
+fn scratch(alloc: Global, layout: &Layout, bytes: &[u8]) -> Result<Matrix, Fail> {
+    let digits: Wide3 = digits_of_records(alloc, layout, bytes)?;
+    let a1 = expand(alloc, &SEED, 0, 0, layout.cols(), DIMENSION)?;
+    Ok(simple_scheme::setup(alloc, Plain, &digits, &a1)?)
+}
+
+fn begin(alloc: Global, layout: Layout) -> Result<Moved, Fail> {
+    let mut bytes = Vec::new(alloc);
+    for i in 0..layout.count() * LEN {
+        bytes.push((i * 37 + 5) as u8)?;
+    }
+    let hint = scratch(alloc, &layout, &bytes)?;
+    let public = PublicRow::new(alloc, &SEED, DIMENSION)?;
+    Ok(Moved {
+        layout,
+        bytes,
+        hint,
+        public,
+    })
+}
+
+// Changes one record, and moves the hint.
+fn change<K: Kernel>(kernel: K, moved: &mut Moved, index: usize, new: &[u8; LEN]) {
+    let at = index * LEN;
+    let mut old = [0; LEN];
+    old.copy_from_slice(&moved.bytes[at..at + LEN]);
+    move_record(
+        kernel,
+        &moved.layout,
+        &mut moved.public,
+        &mut moved.hint,
+        index,
+        &old,
+        new,
+    );
+    moved.bytes[at..at + LEN].copy_from_slice(new);
+}
+
+fn is_that_from_scratch(rt: &(impl Abort + AllocGlobal), moved: &Moved) -> Result<(), Fail> {
+    let wanted = scratch(rt.alloc(), &moved.layout, &moved.bytes)?;
+    assert_eq!(rt; moved.hint.words(), wanted.words());
+    Ok(())
+}
+
+// Blanks are put after the records: the hint stays.
+fn grow(moved: &mut Moved, count: usize, layout: Layout) -> Result<(), Fail> {
+    for _ in 0..count * LEN {
+        moved.bytes.push(0)?;
+    }
+    moved.layout = layout;
+    Ok(())
+}
+
+// Each record is changed, to others and to the same bytes, some of them there and back.
+fn changes_of_each_record<K: Kernel>(
+    rt: &(impl Abort + AllocGlobal),
+    kernel: K,
+    form: u16,
+) -> Result<(), Fail> {
+    for (width, groups, count) in [(6, 1, 1), (7, 1, 5), (8, 3, 7), (9, 4, 12), (9, 5, 11)] {
+        let layout = Layout::of_form(form, width, LEN, groups, count)?;
+        let mut moved = begin(rt.alloc(), layout)?;
+        for i in 0..count {
+            change(kernel, &mut moved, i, &[255, i as u8, 0, 1]);
+            is_that_from_scratch(rt, &moved)?;
+        }
+        for (i, new) in [(0, [0; LEN]), (count - 1, [255; LEN]), (0, [1, 2, 3, 4]), (0, [1, 2, 3, 4])] {
+            change(kernel, &mut moved, i, &new);
+            is_that_from_scratch(rt, &moved)?;
+        }
+    }
+    Ok(())
+}
+
+#[test]
+fn a_moved_hint_is_that_from_scratch(rt: HostRuntime) -> Result<(), Fail> {
+    for form in [1, 2, 129, 130] {
+        changes_of_each_record(&rt, Plain, form)?;
+        changes_of_each_record(&rt, Lanes, form)?;
+    }
+    Ok(())
+}
+
+// Changes that lead from some records to others, made in two orders.
+#[test]
+fn changes_come_in_any_order(rt: HostRuntime) -> Result<(), Fail> {
+    let layout = Layout::of_form(129, 9, LEN, 4, 12)?;
+    let mut upward = begin(rt.alloc(), layout)?;
+    let mut downward = begin(rt.alloc(), layout)?;
+    for i in 0..12usize {
+        change(Lanes, &mut upward, i, &[i as u8; LEN]);
+        change(Lanes, &mut downward, 11 - i, &[11 - i as u8; LEN]);
+    }
+    assert_eq!(rt; upward.hint.words(), downward.hint.words());
+    is_that_from_scratch(&rt, &upward)
+}
+
+// Records are appended: blanks first, which are then changed, some of them twice.
+#[test]
+fn appended_records_were_blanks(rt: HostRuntime) -> Result<(), Fail> {
+    let mut moved = begin(rt.alloc(), Layout::of_form(130, 8, LEN, 3, 4)?)?;
+    for (further, count) in [(1, 5), (2, 7), (9, 16)] {
+        grow(&mut moved, further, Layout::of_form(130, 8, LEN, 3, count)?)?;
+        is_that_from_scratch(&rt, &moved)?;
+        for i in count - further..count {
+            change(Lanes, &mut moved, i, &[2, 0, i as u8, 77]);
+        }
+        change(Lanes, &mut moved, count - 1, &[0, 0, 0, 0]);
+        change(Lanes, &mut moved, 0, &[1, 0, count as u8, 0]);
+        is_that_from_scratch(&rt, &moved)?;
+    }
+    Ok(())
+}
