@@ -20,9 +20,9 @@ outside : (r first n : ℕ) → ¬ ((first ≤ r) × (r < first + n)) → (r < f
 outside r first n apart = elim (cases_lt r first) [
   | inl below ↦ inl below
   | inr from ↦ elim (cases_lt r (first + n)) [
-      | inl before ↦ absurd (apart (omega arith, before))
-      | inr after ↦ inr (omega arith)
-    ]
+    | inl before ↦ absurd (apart (omega arith, before))
+    | inr after ↦ inr (omega arith)
+  ]
 ]
 
 pub record_moved : (l : Shape) (a1 before after public : WordMatrix) (c : ChangedRecord) (first : ℕ) (old new : List ℕ) → IsShape l →

@@ -7,18 +7,15 @@ ghost use Rattle.hint_changes.specs.Laws.{ChangesAreMadeOneByOne, ChangesMoveThe
 /// after these changes.
 pub fn moved_hint_is_made_from_scratch()
     ensures { MovedHintIsMadeFromScratch }
-{
-}
+{}
 
 /// The hint of some records, moved by changes that lead to others, in whatever order these stand, is the one that is made from
 /// scratch of the others.
 pub fn changes_move_the_hint()
     ensures { ChangesMoveTheHint }
-{
-}
+{}
 
 /// A hint is moved by several changes as by the first of them and then by the others.
 pub fn changes_are_made_one_by_one()
     ensures { ChangesAreMadeOneByOne }
-{
-}
+{}
