@@ -3,3 +3,5 @@ pub mod SeveralChanges
 pub mod NetChanges
 pub mod Rows
 pub mod OneRecord
+pub mod Between
+pub mod Places

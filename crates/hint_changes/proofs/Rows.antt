@@ -1,23 +1,11 @@
 -- Rows of a hint that are moved one after another.
-use Rattle.std.proofs.Common.{◌≡◌, ◌≢◌, ◌⊎◌, ℕ, ◌+◌, ◌-◌, ◌*◌, ◌%◌, ◌^◌, ◌<◌, ◌≤◌, arith, ap, ◌∙◌, sym, refl, subst, inl, inr, List}
+use Rattle.std.proofs.Common.{◌≡◌, ◌≢◌, ℕ, ◌+◌, ◌-◌, ◌*◌, ◌%◌, ◌^◌, ◌<◌, arith, ap, ◌∙◌, sym, refl, subst, inl, inr, List}
 use Rattle.std.proofs.lemmas.Bool.{cases_eq}
 use Rattle.std.specs.Prelude.{slice_index}
 use Rattle.matrix_u32.specs.Matrix.{WordMatrix, IsWhole, entry, row, with_row}
 use Rattle.matrix_u32.proofs.Products.{length-list_of}
 use Rattle.matrix_u32.proofs.Rows.{with_row-other}
-
--- a row of a hint, moved by the change of a digit
-abbrev pub moved_by : WordMatrix → WordMatrix → ℕ → ℕ → ℕ → List ℕ → List ℕ → ℕ
-moved_by hint public first d k old new =
-    (entry hint (first + d) k + (slice_index new d + (2 ^ 32 - slice_index old d)) * entry public 0 k) % 2 ^ 32
-
--- so many rows, from one on, are moved, and the others are as before
-pub record HaveMoved (before now public : WordMatrix) (first count : ℕ) (old new : List ℕ) : Type 0 where
-  pub rows : now.rows ≡ before.rows
-  pub cols : now.cols ≡ before.cols
-  pub whole : IsWhole now
-  pub moved : (d k : ℕ) → d < count → k < before.cols → entry now (first + d) k ≡ moved_by before public first d k old new
-  pub kept : (r k : ℕ) → r < before.rows → k < before.cols → (r < first) ⊎ (first + count ≤ r) → entry now r k ≡ entry before r k
+use Rattle.hint_changes.specs.Changes.{HaveMoved, moved_by}
 
 pub none_moved : (hint public : WordMatrix) (first : ℕ) (old new : List ℕ) → IsWhole hint → HaveMoved hint hint public first 0 old new
 none_moved hint public first old new whole = record {

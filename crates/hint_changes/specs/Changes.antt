@@ -1,6 +1,7 @@
 -- Hints that are moved by the records that changed.
-use Rattle.std.specs.Prelude.{⊤, All, ◌≡◌, ◌≢◌, ℕ, ◌+◌, ◌-◌, ◌*◌, ◌%◌, ◌/◌, ◌^◌, ◌<◌, ◌==◌, if◌then◌else◌, List, [], ◌∷◌, length, slice_set}
-use Rattle.matrix_u32.specs.Matrix.{WordMatrix, entry, matrix_of}
+use Rattle.std.specs.Prelude.{⊤, All, Bool, true, false, zero, suc, nat_eq, ◌≡◌, ◌≢◌, ◌⊎◌, ℕ, ◌+◌, ◌-◌, ◌*◌, ◌%◌, ◌/◌, ◌^◌, ◌<◌, ◌≤◌, ◌==◌, if◌then◌else◌, List, [], ◌∷◌, length, slice_index, slice_set}
+use Rattle.std.specs.Cmp.Lexicographic.{pointwise}
+use Rattle.matrix_u32.specs.Matrix.{WordMatrix, IsWhole, entry, matrix_of}
 use Rattle.lane_kernels.specs.Digit.{digit}
 use Rattle.digit_pack.specs.Digits.{number_of}
 use Rattle.digit_pack.specs.Layout.{Shape, column_of, digits_per_record, record_at}
@@ -35,6 +36,23 @@ word_after l a1 r k (c ∷ more) x = word_after l a1 r k more (word_after_change
 abbrev pub moved : Shape → WordMatrix → List ChangedRecord → WordMatrix → WordMatrix
 moved l a1 changes hint = matrix_of hint.rows hint.cols (λ r k. word_after l a1 r k changes (entry hint r k))
 
+-- word k of row first + d of a hint, moved by the change of digit d, times word k of one row of a public matrix
+abbrev pub moved_by : WordMatrix → WordMatrix → ℕ → ℕ → ℕ → List ℕ → List ℕ → ℕ
+moved_by hint public first d k old new =
+    (entry hint (first + d) k + (slice_index new d + (2 ^ 32 - slice_index old d)) * entry public 0 k) % 2 ^ 32
+
+-- so many rows of a hint, from one on, were moved by digits that changed, and the others are as before
+pub record HaveMoved (before now public : WordMatrix) (first count : ℕ) (old new : List ℕ) : Type 0 where
+  pub rows : now.rows ≡ before.rows
+  pub cols : now.cols ≡ before.cols
+  pub whole : IsWhole now
+  pub moved : (d k : ℕ) → d < count → k < before.cols → entry now (first + d) k ≡ moved_by before public first d k old new
+  pub kept : (r k : ℕ) → r < before.rows → k < before.cols → (r < first) ⊎ (first + count ≤ r) → entry now r k ≡ entry before r k
+
+-- the rows of a hint in which the records in place g of their columns have their digits
+abbrev pub rows_in_place : Shape → ℕ → WordMatrix → WordMatrix
+rows_in_place l g hint = matrix_of (digits_per_record l) hint.cols (λ d k. entry hint (g * digits_per_record l + d) k)
+
 -- records after changes
 abbrev pub records_after : List ChangedRecord → List (List ℕ) → List (List ℕ)
 records_after [] records = records
@@ -63,6 +81,25 @@ pub record LeadTo (l : Shape) (changes : List ChangedRecord) (before after : Lis
   pub each : All (IsChangeBetween l before after) changes
   pub once : NameOnce changes
   pub others : (i : ℕ) → All (λ c. c.index ≢ i) changes → record_at after i ≡ record_at before i
+
+-- a change, and those after it; it is left out if it is none
+abbrev pub unless_same : Bool → ChangedRecord → List ChangedRecord → List ChangedRecord
+unless_same true c more = more
+unless_same false c more = c ∷ more
+
+-- the change of record i from one list of records to another
+abbrev pub change_of : List (List ℕ) → List (List ℕ) → ℕ → ChangedRecord
+change_of before after i = record { index = i; old = record_at before i; new = record_at after i }
+
+-- the changes of n records, from record i on
+abbrev pub changes_from : List (List ℕ) → List (List ℕ) → ℕ → ℕ → List ChangedRecord
+changes_from before after i zero = []
+changes_from before after i (suc n) =
+    unless_same (pointwise nat_eq (record_at before i) (record_at after i)) (change_of before after i) (changes_from before after (i + 1) n)
+
+-- the changes from one list of records to another that is as long: of each record that differs, ascending
+abbrev pub changes_between : List (List ℕ) → List (List ℕ) → List ChangedRecord
+changes_between before after = changes_from before after 0 (length after)
 
 -- a row of the first public matrix: of which seed, of which column of digits, and of how many words
 pub record RowOfPublic : Type 0 where

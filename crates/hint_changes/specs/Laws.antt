@@ -1,8 +1,8 @@
 -- Laws of hints that are moved.
-use Rattle.std.specs.Prelude.{◌≡◌, ◌≤◌, ◌∷◌, [], List, ℕ}
+use Rattle.std.specs.Prelude.{◌≡◌, ◌≢◌, ◌≤◌, ◌<◌, ◌%◌, ◌∷◌, [], List, ℕ, length}
 use Rattle.matrix_u32.specs.Matrix.{WordMatrix, product}
-use Rattle.digit_pack.specs.Layout.{Shape, IsShape, digit_matrix, digit_cols}
-use Rattle.hint_changes.specs.Changes.{ChangedRecord, AreChangesOf, LeadTo, moved, records_after}
+use Rattle.digit_pack.specs.Layout.{Shape, IsShape, digit_matrix, digit_rows, digit_cols}
+use Rattle.hint_changes.specs.Changes.{ChangedRecord, AreChangesOf, LeadTo, changes_between, moved, records_after, rows_in_place}
 
 -- the hint of some records, moved by changes of them, is the one made from scratch of the records after
 abbrev pub MovedHintIsMadeFromScratch : Type 0
@@ -20,3 +20,14 @@ ChangesMoveTheHint = (l : Shape) (changes : List ChangedRecord) (before after : 
 abbrev pub ChangesAreMadeOneByOne : Type 0
 ChangesAreMadeOneByOne = (l : Shape) (a1 hint : WordMatrix) (c : ChangedRecord) (more : List ChangedRecord) →
     moved l a1 (c ∷ more) hint ≡ moved l a1 more (moved l a1 (c ∷ []) hint)
+
+-- the changes between two lists of records that are as long lead from the one to the other
+abbrev pub ChangesBetweenLead : Type 0
+ChangesBetweenLead = (l : Shape) (before after : List (List ℕ)) → length before ≡ length after → length after ≤ l.count →
+    LeadTo l (changes_between before after) before after
+
+-- a change of a record leaves the rows of the records in another place of their columns
+abbrev pub OtherPlacesStay : Type 0
+OtherPlacesStay = (l : Shape) (a1 hint : WordMatrix) (c : ChangedRecord) (g : ℕ) →
+    hint.rows ≡ digit_rows l → g < l.groups → c.index % l.groups ≢ g →
+    rows_in_place l g (moved l a1 (c ∷ []) hint) ≡ rows_in_place l g hint

@@ -1,7 +1,7 @@
 //! Laws of hints that are moved, over the definitions alone. A caller that calls one of these functions has its law at
 //! hand in its proof; the call costs nothing.
 
-ghost use Rattle.hint_changes.specs.Laws.{ChangesAreMadeOneByOne, ChangesMoveTheHint, MovedHintIsMadeFromScratch};
+ghost use Rattle.hint_changes.specs.Laws.{ChangesAreMadeOneByOne, ChangesBetweenLead, ChangesMoveTheHint, MovedHintIsMadeFromScratch, OtherPlacesStay};
 
 /// The hint of some records, moved by changes of them one after another, is the one that is made from scratch of the records
 /// after these changes.
@@ -18,4 +18,14 @@ pub fn changes_move_the_hint()
 /// A hint is moved by several changes as by the first of them and then by the others.
 pub fn changes_are_made_one_by_one()
     ensures { ChangesAreMadeOneByOne }
+{}
+
+/// The changes between two lists of records that are as long, of each record that differs, lead from the one to the other.
+pub fn changes_between_lead()
+    ensures { ChangesBetweenLead }
+{}
+
+/// A change of a record leaves the rows of the records that stand in another place of their columns.
+pub fn other_places_stay()
+    ensures { OtherPlacesStay }
 {}

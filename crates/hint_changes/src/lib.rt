@@ -12,5 +12,5 @@ pub mod laws;
 mod moving;
 mod public_row;
 
-pub use moving::move_record;
+pub use moving::{move_record, move_record_rows};
 pub use public_row::PublicRow;

@@ -1,10 +1,10 @@
 //! A hint moved by one record.
 
-ghost use Rattle.std.specs.Prelude.{◌≡◌, ◌≢◌, ◌⊎◌, ℕ, ◌+◌, ◌-◌, ◌*◌, ◌%◌, ◌^◌, ◌<◌, ◌≤◌, ◌∷◌, [], length, slice_index};
-ghost use Rattle.matrix_u32.specs.Matrix.{WordMatrix, IsWhole, entry};
+ghost use Rattle.std.specs.Prelude.{◌≡◌, ℕ, ◌+◌, ◌%◌, ◌<◌, ◌≤◌, ◌∷◌, [], length};
+ghost use Rattle.matrix_u32.specs.Matrix.{WordMatrix, entry};
 ghost use Rattle.seed_expand.specs.Words.{public_rows};
-ghost use Rattle.digit_pack.specs.Layout.{column_of, digit_cols, digit_rows};
-ghost use Rattle.hint_changes.specs.Changes.{moved};
+ghost use Rattle.digit_pack.specs.Layout.{column_of, digit_cols, digit_rows, digits_per_record, record_digits};
+ghost use Rattle.hint_changes.specs.Changes.{HaveMoved, moved, rows_in_place};
 
 use crate::public_row::PublicRow;
 use digit_pack::{Layout, pack};
@@ -44,6 +44,36 @@ pub fn move_record<K: Kernel>(
     move_under(kernel, layout, public.words(), hint, index, old, new);
 }
 
+/// Moves only the rows of a hint in which the record has its digits, as many as it has digits: what [`move_record`] would make of them.
+/// A client that keeps its hint in a file moves those rows alone that it reads.
+pub fn move_record_rows<K: Kernel>(
+    kernel: K,
+    layout: &Layout,
+    public: &mut PublicRow,
+    rows: &mut Matrix,
+    index: usize,
+    old: &[u8],
+    new: &[u8],
+)
+    requires index { index < layout.now.count }
+    requires old { length old.now ≡ layout.now.record_len }
+    requires new { length new.now ≡ layout.now.record_len }
+    requires rows { rows.old.rows ≡ digits_per_record layout.now }
+    requires cols { rows.old.cols ≡ public.old.dimension }
+    ensures rows { (hint : WordMatrix) → hint.rows ≡ digit_rows layout.now →
+        rows.old ≡ rows_in_place layout.now (index % layout.now.groups) hint →
+        rows.new ≡ rows_in_place layout.now (index % layout.now.groups) (moved layout.now
+        (public_rows public.old.seed 0 0 (digit_cols layout.now) public.old.dimension)
+        (record { index = index; old = old.now; new = new.now } ∷ []) hint) }
+    ensures public { public.new ≡ record public.old { column = column_of layout.now index } }
+{
+    // Called for what it says of the columns: there are at most 32,768.
+    layout.cols();
+    let (_, column) = layout.place(index);
+    public.turn_to(column);
+    move_digits(kernel, layout, public.words(), rows, 0, old, new);
+}
+
 // The same with `public` as one row: that of the record's column, of whatever public matrix.
 fn move_under<K: Kernel>(
     kernel: K,
@@ -66,6 +96,27 @@ fn move_under<K: Kernel>(
         (record { index = index; old = old.now; new = new.now } ∷ []) hint.old }
 {
     let (first, _) = layout.place(index);
+    move_digits(kernel, layout, public, hint, first, old, new);
+}
+
+// Moves the rows from one on in which a record has its digits, as `move_rows` does.
+fn move_digits<K: Kernel>(
+    kernel: K,
+    layout: &Layout,
+    public: &Matrix,
+    hint: &mut Matrix,
+    first: usize,
+    old: &[u8],
+    new: &[u8],
+)
+    requires old { length old.now ≡ layout.now.record_len }
+    requires new { length new.now ≡ layout.now.record_len }
+    requires rows { first + digits_per_record layout.now ≤ hint.old.rows }
+    requires public { public.now.rows ≡ 1 }
+    requires cols { hint.old.cols ≡ public.now.cols }
+    ensures { HaveMoved hint.old hint.new public.now first (digits_per_record layout.now)
+        (record_digits layout.now old.now) (record_digits layout.now new.now) }
+{
     let count = layout.digits_per_record();
     let mut before = digit_room();
     let mut after = digit_room();
@@ -94,13 +145,7 @@ fn move_rows<K: Kernel>(
     requires same { length new.now ≡ length old.now }
     requires public { public.now.rows ≡ 1 }
     requires cols { hint.old.cols ≡ public.now.cols }
-    ensures shape { (hint.new.rows ≡ hint.old.rows) × (hint.new.cols ≡ hint.old.cols) ×
-        IsWhole hint.new }
-    ensures moved { (d k : ℕ) → d < length old.now → k < hint.old.cols →
-        entry hint.new (first + d) k ≡ (entry hint.old (first + d) k +
-        (slice_index new.now d + (2 ^ 32 - slice_index old.now d)) * entry public.now 0 k) % 2 ^ 32 }
-    ensures kept { (r k : ℕ) → r < hint.old.rows → k < hint.old.cols →
-        (r < first) ⊎ (first + length old.now ≤ r) → entry hint.new r k ≡ entry hint.old r k }
+    ensures { HaveMoved hint.old hint.new public.now first (length old.now) old.now new.now }
 {
     // Called for what it says of the hint: there are rows * cols words.
     hint.rows();

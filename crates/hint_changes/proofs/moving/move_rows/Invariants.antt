@@ -1,4 +1,4 @@
-use Rattle.hint_changes.proofs.Rows.{HaveMoved}
+use Rattle.hint_changes.specs.Changes.{HaveMoved}
 use Rattle.hint_changes.proofs.moving.move_rows.Given as goal
 
 abbrev pub invariant-loop-d : goal.invariant-loop-d

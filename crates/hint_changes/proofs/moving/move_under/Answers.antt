@@ -7,6 +7,5 @@ use Rattle.hint_changes.proofs.moving.move_under.Goals as goal
 pub returns : goal.returns
 returns g c = λ a1 same.
     let change : ChangedRecord = record { index = c.args.index; old = c.args.old.now; new = c.args.new.now } in
-    record_moved c.args.layout.now a1 c.args.hint.now c.move_rows.new.hint c.args.public.now change c.place-first.result.0 c.pack.new.out c.pack-2.new.out
-    (shape_of_layout c.args.layout.now c.place-first.ensures.layout) (ap (λ p. p.0) c.place-first.ensures.value) c.pack.ensures.digits c.pack-2.ensures.digits
-    c.requires.rows c.move_rows.ensures.shape c.move_rows.ensures.moved c.move_rows.ensures.kept same
+    record_moved c.args.layout.now a1 c.args.hint.now c.move_digits.new.hint c.args.public.now change c.place-first.result.0
+    (shape_of_layout c.args.layout.now c.place-first.ensures.layout) (ap (λ p. p.0) c.place-first.ensures.value) c.requires.rows c.move_digits.ensures same
