@@ -1,7 +1,7 @@
 //! Hints moved by records that changed, and the same made from scratch.
 
 use digit_pack::{Layout, Wide3, digits_of_records};
-use hint_changes::{PublicRow, move_record};
+use hint_changes::{PublicRow, move_record, move_record_rows};
 use lane_kernels::Lanes;
 use matrix_u32::{Kernel, Matrix, Plain};
 use seed_expand::expand;
@@ -119,6 +119,35 @@ fn changes_come_in_any_order(rt: HostRuntime) -> Result<(), Fail> {
     }
     assert_eq!(rt; upward.hint.words(), downward.hint.words());
     is_that_from_scratch(&rt, &upward)
+}
+
+// The rows of a hint in which the records in place `group` of their columns have their digits.
+fn rows_in_place(alloc: Global, moved: &Moved, group: usize) -> Result<Matrix, Fail> {
+    let count = moved.layout.digits_per_record();
+    let mut rows = Matrix::zeros(alloc, count, DIMENSION)?;
+    for d in 0..count {
+        rows.row_mut(d).copy_from_slice(moved.hint.row(group * count + d));
+    }
+    Ok(rows)
+}
+
+// The rows of each record's place, moved alone, are those of the moved hint; those of the other places stay.
+#[test]
+fn rows_of_one_place_are_moved_alone(rt: HostRuntime) -> Result<(), Fail> {
+    let layout = Layout::of_form(129, 9, LEN, 4, 12)?;
+    let mut moved = begin(rt.alloc(), layout)?;
+    let mut public = PublicRow::new(rt.alloc(), &SEED, DIMENSION)?;
+    for i in 0..12 {
+        let mut rows = rows_in_place(rt.alloc(), &moved, i % 4)?;
+        let beside = rows_in_place(rt.alloc(), &moved, (i + 1) % 4)?;
+        let new = [255 - i as u8; LEN];
+        let old = &moved.bytes[i * LEN..(i + 1) * LEN];
+        move_record_rows(Lanes, &layout, &mut public, &mut rows, i, old, &new);
+        change(Lanes, &mut moved, i, &new);
+        assert_eq!(rt; rows.words(), rows_in_place(rt.alloc(), &moved, i % 4)?.words());
+        assert_eq!(rt; beside.words(), rows_in_place(rt.alloc(), &moved, (i + 1) % 4)?.words());
+    }
+    Ok(())
 }
 
 // Records are appended: blanks first, which are then changed, some of them twice.
