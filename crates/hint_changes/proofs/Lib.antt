@@ -5,3 +5,4 @@ pub mod Rows
 pub mod OneRecord
 pub mod Between
 pub mod Places
+pub mod EntryLemmas

@@ -8,9 +8,11 @@
 //! Its tests are in `tests/long/scheme_tests`.
 #![tactic(auto)]
 
+mod entries;
 pub mod laws;
 mod moving;
 mod public_row;
 
+pub use entries::{are_entries, entry_len, move_by_entries};
 pub use moving::{move_record, move_record_rows};
 pub use public_row::PublicRow;

@@ -1,7 +1,7 @@
 //! Hints moved by records that changed, and the same made from scratch.
 
 use digit_pack::{Layout, Wide3, digits_of_records};
-use hint_changes::{PublicRow, move_record, move_record_rows};
+use hint_changes::{PublicRow, are_entries, entry_len, move_by_entries, move_record, move_record_rows};
 use lane_kernels::Lanes;
 use matrix_u32::{Kernel, Matrix, Plain};
 use seed_expand::expand;
@@ -146,6 +146,63 @@ fn rows_of_one_place_are_moved_alone(rt: HostRuntime) -> Result<(), Fail> {
         change(Lanes, &mut moved, i, &new);
         assert_eq!(rt; rows.words(), rows_in_place(rt.alloc(), &moved, i % 4)?.words());
         assert_eq!(rt; beside.words(), rows_in_place(rt.alloc(), &moved, (i + 1) % 4)?.words());
+    }
+    Ok(())
+}
+
+// Puts an entry after others: a change of a record to four bytes that are alike.
+fn push_entry(entries: &mut Vec<u8>, moved: &Moved, index: usize, byte: u8) -> Result<(), Fail> {
+    let number = index as u32;
+    entries.extend_from_slice(&number.to_le_bytes())?;
+    entries.extend_from_slice(&moved.bytes[index * LEN..(index + 1) * LEN])?;
+    entries.extend_from_slice(&[byte; LEN])?;
+    Ok(())
+}
+
+// Entries of some records, all of them, and none.
+fn moves_by_entries<K: Kernel>(rt: &(impl Abort + AllocGlobal), kernel: K) -> Result<(), Fail> {
+    for step in [1, 2, 5, 20] {
+        let mut moved = begin(rt.alloc(), Layout::of_form(129, 9, LEN, 4, 14)?)?;
+        let mut entries = Vec::new(rt.alloc());
+        for i in 0..14usize {
+            if i % step == step - 1 {
+                push_entry(&mut entries, &moved, i, i as u8)?;
+                moved.bytes[i * LEN..(i + 1) * LEN].copy_from_slice(&[i as u8; LEN]);
+            }
+        }
+        assert_eq!(rt; entries.len(), 14 / step * entry_len(LEN));
+        assert!(rt; are_entries(&moved.layout, &entries));
+        let Moved { layout, hint, public, .. } = &mut moved;
+        move_by_entries(kernel, layout, public, hint, &entries);
+        is_that_from_scratch(rt, &moved)?;
+    }
+    Ok(())
+}
+
+#[test]
+fn entries_move_a_hint(rt: HostRuntime) -> Result<(), Fail> {
+    moves_by_entries(&rt, Plain)?;
+    moves_by_entries(&rt, Lanes)
+}
+
+// Each cut of two entries, entries in another order or twice, and a record that isn't there.
+#[test]
+fn bad_entries_are_seen(rt: HostRuntime) -> Result<(), Fail> {
+    let moved = begin(rt.alloc(), Layout::of_form(130, 8, LEN, 3, 7)?)?;
+    for (first, second, wanted) in [(0, 6, true), (2, 3, true), (3, 3, false), (4, 3, false), (0, 0, false)] {
+        let mut entries = Vec::new(rt.alloc());
+        push_entry(&mut entries, &moved, first, 1)?;
+        push_entry(&mut entries, &moved, second, 2)?;
+        assert_eq!(rt; are_entries(&moved.layout, &entries), wanted);
+        for len in 0..entries.len() {
+            let whole = len == 0 || len == entry_len(LEN);
+            assert_eq!(rt; are_entries(&moved.layout, &entries[..len]), whole);
+        }
+        // The second entry is of record 7, which isn't there, and then of one far beyond.
+        entries[entry_len(LEN)] = 7;
+        assert!(rt; !are_entries(&moved.layout, &entries));
+        entries[entry_len(LEN) + 3] = 128;
+        assert!(rt; !are_entries(&moved.layout, &entries));
     }
     Ok(())
 }
