@@ -6,7 +6,7 @@ use Rattle.pir_server.proofs.Restored.{next_drop, same_store}
 use Rattle.pir_server.proofs.files.store_after.Goals as goal
 
 pub returns-clause-replayed : goal.returns-clause-replayed
-returns-clause-replayed c link version ps each entries =
+returns-clause-replayed g c link version ps each entries =
     let n : ℕ = c.earlier_count-earlier.result in
     let next = next_drop n version ps each in
     let done = c.open_and_replay.ensures.replayed (last_link link (bodies_of (take n ps))) next.0 (drop n ps) next.1
