@@ -4,12 +4,11 @@ ghost use Rattle.std.specs.Prelude.{◌≡◌, Some, IfOk, IfSome, codes};
 ghost use Rattle.clap.specs.Matches.{found_of, first_value};
 ghost use Rattle.pir_client.specs.Tasks.{TaskFits, IsDimension, IsTimeout, IsNumberIfGiven, IsServerGiven, IsHostGiven, ReadsGet, ReadsPut, ReadsAppend, ReadsPublish, scheme_text};
 
+use crate::command_text::{Argument, CommandText};
 use crate::folder_tasks::{FolderTask, folder_get_task, forget_task, state_task};
 use crate::server::Address;
-use clap::{Arg, ArgAction, ArgMatches, Command};
-use command_words::{
-    BadLine, Secret, key_at, number_at, option, record_bytes, seed_at, text_at, verbose_flag, word,
-};
+use clap::{ArgMatches, Command};
+use command_words::{BadLine, Secret, key_at, number_at, record_bytes, seed_at, text_at};
 use session_core::Scheme;
 use std::alloc::{AllocError, Global};
 
@@ -96,240 +95,200 @@ pub struct Asked<'a> {
     pub verbose: bool,
 }
 
-// An option for how long the server may take.
-fn timeout_option<'a>(alloc: Global, help: &'a str) -> Arg<'a> {
-    option(alloc, "timeout", "SECONDS", help).required(false)
-}
-
-const TIMEOUT_HELP: &str =
-    "How many seconds connecting and each whole reply may take, 1 to 86400; any time if not given";
-
 // The flag by which a server is greeted as that of a wide store.
-fn wide_flag<'a>(alloc: Global) -> Result<Arg<'a>, AllocError> {
-    Ok(
-        Arg::new(alloc, "wide")
-            .long("wide")
-            .help("Greets the server of a wide store, which refuses any other greeting with code 3")
-            .action(ArgAction::SetTrue),
-    )
-}
+const WIDE: Argument = Argument::Flag {
+    name: "wide",
+    help: "Greets the server of a wide store, which refuses any other greeting with code 3",
+};
 
-// The flag by which a server of an older version is refused.
-fn no_older_flag<'a>(alloc: Global) -> Result<Arg<'a>, AllocError> {
-    Arg::new(alloc, "no-older")
-        .long("no-older")
-        .help(
-            "With --state: refuses a server whose version is lower than one seen before, after three connections",
-        )
-        .action(ArgAction::SetTrue)
-        .conflicts_with("seed")
-}
+// The option for how long the server may take.
+const TIMEOUT: Argument = Argument::Optional {
+    name: "timeout",
+    value: "SECONDS",
+    help: "How many seconds connecting and each whole reply may take, 1 to 86400; any time if not given",
+};
 
-// The flag by which it is said how much of a hint has come.
-fn progress_flag<'a>(alloc: Global) -> Result<Arg<'a>, AllocError> {
-    Arg::new(alloc, "progress")
-        .long("progress")
-        .help(
-            "With --state: says on standard error how many parts of a hint have come, and how long the others take",
-        )
-        .action(ArgAction::SetTrue)
-        .conflicts_with("seed")
-}
+// The option for the publisher's server.
+const PORT: Argument = Argument::Required {
+    name: "port",
+    value: "P",
+    help: "The server's port on 127.0.0.1",
+};
+
+// The option for the publisher's key.
+const KEY: Argument = Argument::Required {
+    name: "key",
+    value: "HEX",
+    help: "The publisher's key: 32 bytes as 64 hex digits, or @FILE, as given to pir_server make",
+};
 
 // The command `get`.
-fn get_command<'a>(alloc: Global) -> Result<Command<'a>, AllocError> {
-    Command::new(alloc, "get")
-        .about("Retrieves a record without telling the server which")
-        .after_help(GET_EXAMPLE)
-        .arg(option(alloc, "port", "P", "The server's port"))?
-        .arg(
-            option(
-                alloc,
-                "seed",
-                "HEX",
-                "For tests and for who keeps numbers: a secret of 32 bytes, which alone hides INDEX, as 64 hex digits or @FILE",
-            )
-            .required(false)
-            .required_unless_present("state")?
-            .conflicts_with("state")?,
-        )?
-        .arg(
-            option(
-                alloc,
-                "number",
-                "N",
-                "The number of this retrieval, below 2^62: one that this seed has never been used with",
-            )
-            .required(false)
-            .required_unless_present("state")?
-            .conflicts_with("state")?,
-        )?
-        .arg(option(
-            alloc,
-            "state",
-            "DIR",
-            "A folder in which the hint is kept for the next time; it is made if there is none, and has no secret",
-        )
-        .required(false))?
-        .arg(no_older_flag(alloc)?)?
-        .arg(progress_flag(alloc)?)?
-        .arg(wide_flag(alloc)?.conflicts_with("state")?)?
-        .arg(option(
-            alloc,
-            "host",
-            "ADDR",
-            "The server's address; 127.0.0.1 if none is given",
-        )
-        .required(false))?
-        .arg(timeout_option(
-            alloc,
-            "How many seconds connecting and each whole reply may take, 1 to 86400; with --state 30 if not given, else any time",
-        ))?
-        .arg(verbose_flag(alloc))?
-        .arg(option(
-            alloc,
-            "least-dimension",
-            "N",
-            "The least number of words, 1 to 1024, that the server's secrets may have",
-        )
-        .required(false))?
-        .arg(option(
-            alloc,
-            "scheme",
-            "NAME",
-            "simple or double; with --state also auto: the one that moves fewer bytes for the records named",
-        ))?
-        .arg(word(
-            alloc,
-            "INDEX",
-            "Which record, counted from 0; with --state one or more",
-        )
-        .num_args(1..))
-}
-
-const GET_EXAMPLE: &str =
-    "Prints 'retrieved INDEX VERSION HEX', HEX being the record's bytes, or - where it has none.\n\nWith --state DIR a wide store is known by its greeting; without it --wide says that the store is one. With --state DIR each run draws a seed of its own from the system's random source, and keeps none. The folder keeps public hints alone, one for\neach scheme and store, so that a second get need not fetch one; it may be copied, restored or removed at any time. With --scheme auto the hints kept and the number of records decide the scheme, and not which records\nthey are. A server of a lower version\nthan was seen before is warned of beside the result, and with --no-older refused: 'fault: Older'.\nA hint's parts that have come stay there, so that a get whose connection was cut goes on with the next one.\n\nWith --seed and --number it is you who must never use a number twice with one seed, not even after a get that failed: two such retrievals can\ntell the server what they ask.\n\nSecrets of fewer than 1024 words hide INDEX less: the server chooses their number. --least-dimension 1024 ends a get\nwith 'fault: BadWelcome' if they are fewer, before INDEX is asked for; without it a warning is printed, and with --state fewer than 1024 are refused.\n\nExample: pir_client get --state DIR --port 7000 --scheme simple 1\nExample: pir_client get --port 7000 --seed 1111111111111111111111111111111111111111111111111111111111111111 --number 0 --scheme simple 1\n\nWith --verbose a fault has a second line, 'cause: TEXT', that says what failed and where.";
+const GET: CommandText = CommandText {
+    name: "get",
+    about: "Retrieves a record without telling the server which",
+    example: "Prints 'retrieved INDEX VERSION HEX', HEX being the record's bytes, or - where it has none.\n\nWith --state DIR a wide store is known by its greeting; without it --wide says that the store is one. With --state DIR each run draws a seed of its own from the system's random source, and keeps none. The folder keeps public hints alone, one for\neach scheme and store, so that a second get need not fetch one; it may be copied, restored or removed at any time. With --scheme auto the hints kept and the number of records decide the scheme, and not which records\nthey are. A server of a lower version\nthan was seen before is warned of beside the result, and with --no-older refused: 'fault: Older'.\nA hint's parts that have come stay there, so that a get whose connection was cut goes on with the next one.\n\nWith --seed and --number it is you who must never use a number twice with one seed, not even after a get that failed: two such retrievals can\ntell the server what they ask.\n\nSecrets of fewer than 1024 words hide INDEX less: the server chooses their number. --least-dimension 1024 ends a get\nwith 'fault: BadWelcome' if they are fewer, before INDEX is asked for; without it a warning is printed, and with --state fewer than 1024 are refused.\n\nExample: pir_client get --state DIR --port 7000 --scheme simple 1\nExample: pir_client get --port 7000 --seed 1111111111111111111111111111111111111111111111111111111111111111 --number 0 --scheme simple 1\n\nWith --verbose a fault has a second line, 'cause: TEXT', that says what failed and where.",
+    arguments: &[
+        Argument::Required {
+            name: "port",
+            value: "P",
+            help: "The server's port",
+        },
+        Argument::InPlaceOf {
+            other: "state",
+            name: "seed",
+            value: "HEX",
+            help: "For tests and for who keeps numbers: a secret of 32 bytes, which alone hides INDEX, as 64 hex digits or @FILE",
+        },
+        Argument::InPlaceOf {
+            other: "state",
+            name: "number",
+            value: "N",
+            help: "The number of this retrieval, below 2^62: one that this seed has never been used with",
+        },
+        Argument::Optional {
+            name: "state",
+            value: "DIR",
+            help: "A folder in which the hint is kept for the next time; it is made if there is none, and has no secret",
+        },
+        Argument::FlagWithout {
+            other: "seed",
+            name: "no-older",
+            help: "With --state: refuses a server whose version is lower than one seen before, after three connections",
+        },
+        Argument::FlagWithout {
+            other: "seed",
+            name: "progress",
+            help: "With --state: says on standard error how many parts of a hint have come, and how long the others take",
+        },
+        Argument::FlagWithout {
+            other: "state",
+            name: "wide",
+            help: "Greets the server of a wide store, which refuses any other greeting with code 3",
+        },
+        Argument::Optional {
+            name: "host",
+            value: "ADDR",
+            help: "The server's address; 127.0.0.1 if none is given",
+        },
+        Argument::Optional {
+            name: "timeout",
+            value: "SECONDS",
+            help: "How many seconds connecting and each whole reply may take, 1 to 86400; with --state 30 if not given, else any time",
+        },
+        Argument::Verbose,
+        Argument::Optional {
+            name: "least-dimension",
+            value: "N",
+            help: "The least number of words, 1 to 1024, that the server's secrets may have",
+        },
+        Argument::Required {
+            name: "scheme",
+            value: "NAME",
+            help: "simple or double; with --state also auto: the one that moves fewer bytes for the records named",
+        },
+        Argument::Words {
+            name: "INDEX",
+            help: "Which record, counted from 0; with --state one or more",
+        },
+    ],
+};
 
 // The command `state`.
-fn state_command<'a>(alloc: Global) -> Result<Command<'a>, AllocError> {
-    Command::new(alloc, "state")
-        .about("Prints which hints a folder keeps")
-        .after_help(STATE_EXAMPLE)
-        .arg(verbose_flag(alloc))?
-        .arg(option(alloc, "state", "DIR", "The folder"))
-}
-
-const STATE_EXAMPLE: &str =
-    "Prints for each hint 'hint SCHEME VERSION' and what the server had reported last: 'version V', 'records COUNT', 'dimension N'; or 'hint none'.\n\nExample: pir_client state --state DIR\n\nWith --verbose a fault has a second line, 'cause: TEXT', that says what failed and where.";
+const STATE: CommandText = CommandText {
+    name: "state",
+    about: "Prints which hints a folder keeps",
+    example: "Prints for each hint 'hint SCHEME VERSION' and what the server had reported last: 'version V', 'records COUNT', 'dimension N'; or 'hint none'.\n\nExample: pir_client state --state DIR\n\nWith --verbose a fault has a second line, 'cause: TEXT', that says what failed and where.",
+    arguments: &[
+        Argument::Verbose,
+        Argument::Required {
+            name: "state",
+            value: "DIR",
+            help: "The folder",
+        },
+    ],
+};
 
 // The command `forget`.
-fn forget_command<'a>(alloc: Global) -> Result<Command<'a>, AllocError> {
-    Command::new(alloc, "forget")
-        .about("Drops a folder's hints, so that the next retrieval fetches its hint anew")
-        .after_help(FORGET_EXAMPLE)
-        .arg(verbose_flag(alloc))?
-        .arg(option(alloc, "state", "DIR", "The folder"))
-}
-
-const FORGET_EXAMPLE: &str =
-    "Prints 'forgotten'.\n\nExample: pir_client forget --state DIR\n\nWith --verbose a fault has a second line, 'cause: TEXT', that says what failed and where.";
+const FORGET: CommandText = CommandText {
+    name: "forget",
+    about: "Drops a folder's hints, so that the next retrieval fetches its hint anew",
+    example: "Prints 'forgotten'.\n\nExample: pir_client forget --state DIR\n\nWith --verbose a fault has a second line, 'cause: TEXT', that says what failed and where.",
+    arguments: &[
+        Argument::Verbose,
+        Argument::Required {
+            name: "state",
+            value: "DIR",
+            help: "The folder",
+        },
+    ],
+};
 
 // The command `put`.
-fn put_command<'a>(alloc: Global) -> Result<Command<'a>, AllocError> {
-    Command::new(alloc, "put")
-        .about("Replaces a record in the publisher's draft, which no reader sees before publish")
-        .after_help(PUT_EXAMPLE)
-        .arg(verbose_flag(alloc))?
-        .arg(wide_flag(alloc)?)?
-        .arg(timeout_option(alloc, TIMEOUT_HELP))?
-        .arg(option(alloc, "port", "P", "The server's port on 127.0.0.1"))?
-        .arg(option(
-            alloc,
-            "key",
-            "HEX",
-            "The publisher's key: 32 bytes as 64 hex digits, or @FILE, as given to pir_server make",
-        ))?
-        .arg(word(alloc, "INDEX", "Which record, counted from 0"))?
-        .arg(word(
-            alloc,
-            "HEX",
-            "The record's new bytes, two hex digits each, or - for a record of none",
-        ))
-}
-
-const PUT_EXAMPLE: &str =
-    "Prints 'done VERSION', VERSION being the current one.\n\nExample: pir_client put --port 7000 --key 0101010101010101010101010101010101010101010101010101010101010101 1 64\n\nWith --verbose a fault has a second line, 'cause: TEXT', that says what failed and where.";
+const PUT: CommandText = CommandText {
+    name: "put",
+    about: "Replaces a record in the publisher's draft, which no reader sees before publish",
+    example: "Prints 'done VERSION', VERSION being the current one.\n\nExample: pir_client put --port 7000 --key 0101010101010101010101010101010101010101010101010101010101010101 1 64\n\nWith --verbose a fault has a second line, 'cause: TEXT', that says what failed and where.",
+    arguments: &[
+        Argument::Verbose,
+        WIDE,
+        TIMEOUT,
+        PORT,
+        KEY,
+        Argument::Word {
+            name: "INDEX",
+            help: "Which record, counted from 0",
+        },
+        Argument::Word {
+            name: "HEX",
+            help: "The record's new bytes, two hex digits each, or - for a record of none",
+        },
+    ],
+};
 
 // The command `append`.
-fn append_command<'a>(alloc: Global) -> Result<Command<'a>, AllocError> {
-    Command::new(alloc, "append")
-        .about("Appends a record to the publisher's draft, which no reader sees before publish")
-        .after_help(APPEND_EXAMPLE)
-        .arg(verbose_flag(alloc))?
-        .arg(wide_flag(alloc)?)?
-        .arg(timeout_option(alloc, TIMEOUT_HELP))?
-        .arg(option(alloc, "port", "P", "The server's port on 127.0.0.1"))?
-        .arg(option(
-            alloc,
-            "key",
-            "HEX",
-            "The publisher's key: 32 bytes as 64 hex digits, or @FILE, as given to pir_server make",
-        ))?
-        .arg(word(
-            alloc,
-            "HEX",
-            "The record's bytes, two hex digits each, or - for a record of none",
-        ))
-}
-
-const APPEND_EXAMPLE: &str =
-    "Prints 'done VERSION', VERSION being the current one.\n\nExample: pir_client append --port 7000 --key 0101010101010101010101010101010101010101010101010101010101010101 05\n\nWith --verbose a fault has a second line, 'cause: TEXT', that says what failed and where.";
+const APPEND: CommandText = CommandText {
+    name: "append",
+    about: "Appends a record to the publisher's draft, which no reader sees before publish",
+    example: "Prints 'done VERSION', VERSION being the current one.\n\nExample: pir_client append --port 7000 --key 0101010101010101010101010101010101010101010101010101010101010101 05\n\nWith --verbose a fault has a second line, 'cause: TEXT', that says what failed and where.",
+    arguments: &[
+        Argument::Verbose,
+        WIDE,
+        TIMEOUT,
+        PORT,
+        KEY,
+        Argument::Word {
+            name: "HEX",
+            help: "The record's bytes, two hex digits each, or - for a record of none",
+        },
+    ],
+};
 
 // The command `publish`.
-fn publish_command<'a>(alloc: Global) -> Result<Command<'a>, AllocError> {
-    Command::new(alloc, "publish")
-        .about("Makes the publisher's draft the next version")
-        .after_help(PUBLISH_EXAMPLE)
-        .arg(verbose_flag(alloc))?
-        .arg(wide_flag(alloc)?)?
-        .arg(timeout_option(alloc, TIMEOUT_HELP))?
-        .arg(option(alloc, "port", "P", "The server's port on 127.0.0.1"))?
-        .arg(option(
-            alloc,
-            "key",
-            "HEX",
-            "The publisher's key: 32 bytes as 64 hex digits, or @FILE, as given to pir_server make",
-        ))
-}
-
-const PUBLISH_EXAMPLE: &str =
-    "Prints 'published VERSION', VERSION being the new one.\n\nExample: pir_client publish --port 7000 --key 0101010101010101010101010101010101010101010101010101010101010101\n\nWith --verbose a fault has a second line, 'cause: TEXT', that says what failed and where.";
+const PUBLISH: CommandText = CommandText {
+    name: "publish",
+    about: "Makes the publisher's draft the next version",
+    example: "Prints 'published VERSION', VERSION being the new one.\n\nExample: pir_client publish --port 7000 --key 0101010101010101010101010101010101010101010101010101010101010101\n\nWith --verbose a fault has a second line, 'cause: TEXT', that says what failed and where.",
+    arguments: &[Argument::Verbose, WIDE, TIMEOUT, PORT, KEY],
+};
 
 // The command `rehearse`.
-fn rehearse_command<'a>(alloc: Global) -> Command<'a> {
-    Command::new(alloc, "rehearse")
-        .about(
-            "Plays a script of a publisher, a server and its clients in this process (the default)",
-        )
-        .after_help(REHEARSE_EXAMPLE)
-}
-
-const REHEARSE_EXAMPLE: &str =
-    "Reads the script from standard input and prints what comes of each line.\n\nExample: pir_client rehearse < script";
+const REHEARSE: CommandText = CommandText {
+    name: "rehearse",
+    about: "Plays a script of a publisher, a server and its clients in this process (the default)",
+    example: "Reads the script from standard input and prints what comes of each line.\n\nExample: pir_client rehearse < script",
+    arguments: &[],
+};
 
 // The whole command line.
 fn whole_command<'a>(alloc: Global) -> Result<Command<'a>, AllocError> {
-    Command::new(alloc, "pir_client")
+    let mut command = Command::new(alloc, "pir_client")
         .version(VERSION)
         .about("A client of one pir_server")
-        .after_help(EXIT_STATUSES)
-        .subcommand(get_command(alloc)?)?
-        .subcommand(state_command(alloc)?)?
-        .subcommand(forget_command(alloc)?)?
-        .subcommand(put_command(alloc)?)?
-        .subcommand(append_command(alloc)?)?
-        .subcommand(publish_command(alloc)?)?
-        .subcommand(rehearse_command(alloc))
+        .after_help(EXIT_STATUSES);
+    for text in [&GET, &STATE, &FORGET, &PUT, &APPEND, &PUBLISH, &REHEARSE] {
+        command = command.subcommand(text.command(alloc)?)?;
+    }
+    Ok(command)
 }
 
 /// What `--version` prints after the program's name.
@@ -487,28 +446,13 @@ fn publish_task<'a>(found: &ArgMatches<'a>) -> Result<Task<'a>, BadLine<'a>>
     Ok(Task::Publish { server, key })
 }
 
-/// What the program's words ask for, its name first.
+/// What the program's words ask for, its name first. Without others it is `rehearse`.
 pub fn task_of<'a>(alloc: Global, words: &'a [String]) -> Result<Asked<'a>, BadLine<'a>>
     ensures { IfOk result (λ asked. TaskFits asked.task) }
 {
     let matches = whole_command(alloc)?.try_get_matches_from(words)?;
-    if let Some(found) = matches.subcommand_matches("get") {
-        return asked_for(found, get_or_folder_task(alloc, found)?);
-    }
-    if let Some(found) = matches.subcommand_matches("state") {
-        return asked_for(found, Task::Folder(state_task(found)?));
-    }
-    if let Some(found) = matches.subcommand_matches("forget") {
-        return asked_for(found, Task::Folder(forget_task(found)?));
-    }
-    if let Some(found) = matches.subcommand_matches("put") {
-        return asked_for(found, put_task(alloc, found)?);
-    }
-    if let Some(found) = matches.subcommand_matches("append") {
-        return asked_for(found, append_task(alloc, found)?);
-    }
-    match matches.subcommand_matches("publish") {
-        Some(found) => asked_for(found, publish_task(found)?),
+    match matches.subcommand() {
+        Some((name, found)) => asked_for(alloc, name, found),
         None => Ok(Asked {
             task: Task::Rehearse,
             verbose: false,
@@ -516,20 +460,35 @@ pub fn task_of<'a>(alloc: Global, words: &'a [String]) -> Result<Asked<'a>, BadL
     }
 }
 
-// What the words of `get` ask for, with a folder or without.
-fn get_or_folder_task<'a>(alloc: Global, found: &ArgMatches<'a>) -> Result<Task<'a>, BadLine<'a>>
-    ensures { IfOk result TaskFits }
+// What a command asks for, and whether the cause of its failure is to be said.
+fn asked_for<'a>(
+    alloc: Global,
+    name: &str,
+    found: &ArgMatches<'a>,
+) -> Result<Asked<'a>, BadLine<'a>>
+    ensures { IfOk result (λ asked. TaskFits asked.task) }
 {
-    if found.contains_id("state") {
-        return Ok(Task::Folder(folder_get_task(alloc, found)?));
-    }
-    get_task(found)
-}
-
-// A task, with what the command says of its failure.
-fn asked_for<'a>(found: &ArgMatches<'a>, task: Task<'a>) -> Result<Asked<'a>, BadLine<'a>>
-    ensures { IfOk result (λ asked. asked.task ≡ task.entry) }
-{
+    let task = task_named(alloc, name, found)?;
     let verbose = found.get_flag("verbose");
     Ok(Asked { task, verbose })
+}
+
+// What the words of the command of this name ask for.
+fn task_named<'a>(
+    alloc: Global,
+    name: &str,
+    found: &ArgMatches<'a>,
+) -> Result<Task<'a>, BadLine<'a>>
+    ensures { IfOk result TaskFits }
+{
+    match name {
+        "get" if found.contains_id("state") => folder_get_task(alloc, found).map(Task::Folder),
+        "get" => get_task(found),
+        "state" => state_task(found).map(Task::Folder),
+        "forget" => forget_task(found).map(Task::Folder),
+        "put" => put_task(alloc, found),
+        "append" => append_task(alloc, found),
+        "publish" => publish_task(found),
+        _ => Ok(Task::Rehearse),
+    }
 }

@@ -10,6 +10,7 @@
 mod causes;
 mod choosing;
 mod command_line;
+mod command_text;
 mod commands;
 mod delta_only;
 mod failures;

@@ -1,0 +1,116 @@
+//! Commands and their arguments as tables.
+
+use clap::{Arg, ArgAction, Command};
+use command_words::{option, verbose_flag, word};
+use std::alloc::{AllocError, Global};
+
+/// A command, as its help shows it.
+#[derive(Clone, Copy)]
+pub struct CommandText {
+    /// The word that asks for it.
+    pub name: &'static str,
+    /// What it does.
+    pub about: &'static str,
+    /// What it prints, and examples.
+    pub example: &'static str,
+    /// Its arguments, in the order of its help.
+    pub arguments: &'static [Argument],
+}
+
+/// An argument of a command.
+#[derive(Clone, Copy)]
+pub enum Argument {
+    /// The flag by which a failure says its cause.
+    Verbose,
+    /// An option that must be given.
+    Required {
+        name: &'static str,
+        value: &'static str,
+        help: &'static str,
+    },
+    /// An option that may be left out.
+    Optional {
+        name: &'static str,
+        value: &'static str,
+        help: &'static str,
+    },
+    /// An option that must be given if another one is not, and may not be if it is.
+    InPlaceOf {
+        other: &'static str,
+        name: &'static str,
+        value: &'static str,
+        help: &'static str,
+    },
+    /// An option that takes no value.
+    Flag {
+        name: &'static str,
+        help: &'static str,
+    },
+    /// An option that takes no value, and may not be given beside another one.
+    FlagWithout {
+        other: &'static str,
+        name: &'static str,
+        help: &'static str,
+    },
+    /// A word that stands by its place.
+    Word {
+        name: &'static str,
+        help: &'static str,
+    },
+    /// One such word or more.
+    Words {
+        name: &'static str,
+        help: &'static str,
+    },
+}
+
+impl CommandText {
+    /// The command for clap.
+    pub fn command<'a>(&self, alloc: Global) -> Result<Command<'a>, AllocError> {
+        let mut command = Command::new(alloc, self.name)
+            .about(self.about)
+            .after_help(self.example);
+        for argument in self.arguments {
+            command = command.arg(argument.arg(alloc)?)?;
+        }
+        Ok(command)
+    }
+}
+
+impl Argument {
+    // The argument for clap.
+    fn arg<'a>(&self, alloc: Global) -> Result<Arg<'a>, AllocError> {
+        match *self {
+            Argument::Verbose => Ok(verbose_flag(alloc)),
+            Argument::Required { name, value, help } => Ok(option(alloc, name, value, help)),
+            Argument::Optional { name, value, help } => Ok(optional(alloc, name, value, help)),
+            Argument::InPlaceOf {
+                other,
+                name,
+                value,
+                help,
+            } => optional(alloc, name, value, help)
+                .required_unless_present(other)?
+                .conflicts_with(other),
+            Argument::Flag { name, help } => Ok(flag(alloc, name, help)),
+            Argument::FlagWithout { other, name, help } => {
+                flag(alloc, name, help).conflicts_with(other)
+            }
+            Argument::Word { name, help } => Ok(word(alloc, name, help)),
+            Argument::Words { name, help } => Ok(word(alloc, name, help).num_args(1..)),
+        }
+    }
+}
+
+// An option that may be left out.
+fn optional<'a>(alloc: Global, name: &'a str, value: &'a str, help: &'a str) -> Arg<'a> {
+    option(alloc, name, value, help).required(false)
+}
+
+// An option that takes no value.
+fn flag<'a>(alloc: Global, name: &'a str, help: &'a str) -> Arg<'a> {
+    Arg::new(alloc, name)
+        .long(name)
+        .help(help)
+        .action(ArgAction::SetTrue)
+}
