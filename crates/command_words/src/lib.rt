@@ -5,6 +5,7 @@
 
 mod arguments;
 mod bad_line;
+mod command_text;
 mod descriptors;
 mod failed;
 mod failure;
@@ -14,6 +15,7 @@ mod words;
 
 pub use arguments::program_words;
 pub use bad_line::BadLine;
+pub use command_text::{Argument, CommandText};
 pub use descriptors::open_standard_descriptors;
 pub use failed::{Failed, file_failed, printed};
 pub use failure::Failure;

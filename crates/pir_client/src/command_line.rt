@@ -4,11 +4,12 @@ ghost use Rattle.std.specs.Prelude.{◌≡◌, Some, IfOk, IfSome, codes};
 ghost use Rattle.clap.specs.Matches.{found_of, first_value};
 ghost use Rattle.pir_client.specs.Tasks.{TaskFits, IsDimension, IsTimeout, IsNumberIfGiven, IsServerGiven, IsHostGiven, ReadsGet, ReadsPut, ReadsAppend, ReadsPublish, scheme_text};
 
-use crate::command_text::{Argument, CommandText};
 use crate::folder_tasks::{FolderTask, folder_get_task, forget_task, state_task};
 use crate::server::Address;
 use clap::{ArgMatches, Command};
-use command_words::{BadLine, Secret, key_at, number_at, record_bytes, seed_at, text_at};
+use command_words::{
+    Argument, BadLine, CommandText, Secret, key_at, number_at, record_bytes, seed_at, text_at,
+};
 use session_core::Scheme;
 use std::alloc::{AllocError, Global};
 

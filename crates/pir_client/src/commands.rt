@@ -5,11 +5,11 @@ ghost use Rattle.pir_client.specs.Tasks.{TaskFits, IsDimension};
 
 use crate::command_line::{KEY_TAKES, SEED_TAKES, Task, task_of};
 use crate::failures::failure_of;
-use crate::folders::done_in_folder;
+use crate::folders::{done_in_folder, print_record};
 use crate::server::{Address, Server};
 use client_commands::{append, get, publish, put};
 use command_words::{Failed, Failure, Secret, open_standard_descriptors, printed, program_words};
-use rehearsal::{RehearseFault, rehearse, shown_bytes};
+use rehearsal::{RehearseFault, rehearse};
 use session_core::{ClientCore, Lanes, Scheme};
 use std::io;
 
@@ -131,12 +131,11 @@ fn get_record(
         least.unwrap_or(1),
         scheme,
         index,
-    )
-    .map_err(|fault| server.failed(address, failure_of(fault)))?;
-    let record = shown_bytes(rt.alloc(), got.bytes.as_slice())?;
-    let index = got.index;
-    let version = got.version;
-    printed(rt, println!(rt; "retrieved {index} {version} {record}"))?;
+    );
+    match got {
+        Ok(got) => print_record(rt, &got)?,
+        Err(fault) => return Err(server.failed(address, failure_of(fault))),
+    }
     // A command that fails says so alone, so the warning stands only beside a record.
     if least.is_none() {
         warn_of_short_secrets(rt, &client);
@@ -156,7 +155,7 @@ fn put_record(
 {
     let server = Server::connect(rt, address)?;
     let mut client = publisher(rt, address.wide);
-    let version = put(
+    let done = put(
         rt.alloc(),
         &mut client,
         &mut &server,
@@ -164,9 +163,11 @@ fn put_record(
         key,
         index,
         bytes,
-    )
-    .map_err(|fault| server.failed(address, failure_of(fault)))?;
-    printed(rt, println!(rt; "done {version}"))
+    );
+    match done {
+        Ok(version) => printed(rt, println!(rt; "done {version}")),
+        Err(fault) => Err(server.failed(address, failure_of(fault))),
+    }
 }
 
 // Appends a record to the draft, and prints the current version.
@@ -180,26 +181,28 @@ fn append_record(
 {
     let server = Server::connect(rt, address)?;
     let mut client = publisher(rt, address.wide);
-    let version = append(
+    let done = append(
         rt.alloc(),
         &mut client,
         &mut &server,
         &mut &server,
         key,
         bytes,
-    )
-    .map_err(|fault| server.failed(address, failure_of(fault)))?;
-    printed(rt, println!(rt; "done {version}"))
+    );
+    match done {
+        Ok(version) => printed(rt, println!(rt; "done {version}")),
+        Err(fault) => Err(server.failed(address, failure_of(fault))),
+    }
 }
 
 // Publishes the draft, and prints the new version.
 fn publish_draft(rt: &HostRuntime, address: &Address<'_>, key: [u8; 32]) -> Result<(), Failed> {
     let server = Server::connect(rt, address)?;
     let mut client = publisher(rt, address.wide);
-    let version = publish(rt.alloc(), &mut client, &mut &server, &mut &server, key).map_err(
-        |fault| server.failed(address, failure_of(fault)),
-    )?;
-    printed(rt, println!(rt; "published {version}"))
+    match publish(rt.alloc(), &mut client, &mut &server, &mut &server, key) {
+        Ok(version) => printed(rt, println!(rt; "published {version}")),
+        Err(fault) => Err(server.failed(address, failure_of(fault))),
+    }
 }
 
 // A client that asks for no record, so that any seed serves, and that greets a wide store or an ordinary one.

@@ -37,12 +37,12 @@ pub fn done_in_folder(rt: &HostRuntime, task: FolderTask<'_>) -> Result<(), Fail
             } else {
                 Session::begin(rt, folder, &server, seed, least, choice)?
             };
-            let session = if progress {
+            let mut session = if progress {
                 session.with_progress()
             } else {
                 session
             };
-            get_records(rt, session, &server, &indices)?;
+            get_records(rt, &mut session, &server, &indices)?;
             warn_of_old(rt, old);
             Ok(())
         }
@@ -109,7 +109,7 @@ fn session_of_no_older<'a>(
 // the same way, whichever of them have their rows in the damaged part.
 fn get_records(
     rt: &HostRuntime,
-    mut session: Session<'_>,
+    session: &mut Session<'_>,
     address: &Address<'_>,
     indices: &[u32],
 ) -> Result<(), Failed> {
@@ -121,19 +121,19 @@ fn get_records(
         match session.retrieve(*index) {
             Ok(got) => print_record(rt, &got)?,
             Err(RetrieveError::DamagedHint) => unread = Some(*index),
-            Err(fault) => return Err(retrieve_failed(rt, &session, address, *index, fault)),
+            Err(fault) => return Err(retrieve_failed(rt, session, address, *index, fault)),
         }
     }
     if let Some(index) = unread {
         session.discard();
-        return Err(retrieve_failed(rt, &session, address, index, RetrieveError::DamagedHint));
+        return Err(retrieve_failed(rt, session, address, index, RetrieveError::DamagedHint));
     }
     session.warnings().print(rt);
     Ok(())
 }
 
-// Prints a record.
-fn print_record(rt: &HostRuntime, got: &Retrieved) -> Result<(), Failed> {
+/// Prints a record.
+pub fn print_record(rt: &HostRuntime, got: &Retrieved) -> Result<(), Failed> {
     let record = shown_bytes(rt.alloc(), got.bytes.as_slice())?;
     let index = got.index;
     let version = got.version;

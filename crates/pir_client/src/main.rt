@@ -10,7 +10,6 @@
 mod causes;
 mod choosing;
 mod command_line;
-mod command_text;
 mod commands;
 mod delta_only;
 mod failures;

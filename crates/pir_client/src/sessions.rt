@@ -73,11 +73,10 @@ impl<'a> Session<'a> {
         choice: SchemeChoice,
     ) -> Result<Session<'a>, Failed> {
         let server = Server::connect(rt, address)?;
-        let mut client = ClientCore::new(rt.alloc(), Lanes, seed, 0);
-        greet_either(rt.alloc(), &mut client, &mut &server, &mut &server).map_err(
-            |fault| server.failed(address, failure_of(fault)),
-        )?;
-        check_dimension(&client, least).map_err(|fault| server.failed(address, failure_of(fault)))?;
+        let client = match let_in(rt, &server, seed, least) {
+            Ok(client) => client,
+            Err(fault) => return Err(server.failed(address, failure_of(fault))),
+        };
         let scheme = match client.known() {
             Some(now) => choice.scheme(&folder, &now)?,
             None => Scheme::Simple,
@@ -345,6 +344,19 @@ impl<'a> Session<'a> {
             }
         }
     }
+}
+
+// A client that the server has let in, if its secrets have no fewer words than the least.
+fn let_in(
+    rt: &HostRuntime,
+    server: &Server,
+    seed: [u8; 32],
+    least: usize,
+) -> Result<ClientCore<Lanes>, CommandError> {
+    let mut client = ClientCore::new(rt.alloc(), Lanes, seed, 0);
+    greet_either(rt.alloc(), &mut client, &mut &*server, &mut &*server)?;
+    check_dimension(&client, least)?;
+    Ok(client)
 }
 
 // The version that a server had reported last beside a hint kept; 0 where there is none.

@@ -4,10 +4,10 @@ ghost use Rattle.std.specs.Prelude.{IfOk};
 ghost use Rattle.clap.specs.Matches.{found_of};
 ghost use Rattle.pir_server.specs.Tasks.{ReadsBackup, ReadsMigrate, ReadsRekey, ReadsServe, ReadsWiden};
 
-use crate::make_line::{Making, make_command, making_of};
-use crate::run_line::{Running, run_command, running_of};
+use crate::make_line::{MAKE, Making, making_of};
+use crate::run_line::{RUN, Running, running_of};
 use clap::{ArgMatches, Command};
-use command_words::{BadLine, Secret, key_at, number_at, option, seed_at, text_at, verbose_flag};
+use command_words::{Argument, BadLine, CommandText, Secret, key_at, number_at, seed_at, text_at};
 use std::alloc::{AllocError, Global};
 
 /// What `--out` takes, as a bad one is reported.
@@ -111,186 +111,165 @@ pub struct Asked<'a> {
 }
 
 // The command `migrate`.
-fn migrate_command<'a>(alloc: Global) -> Result<Command<'a>, AllocError> {
-    Command::new(alloc, "migrate")
-        .about(
-            "Makes a snapshot file of the same records in slots, so that each may have a length of its own",
-        )
-        .after_help(MIGRATE_EXAMPLE)
-        .arg(verbose_flag(alloc))?
-        .arg(option(
-            alloc,
-            "file",
-            "FILE",
-            "The snapshot file of form 1; it stays as it is, unless --out names it",
-        ))?
-        .arg(option(alloc, "out", "FILE", "The snapshot file to write"))
-}
-
-const MIGRATE_EXAMPLE: &str =
-    "Prints 'migrated COUNT VERSION'. A slot has two bytes more than the record had: its length. Version, seed and the\npublisher's key stay; hints of the old file are of no use with the new one.\n\nExample: pir_server migrate --file two.pir --out slots.pir\n\nWith --verbose a fault has a second line, 'cause: TEXT', that says what failed and where.";
+const MIGRATE: CommandText = CommandText {
+    name: "migrate",
+    about: "Makes a snapshot file of the same records in slots, so that each may have a length of its own",
+    example: "Prints 'migrated COUNT VERSION'. A slot has two bytes more than the record had: its length. Version, seed and the\npublisher's key stay; hints of the old file are of no use with the new one.\n\nExample: pir_server migrate --file two.pir --out slots.pir\n\nWith --verbose a fault has a second line, 'cause: TEXT', that says what failed and where.",
+    arguments: &[
+        Argument::Verbose,
+        Argument::Required {
+            name: "file",
+            value: "FILE",
+            help: "The snapshot file of form 1; it stays as it is, unless --out names it",
+        },
+        Argument::Required {
+            name: "out",
+            value: "FILE",
+            help: "The snapshot file to write",
+        },
+    ],
+};
 
 // The command `widen`.
-fn widen_command<'a>(alloc: Global) -> Result<Command<'a>, AllocError> {
-    Command::new(alloc, "widen")
-        .about(
-            "Makes a snapshot file of the same records in a wide store, which can grow beyond an ordinary one",
-        )
-        .after_help(WIDEN_EXAMPLE)
-        .arg(verbose_flag(alloc))?
-        .arg(option(
-            alloc,
-            "file",
-            "FILE",
-            "The snapshot file of form 1 or 2; it stays as it is, unless --out names it",
-        ))?
-        .arg(option(alloc, "out", "FILE", "The snapshot file to write"))?
-        .arg(option(
-            alloc,
-            "seed",
-            "HEX",
-            "The public seed of the new store's matrices: 32 bytes as 64 hex digits that no other store has, or @FILE",
-        ))
-}
-
-const WIDEN_EXAMPLE: &str =
-    "Prints 'widened COUNT VERSION'. Form 1 becomes 129, and 2 becomes 130. Version and the publisher's key stay; hints of the old file are of\nno use with the new one.\n\nExample: pir_server widen --file two.pir --out wide.pir --seed $(openssl rand -hex 32)\n\nWith --verbose a fault has a second line, 'cause: TEXT', that says what failed and where.";
+const WIDEN: CommandText = CommandText {
+    name: "widen",
+    about: "Makes a snapshot file of the same records in a wide store, which can grow beyond an ordinary one",
+    example: "Prints 'widened COUNT VERSION'. Form 1 becomes 129, and 2 becomes 130. Version and the publisher's key stay; hints of the old file are of\nno use with the new one.\n\nExample: pir_server widen --file two.pir --out wide.pir --seed $(openssl rand -hex 32)\n\nWith --verbose a fault has a second line, 'cause: TEXT', that says what failed and where.",
+    arguments: &[
+        Argument::Verbose,
+        Argument::Required {
+            name: "file",
+            value: "FILE",
+            help: "The snapshot file of form 1 or 2; it stays as it is, unless --out names it",
+        },
+        Argument::Required {
+            name: "out",
+            value: "FILE",
+            help: "The snapshot file to write",
+        },
+        Argument::Required {
+            name: "seed",
+            value: "HEX",
+            help: "The public seed of the new store's matrices: 32 bytes as 64 hex digits that no other store has, or @FILE",
+        },
+    ],
+};
 
 // The command `rekey`.
-fn rekey_command<'a>(alloc: Global) -> Result<Command<'a>, AllocError> {
-    Command::new(alloc, "rekey")
-        .about("Gives a snapshot file another publisher's key, while no server serves it")
-        .after_help(REKEY_EXAMPLE)
-        .arg(verbose_flag(alloc))?
-        .arg(option(
-            alloc,
-            "file",
-            "FILE",
-            "The snapshot file, which is replaced",
-        ))?
-        .arg(option(
-            alloc,
-            "key",
-            "HEX",
-            "The publisher's key from now on: 32 bytes as 64 hex digits, not all 0, or @FILE; the snapshot keeps its SHA-256 alone",
-        ))
-}
-
-const REKEY_EXAMPLE: &str =
-    "Prints 'rekeyed COUNT VERSION'. Records, version and seed stay, so all hints stay good. The old key is of no use from\nthen on.\n\nExample: pir_server rekey --file two.pir --key @key.txt\n\nWith --verbose a fault has a second line, 'cause: TEXT', that says what failed and where.";
+const REKEY: CommandText = CommandText {
+    name: "rekey",
+    about: "Gives a snapshot file another publisher's key, while no server serves it",
+    example: "Prints 'rekeyed COUNT VERSION'. Records, version and seed stay, so all hints stay good. The old key is of no use from\nthen on.\n\nExample: pir_server rekey --file two.pir --key @key.txt\n\nWith --verbose a fault has a second line, 'cause: TEXT', that says what failed and where.",
+    arguments: &[
+        Argument::Verbose,
+        Argument::Required {
+            name: "file",
+            value: "FILE",
+            help: "The snapshot file, which is replaced",
+        },
+        Argument::Required {
+            name: "key",
+            value: "HEX",
+            help: "The publisher's key from now on: 32 bytes as 64 hex digits, not all 0, or @FILE; the snapshot keeps its SHA-256 alone",
+        },
+    ],
+};
 
 // The command `show`.
-fn show_command<'a>(alloc: Global) -> Result<Command<'a>, AllocError> {
-    Command::new(alloc, "show")
-        .about("Shows what a snapshot file holds and how many bytes its retrievals take")
-        .after_help(SHOW_EXAMPLE)
-        .arg(verbose_flag(alloc))?
-        .arg(option(
-            alloc,
-            "file",
-            "FILE",
-            "The snapshot file; it stays as it is",
-        ))
-}
-
-const SHOW_EXAMPLE: &str =
-    "Prints a line each: the version; the form; how many records there are and their length, in form 2 the most that one may\nhave and the longest that one has; the bits of a digit; the records in a\ncolumn; the rows and columns of digits; the words of a secret; for each scheme the bytes of the words of a hint, a query\nand an answer; and for each scheme whether every retrieval is certain to give its record, or depends on the noise drawn.\n\nExample: pir_server show --file two.pir\n\nWith --verbose a fault has a second line, 'cause: TEXT', that says what failed and where.";
+const SHOW: CommandText = CommandText {
+    name: "show",
+    about: "Shows what a snapshot file holds and how many bytes its retrievals take",
+    example: "Prints a line each: the version; the form; how many records there are and their length, in form 2 the most that one may\nhave and the longest that one has; the bits of a digit; the records in a\ncolumn; the rows and columns of digits; the words of a secret; for each scheme the bytes of the words of a hint, a query\nand an answer; and for each scheme whether every retrieval is certain to give its record, or depends on the noise drawn.\n\nExample: pir_server show --file two.pir\n\nWith --verbose a fault has a second line, 'cause: TEXT', that says what failed and where.",
+    arguments: &[
+        Argument::Verbose,
+        Argument::Required {
+            name: "file",
+            value: "FILE",
+            help: "The snapshot file; it stays as it is",
+        },
+    ],
+};
 
 // The command `compact`.
-fn compact_command<'a>(alloc: Global) -> Result<Command<'a>, AllocError> {
-    Command::new(alloc, "compact")
-        .about(
-            "Puts all publications of a snapshot file's log into the file, but the last 16, while no server serves it",
-        )
-        .after_help(COMPACT_EXAMPLE)
-        .arg(verbose_flag(alloc))?
-        .arg(option(
-            alloc,
-            "file",
-            "FILE",
-            "The snapshot file, which is replaced, with its log",
-        ))
-}
-
-const COMPACT_EXAMPLE: &str =
-    "Prints 'compacted VERSION N': the version that the file has now, and how many publications its log has after that. Clients notice\nnothing: the deltas of the last 16 versions stay.\n\nExample: pir_server compact --file two.pir\n\nWith --verbose a fault has a second line, 'cause: TEXT', that says what failed and where.";
+const COMPACT: CommandText = CommandText {
+    name: "compact",
+    about: "Puts all publications of a snapshot file's log into the file, but the last 16, while no server serves it",
+    example: "Prints 'compacted VERSION N': the version that the file has now, and how many publications its log has after that. Clients notice\nnothing: the deltas of the last 16 versions stay.\n\nExample: pir_server compact --file two.pir\n\nWith --verbose a fault has a second line, 'cause: TEXT', that says what failed and where.",
+    arguments: &[
+        Argument::Verbose,
+        Argument::Required {
+            name: "file",
+            value: "FILE",
+            help: "The snapshot file, which is replaced, with its log",
+        },
+    ],
+};
 
 // The command `backup`.
-fn backup_command<'a>(alloc: Global) -> Result<Command<'a>, AllocError> {
-    Command::new(alloc, "backup")
-        .about(
-            "Copies the last version of a snapshot file and its log into one file, also while a server serves them",
-        )
-        .after_help(BACKUP_EXAMPLE)
-        .arg(verbose_flag(alloc))?
-        .arg(option(
-            alloc,
-            "file",
-            "FILE",
-            "The snapshot file; it stays as it is, and so does its log",
-        ))?
-        .arg(option(alloc, "out", "FILE", "The snapshot file to write"))
-}
-
-const BACKUP_EXAMPLE: &str =
-    "Prints 'backed up COUNT VERSION'. The copy is one file, which needs no log; it is read again after it was written.\n\nExample: pir_server backup --file two.pir --out copy.pir\n\nWith --verbose a fault has a second line, 'cause: TEXT', that says what failed and where.";
+const BACKUP: CommandText = CommandText {
+    name: "backup",
+    about: "Copies the last version of a snapshot file and its log into one file, also while a server serves them",
+    example: "Prints 'backed up COUNT VERSION'. The copy is one file, which needs no log; it is read again after it was written.\n\nExample: pir_server backup --file two.pir --out copy.pir\n\nWith --verbose a fault has a second line, 'cause: TEXT', that says what failed and where.",
+    arguments: &[
+        Argument::Verbose,
+        Argument::Required {
+            name: "file",
+            value: "FILE",
+            help: "The snapshot file; it stays as it is, and so does its log",
+        },
+        Argument::Required {
+            name: "out",
+            value: "FILE",
+            help: "The snapshot file to write",
+        },
+    ],
+};
 
 // The command `serve`.
-fn serve_command<'a>(alloc: Global) -> Result<Command<'a>, AllocError> {
-    Command::new(alloc, "serve")
-        .about("Serves a snapshot file on 127.0.0.1, one connection after the other")
-        .after_help(SERVE_EXAMPLE)
-        .arg(verbose_flag(alloc))?
-        .arg(option(
-            alloc,
-            "file",
-            "FILE",
-            "The snapshot file; it is replaced after each connection that published a version",
-        ))?
-        .arg(option(
-            alloc,
-            "port",
-            "P",
-            "The port to listen on, 0 to 65535; 0 takes any that is free",
-        ))?
-        .arg(option(
-            alloc,
-            "connections",
-            "C",
-            "How many connections to serve before the end",
-        ))
-}
-
-const SERVE_EXAMPLE: &str =
-    "Prints 'listening PORT' once it listens. A connection that ends with a fault is reported on standard error,\nas 'connection: NAME', and the next one is served. Edits that were not published are lost at the end.\n\nExample: pir_server serve --file two.pir --port 7000 --connections 3\n\nWith --verbose a fault has a second line, 'cause: TEXT', that says what failed and where.";
+const SERVE: CommandText = CommandText {
+    name: "serve",
+    about: "Serves a snapshot file on 127.0.0.1, one connection after the other",
+    example: "Prints 'listening PORT' once it listens. A connection that ends with a fault is reported on standard error,\nas 'connection: NAME', and the next one is served. Edits that were not published are lost at the end.\n\nExample: pir_server serve --file two.pir --port 7000 --connections 3\n\nWith --verbose a fault has a second line, 'cause: TEXT', that says what failed and where.",
+    arguments: &[
+        Argument::Verbose,
+        Argument::Required {
+            name: "file",
+            value: "FILE",
+            help: "The snapshot file; it is replaced after each connection that published a version",
+        },
+        Argument::Required {
+            name: "port",
+            value: "P",
+            help: "The port to listen on, 0 to 65535; 0 takes any that is free",
+        },
+        Argument::Required {
+            name: "connections",
+            value: "C",
+            help: "How many connections to serve before the end",
+        },
+    ],
+};
 
 // The command `once`.
-fn once_command<'a>(alloc: Global) -> Command<'a> {
-    Command::new(alloc, "once")
-        .about(
-            "Serves one database over standard input and output: its frames are a Load, Queries, a Bye",
-        )
-        .after_help(ONCE_EXAMPLE)
-}
-
-const ONCE_EXAMPLE: &str = "The same as no command.\n\nExample: pir_server once < frames > replies";
+const ONCE: CommandText = CommandText {
+    name: "once",
+    about: "Serves one database over standard input and output: its frames are a Load, Queries, a Bye",
+    example: "The same as no command.\n\nExample: pir_server once < frames > replies",
+    arguments: &[],
+};
 
 // The whole command line.
 fn whole_command<'a>(alloc: Global) -> Result<Command<'a>, AllocError> {
-    Command::new(alloc, "pir_server")
+    let mut command = Command::new(alloc, "pir_server")
         .version(VERSION)
         .about("A server of private information retrieval on this machine")
-        .after_help(EXIT_STATUSES)
-        .subcommand(make_command(alloc)?)?
-        .subcommand(migrate_command(alloc)?)?
-        .subcommand(widen_command(alloc)?)?
-        .subcommand(rekey_command(alloc)?)?
-        .subcommand(show_command(alloc)?)?
-        .subcommand(compact_command(alloc)?)?
-        .subcommand(backup_command(alloc)?)?
-        .subcommand(serve_command(alloc)?)?
-        .subcommand(run_command(alloc)?)?
-        .subcommand(once_command(alloc))
+        .after_help(EXIT_STATUSES);
+    for text in [
+        &MAKE, &MIGRATE, &WIDEN, &REKEY, &SHOW, &COMPACT, &BACKUP, &SERVE, &RUN, &ONCE,
+    ] {
+        command = command.subcommand(text.command(alloc)?)?;
+    }
+    Ok(command)
 }
 
 /// What `--version` prints after the program's name.
@@ -359,41 +338,34 @@ fn serving_of<'a>(found: &ArgMatches<'a>) -> Result<Serving<'a>, BadLine<'a>>
 /// What the program's words ask for, its name first. Without others it is `once`.
 pub fn task_of<'a>(alloc: Global, words: &'a [String]) -> Result<Asked<'a>, BadLine<'a>> {
     let matches = whole_command(alloc)?.try_get_matches_from(words)?;
-    if let Some(found) = matches.subcommand_matches("make") {
-        return Ok(asked_for(found, Task::Make(making_of(found)?)));
+    match matches.subcommand() {
+        Some((name, found)) => asked_for(name, found),
+        None => Ok(Asked {
+            task: Task::Once,
+            verbose: false,
+        }),
     }
-    if let Some(found) = matches.subcommand_matches("migrate") {
-        return Ok(asked_for(found, Task::Migrate(migrating_of(found)?)));
-    }
-    if let Some(found) = matches.subcommand_matches("widen") {
-        return Ok(asked_for(found, Task::Widen(widening_of(found)?)));
-    }
-    if let Some(found) = matches.subcommand_matches("rekey") {
-        return Ok(asked_for(found, Task::Rekey(rekeying_of(found)?)));
-    }
-    if let Some(found) = matches.subcommand_matches("show") {
-        return Ok(asked_for(found, Task::Show(text_at(found, "file", FILE_TAKES)?)));
-    }
-    if let Some(found) = matches.subcommand_matches("compact") {
-        return Ok(asked_for(found, Task::Compact(text_at(found, "file", FILE_TAKES)?)));
-    }
-    if let Some(found) = matches.subcommand_matches("backup") {
-        return Ok(asked_for(found, Task::BackUp(backing_up_of(found)?)));
-    }
-    if let Some(found) = matches.subcommand_matches("serve") {
-        return Ok(asked_for(found, Task::Serve(serving_of(found)?)));
-    }
-    if let Some(found) = matches.subcommand_matches("run") {
-        return Ok(asked_for(found, Task::Run(running_of(found)?)));
-    }
-    Ok(Asked {
-        task: Task::Once,
-        verbose: false,
-    })
 }
 
-// A task, and whether the cause of its failure is to be said.
-fn asked_for<'a>(found: &ArgMatches<'a>, task: Task<'a>) -> Asked<'a> {
+// What a command asks for, and whether the cause of its failure is to be said.
+fn asked_for<'a>(name: &str, found: &ArgMatches<'a>) -> Result<Asked<'a>, BadLine<'a>> {
+    let task = task_named(name, found)?;
     let verbose = found.get_flag("verbose");
-    Asked { task, verbose }
+    Ok(Asked { task, verbose })
+}
+
+// What the words of the command of this name ask for.
+fn task_named<'a>(name: &str, found: &ArgMatches<'a>) -> Result<Task<'a>, BadLine<'a>> {
+    match name {
+        "make" => making_of(found).map(Task::Make),
+        "migrate" => migrating_of(found).map(Task::Migrate),
+        "widen" => widening_of(found).map(Task::Widen),
+        "rekey" => rekeying_of(found).map(Task::Rekey),
+        "show" => text_at(found, "file", FILE_TAKES).map(Task::Show),
+        "compact" => text_at(found, "file", FILE_TAKES).map(Task::Compact),
+        "backup" => backing_up_of(found).map(Task::BackUp),
+        "serve" => serving_of(found).map(Task::Serve),
+        "run" => running_of(found).map(Task::Run),
+        _ => Ok(Task::Once),
+    }
 }

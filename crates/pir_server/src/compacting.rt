@@ -10,7 +10,7 @@ use crate::files::{
 use crate::logs::{OwnLog, log_failure, replay_failure};
 use command_words::{Failed, Failure, printed};
 use log_replay::{earlier_count, replay_first};
-use publication_log::{ReadLog, read_log_file, relinked, remove_other_logs};
+use publication_log::{Publications, ReadLog, read_log_file, relinked, remove_other_logs};
 use safe_files::{Bytes, replace_file};
 use std::fs;
 
@@ -37,15 +37,27 @@ fn compact_pair(rt: &HostRuntime, name: &str) -> Result<(u64, usize), Failure> {
     let kept = kept_file(rt, &mut file)?;
     // What one that was cut short left is removed, also if there is nothing to do.
     remove_other_logs(rt, file.name(), kept.own.name.as_str());
-    let Some(log) = read_own(rt, &kept.own)? else {
-        return Ok((kept.read.opening.version(), 0));
-    };
+    match read_own(rt, &kept.own)? {
+        Some(log) => compact_both(rt, &mut file, kept, &log),
+        None => Ok((kept.read.opening.version(), 0)),
+    }
+}
+
+// The same of a file that has this log.
+fn compact_both(
+    rt: &HostRuntime,
+    file: &mut OwnFile<'_>,
+    kept: KeptFile,
+    log: &ReadLog,
+) -> Result<(u64, usize), Failure>
+    requires { IsSound kept.read.opening.header kept.read.opening.bytes }
+{
     let publications = log.publications();
     let earlier = earlier_count(publications);
     if earlier == 0 {
         return Ok((kept.read.opening.version(), publications.count()));
     }
-    let kept = shortened(rt, &mut file, kept, &log)?;
+    let kept = shortened(rt, file, kept, log)?;
     Ok((
         kept.read.opening.version(),
         publications.count().saturating_sub(earlier),
@@ -118,12 +130,21 @@ fn shortened(
     let content = OpeningOf(&opening);
     let digest = digest_of(rt.alloc(), &content)?;
     let own = OwnLog::of(rt.alloc(), file.name(), &opening.header(), digest)?;
-    let bytes = relinked(rt.alloc(), &own.header, publications.without_first(earlier))?;
-    match replace_file(rt, own.name.as_str(), &Bytes(&bytes)) {
-        Ok(()) => {}
-        Err(fault) => return Err(replace_failure(fault)),
-    }
+    write_log(rt, &own, publications.without_first(earlier))?;
     let has = write_file(rt, file, &content)?;
     remove_other_logs(rt, file.name(), own.name.as_str());
     Ok(KeptFile::of(opening, digest, has, own))
+}
+
+// Writes a log of these publications.
+fn write_log(
+    rt: &HostRuntime,
+    own: &OwnLog,
+    publications: Publications<'_>,
+) -> Result<(), Failure> {
+    let bytes = relinked(rt.alloc(), &own.header, publications)?;
+    match replace_file(rt, own.name.as_str(), &Bytes(&bytes)) {
+        Ok(()) => Ok(()),
+        Err(fault) => Err(replace_failure(fault)),
+    }
 }

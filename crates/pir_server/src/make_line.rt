@@ -5,10 +5,9 @@ ghost use Rattle.clap.specs.Matches.{found_of};
 ghost use Rattle.pir_server.specs.Tasks.{IsNumberIf, IsNumberOr, ReadsMake};
 
 use crate::command_line::{KEY_TAKES, OUT_TAKES, SEED_TAKES};
-use crate::run_line::{flag, number_if, optional};
-use clap::{ArgMatches, Command};
-use command_words::{BadLine, Secret, key_at, number_at, option, seed_at, text_at, verbose_flag};
-use std::alloc::{AllocError, Global};
+use crate::run_line::number_if;
+use clap::ArgMatches;
+use command_words::{Argument, BadLine, CommandText, Secret, key_at, number_at, seed_at, text_at};
 
 const FORM_TAKES: &str = "--form takes 1 or 2";
 
@@ -48,89 +47,66 @@ pub struct Making<'a> {
 }
 
 /// The command `make`.
-pub fn make_command<'a>(alloc: Global) -> Result<Command<'a>, AllocError> {
-    let command = Command::new(alloc, "make")
-        .about("Makes a snapshot file, at version 1, of the records on standard input")
-        .after_help(MAKE_EXAMPLE)
-        .arg(verbose_flag(alloc))?
-        .arg(option(alloc, "out", "FILE", "The snapshot file to write"))?
-        .arg(flag(
-            alloc,
-            "new",
-            "Makes no file where something stands at its name",
-        ))?;
-    with_keys(alloc, with_reading(alloc, with_sizes(alloc, command)?)?)
-}
-
-// A command with what says what the store is to be.
-fn with_sizes<'a>(alloc: Global, command: Command<'a>) -> Result<Command<'a>, AllocError> {
-    command
-        .arg(optional(
-            alloc,
-            "form",
-            "F",
-            "1 (also if not given): records of R bytes, one after the other; 2: of up to R - 2 bytes, a line of hex each, or -",
-        ))?
-        .arg(flag(
-            alloc,
-            "wide",
-            "Makes a wide store, of up to 32768 rows and columns, which clients greet as one",
-        ))?
-        .arg(option(
-            alloc,
-            "width",
-            "W",
-            "How many bits a digit has, 6 to 10, or to 9 in a wide store: more make it faster and leave less room for noise",
-        ))?
-        .arg(option(
-            alloc,
-            "record",
-            "R",
-            "How many bytes a record has, 1 to 256; in form 2 those of its slot, 2 to 256, of which two hold its length",
-        ))?
-        .arg(option(
-            alloc,
-            "groups",
-            "G",
-            "How many records stand in one column, so that the digit matrix has G * ceil(8 R / W) rows (at most 4096, or 32768)",
-        ))
-}
-
-// A command with what says how the records are read.
-fn with_reading<'a>(alloc: Global, command: Command<'a>) -> Result<Command<'a>, AllocError> {
-    command
-        .arg(optional(
-            alloc,
-            "count",
-            "N",
-            "How many records there are, 1 to 4294967295: they are written as they are read, in little memory (all are read first if not given)",
-        ))?
-        .arg(flag(
-            alloc,
-            "progress",
-            "Says each second on standard error how many bytes have been read, and with --count how many seconds are left",
-        ))
-}
-
-// A command with the keys of a new store.
-fn with_keys<'a>(alloc: Global, command: Command<'a>) -> Result<Command<'a>, AllocError> {
-    command
-        .arg(option(
-            alloc,
-            "seed",
-            "HEX",
-            "The public seed of the matrix that all clients use: 32 bytes as 64 hex digits, or @FILE",
-        ))?
-        .arg(option(
-            alloc,
-            "key",
-            "HEX",
-            "The publisher's key: 32 bytes as 64 hex digits, not all 0, or @FILE; the snapshot keeps its SHA-256 alone",
-        ))
-}
-
-const MAKE_EXAMPLE: &str =
-    "Prints 'made COUNT 1', COUNT being how many records there are. Secrets will have 1024 words.\n\nWithout --count all records are read before any is written, up to 1.2 GB of a wide store. The file is the same.\n\nWith --progress standard error has lines 'input: BYTES bytes', with --count and ', SECONDS s left' at their end.\n\nA seed is for one store alone: whoever keeps a hint of another store with this seed and these sizes would read wrong records.\n\nExample, two records of one byte:\n  printf '\\012\\310' | pir_server make --new --out two.pir --width 8 --record 1 --groups 1 \\\n    --seed $(openssl rand -hex 32) \\\n    --key 0101010101010101010101010101010101010101010101010101010101010101\n\nExample, one record of one byte and one of none:\n  printf '0a\\n-\\n' | pir_server make --new --out slots.pir --form 2 --width 8 --record 3 --groups 1 \\\n    --seed $(openssl rand -hex 32) \\\n    --key 0101010101010101010101010101010101010101010101010101010101010101\n\nWith --verbose a fault has a second line, 'cause: TEXT', that says what failed and where.";
+pub const MAKE: CommandText = CommandText {
+    name: "make",
+    about: "Makes a snapshot file, at version 1, of the records on standard input",
+    example: "Prints 'made COUNT 1', COUNT being how many records there are. Secrets will have 1024 words.\n\nWithout --count all records are read before any is written, up to 1.2 GB of a wide store. The file is the same.\n\nWith --progress standard error has lines 'input: BYTES bytes', with --count and ', SECONDS s left' at their end.\n\nA seed is for one store alone: whoever keeps a hint of another store with this seed and these sizes would read wrong records.\n\nExample, two records of one byte:\n  printf '\\012\\310' | pir_server make --new --out two.pir --width 8 --record 1 --groups 1 \\\n    --seed $(openssl rand -hex 32) \\\n    --key 0101010101010101010101010101010101010101010101010101010101010101\n\nExample, one record of one byte and one of none:\n  printf '0a\\n-\\n' | pir_server make --new --out slots.pir --form 2 --width 8 --record 3 --groups 1 \\\n    --seed $(openssl rand -hex 32) \\\n    --key 0101010101010101010101010101010101010101010101010101010101010101\n\nWith --verbose a fault has a second line, 'cause: TEXT', that says what failed and where.",
+    arguments: &[
+        Argument::Verbose,
+        Argument::Required {
+            name: "out",
+            value: "FILE",
+            help: "The snapshot file to write",
+        },
+        Argument::Flag {
+            name: "new",
+            help: "Makes no file where something stands at its name",
+        },
+        Argument::Optional {
+            name: "form",
+            value: "F",
+            help: "1 (also if not given): records of R bytes, one after the other; 2: of up to R - 2 bytes, a line of hex each, or -",
+        },
+        Argument::Flag {
+            name: "wide",
+            help: "Makes a wide store, of up to 32768 rows and columns, which clients greet as one",
+        },
+        Argument::Required {
+            name: "width",
+            value: "W",
+            help: "How many bits a digit has, 6 to 10, or to 9 in a wide store: more make it faster and leave less room for noise",
+        },
+        Argument::Required {
+            name: "record",
+            value: "R",
+            help: "How many bytes a record has, 1 to 256; in form 2 those of its slot, 2 to 256, of which two hold its length",
+        },
+        Argument::Required {
+            name: "groups",
+            value: "G",
+            help: "How many records stand in one column, so that the digit matrix has G * ceil(8 R / W) rows (at most 4096, or 32768)",
+        },
+        Argument::Optional {
+            name: "count",
+            value: "N",
+            help: "How many records there are, 1 to 4294967295: they are written as they are read, in little memory (all are read first if not given)",
+        },
+        Argument::Flag {
+            name: "progress",
+            help: "Says each second on standard error how many bytes have been read, and with --count how many seconds are left",
+        },
+        Argument::Required {
+            name: "seed",
+            value: "HEX",
+            help: "The public seed of the matrix that all clients use: 32 bytes as 64 hex digits, or @FILE",
+        },
+        Argument::Required {
+            name: "key",
+            value: "HEX",
+            help: "The publisher's key: 32 bytes as 64 hex digits, not all 0, or @FILE; the snapshot keeps its SHA-256 alone",
+        },
+    ],
+};
 
 /// What the words of `make` ask for.
 pub fn making_of<'a>(found: &ArgMatches<'a>) -> Result<Making<'a>, BadLine<'a>>

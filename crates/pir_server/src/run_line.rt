@@ -4,10 +4,9 @@ ghost use Rattle.std.specs.Prelude.{◌≤◌, IfOk, IfSome};
 ghost use Rattle.clap.specs.Matches.{found_of};
 ghost use Rattle.pir_server.specs.Tasks.{IsNumberIf, IsNumberOr, ReadsFormat, ReadsGrace, ReadsRun};
 
-use clap::{Arg, ArgAction, ArgMatches, Command};
-use command_words::{BadLine, number_at, option, text_at, verbose_flag};
+use clap::ArgMatches;
+use command_words::{Argument, BadLine, CommandText, number_at, text_at};
 use service_loop::LogFormat;
-use std::alloc::{AllocError, Global};
 use std::net::SocketAddr;
 
 const FILE_TAKES: &str = "--file takes a file's name";
@@ -78,121 +77,76 @@ pub struct Running<'a> {
 }
 
 /// The command `run`.
-pub fn run_command<'a>(alloc: Global) -> Result<Command<'a>, AllocError> {
-    let command = Command::new(alloc, "run")
-        .about(
-            "Serves a snapshot file, many connections side by side, until it is killed or, with --until-eof, standard input ends",
-        )
-        .after_help(RUN_EXAMPLE)
-        .arg(verbose_flag(alloc))?
-        .arg(option(
-            alloc,
-            "file",
-            "FILE",
-            "The snapshot file; a publication is appended to a log beside it, FILE.log- and 16 hex digits, before it is acknowledged",
-        ))?
-        .arg(option(
-            alloc,
-            "listen",
-            "ADDR:PORT",
-            "The address and the port to listen on, as 127.0.0.1:7000 or [::1]:7000; port 0 takes any that is free",
-        ))?;
-    with_end(alloc, with_telling(alloc, with_bounds(alloc, command)?)?)
-}
-
-// A command with the bounds of connections, memory and the log.
-fn with_bounds<'a>(alloc: Global, command: Command<'a>) -> Result<Command<'a>, AllocError> {
-    command
-        .arg(optional(
-            alloc,
-            "most",
-            "N",
-            "How many connections there may be at once, 1 to 65535, and 16 fewer than the process may have descriptors; others wait until one ends (256 if not given)",
-        ))?
-        .arg(optional(
-            alloc,
-            "idle",
-            "SECONDS",
-            "After how many seconds without progress a connection is closed, 1 to 86400 (60 if not given): of a whole frame that came, or of all that was owed to it taken",
-        ))?
-        .arg(optional(
-            alloc,
-            "memory",
-            "MIB",
-            "How many MiB the unfinished frames of all connections, and the replies that they have not taken, may have together; past that the connection with the most is closed (256 if not given)",
-        ))?
-        .arg(optional(
-            alloc,
-            "log-limit",
-            "MIB",
-            "If the log has more MiB than this at the start, 1 to 1048576, all but its last 16 publications are put into the file first (64 if not given)",
-        ))?
-        .arg(optional(
-            alloc,
-            "most-per-peer",
-            "N",
-            "How many connections one IP address may have at once, 1 to 65535; one more is closed at once (not bounded if not given)",
-        ))
-}
-
-// A command with what says how the server does.
-fn with_telling<'a>(alloc: Global, command: Command<'a>) -> Result<Command<'a>, AllocError> {
-    command
-        .arg(optional(
-            alloc,
-            "status",
-            "ADDR:PORT",
-            "A second address and port to listen on, for GET /health and GET /metrics over HTTP; port 0 takes any that is free (none if not given)",
-        ))?
-        .arg(optional(
-            alloc,
-            "log",
-            "FORMAT",
-            "Writes a line on standard error for each event, with its time, as text or as json (only the faults of connections if not given)",
-        ))
-}
-
-// A command with what says how the server ends, and whether it is quiet.
-fn with_end<'a>(alloc: Global, command: Command<'a>) -> Result<Command<'a>, AllocError> {
-    command
-        .arg(flag(
-            alloc,
-            "until-eof",
-            "Stops at the end of standard input, which must be a pipe, a socket or a terminal: accepts nothing more, serves what was begun, and ends with status 0",
-        ))?
-        .arg(optional(
-            alloc,
-            "grace",
-            "SECONDS",
-            "How many seconds at most what was begun is served after the end of standard input, 1 to 3600 (10 if not given)",
-        ))?
-        .arg(flag(
-            alloc,
-            "quiet",
-            "Leaves out the lines on standard error about faults of connections",
-        ))?
-        .arg(flag(
-            alloc,
-            "progress",
-            "Says on standard error, each second until it listens, how many rows of the hints are made, and how many seconds are left",
-        ))
-}
-
-const RUN_EXAMPLE: &str =
-    "Prints 'listening ADDR:PORT' once it listens, and 'status ADDR:PORT' after that with --status. Before that it makes the hints, first SimplePIR's and then DoublePIR's: with --progress standard error has lines 'hint: K of ALL rows, SECONDS s left' of either. A connection that ends with a fault is reported on standard error,\nas 'connection: NAME', and the others go on. A publication is acknowledged only once its log has it on the disk; if it\ncan't be appended the connection is closed, and the version before is served on. What is sent is not encrypted: listen on 127.0.0.1 or [::1] unless a tunnel or a proxy\nstands before the port.\n\nExample: pir_server run --file two.pir --listen 127.0.0.1:7000\n\nWith --verbose a fault has a second line, 'cause: TEXT', that says what failed and where.";
-
-/// An option that may be left out.
-pub fn optional<'a>(alloc: Global, name: &'a str, value: &'a str, help: &'a str) -> Arg<'a> {
-    option(alloc, name, value, help).required(false)
-}
-
-/// An option that takes no value.
-pub fn flag<'a>(alloc: Global, name: &'a str, help: &'a str) -> Arg<'a> {
-    Arg::new(alloc, name)
-        .long(name)
-        .help(help)
-        .action(ArgAction::SetTrue)
-}
+pub const RUN: CommandText = CommandText {
+    name: "run",
+    about: "Serves a snapshot file, many connections side by side, until it is killed or, with --until-eof, standard input ends",
+    example: "Prints 'listening ADDR:PORT' once it listens, and 'status ADDR:PORT' after that with --status. Before that it makes the hints, first SimplePIR's and then DoublePIR's: with --progress standard error has lines 'hint: K of ALL rows, SECONDS s left' of either. A connection that ends with a fault is reported on standard error,\nas 'connection: NAME', and the others go on. A publication is acknowledged only once its log has it on the disk; if it\ncan't be appended the connection is closed, and the version before is served on. What is sent is not encrypted: listen on 127.0.0.1 or [::1] unless a tunnel or a proxy\nstands before the port.\n\nExample: pir_server run --file two.pir --listen 127.0.0.1:7000\n\nWith --verbose a fault has a second line, 'cause: TEXT', that says what failed and where.",
+    arguments: &[
+        Argument::Verbose,
+        Argument::Required {
+            name: "file",
+            value: "FILE",
+            help: "The snapshot file; a publication is appended to a log beside it, FILE.log- and 16 hex digits, before it is acknowledged",
+        },
+        Argument::Required {
+            name: "listen",
+            value: "ADDR:PORT",
+            help: "The address and the port to listen on, as 127.0.0.1:7000 or [::1]:7000; port 0 takes any that is free",
+        },
+        Argument::Optional {
+            name: "most",
+            value: "N",
+            help: "How many connections there may be at once, 1 to 65535, and 16 fewer than the process may have descriptors; others wait until one ends (256 if not given)",
+        },
+        Argument::Optional {
+            name: "idle",
+            value: "SECONDS",
+            help: "After how many seconds without progress a connection is closed, 1 to 86400 (60 if not given): of a whole frame that came, or of all that was owed to it taken",
+        },
+        Argument::Optional {
+            name: "memory",
+            value: "MIB",
+            help: "How many MiB the unfinished frames of all connections, and the replies that they have not taken, may have together; past that the connection with the most is closed (256 if not given)",
+        },
+        Argument::Optional {
+            name: "log-limit",
+            value: "MIB",
+            help: "If the log has more MiB than this at the start, 1 to 1048576, all but its last 16 publications are put into the file first (64 if not given)",
+        },
+        Argument::Optional {
+            name: "most-per-peer",
+            value: "N",
+            help: "How many connections one IP address may have at once, 1 to 65535; one more is closed at once (not bounded if not given)",
+        },
+        Argument::Optional {
+            name: "status",
+            value: "ADDR:PORT",
+            help: "A second address and port to listen on, for GET /health and GET /metrics over HTTP; port 0 takes any that is free (none if not given)",
+        },
+        Argument::Optional {
+            name: "log",
+            value: "FORMAT",
+            help: "Writes a line on standard error for each event, with its time, as text or as json (only the faults of connections if not given)",
+        },
+        Argument::Flag {
+            name: "until-eof",
+            help: "Stops at the end of standard input, which must be a pipe, a socket or a terminal: accepts nothing more, serves what was begun, and ends with status 0",
+        },
+        Argument::Optional {
+            name: "grace",
+            value: "SECONDS",
+            help: "How many seconds at most what was begun is served after the end of standard input, 1 to 3600 (10 if not given)",
+        },
+        Argument::Flag {
+            name: "quiet",
+            help: "Leaves out the lines on standard error about faults of connections",
+        },
+        Argument::Flag {
+            name: "progress",
+            help: "Says on standard error, each second until it listens, how many rows of the hints are made, and how many seconds are left",
+        },
+    ],
+};
 
 /// What the words of `run` ask for.
 pub fn running_of<'a>(found: &ArgMatches<'a>) -> Result<Running<'a>, BadLine<'a>>

@@ -1,7 +1,7 @@
 //! Commands and their arguments as tables.
 
+use crate::options::{option, verbose_flag, word};
 use clap::{Arg, ArgAction, Command};
-use command_words::{option, verbose_flag, word};
 use std::alloc::{AllocError, Global};
 
 /// A command, as its help shows it.
