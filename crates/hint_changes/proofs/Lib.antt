@@ -6,3 +6,4 @@ pub mod OneRecord
 pub mod Between
 pub mod Places
 pub mod EntryLemmas
+pub mod Listed

@@ -101,6 +101,12 @@ changes_from before after i (suc n) =
 abbrev pub changes_between : List (List ℕ) → List (List ℕ) → List ChangedRecord
 changes_between before after = changes_from before after 0 (length after)
 
+-- the changes of listed records, each of which is left out if it is none
+abbrev pub changes_at : List (List ℕ) → List (List ℕ) → List ℕ → List ChangedRecord
+changes_at before after [] = []
+changes_at before after (i ∷ more) =
+    unless_same (pointwise nat_eq (record_at before i) (record_at after i)) (change_of before after i) (changes_at before after more)
+
 -- a row of the first public matrix: of which seed, of which column of digits, and of how many words
 pub record RowOfPublic : Type 0 where
   pub seed : List ℕ

@@ -1,7 +1,7 @@
 //! Laws of hints that are moved, over the definitions alone. A caller that calls one of these functions has its law at
 //! hand in its proof; the call costs nothing.
 
-ghost use Rattle.hint_changes.specs.Laws.{ChangesAreMadeOneByOne, ChangesBetweenLead, ChangesMoveTheHint, MovedHintIsMadeFromScratch, OtherPlacesStay};
+ghost use Rattle.hint_changes.specs.Laws.{ChangesAreMadeOneByOne, ChangesBetweenLead, ChangesMoveTheHint, ListedChangesAreAll, MovedHintIsMadeFromScratch, OtherPlacesStay};
 
 /// The hint of some records, moved by changes of them one after another, is the one that is made from scratch of the records
 /// after these changes.
@@ -28,4 +28,9 @@ pub fn changes_between_lead()
 /// A change of a record leaves the rows of the records that stand in another place of their columns.
 pub fn other_places_stay()
     ensures { OtherPlacesStay }
+{}
+
+/// The changes of the records in an ascending list that names each record that differs are all that there are.
+pub fn listed_changes_are_all()
+    ensures { ListedChangesAreAll }
 {}
