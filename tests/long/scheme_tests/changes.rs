@@ -5,6 +5,7 @@ use hint_changes::{PublicRow, are_entries, entry_len, move_by_entries, move_reco
 use lane_kernels::Lanes;
 use matrix_u32::{Kernel, Matrix, Plain};
 use seed_expand::expand;
+use std::alloc::Global;
 use std::process::Abort;
 use std::test::Fail;
 
@@ -33,7 +34,7 @@ fn scratch(alloc: Global, layout: &Layout, bytes: &[u8]) -> Result<Matrix, Fail>
 fn begin(alloc: Global, layout: Layout) -> Result<Moved, Fail> {
     let mut bytes = Vec::new(alloc);
     for i in 0..layout.count() * LEN {
-        bytes.push((i * 37 + 5) as u8)?;
+        bytes.push(((i * 37 + 5) % 256) as u8)?;
     }
     let hint = scratch(alloc, &layout, &bytes)?;
     let public = PublicRow::new(alloc, &SEED, DIMENSION)?;
