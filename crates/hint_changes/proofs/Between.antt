@@ -4,12 +4,17 @@ use Rattle.std.proofs.lemmas.Bool.{cases_eq, cases_lt}
 use Rattle.std.proofs.lemmas.List.{get_or_past}
 use Rattle.std.proofs.lemmas.List.Elements.{All-head, All-tail, All-cons}
 use Rattle.std.proofs.lemmas.Slice.Eq.{slice_eq-Decides}
+use Rattle.std.specs.List.{range_with_len}
 use Rattle.std.specs.Cmp.{unsigned_Decides}
 use Rattle.std.specs.Cmp.Lexicographic.{pointwise}
 use Rattle.std.specs.Prelude.{nat_eq}
 use Rattle.digit_pack.specs.Layout.{Shape, record_at}
-use Rattle.hint_changes.specs.Changes.{ChangedRecord, IsChangeBetween, NameOnce, change_of, changes_from, unless_same}
+use Rattle.hint_changes.specs.Changes.{ChangedRecord, IsChangeBetween, NameOnce, change_of, unless_same, changes_at}
 use Rattle.hint_changes.specs.Laws.{ChangesBetweenLead}
+
+-- the changes of n records, from record i on
+abbrev pub changes_from : List (List ℕ) → List (List ℕ) → ℕ → ℕ → List ChangedRecord
+changes_from before after i n = changes_at before after (range_with_len i n)
 
 -- what holds of a change and of those after it holds of both
 both : (P : ChangedRecord → Type 0) (b : Bool) (c : ChangedRecord) (more : List ChangedRecord) → P c → All P more → All P (unless_same b c more)

@@ -7,8 +7,9 @@ use Rattle.std.specs.List.Sorted.{IsStrictlyIncreasing}
 use Rattle.std.specs.Cmp.Lexicographic.{pointwise}
 use Rattle.std.specs.Prelude.{nat_eq, slice_index}
 use Rattle.digit_pack.specs.Layout.{record_at}
-use Rattle.hint_changes.specs.Changes.{ChangedRecord, change_of, changes_at, changes_from, unless_same}
+use Rattle.hint_changes.specs.Changes.{ChangedRecord, change_of, changes_at, unless_same}
 use Rattle.hint_changes.specs.Laws.{ListedChangesAreAll}
+use Rattle.hint_changes.proofs.Between.{changes_from}
 
 -- an element that is there doesn't depend on the default
 same_default : (xs : List ℕ) (k d e : ℕ) → k < length xs → get_or xs k d ≡ get_or xs k e

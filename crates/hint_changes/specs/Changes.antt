@@ -1,6 +1,7 @@
 -- Hints that are moved by the records that changed.
-use Rattle.std.specs.Prelude.{⊤, All, Bool, true, false, zero, suc, nat_eq, ◌≡◌, ◌≢◌, ◌⊎◌, ℕ, ◌+◌, ◌-◌, ◌*◌, ◌%◌, ◌/◌, ◌^◌, ◌<◌, ◌≤◌, ◌==◌, if◌then◌else◌, List, [], ◌∷◌, length, slice_index, slice_set}
+use Rattle.std.specs.Prelude.{⊤, All, Bool, true, false, nat_eq, ◌≡◌, ◌≢◌, ◌⊎◌, ℕ, ◌+◌, ◌-◌, ◌*◌, ◌%◌, ◌/◌, ◌^◌, ◌<◌, ◌≤◌, ◌==◌, if◌then◌else◌, List, [], ◌∷◌, length, slice_index, slice_set}
 use Rattle.std.specs.Cmp.Lexicographic.{pointwise}
+use Rattle.std.specs.List.{range_with_len}
 use Rattle.matrix_u32.specs.Matrix.{WordMatrix, IsWhole, entry, matrix_of}
 use Rattle.lane_kernels.specs.Digit.{digit}
 use Rattle.digit_pack.specs.Digits.{number_of}
@@ -16,7 +17,7 @@ pub record ChangedRecord : Type 0 where
 abbrev pub record_digit : Shape → List ℕ → ℕ → ℕ
 record_digit l bytes d = digit l.width (number_of 8 bytes) d
 
--- the change of digit d, modulo 2 ^ 32
+-- a number that is the change of digit d modulo 2 ^ 32
 abbrev pub digit_change : Shape → ChangedRecord → ℕ → ℕ
 digit_change l c d = record_digit l c.new d + (2 ^ 32 - record_digit l c.old d)
 
@@ -91,21 +92,15 @@ unless_same false c more = c ∷ more
 abbrev pub change_of : List (List ℕ) → List (List ℕ) → ℕ → ChangedRecord
 change_of before after i = record { index = i; old = record_at before i; new = record_at after i }
 
--- the changes of n records, from record i on
-abbrev pub changes_from : List (List ℕ) → List (List ℕ) → ℕ → ℕ → List ChangedRecord
-changes_from before after i zero = []
-changes_from before after i (suc n) =
-    unless_same (pointwise nat_eq (record_at before i) (record_at after i)) (change_of before after i) (changes_from before after (i + 1) n)
-
--- the changes from one list of records to another that is as long: of each record that differs, ascending
-abbrev pub changes_between : List (List ℕ) → List (List ℕ) → List ChangedRecord
-changes_between before after = changes_from before after 0 (length after)
-
 -- the changes of listed records, each of which is left out if it is none
 abbrev pub changes_at : List (List ℕ) → List (List ℕ) → List ℕ → List ChangedRecord
 changes_at before after [] = []
 changes_at before after (i ∷ more) =
     unless_same (pointwise nat_eq (record_at before i) (record_at after i)) (change_of before after i) (changes_at before after more)
+
+-- the changes from one list of records to another that is as long: of each record that differs, ascending
+abbrev pub changes_between : List (List ℕ) → List (List ℕ) → List ChangedRecord
+changes_between before after = changes_at before after (range_with_len 0 (length after))
 
 -- a row of the first public matrix: of which seed, of which column of digits, and of how many words
 pub record RowOfPublic : Type 0 where

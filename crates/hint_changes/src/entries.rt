@@ -64,9 +64,11 @@ pub fn move_by_entries<K: Kernel>(
     requires entries { AreEntries layout.now bytes.now }
     requires rows { hint.old.rows ≡ digit_rows layout.now }
     requires cols { hint.old.cols ≡ public.old.dimension }
-    ensures { hint.new ≡ moved layout.now
+    ensures hint { hint.new ≡ moved layout.now
         (public_rows public.old.seed 0 0 (digit_cols layout.now) public.old.dimension)
         (changes_in layout.now.record_len bytes.now) hint.old }
+    ensures public { (public.new.seed ≡ public.old.seed) ×
+        (public.new.dimension ≡ public.old.dimension) }
 {
     let len = layout.record_len();
     let count = bytes.len() / entry_len(len);

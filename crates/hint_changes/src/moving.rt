@@ -1,7 +1,7 @@
 //! A hint moved by one record.
 
 ghost use Rattle.std.specs.Prelude.{◌≡◌, ℕ, ◌+◌, ◌%◌, ◌<◌, ◌≤◌, ◌∷◌, [], length};
-ghost use Rattle.matrix_u32.specs.Matrix.{WordMatrix, entry};
+ghost use Rattle.matrix_u32.specs.Matrix.{WordMatrix};
 ghost use Rattle.seed_expand.specs.Words.{public_rows};
 ghost use Rattle.digit_pack.specs.Layout.{column_of, digit_cols, digit_rows, digits_per_record, record_digits};
 ghost use Rattle.hint_changes.specs.Changes.{HaveMoved, moved, rows_in_place};
@@ -39,9 +39,9 @@ pub fn move_record<K: Kernel>(
 {
     // Called for what it says of the columns: there are at most 32,768.
     layout.cols();
-    let (_, column) = layout.place(index);
+    let (first, column) = layout.place(index);
     public.turn_to(column);
-    move_under(kernel, layout, public.words(), hint, index, old, new);
+    move_digits(kernel, layout, public.words(), hint, first, old, new);
 }
 
 /// Moves only the rows of a hint in which the record has its digits, as many as it has digits: what [`move_record`] would make of them.
@@ -72,31 +72,6 @@ pub fn move_record_rows<K: Kernel>(
     let (_, column) = layout.place(index);
     public.turn_to(column);
     move_digits(kernel, layout, public.words(), rows, 0, old, new);
-}
-
-// The same with `public` as one row: that of the record's column, of whatever public matrix.
-fn move_under<K: Kernel>(
-    kernel: K,
-    layout: &Layout,
-    public: &Matrix,
-    hint: &mut Matrix,
-    index: usize,
-    old: &[u8],
-    new: &[u8],
-)
-    requires index { index < layout.now.count }
-    requires old { length old.now ≡ layout.now.record_len }
-    requires new { length new.now ≡ layout.now.record_len }
-    requires rows { hint.old.rows ≡ digit_rows layout.now }
-    requires public { public.now.rows ≡ 1 }
-    requires cols { hint.old.cols ≡ public.now.cols }
-    ensures { (a1 : WordMatrix) → ((k : ℕ) → k < hint.old.cols →
-        entry public.now 0 k ≡ entry a1 (column_of layout.now index) k) →
-        hint.new ≡ moved layout.now a1
-        (record { index = index; old = old.now; new = new.now } ∷ []) hint.old }
-{
-    let (first, _) = layout.place(index);
-    move_digits(kernel, layout, public, hint, first, old, new);
 }
 
 // Moves the rows from one on in which a record has its digits, as `move_rows` does.

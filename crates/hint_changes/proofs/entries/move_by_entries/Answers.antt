@@ -55,8 +55,8 @@ loop-k-preserved g c =
           ∙ ap (λ (cs : List ChangedRecord). moved l a1 cs c.args.hint.now) (sym (map-range_with_len_more (change_in len bytes) 0 k k (omega arith)));
     }
 
-pub returns : goal.returns
-returns g c =
+pub returns-clause-hint : goal.returns-clause-hint
+returns-clause-hint g c =
     let l : Shape = c.args.layout.now in
     let a1 : WordMatrix = public_rows c.args.public.now.seed 0 0 (digit_cols l) c.args.public.now.dimension in
     let bytes : List ℕ = c.args.bytes.now in
