@@ -21,4 +21,5 @@ pub mod Grown
 pub mod GrownLayer
 pub mod RecordsPut
 pub mod KeptDigits
+pub mod Batches
 pub mod Prepared

@@ -1,5 +1,5 @@
 -- Records that are kept in digits alone.
-use Rattle.std.specs.Prelude.{◌≡◌, ◌≤◌, ◌<◌, ◌*◌, ◌^◌, ℕ, List, All, length}
+use Rattle.std.specs.Prelude.{◌≡◌, ◌≤◌, ◌<◌, ◌+◌, ◌*◌, ◌^◌, ℕ, List, All, length}
 use Rattle.std.specs.List.{flat_map}
 use Rattle.matrix_u32.specs.Matrix.{WordMatrix}
 use Rattle.digit_pack.specs.Layout.{Shape, IsLayout, digit_matrix, records_in}
@@ -25,3 +25,9 @@ pub record IsKept (l : Shape) (n : ℕ) (digits : WordMatrix) : Type 0 where
   pub small : All (λ b. b < 2 ^ 8) (bytes_in_digits l n digits)
   pub len : length (bytes_in_digits l n digits) ≡ n * l.record_len
   pub digits_are : digits ≡ digit_matrix l (records_in (counted l n) (bytes_in_digits l n digits))
+
+-- there is room for one record more behind those n that wait, in so many bytes, and for those that wait behind those that are kept
+pub record HasRoomForMore (kept : KeptRecords) (n room : ℕ) : Type 0 where
+  pub some : 1 ≤ kept.shape.record_len
+  pub waiting : n * kept.shape.record_len + kept.shape.record_len ≤ room
+  pub behind : length kept.bytes + n * kept.shape.record_len ≤ kept.shape.count * kept.shape.record_len

@@ -1,12 +1,12 @@
 //! Records that are kept in their digits alone.
 
-ghost use Rattle.std.specs.Prelude.{◌≡◌, ◌≤◌, ◌<◌, ◌^◌, ◌+◌, ◌*◌, ◌++◌, All, [], length, IfOk, OnOk, OnErr, slice_set};
+ghost use Rattle.std.specs.Prelude.{◌≡◌, ◌≤◌, ◌<◌, ◌^◌, ◌+◌, ◌*◌, ◌++◌, ℕ, List, All, [], length, IfOk, OnOk, OnErr, slice_set};
 ghost use Rattle.digit_pack.specs.Columns.{WritesColumn};
 ghost use Rattle.digit_pack.specs.Layout.{digit_rows, digit_cols, digit_matrix, first_row, column_of, record_digits, records_in};
 ghost use Rattle.version_store.specs.KeptRecords.{counted};
 
 use crate::first_layer::Digits;
-use digit_pack::{DigitStore, Layout, copy_record, digits_of_records, pack, write_digits};
+use digit_pack::{DigitStore, Layout, copy_record, digits_of_records, pack};
 use snapshot_file::{RecordSink, RecordSource};
 use std::alloc::{AllocError, Global};
 use std::marker::Model;
@@ -92,6 +92,29 @@ impl DigitRecords {
         })
     }
 
+    /// How many bytes a record has.
+    pub fn record_len(&self) -> usize
+        ensures value { result ≡ self.now.shape.record_len }
+        ensures some { 1 ≤ result }
+    {
+        self.layout.record_len()
+    }
+
+    /// Takes records that stand one after another in `bytes`, after those that it has. It takes no memory.
+    ///
+    /// They are written as [`digits_of_records`] writes them, so it is best for records of whole columns.
+    pub fn take_records(&mut self, bytes: &[u8])
+        requires whole { (n : ℕ) × (length bytes.now ≡ n * self.old.shape.record_len) }
+        requires room { length self.old.bytes + length bytes.now ≤
+            self.old.shape.count * self.old.shape.record_len }
+        ensures { self.new ≡
+            record { shape = self.old.shape; bytes = self.old.bytes ++ bytes.now } }
+    {
+        let count = bytes.len() / self.layout.record_len();
+        write_records(&self.layout, &mut self.digits, self.taken, count, bytes);
+        self.taken += count;
+    }
+
     /// Puts other bytes in the place of record i. It takes no memory.
     pub fn replace(&mut self, i: usize, bytes: &[u8])
         requires index { i < self.old.shape.count }
@@ -138,6 +161,29 @@ impl DigitRecords {
     }
 }
 
+// Writes the digits of `count` records, which stand one after another in `bytes`, into the places of records from `first` on: those of
+// a group, which have their rows in common, one after another.
+fn write_records(layout: &Layout, digits: &mut Digits, first: usize, count: usize, bytes: &[u8])
+    requires inside { first + count ≤ layout.now.count }
+    requires len { length bytes.now ≡ count * layout.now.record_len }
+    requires rows { digits.old.rows ≡ digit_rows layout.now }
+    requires cols { digits.old.cols ≡ digit_cols layout.now }
+    ensures { (xs : List (List ℕ)) → length xs ≡ first →
+        digits.old ≡ digit_matrix layout.now xs → digits.new ≡
+        digit_matrix layout.now (xs ++ records_in (counted layout.now count) bytes.now) }
+{
+    let groups = layout.groups();
+    let len = layout.record_len();
+    let cols = (count + groups - 1) / groups;
+    for n in 0..groups * cols {
+        let i = n % cols * groups + n / cols;
+        if i >= count {
+            continue;
+        }
+        write_place(layout, digits, first + i, &bytes[i * len..i * len + len]);
+    }
+}
+
 // Writes the digits of a record's bytes into the place of record i.
 fn write_place(layout: &Layout, digits: &mut Digits, i: usize, bytes: &[u8])
     requires index { i < layout.now.count }
@@ -151,7 +197,7 @@ fn write_place(layout: &Layout, digits: &mut Digits, i: usize, bytes: &[u8])
     let packed = &mut room[..layout.digits_per_record()];
     let (first, col) = layout.place(i);
     pack(layout, bytes, packed);
-    write_digits(digits, first, col, packed);
+    digits.swap_digits(first, col, packed);
 }
 
 // Room for the digits of a record. They are not said, which keeps them out of the proofs.

@@ -13,6 +13,7 @@ mod held_records;
 pub mod laws;
 mod opening;
 mod preparing;
+mod record_batches;
 mod row_marks;
 mod rows;
 mod store;

@@ -12,10 +12,10 @@ ghost use Rattle.version_store.specs.HeldRecords.{bytes_held_by};
 ghost use Rattle.version_store.specs.HeldFor.{IsHeldFor};
 ghost use Rattle.version_store.specs.Openings.{IsSound, held_of, plan_held, records_for};
 
-use crate::digit_records::DigitRecords;
 use crate::first_layer::slot_room;
 use crate::held_records::HeldRecords;
 use crate::opening::plan_of;
+use crate::record_batches::RecordBatches;
 use crate::store::Store;
 use digit_pack::is_wide;
 use matrix_u32::Kernel;
@@ -191,7 +191,7 @@ impl Opening {
     }
 }
 
-// Reads what follows an accepted header: in a wide form each record into its digits as it comes.
+// Reads what follows an accepted header: in a wide form each record into its digits, some columns at a time.
 fn read_held<R: Read>(
     alloc: Global,
     reader: &mut R,
@@ -215,7 +215,7 @@ fn read_held<R: Read>(
     }
     // The sizes are within the limits: no refusal is left.
     let layout = header.layout().unwrap();
-    let mut records = DigitRecords::new(alloc, layout)?;
+    let mut records = RecordBatches::new(alloc, layout)?;
     let digest = read_records_into(alloc, reader, header, &mut records)?;
-    Ok((HeldRecords::Digits(records), digest))
+    Ok((HeldRecords::Digits(records.finish()), digest))
 }

@@ -152,11 +152,27 @@ fn written_again(alloc: Global, opening: &Opening) -> Result<Vec<u8>, Fail> {
     Ok(file)
 }
 
-// In each form, by counts that fill their last column and that don't; the last has more records than a buffer of 64 KiB.
+// In each form, by counts that fill their last column and that don't, that fill the 48 columns which are written together, and one more or
+// less; the last has more records than a buffer of 64 KiB.
 #[test]
 fn a_streamed_store_is_that_of_its_snapshot(rt: HostRuntime) -> Result<(), Fail> {
     for form in [1, 2, 129, 130] {
-        for (groups, count) in [(1, 1), (1, 7), (2, 7), (3, 6), (7, 3), (300, 30_000)] {
+        for (groups, count) in [
+            (1, 1),
+            (1, 7),
+            (2, 7),
+            (3, 6),
+            (7, 3),
+            (1, 47),
+            (1, 48),
+            (1, 49),
+            (5, 239),
+            (5, 240),
+            (5, 241),
+            (5, 480),
+            (5, 483),
+            (300, 30_000),
+        ] {
             let header = header(form, groups, count);
             let bytes = records(rt.alloc(), form, count)?;
             let file = file_of(rt.alloc(), &header, &bytes)?;
