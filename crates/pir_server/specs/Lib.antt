@@ -1,5 +1,1 @@
-pub mod Moves
-pub mod Makings
-pub mod Progress
-pub mod ReadIn
-pub mod Tasks
+pub mod HintLines

@@ -2,22 +2,15 @@
 
 ghost use Rattle.std.specs.Prelude.{IfOk};
 ghost use Rattle.snapshot_file.specs.declared.snapshot.Snapshot.{Snapshot};
-ghost use Rattle.pir_server.specs.Moves.{HasRecordsOf, IsWideOf};
+ghost use Rattle.server_files.specs.Moves.{HasRecordsOf, IsWideOf};
 
-use crate::backing_up::back_up;
-use crate::causes::failed_at;
-use crate::command_line::{Migrating, SEED_TAKES, Task, Widening, task_of};
-use crate::compacting::compact_file;
-use crate::files::{OwnFile, RecordsOf, write_anew};
-use crate::make_line::Making;
-use crate::making::make;
-use crate::moving::{moved, widened};
-use crate::pairs::whole_of;
-use crate::rekeying::rekey;
 use crate::running::run_file;
-use crate::serving::serve_file;
-use crate::showing::show;
 use command_words::{Failed, Failure, open_standard_descriptors, printed, program_words};
+use server_files::{
+    OwnFile, RecordsOf, back_up, compact_file, failed_at, make, moved, rekey, serve_file, show,
+    whole_of, widened, write_anew,
+};
+use server_words::{Making, Migrating, SEED_TAKES, Task, Widening, task_of};
 use service_loop::say_line;
 use session_core::{OnceFault, Snapshot, once};
 use std::io;

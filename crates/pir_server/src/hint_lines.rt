@@ -1,9 +1,9 @@
 //! How many rows of the hints are made, on standard error.
 
 ghost use Rattle.std.specs.Prelude.{◌≡◌, IfOk, string_bytes};
-ghost use Rattle.pir_server.specs.Progress.{hint_line};
+ghost use Rattle.pir_server.specs.HintLines.{hint_line};
 
-use crate::progress::Pace;
+use server_files::Pace;
 use service_loop::say_line;
 use std::alloc::{AllocError, Global};
 use version_store::HintWatcher;

@@ -9,30 +9,10 @@
 //! `tests/service` and `tests/once`.
 #![tactic(auto)]
 
-mod backing_up;
-mod causes;
-mod command_line;
 mod commands;
-mod compacting;
-mod counted;
-mod file_version;
-mod files;
 mod hint_lines;
-mod last_bytes;
-mod logs;
-mod make_line;
-mod making;
-mod moving;
-mod pairs;
-mod progress;
-mod reading_in;
-mod rekeying;
-mod run_line;
 mod running;
 mod saving;
-mod serving;
-mod showing;
-mod slot_reading;
 
 use std::process::ExitCode;
 

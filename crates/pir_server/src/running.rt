@@ -2,15 +2,14 @@
 
 ghost use Rattle.std.specs.Prelude.{◌≡◌, ◌-◌, min, max, IfOk};
 
-use crate::causes::{failed_at, not_listening};
-use crate::compacting::compacted_past;
-use crate::files::{OwnFile, kept_file, store_after};
 use crate::hint_lines::HintLines;
-use crate::logs::{BAD_LOG, log_failure};
-use crate::run_line::Running;
 use crate::saving::LogSaver;
 use command_words::{Failed, Failure};
 use publication_log::open_log;
+use server_files::{
+    BAD_LOG, OwnFile, compacted_past, failed_at, kept_file, log_failure, not_listening, store_after,
+};
+use server_words::Running;
 use service_loop::{Limits, RunFault, run_service, say_line};
 use session_core::{Lanes, ServerCore, Store};
 
@@ -41,7 +40,7 @@ pub fn run_file(rt: &HostRuntime, running: &Running<'_>) -> Result<(), Failed> {
     };
     let limit = bytes_of_mib(running.log_limit);
     let mut lines = HintLines::new(rt, running.progress);
-    let (store, saver) = match open_to_run(rt, &mut file, limit, &mut lines) {
+    let (store, saver) = match open_to_run(rt, &mut file, limit, running.progress, &mut lines) {
         Ok(both) => both,
         Err(failure) => return Err(failed_at(rt, running.file, failure)),
     };
@@ -86,17 +85,18 @@ fn bytes_of_mib(count: u64) -> usize {
     usize::try_from(count.saturating_mul(MIB)).unwrap_or(usize::MAX)
 }
 
-// The store of a file and its log, and what appends to that log. A log of more than so many bytes is made shorter first. Lines
-// on the hints are printed while these are made.
+// The store of a file and its log, and what appends to that log. A log of more than so many bytes is made shorter first. Lines are
+// printed while the file is read, if they are wanted, and while the hints are made.
 fn open_to_run(
     rt: &HostRuntime,
     file: &mut OwnFile<'_>,
     limit: usize,
+    wanted: bool,
     lines: &mut HintLines<'_>,
 ) -> Result<(Store<Lanes>, LogSaver), Failure>
     ensures { IfOk result (λ it. it.1.has.version ≡ it.0.version) }
 {
-    let kept = kept_file(rt, file)?;
+    let kept = kept_file(rt, file, wanted)?;
     let kept = compacted_past(rt, file, kept, limit)?;
     let opened = match open_log(rt, kept.own.name.as_str(), &kept.own.header) {
         Ok(opened) => opened,

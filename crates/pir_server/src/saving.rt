@@ -2,9 +2,9 @@
 
 ghost use Rattle.std.specs.Prelude.{◌≡◌, ◌+◌, ◌↔◌, IfSome, IsTrue};
 
-use crate::file_version::{FileVersion, append_version, take_back_version};
 use log_replay::draft_publication;
 use publication_log::{AppendFault, Log, LogEnd, LogFile};
+use server_files::{FileVersion, append_version, take_back_version};
 use service_loop::{AppendFailed, SaveFailed, Saver};
 use session_core::{Lanes, Store};
 

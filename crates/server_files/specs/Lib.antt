@@ -1,0 +1,5 @@
+pub mod Moves
+pub mod Makings
+pub mod Progress
+pub mod ReadIn
+pub mod Versions

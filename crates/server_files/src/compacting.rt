@@ -1,0 +1,150 @@
+//! The command `compact`, and the same before a file is served: a log made shorter.
+
+ghost use Rattle.std.specs.Prelude.{◌≡◌, IfOk};
+ghost use Rattle.version_store.specs.Openings.{IsSound};
+
+use crate::causes::failed_at;
+use crate::files::{
+    KeptFile, OpeningOf, OwnFile, digest_of, kept_file, replace_failure, write_file,
+};
+use crate::logs::{OwnLog, log_failure, replay_failure};
+use command_words::{Failed, Failure, printed};
+use log_replay::{earlier_count, replay_first};
+use publication_log::{Publications, ReadLog, read_log_file, relinked, remove_other_logs};
+use safe_files::{Bytes, replace_file};
+use std::fs;
+
+/// Puts all publications of a file's log into its snapshot, but the last 16, and prints the version of the snapshot and how many
+/// publications follow it.
+///
+/// # Errors
+///
+/// In this order: `File` where there is no file, `Locked` where another process has it, those of the snapshot, `Write` where the file
+/// can't be sent to the device, those of the log (`File`, `BadLog`), and those of the new files (`File`, `Write`). `Memory` where there
+/// was none.
+pub fn compact_file(rt: &HostRuntime, name: &str) -> Result<(), Failed> {
+    match compact_pair(rt, name) {
+        Ok((version, publications)) => {
+            printed(rt, println!(rt; "compacted {version} {publications}"))
+        }
+        Err(failure) => Err(failed_at(rt, name, failure)),
+    }
+}
+
+// The version of the snapshot, and how many publications follow it.
+fn compact_pair(rt: &HostRuntime, name: &str) -> Result<(u64, usize), Failure> {
+    let mut file = OwnFile::to_read(rt, name)?;
+    let kept = kept_file(rt, &mut file, false)?;
+    // What one that was cut short left is removed, also if there is nothing to do.
+    remove_other_logs(rt, file.name(), kept.own.name.as_str());
+    match read_own(rt, &kept.own)? {
+        Some(log) => compact_both(rt, &mut file, kept, &log),
+        None => Ok((kept.read.opening.version(), 0)),
+    }
+}
+
+// The same of a file that has this log.
+fn compact_both(
+    rt: &HostRuntime,
+    file: &mut OwnFile<'_>,
+    kept: KeptFile,
+    log: &ReadLog,
+) -> Result<(u64, usize), Failure>
+    requires { IsSound kept.read.opening.header kept.read.opening.bytes }
+{
+    let publications = log.publications();
+    let earlier = earlier_count(publications);
+    if earlier == 0 {
+        return Ok((kept.read.opening.version(), publications.count()));
+    }
+    let kept = shortened(rt, file, kept, log)?;
+    Ok((
+        kept.read.opening.version(),
+        publications.count().saturating_sub(earlier),
+    ))
+}
+
+/// A file that is to be served, with a log of more than 16 publications and more than so many bytes made shorter.
+///
+/// # Errors
+///
+/// Those of the log (`File`, `BadLog`), and those of the new files (`File`, `Write`); `Memory`.
+pub fn compacted_past(
+    rt: &HostRuntime,
+    file: &mut OwnFile<'_>,
+    kept: KeptFile,
+    limit: usize,
+) -> Result<KeptFile, Failure>
+    requires version { kept.read.has.version ≡ kept.read.opening.header.version }
+    requires sound { IsSound kept.read.opening.header kept.read.opening.bytes }
+    ensures version { IfOk result (λ it. it.read.has.version ≡ it.read.opening.header.version) }
+    ensures sound { IfOk result (λ it. IsSound it.read.opening.header it.read.opening.bytes) }
+{
+    if !is_longer(rt, kept.own.name.as_str(), limit) {
+        return Ok(kept);
+    }
+    let Some(log) = read_own(rt, &kept.own)? else {
+        return Ok(kept);
+    };
+    if log.len() <= limit || earlier_count(log.publications()) == 0 {
+        return Ok(kept);
+    }
+    shortened(rt, file, kept, &log)
+}
+
+// Whether a file has more than so many bytes: then it is worth reading.
+fn is_longer(rt: &HostRuntime, name: &str, limit: usize) -> bool {
+    match fs::symlink_metadata(rt, name) {
+        Ok(found) => found.len() > limit as u64,
+        Err(_) => false,
+    }
+}
+
+// The log beside a file, if there is one.
+fn read_own(rt: &HostRuntime, own: &OwnLog) -> Result<Option<ReadLog>, Failure> {
+    match read_log_file(rt, own.name.as_str(), &own.header) {
+        Ok(log) => Ok(log),
+        Err(fault) => Err(log_failure(fault)),
+    }
+}
+
+// Writes the log of the last 16 publications under the name that belongs to the snapshot before them, then that snapshot in the place of
+// the file, and removes the log of before. At each moment the file and its log have what they had.
+fn shortened(
+    rt: &HostRuntime,
+    file: &mut OwnFile<'_>,
+    kept: KeptFile,
+    log: &ReadLog,
+) -> Result<KeptFile, Failure>
+    requires sound { IsSound kept.read.opening.header kept.read.opening.bytes }
+    ensures version { IfOk result (λ it. it.read.has.version ≡ it.read.opening.header.version) }
+    ensures sound { IfOk result (λ it. IsSound it.read.opening.header it.read.opening.bytes) }
+{
+    let publications = log.publications();
+    let earlier = earlier_count(publications);
+    let mut opening = kept.read.opening;
+    match replay_first(&mut opening, publications, earlier) {
+        Ok(()) => {}
+        Err(fault) => return Err(replay_failure(fault)),
+    }
+    let content = OpeningOf(&opening);
+    let digest = digest_of(rt.alloc(), &content)?;
+    let own = OwnLog::of(rt.alloc(), file.name(), &opening.header(), digest)?;
+    write_log(rt, &own, publications.without_first(earlier))?;
+    let has = write_file(rt, file, &content)?;
+    remove_other_logs(rt, file.name(), own.name.as_str());
+    Ok(KeptFile::of(opening, digest, has, own))
+}
+
+// Writes a log of these publications.
+fn write_log(
+    rt: &HostRuntime,
+    own: &OwnLog,
+    publications: Publications<'_>,
+) -> Result<(), Failure> {
+    let bytes = relinked(rt.alloc(), &own.header, publications)?;
+    match replace_file(rt, own.name.as_str(), &Bytes(&bytes)) {
+        Ok(()) => Ok(()),
+        Err(fault) => Err(replace_failure(fault)),
+    }
+}

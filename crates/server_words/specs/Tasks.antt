@@ -1,0 +1,96 @@
+-- What a command line asks for.
+use Rattle.std.specs.Prelude.{◌≡◌, ◌+◌, ℕ, List, codes, Bool, true, false, Option, None, Some, IsSomeAnd, MatchBool, MatchOption}
+use Rattle.std.specs.Str.Parse.{IsNumeral, digits_value}
+use Rattle.clap.specs.declared.parser.matches.Found.{Found}
+use Rattle.clap.specs.Matches.{first_value, one_text}
+use Rattle.command_words.specs.declared.secrets.Secret.{Secret}
+use Rattle.command_words.specs.Secrets.{IsSecretOf}
+use Rattle.service_watch.specs.declared.entries.LogFormat.{LogFormat}
+use Rattle.service_watch.specs.declared.entries.LogFormat.TheVariants.{Text, Json}
+use Rattle.server_words.specs.declared.make_line.Making.{Making}
+use Rattle.server_words.specs.declared.command_line.Migrating.{Migrating}
+use Rattle.server_words.specs.declared.command_line.Widening.{Widening}
+use Rattle.server_words.specs.declared.command_line.BackingUp.{BackingUp}
+use Rattle.server_words.specs.declared.command_line.Rekeying.{Rekeying}
+use Rattle.server_words.specs.declared.command_line.Serving.{Serving}
+use Rattle.server_words.specs.declared.run_line.Running.{Running}
+
+-- what was given for a name is this number in decimal digits
+abbrev pub IsNumberGiven : Found → List ℕ → ℕ → Type 0
+IsNumberGiven found name n = MatchOption (first_value found name) ⊥ (λ text. IsNumeral 10 text × (digits_value 10 text ≡ n))
+
+-- what was given for a name is this number in decimal digits, or nothing was given and it is the usual one
+abbrev pub IsNumberOr : ℕ → Found → List ℕ → ℕ → Type 0
+IsNumberOr usual found name n =
+    MatchOption (first_value found name) (n ≡ usual) (λ text. IsNumeral 10 text × (digits_value 10 text ≡ n))
+
+-- what was given for a name is this secret
+abbrev pub IsSecretGiven : Found → List ℕ → Secret → Type 0
+IsSecretGiven found name secret = MatchOption (first_value found name) ⊥ (λ text. IsSecretOf text secret)
+
+-- whether a flag was given for a name
+abbrev pub IsFlagGiven : Found → List ℕ → Bool → Type 0
+IsFlagGiven found name flag =
+    (one_text found name ≡ None → flag ≡ false) × (one_text found name ≡ Some (codes "true") → flag ≡ true)
+
+-- what was given for a name is this number in decimal digits, or nothing was given and there is none
+abbrev pub IsNumberIf : Found → List ℕ → Option ℕ → Type 0
+IsNumberIf found name n =
+    MatchOption (first_value found name) (n ≡ None) (λ text. IsNumeral 10 text × (n ≡ Some (digits_value 10 text)))
+
+-- a new store, as the options of `make` ask for it, but whether it must be new and whether is said how much was read
+abbrev pub ReadsMake : Found → Making → Type 0
+ReadsMake found making =
+    (first_value found (codes "out") ≡ Some making.out.now) × IsNumberOr 1 found (codes "form") making.form
+    × IsFlagGiven found (codes "wide") making.wide
+    × IsNumberGiven found (codes "width") making.width × IsNumberGiven found (codes "record") making.record_len
+    × IsNumberGiven found (codes "groups") making.groups × IsNumberIf found (codes "count") making.count
+    × IsSecretGiven found (codes "seed") making.seed
+    × IsSecretGiven found (codes "key") making.key
+
+-- a move into slots, as those of `migrate` do
+abbrev pub ReadsMigrate : Found → Migrating → Type 0
+ReadsMigrate found migrating =
+    (first_value found (codes "file") ≡ Some migrating.file.now) × (first_value found (codes "out") ≡ Some migrating.out.now)
+
+-- a wide store of a file's records, as those of `widen` do
+abbrev pub ReadsWiden : Found → Widening → Type 0
+ReadsWiden found widening =
+    (first_value found (codes "file") ≡ Some widening.file.now) × (first_value found (codes "out") ≡ Some widening.out.now)
+    × IsSecretGiven found (codes "seed") widening.seed
+
+-- another publisher's key, as those of `rekey` do
+abbrev pub ReadsRekey : Found → Rekeying → Type 0
+ReadsRekey found rekeying =
+    (first_value found (codes "file") ≡ Some rekeying.file.now) × IsSecretGiven found (codes "key") rekeying.key
+
+-- so many connections one after the other, as those of `serve` do
+abbrev pub ReadsServe : Found → Serving → Type 0
+ReadsServe found serving =
+    (first_value found (codes "file") ≡ Some serving.file.now) × IsNumberGiven found (codes "port") serving.port
+    × IsNumberGiven found (codes "connections") serving.connections
+
+-- How a log's lines are written, if that was given.
+abbrev pub ReadsFormat : Found → Option LogFormat → Type 0
+ReadsFormat found None = first_value found (codes "log") ≡ None
+ReadsFormat found (Some Text) = first_value found (codes "log") ≡ Some (codes "text")
+ReadsFormat found (Some Json) = first_value found (codes "log") ≡ Some (codes "json")
+
+-- How many seconds what was begun has after the end of standard input: the number given, or 10. If the flag is not given, there is
+-- none, and none was given.
+abbrev pub ReadsGrace : Found → Option ℕ → Type 0
+ReadsGrace found grace =
+    (stops : Bool) × IsFlagGiven found (codes "until-eof") stops
+    × MatchBool stops (IsSomeAnd grace (IsNumberOr 10 found (codes "grace"))) ((grace ≡ None) × (first_value found (codes "grace") ≡ None))
+
+-- connections side by side, as those of `run` do, but the addresses, whether it is quiet, and whether is said how far the hints are
+abbrev pub ReadsRun : Found → Running → Type 0
+ReadsRun found running =
+    (first_value found (codes "file") ≡ Some running.file.now) × IsNumberOr 256 found (codes "most") running.most
+    × IsNumberOr 60 found (codes "idle") running.idle × IsNumberOr 256 found (codes "memory") running.memory × IsNumberOr 64 found (codes "log-limit") running.log_limit
+    × ReadsGrace found running.grace × IsNumberIf found (codes "most-per-peer") running.most_per_peer × ReadsFormat found running.log
+
+-- a copy of a file's last version, as those of `backup` do
+abbrev pub ReadsBackup : Found → BackingUp → Type 0
+ReadsBackup found backing_up =
+    (first_value found (codes "file") ≡ Some backing_up.file.now) × (first_value found (codes "out") ≡ Some backing_up.out.now)
