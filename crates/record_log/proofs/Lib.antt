@@ -1,0 +1,9 @@
+pub mod Olds
+pub mod Undoing
+pub mod EntryBytes
+pub mod Listing
+pub mod Totals
+pub mod Between
+pub mod Walk
+pub mod Versions
+pub mod EntriesMove

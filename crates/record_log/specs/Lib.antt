@@ -1,0 +1,4 @@
+pub mod OldRecords
+pub mod Logs
+pub mod Steps
+pub mod Laws
