@@ -84,7 +84,7 @@ pub enum VersionFault {
 }
 
 /// Reads a snapshot, which must be the whole file, and sends the file and its name to the device, since whoever wrote it may have been
-/// killed before. What reports on the reading, if anything does, is told of each read. The file is given back.
+/// killed before. What reports on the reading, if anything does, counts each read. The file is given back.
 ///
 /// # Errors
 ///
