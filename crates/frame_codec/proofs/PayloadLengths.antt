@@ -5,7 +5,7 @@ use Rattle.std.proofs.lemmas.Bool.{eq-eqb, eqb-true, le-leb, leb-true}
 use Rattle.std.proofs.lemmas.List.{length-replicate}
 use Rattle.std.proofs.lemmas.List.Elements.{All-replicate}
 use Rattle.frame_codec.specs.declared.frame.Frame.{Frame}
-use Rattle.frame_codec.specs.declared.frame.Frame.TheVariants.{Load, Hello, HintAsk, DeltaAsk, Query, Edit, Publish, Bye, Append, Welcome, HintPart, Delta, Answer, Stale, Done, NoDelta, Refused}
+use Rattle.frame_codec.specs.declared.frame.Frame.TheVariants.{Load, Hello, HintAsk, DeltaAsk, Query, Edit, Publish, Bye, Append, ChangesAsk, Welcome, HintPart, Delta, Answer, Stale, Done, NoDelta, Changes, Refused}
 use Rattle.frame_codec.specs.Numbers.{number_in}
 use Rattle.frame_codec.specs.Rows.{RowList}
 use Rattle.frame_codec.specs.Frames.{IsPayloadLength, payload_of}
@@ -79,6 +79,9 @@ append_length n =
     let f : Frame = Append (replicate n 0) in
     (f, refl, small n (2 ^ 8) (omega arith), payload_sized f ∙ length-replicate {A = ℕ} n 0)
 
+changes_ask_length : IsPayloadLength 10 8
+changes_ask_length = (ChangesAsk 0, refl, omega arith, payload_sized (ChangesAsk 0))
+
 welcome_length : IsPayloadLength 130 53
 welcome_length =
     let f : Frame = Welcome 0 0 0 0 0 0 0 (replicate 32 0) in (
@@ -124,6 +127,15 @@ done_length = (Done 0, refl, omega arith, payload_sized (Done 0))
 no_delta_length : IsPayloadLength 136 12
 no_delta_length = (NoDelta 0 0, refl, (omega arith, omega arith), payload_sized (NoDelta 0 0))
 
+changes_length : (n : ℕ) → 20 ≤ n → IsPayloadLength 138 n
+changes_length n le =
+    let f : Frame = Changes 0 0 0 (replicate (n - 20) 0) in (
+      f,
+      refl,
+      (omega arith, omega arith, omega arith, small (n - 20) (2 ^ 8) (omega arith)),
+      payload_sized f ∙ omega (arith, length-replicate {A = ℕ} (n - 20) 0, le),
+    )
+
 refused_length : IsPayloadLength 143 1
 refused_length = (Refused 0, refl, omega arith, payload_sized (Refused 0))
 
@@ -153,6 +165,9 @@ publish_lengths = exactly 7 0 publish_length (λ p h. h)
 pub bye_lengths : (n : ℕ) → IsTrue (n == 0) ↔ IsPayloadLength 8 n
 bye_lengths = exactly 8 0 bye_length (λ p h. h)
 
+pub changes_ask_lengths : (n : ℕ) → IsTrue (n == 8) ↔ IsPayloadLength 10 n
+changes_ask_lengths = exactly 10 8 changes_ask_length (λ p h. h)
+
 pub welcome_lengths : (n : ℕ) → IsTrue (n == 53) ↔ IsPayloadLength 130 n
 welcome_lengths = exactly 130 53 welcome_length (λ p h. h)
 
@@ -173,6 +188,9 @@ done_lengths = exactly 135 8 done_length (λ p h. h)
 
 pub no_delta_lengths : (n : ℕ) → IsTrue (n == 12) ↔ IsPayloadLength 136 n
 no_delta_lengths = exactly 136 12 no_delta_length (λ p h. h)
+
+pub changes_lengths : (n : ℕ) → IsTrue (nat_le 20 n) ↔ IsPayloadLength 138 n
+changes_lengths = at_least 138 20 changes_length (λ p h. h)
 
 pub refused_lengths : (n : ℕ) → IsTrue (n == 1) ↔ IsPayloadLength 143 n
 refused_lengths = exactly 143 1 refused_length (λ p h. h)

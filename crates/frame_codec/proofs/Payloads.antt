@@ -4,7 +4,7 @@ use Rattle.std.specs.Prelude.{MatchBool, ◌==◌}
 use Rattle.std.proofs.lemmas.List.{length-append, append-nil, nil_from_length, length-drop, drop-drop, drop_more}
 use Rattle.std.proofs.lemmas.List.Elements.{All-from_get_or}
 use Rattle.frame_codec.specs.declared.frame.Frame.{Frame}
-use Rattle.frame_codec.specs.declared.frame.Frame.TheVariants.{Load, Hello, HintAsk, DeltaAsk, Query, Edit, Publish, Bye, Append, Welcome, HintPart, Delta, Answer, Stale, Done, NoDelta, Refused}
+use Rattle.frame_codec.specs.declared.frame.Frame.TheVariants.{Load, Hello, HintAsk, DeltaAsk, Query, Edit, Publish, Bye, Append, ChangesAsk, Welcome, HintPart, Delta, Answer, Stale, Done, NoDelta, Changes, Refused}
 use Rattle.frame_codec.specs.Numbers.{number_bytes, number_in, word_bytes}
 use Rattle.frame_codec.specs.Rows.{RowList, HasWholeRows}
 use Rattle.frame_codec.specs.Frames.{kind_of, payload_of, HasFields, Stands, IsPayload, payload_size}
@@ -22,6 +22,7 @@ HasLength k p =
     MatchBool (k == 7) (length p ≡ 0) (
     MatchBool (k == 8) (length p ≡ 0) (
     MatchBool (k == 9) (Unit {0}) (
+    MatchBool (k == 10) (length p ≡ 8) (
     MatchBool (k == 130) (length p ≡ 53) (
     MatchBool (k == 131) ((m : ℕ) × (length p ≡ 13 + 4 * m)) (
     MatchBool (k == 132) ((m : ℕ) × (length p ≡ 22 + 4 * (m * (number_in 2 (drop 20 p) + 1)))) (
@@ -29,7 +30,8 @@ HasLength k p =
     MatchBool (k == 134) (length p ≡ 12) (
     MatchBool (k == 135) (length p ≡ 8) (
     MatchBool (k == 136) (length p ≡ 12) (
-    length p ≡ 1))))))))))))))))
+    MatchBool (k == 138) (20 ≤ length p) (
+    length p ≡ 1))))))))))))))))))
 
 -- a scheme, a version and words
 pub scheme_words_length : (scheme version : ℕ) (words : List ℕ) → length (scheme ∷ (number_bytes 8 version ++ word_bytes words)) ≡ 9 + 4 * length words
@@ -54,6 +56,7 @@ payload_sized (Edit index bytes) = omega (arith, length-append (number_bytes 4 i
 payload_sized Publish = refl
 payload_sized Bye = refl
 payload_sized (Append bytes) = refl
+payload_sized (ChangesAsk since) = length-number 8 since
 payload_sized (Welcome profile width record_len groups count version dimension seed) = omega (arith, length-append {A = ℕ}, length-number)
 payload_sized (HintPart scheme version part words) =
     omega (
@@ -71,6 +74,7 @@ payload_sized (Stale version count) =
 payload_sized (Done version) = length-number 8 version
 payload_sized (NoDelta version count) =
     omega (arith, length-append (number_bytes 8 version) (number_bytes 4 count), length-number 8 version, length-number 4 count)
+payload_sized (Changes since now count entries) = omega (arith, length-append {A = ℕ}, length-number)
 payload_sized (Refused code) = refl
 
 -- the dimension in the payload of a Delta
@@ -95,6 +99,7 @@ length-payload (Edit index bytes) fits = omega (arith, payload_sized (Edit index
 length-payload Publish fits = payload_sized Publish
 length-payload Bye fits = payload_sized Bye
 length-payload (Append bytes) fits = tt
+length-payload (ChangesAsk since) fits = payload_sized (ChangesAsk since)
 length-payload (Welcome profile width record_len groups count version dimension seed) fits =
     omega (arith, payload_sized (Welcome profile width record_len groups count version dimension seed), fits.7)
 length-payload (HintPart scheme version part words) fits = (length words, payload_sized (HintPart scheme version part words))
@@ -106,6 +111,7 @@ length-payload (Answer scheme version words) fits = (length words, payload_sized
 length-payload (Stale version count) fits = payload_sized (Stale version count)
 length-payload (Done version) fits = payload_sized (Done version)
 length-payload (NoDelta version count) fits = payload_sized (NoDelta version count)
+length-payload (Changes since now count entries) fits = omega (arith, payload_sized (Changes since now count entries))
 length-payload (Refused code) fits = payload_sized (Refused code)
 
 -- no payload of another length stands for a frame of this kind
@@ -176,6 +182,11 @@ pub is_delta_ask : (bytes : List ℕ) → IsBytes bytes → length bytes ≡ 8 �
     Stands 4 bytes (DeltaAsk since)
 unfolding payload_of
 is_delta_ask bytes fits len since small e = record { kind = refl; payload = number_alone 8 bytes fits len since e; fields = small }
+
+pub is_changes_ask : (bytes : List ℕ) → IsBytes bytes → length bytes ≡ 8 → (since : ℕ) → since < 2 ^ 64 → since ≡ number_in 8 bytes →
+    Stands 10 bytes (ChangesAsk since)
+unfolding payload_of
+is_changes_ask bytes fits len since small e = record { kind = refl; payload = number_alone 8 bytes fits len since e; fields = small }
 
 pub is_edit : (bytes : List ℕ) → IsBytes bytes → 4 ≤ length bytes → (index : ℕ) (content : List ℕ) → index < 2 ^ 32 → index ≡ number_in 4 bytes →
     content ≡ drop 4 bytes → All (λ b. b < 2 ^ 8) content → Stands 6 bytes (Edit index content)
@@ -258,6 +269,26 @@ is_delta bytes fits le since now count rows d ss sn sc sd whole all =
     let at8 : number_bytes 8 now ++ (number_bytes 4 count ++ (number_bytes 2 rows.dimension ++ word_bytes rows.words)) ≡ drop 8 bytes =
     number_at 8 8 16 bytes fits refl (omega arith) now _ d.now_is at16 in
     record { kind = refl; payload = number_first 8 bytes fits (omega arith) since _ d.since_is at8; fields = (ss, sn, sc, sd, whole, all) }
+
+-- the fields of changed records, as they stand in the payload
+pub record ChangesFields (bytes : List ℕ) (since now count : ℕ) (entries : List ℕ) : Type 0 where
+  pub since_is : since ≡ number_in 8 bytes
+  pub now_is : now ≡ number_in 8 (drop 8 bytes)
+  pub count_is : count ≡ number_in 4 (drop 16 bytes)
+  pub entries_are : entries ≡ drop 20 bytes
+
+pub is_changes : (bytes : List ℕ) → IsBytes bytes → 20 ≤ length bytes → (since now count : ℕ) (entries : List ℕ) → ChangesFields bytes since now count entries →
+    since < 2 ^ 64 → now < 2 ^ 64 → count < 2 ^ 32 → All (λ b. b < 2 ^ 8) entries → Stands 138 bytes (Changes since now count entries)
+unfolding payload_of
+is_changes bytes fits le since now count entries d ss sn sc all =
+    let at16 : number_bytes 4 count ++ entries ≡ drop 16 bytes = number_at 16 4 20 bytes fits refl le count entries d.count_is d.entries_are in
+    let at8 : number_bytes 8 now ++ (number_bytes 4 count ++ entries) ≡ drop 8 bytes =
+    number_at 8 8 16 bytes fits refl (omega (arith, le)) now (number_bytes 4 count ++ entries) d.now_is at16 in
+    record {
+      kind = refl;
+      payload = number_first 8 bytes fits (omega (arith, le)) since (number_bytes 8 now ++ (number_bytes 4 count ++ entries)) d.since_is at8;
+      fields = (ss, sn, sc, all);
+    }
 
 -- a scheme, a version and words that are all
 pub is_scheme_words : (bytes : List ℕ) → IsBytes bytes → 9 ≤ length bytes → (version : ℕ) (words : List ℕ) → version ≡ number_in 8 (drop 1 bytes) →
@@ -342,6 +373,16 @@ pub has_edit : (bytes : List ℕ) → IsBytes bytes → 4 ≤ length bytes → I
 has_edit bytes fits le = (
   Edit (number_in 4 bytes) (drop 4 bytes),
   is_edit bytes fits le _ _ (number_in-lt 4 bytes fits (omega arith)) refl refl (bytes_after 4 bytes fits),
+)
+
+pub has_changes : (bytes : List ℕ) → IsBytes bytes → 20 ≤ length bytes → IsPayload 138 bytes
+has_changes bytes fits le = (
+  Changes (number_in 8 bytes) (number_in 8 (drop 8 bytes)) (number_in 4 (drop 16 bytes)) (drop 20 bytes),
+  is_changes bytes fits le _ _ _ _ (record { since_is = refl; now_is = refl; count_is = refl; entries_are = refl })
+      (number_in-lt 8 bytes fits (omega (arith, le)))
+      (number_in-lt 8 (drop 8 bytes) (IsBytes-drop 8 bytes fits) (omega (arith, length-drop 8 bytes, le)))
+      (number_in-lt 4 (drop 16 bytes) (IsBytes-drop 16 bytes fits) (omega (arith, length-drop 16 bytes, le)))
+      (bytes_after 20 bytes fits),
 )
 
 pub has_append : (bytes : List ℕ) → IsBytes bytes → IsPayload 9 bytes

@@ -1,18 +1,19 @@
 -- What stands at the beginning of bytes.
-use Rattle.std.proofs.Common.{◌≡◌, ℕ, ◌+◌, ◌<◌, ◌≤◌, true, false, List, [], ◌∷◌, ◌++◌, length, get_or, take, drop, refl, sym, ap, subst, ◌∙◌, append_assoc, arith, inl, inr}
-use Rattle.std.proofs.lemmas.Bool.{cases_lt}
+use Rattle.std.proofs.Common.{◌≡◌, ℕ, ◌+◌, ◌<◌, ◌≤◌, Bool, true, false, ◌&&◌, ◌||◌, List, [], ◌∷◌, ◌++◌, length, get_or, take, drop, refl, sym, ap, subst, ◌∙◌, append_assoc, arith, inl, inr}
+use Rattle.std.proofs.lemmas.Bool.{cases_lt, cases_Bool}
 use Rattle.std.proofs.lemmas.List.{length-append, take_at, drop_at, take-append-drop, length-drop, length-take-le, drop-drop, drop_more, get_or_append_left, take-append-le, get_or_at, get_or-take, drop-take}
 use Rattle.frame_codec.specs.declared.frame.Frame.{Frame}
-use Rattle.frame_codec.specs.declared.frame.Frame.TheVariants.{Load, Hello, HintAsk, DeltaAsk, Query, Edit, Publish, Bye, Append, Welcome, HintPart, Delta, Answer, Stale, Done, NoDelta, Refused}
+use Rattle.frame_codec.specs.declared.frame.Frame.TheVariants.{Load, Hello, HintAsk, DeltaAsk, Query, Edit, Publish, Bye, Append, ChangesAsk, Welcome, HintPart, Delta, Answer, Stale, Done, NoDelta, Changes, Refused}
 use Rattle.frame_codec.specs.declared.reader.ReadFault.{ReadFault}
 use Rattle.frame_codec.specs.declared.reader.ReadFault.TheVariants.{TooLong, UnknownKind, BadPayload, Memory, Failed}
 use Rattle.frame_codec.specs.Numbers.{number_bytes, number_in}
 use Rattle.frame_codec.specs.Frames.{kind_of, payload_of, payload_size, payload_limit, encoding, IsFrame, Stands}
-use Rattle.frame_codec.specs.Streams.{is_kind, length_at, kind_at, HasFrame, HasFault, StopsAt, IsPartial, IsReadable}
+use Rattle.frame_codec.specs.Streams.{is_kind, length_at, kind_at, HasFrame, HasFault, StopsAt, IsFrameOf, IsPartial, IsReadable}
 use Rattle.frame_codec.proofs.Payloads.{payload_sized}
 use Rattle.frame_codec.proofs.NumberBytes.{IsBytes, prefix, length-number, number_back, number_ahead, drop_number}
 
-kinds_are : (f : Frame) → is_kind (kind_of f) ≡ true
+-- every kind is one of a wide database
+kinds_are : (f : Frame) → is_kind true (kind_of f) ≡ true
 kinds_are (Load record_len groups width records) = refl
 kinds_are (Query scheme version words) = refl
 kinds_are (Hello profile key) = refl
@@ -22,6 +23,7 @@ kinds_are (Edit index bytes) = refl
 kinds_are Publish = refl
 kinds_are Bye = refl
 kinds_are (Append bytes) = refl
+kinds_are (ChangesAsk since) = refl
 kinds_are (Welcome profile width record_len groups count version dimension seed) = refl
 kinds_are (HintPart scheme version part words) = refl
 kinds_are (Delta since now count rows) = refl
@@ -29,7 +31,21 @@ kinds_are (Answer scheme version words) = refl
 kinds_are (Stale version count) = refl
 kinds_are (Done version) = refl
 kinds_are (NoDelta version count) = refl
+kinds_are (Changes since now count entries) = refl
 kinds_are (Refused code) = refl
+
+-- so every frame may stand in a stream of a wide database
+pub in_all : (f : Frame) → IsFrame f → IsFrameOf true f
+in_all f fits = record { frame = fits; known = kinds_are f }
+
+-- a kind of one stream is a kind of a wide one
+kind_in_all : (wide : Bool) (k : ℕ) → is_kind wide k ≡ true → is_kind true k ≡ true
+kind_in_all true k e = e
+kind_in_all false k e = more _ _ e
+  where
+    more : (a b : Bool) → (a || (false && b)) ≡ true → (a || (true && b)) ≡ true
+    more true b e = refl
+    more false b e = absurd cc
 
 -- ---- an encoding at the beginning
 
@@ -74,25 +90,24 @@ header f more fits =
     }
 
 -- a frame at the beginning is the one that the first five bytes announce
-pub record Announced (bytes : List ℕ) (f : Frame) (more : List ℕ) : Type 0 where
+pub record Announced (wide : Bool) (bytes : List ℕ) (f : Frame) (more : List ℕ) : Type 0 where
   pub size : 5 + length_at bytes ≤ length bytes
   pub len : length_at bytes ≤ payload_limit
-  pub kind : is_kind (kind_at bytes) ≡ true
+  pub kind : is_kind wide (kind_at bytes) ≡ true
   pub stands : Stands (kind_at bytes) (take (length_at bytes) (drop 5 bytes)) f
   pub after : more ≡ drop (length_at bytes) (drop 5 bytes)
 
-pub announced : (bytes : List ℕ) (f : Frame) (more : List ℕ) → IsFrame f → bytes ≡ encoding f ++ more → Announced bytes f more
-announced bytes f more fits e =
-    let h = header f more fits in
-    subst (λ (b : List ℕ). Announced b f more) (sym e) (record {
+pub announced : (wide : Bool) (bytes : List ℕ) (f : Frame) (more : List ℕ) → IsFrameOf wide f → bytes ≡ encoding f ++ more → Announced wide bytes f more
+announced wide bytes f more fits e =
+    let h = header f more fits.frame in
+    subst (λ (b : List ℕ). Announced wide b f more) (sym e) (record {
       size = omega (arith, h.size, h.len);
-      len = omega (arith, h.len, fits.short);
-      kind = ap is_kind h.kind ∙ kinds_are f;
+      len = omega (arith, h.len, fits.frame.short);
+      kind = ap (is_kind wide) h.kind ∙ fits.known;
       stands = record {
         kind = sym h.kind;
         payload = sym (rw (h.len, h.beyond) (take_at (payload_of f) more (length (payload_of f)) refl));
-        fields =
-            fits.fields;
+        fields = fits.frame.fields;
       };
       after = sym (rw (h.len, h.beyond) (drop_at (payload_of f) more (length (payload_of f)) refl));
     })
@@ -119,52 +134,76 @@ whole_frame bytes f fits size len stands =
 -- ---- less than a frame
 
 -- nothing is whole, and nothing can be judged yet
-pub is_partial : (bytes : List ℕ) → (5 + length_at bytes ≤ length bytes → ⊥) → (4 ≤ length bytes → length_at bytes ≤ payload_limit) →
-    (5 ≤ length bytes → is_kind (kind_at bytes) ≡ true) → IsPartial bytes
-is_partial bytes short len kind = record {
-  no_frame = λ h. short (announced bytes h.0 h.1 h.2 h.3).size;
+pub is_partial : (wide : Bool) (bytes : List ℕ) → (5 + length_at bytes ≤ length bytes → ⊥) → (4 ≤ length bytes → length_at bytes ≤ payload_limit) →
+    (5 ≤ length bytes → is_kind wide (kind_at bytes) ≡ true) → IsPartial wide bytes
+is_partial wide bytes short len kind = record {
+  no_frame = λ h. short (announced wide bytes h.0 h.1 h.2 h.3).size;
   no_fault = none;
 } where
-  none : (fault : ReadFault) → HasFault fault bytes → ⊥
+  none : (fault : ReadFault) → HasFault wide fault bytes → ⊥
   none TooLong h = let le : length_at bytes ≤ 16777216 = len h.0 in omega (arith, le, h.1)
-  none UnknownKind h = absurd (let t : is_kind (kind_at bytes) ≡ true = kind h.0 in let f : is_kind (kind_at bytes) ≡ false = h.2 in let bad : true ≡ false =
-      sym t ∙ f in cc)
+  none UnknownKind h = absurd (let t : is_kind wide (kind_at bytes) ≡ true = kind h.0 in let bad : true ≡ false = sym t ∙ h.2 in cc)
   none BadPayload h = short h.0
   none Memory h = h
   none Failed h = h
 
-pub nothing_partial : IsPartial []
-nothing_partial = is_partial [] (λ h. omega arith) (λ h. absurd (omega arith)) (λ h. absurd (omega arith))
+pub nothing_partial : (wide : Bool) → IsPartial wide []
+nothing_partial wide = is_partial wide [] (λ h. omega arith) (λ h. absurd (omega arith)) (λ h. absurd (omega arith))
 
 -- bytes that are sound, and fewer than they say
-pub sound_partial : (bytes : List ℕ) (size : ℕ) → IsReadable bytes size → length bytes < size → IsPartial bytes
-sound_partial bytes size s lt = is_partial bytes
+pub sound_partial : (wide : Bool) (bytes : List ℕ) (size : ℕ) → IsReadable wide bytes size → length bytes < size → IsPartial wide bytes
+sound_partial wide bytes size s lt = is_partial wide bytes
     (λ h. let k = s.known (omega (arith, h)) in omega (arith, h, k.1, lt))
     s.short
     (λ h. (s.known h).0)
 
+-- less than a frame of one stream is less than a frame of a wide one
+pub partial_in_all : (wide : Bool) (bytes : List ℕ) → IsPartial wide bytes → IsPartial true bytes
+partial_in_all true bytes p = p
+partial_in_all false bytes p = record { no_frame = no_frame; no_fault = no_fault } where
+  -- a payload that is there, of a kind that is one of every stream or not
+  whole : 5 + length_at bytes ≤ length bytes → length_at bytes ≤ payload_limit → (HasFrame false bytes → ⊥) → ⊥
+  whole size len none = elim (cases_Bool (is_kind false (kind_at bytes))) [
+    | inl known ↦ p.no_fault BadPayload (size, len, known, none)
+    | inr unknown ↦ p.no_fault UnknownKind (omega (arith, size), len, unknown)
+  ]
+
+  no_frame : HasFrame true bytes → ⊥
+  no_frame h = let a = announced true bytes h.0 h.1 h.2 h.3 in whole a.size a.len p.no_frame
+
+  no_fault : (fault : ReadFault) → HasFault true fault bytes → ⊥
+  no_fault TooLong h = p.no_fault TooLong h
+  no_fault UnknownKind h = elim (cases_Bool (is_kind false (kind_at bytes))) [
+    | inl known ↦ absurd (let t : is_kind true (kind_at bytes) ≡ true = kind_in_all false (kind_at bytes) known in let bad : true ≡ false = sym t ∙ h.2 in cc)
+    | inr unknown ↦ p.no_fault UnknownKind (h.0, h.1, unknown)
+  ]
+  no_fault BadPayload h = whole h.0 h.1 p.no_frame
+  no_fault Memory h = h
+  no_fault Failed h = h
+
 -- an unfinished frame that has its header lacks some of its payload
-pub partial_lacks : (bytes : List ℕ) (size : ℕ) → IsPartial bytes → IsReadable bytes size → length bytes < size
-partial_lacks bytes size p s = elim (cases_lt (length bytes) size) [
+pub partial_lacks : (wide : Bool) (bytes : List ℕ) (size : ℕ) → IsPartial true bytes → IsReadable wide bytes size → length bytes < size
+partial_lacks wide bytes size p s = elim (cases_lt (length bytes) size) [
   | inl lt ↦ lt
   | inr ge ↦ absurd (elim (cases_lt (length bytes) 5) [
     | inl few ↦ omega (arith, s.header few)
-    | inr all ↦ p.no_fault BadPayload (omega (arith, (s.known all).1), s.short (omega arith), (s.known all).0, p.no_frame)
+    | inr all ↦ p.no_fault BadPayload
+        (omega (arith, (s.known all).1), s.short (omega arith), kind_in_all wide (kind_at bytes) (s.known all).0, p.no_frame)
   ])
 ]
 
 -- what a sound header says of the bytes where the frame is whole
-pub record Judged (bytes : List ℕ) (size : ℕ) : Type 0 where
+pub record Judged (wide : Bool) (bytes : List ℕ) (size : ℕ) : Type 0 where
   pub whole_len : size ≡ 5 + length_at bytes
   pub within : 5 + length_at bytes ≤ length bytes
   pub len : length_at bytes ≤ payload_limit
-  pub kind : is_kind (kind_at bytes) ≡ true
+  pub kind : is_kind wide (kind_at bytes) ≡ true
   pub prefix_kind : get_or (take size bytes) 4 0 ≡ kind_at bytes
   pub prefix_payload : drop 5 (take size bytes) ≡ take (length_at bytes) (drop 5 bytes)
   pub beyond : drop size bytes ≡ drop (length_at bytes) (drop 5 bytes)
 
-pub judged : (bytes : List ℕ) (size : ℕ) → IsReadable bytes size → size ≤ length bytes → Judged bytes size
-judged bytes size s le =
+pub judged : (wide : Bool) (bytes : List ℕ) (size : ℕ) → IsReadable wide bytes size → size ≤ length bytes → Judged wide bytes size
+judged wide bytes size s le =
     let ge : 5 ≤ length bytes = elim (cases_lt (length bytes) 5) [
       | inl lt ↦ omega (arith, s.header lt)
       | inr all ↦ all
@@ -186,31 +225,31 @@ kind_ahead : (bytes more : List ℕ) → 5 ≤ length bytes → kind_at (bytes +
 kind_ahead bytes more le = get_or_append_left bytes more 0 4 (omega arith)
 
 -- a sound header stays so, whatever comes after
-pub sound_ahead : (bytes more : List ℕ) (size : ℕ) → 5 ≤ length bytes → IsReadable bytes size → IsReadable (bytes ++ more) size
-sound_ahead bytes more size le s =
+pub sound_ahead : (wide : Bool) (bytes more : List ℕ) (size : ℕ) → 5 ≤ length bytes → IsReadable wide bytes size → IsReadable wide (bytes ++ more) size
+sound_ahead wide bytes more size le s =
     let len : length_at (bytes ++ more) ≡ length_at bytes = number_ahead 4 bytes more (omega arith) in
     record {
       header = λ h. absurd (omega (arith, h, length-append bytes more));
       short = λ h. omega (arith, len, s.short (omega arith));
-      known = λ h. (ap is_kind (kind_ahead bytes more le) ∙ (s.known le).0, omega (arith, len, (s.known le).1));
+      known = λ h. (ap (is_kind wide) (kind_ahead bytes more le) ∙ (s.known le).0, omega (arith, len, (s.known le).1));
     }
 
 -- and it was so before they came
-pub sound_before : (bytes more : List ℕ) (size : ℕ) → 5 ≤ length bytes → IsReadable (bytes ++ more) size → IsReadable bytes size
-sound_before bytes more size le s =
+pub sound_before : (wide : Bool) (bytes more : List ℕ) (size : ℕ) → 5 ≤ length bytes → IsReadable wide (bytes ++ more) size → IsReadable wide bytes size
+sound_before wide bytes more size le s =
     let len : length_at (bytes ++ more) ≡ length_at bytes = number_ahead 4 bytes more (omega arith) in
     let long : 5 ≤ length (bytes ++ more) = omega (arith, length-append bytes more) in
     record {
       header = λ h. absurd (omega (arith, h));
       short = λ h. omega (arith, len, s.short (omega arith));
-      known = λ h. (ap is_kind (sym (kind_ahead bytes more le)) ∙ (s.known long).0, omega (arith, len, (s.known long).1));
+      known = λ h. (ap (is_kind wide) (sym (kind_ahead bytes more le)) ∙ (s.known long).0, omega (arith, len, (s.known long).1));
     }
 
 -- a frame that stands at the beginning of bytes with more after them stands in the bytes, where they are long enough
-frame_within : (bytes more : List ℕ) → 5 + length_at bytes ≤ length bytes → HasFrame (bytes ++ more) → HasFrame bytes
-frame_within bytes more size h =
+frame_within : (wide : Bool) (bytes more : List ℕ) → 5 + length_at bytes ≤ length bytes → HasFrame wide (bytes ++ more) → HasFrame wide bytes
+frame_within wide bytes more size h =
     let f : Frame = h.0 in
-    let len : length_at bytes ≡ length (payload_of f) = sym (number_ahead 4 bytes more (omega arith)) ∙ ap length_at h.3 ∙ (header h.0 h.1 h.2).len in
+    let len : length_at bytes ≡ length (payload_of f) = sym (number_ahead 4 bytes more (omega arith)) ∙ ap length_at h.3 ∙ (header h.0 h.1 h.2.frame).len in
     let long : length (encoding f) ≤ length bytes = omega (arith, encoded_length f, len) in
     let here : take (length (encoding f)) bytes ≡ encoding f = sym (take-append-le (length (encoding f)) bytes more long)
     ∙ ap (take (length (encoding f))) h.3 ∙ take_at (encoding f) h.1 (length (encoding f)) refl in (
@@ -222,27 +261,27 @@ frame_within bytes more size h =
     )
 
 -- a fault stays where it stands, whatever comes after
-pub fault_ahead : (fault : ReadFault) (bytes more : List ℕ) → HasFault fault bytes → HasFault fault (bytes ++ more)
-fault_ahead TooLong bytes more h = (omega (arith, length-append bytes more, h.0), omega (arith, number_ahead 4 bytes more h.0, h.1))
-fault_ahead UnknownKind bytes more h = (
+pub fault_ahead : (wide : Bool) (fault : ReadFault) (bytes more : List ℕ) → HasFault wide fault bytes → HasFault wide fault (bytes ++ more)
+fault_ahead wide TooLong bytes more h = (omega (arith, length-append bytes more, h.0), omega (arith, number_ahead 4 bytes more h.0, h.1))
+fault_ahead wide UnknownKind bytes more h = (
   omega (arith, length-append bytes more, h.0),
   omega (arith, number_ahead 4 bytes more (omega (arith, h.0)), h.1),
-  ap is_kind (kind_ahead bytes more h.0)
+  ap (is_kind wide) (kind_ahead bytes more h.0)
       ∙ h.2,
 )
-fault_ahead BadPayload bytes more h = (
+fault_ahead wide BadPayload bytes more h = (
   omega (arith, length-append bytes more, number_ahead 4 bytes more (omega (arith, h.0)), h.0),
   omega (arith, number_ahead 4 bytes more (omega (arith, h.0)), h.1),
-  ap is_kind (kind_ahead bytes more (omega (arith, h.0))) ∙ h.2,
-  λ w. h.3 (frame_within bytes more h.0 w),
+  ap (is_kind wide) (kind_ahead bytes more (omega (arith, h.0))) ∙ h.2,
+  λ w. h.3 (frame_within wide bytes more h.0 w),
 )
-fault_ahead Memory bytes more h = h
-fault_ahead Failed bytes more h = h
+fault_ahead wide Memory bytes more h = h
+fault_ahead wide Failed bytes more h = h
 
 -- what makes a reader stop: a fault that stands there, or that memory was refused
-pub fault_stops : (fault : ReadFault) (bytes : List ℕ) → HasFault fault bytes → StopsAt fault bytes
-fault_stops TooLong bytes h = h
-fault_stops UnknownKind bytes h = h
-fault_stops BadPayload bytes h = h
-fault_stops Memory bytes h = absurd h
-fault_stops Failed bytes h = h
+pub fault_stops : (wide : Bool) (fault : ReadFault) (bytes : List ℕ) → HasFault wide fault bytes → StopsAt wide fault bytes
+fault_stops wide TooLong bytes h = h
+fault_stops wide UnknownKind bytes h = h
+fault_stops wide BadPayload bytes h = h
+fault_stops wide Memory bytes h = absurd h
+fault_stops wide Failed bytes h = h

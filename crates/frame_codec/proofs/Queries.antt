@@ -1,5 +1,5 @@
 -- The head of a query.
-use Rattle.std.proofs.Common.{◌≡◌, ℕ, ◌+◌, ◌-◌, ◌*◌, ◌/◌, ◌≤◌, ◌<◌, List, ◌++◌, length, get_or, take, drop, Option, Some, refl, sym, ap, subst, ◌∙◌, arith}
+use Rattle.std.proofs.Common.{◌≡◌, ℕ, ◌+◌, ◌-◌, ◌*◌, ◌/◌, ◌≤◌, ◌<◌, false, List, ◌++◌, length, get_or, take, drop, Option, Some, refl, sym, ap, subst, ◌∙◌, arith}
 use Rattle.std.specs.Prelude.{IfNone}
 use Rattle.std.proofs.lemmas.List.{length-take, length-take-le, length-drop, get_or-take, get_or-drop, drop-take, drop-drop, take-append-drop}
 use Rattle.frame_codec.specs.declared.frame.Frame.{Frame}
@@ -19,7 +19,7 @@ use Rattle.frame_codec.proofs.Unique.{fault_of_frame}
 -- what the first fourteen bytes say
 pub record Says (bytes space : List ℕ) (size : ℕ) (head : QueryHead) : Type 0 where
   pub fits : IsBytes bytes
-  pub readable : IsReadable bytes size
+  pub readable : IsReadable false bytes size
   pub whole : size ≤ length bytes
   pub len : IsPayloadLength 5 (size - 5)
   pub space_is : space ≡ take 14 bytes
@@ -39,7 +39,7 @@ number_taken k n bytes le m more =
 
 pub has_query_head : (bytes space : List ℕ) (size : ℕ) (head : QueryHead) → Says bytes space size head → HasQuery bytes head
 has_query_head bytes space size head s =
-    let at = judged bytes size s.readable s.whole in
+    let at = judged false bytes size s.readable s.whole in
     let p : List ℕ = take (length_at bytes) (drop 5 bytes) in
     let h = has_length 5 (size - 5) s.len in
     let n : ℕ = h.1.0 in
@@ -64,7 +64,7 @@ has_query_head bytes space size head s =
 
 -- what a whole query at the beginning says of the bytes
 pub record Announces (bytes : List ℕ) : Type 0 where
-  pub frame : HasFrame bytes
+  pub frame : HasFrame false bytes
   pub within : 5 + length_at bytes ≤ length bytes
   pub kind : kind_at bytes ≡ 5
   pub len : IsPayloadLength 5 (length_at bytes)
@@ -73,11 +73,11 @@ pub record Announces (bytes : List ℕ) : Type 0 where
 pub announces : (bytes : List ℕ) (head : QueryHead) → HasQuery bytes head → Announces bytes
 announces bytes head q =
     let f : Frame = Query head.scheme head.version q.0 in
-    let a = announced bytes f q.1 q.2 q.3 in
+    let a = announced false bytes f q.1 (record { frame = q.2; known = refl }) q.3 in
     let n : length (payload_of f) ≡ length_at bytes =
     ap length a.stands.payload ∙ length-take-le (length_at bytes) (drop 5 bytes) (omega (arith, length-drop 5 bytes, a.size)) in
     record {
-      frame = (f, q.1, q.2, q.3);
+      frame = (f, q.1, record { frame = q.2; known = refl }, q.3);
       within = a.size;
       kind = sym a.stands.kind;
       len = (f, refl, q.2.fields, n);
@@ -85,18 +85,18 @@ announces bytes head q =
     }
 
 -- none where a fault stands
-pub no_query_of_fault : (fault : ReadFault) (bytes : List ℕ) → HasFault fault bytes → (head : QueryHead) → HasQuery bytes head → ⊥
-no_query_of_fault fault bytes h head q = fault_of_frame fault bytes h (announces bytes head q).frame
+pub no_query_of_fault : (fault : ReadFault) (bytes : List ℕ) → HasFault false fault bytes → (head : QueryHead) → HasQuery bytes head → ⊥
+no_query_of_fault fault bytes h head q = fault_of_frame false fault bytes h (announces bytes head q).frame
 
 -- none where the bytes are fewer than the first five say, or these say too few
-pub no_query_of_few : (bytes : List ℕ) (size : ℕ) → IsReadable bytes size → (14 ≤ size → length bytes < size) → (head : QueryHead) → HasQuery bytes head → ⊥
+pub no_query_of_few : (bytes : List ℕ) (size : ℕ) → IsReadable false bytes size → (14 ≤ size → length bytes < size) → (head : QueryHead) → HasQuery bytes head → ⊥
 no_query_of_few bytes size r few head q =
     let a = announces bytes head q in
     let known = r.known (omega (arith, a.within)) in
     omega (arith, a.within, a.long, known.1, few (omega (arith, a.long, known.1)))
 
 -- none where the kind is another one, or no query is so long
-pub no_query_of_kind : (bytes space : List ℕ) (size : ℕ) → IsReadable bytes size → space ≡ take 14 bytes →
+pub no_query_of_kind : (bytes space : List ℕ) (size : ℕ) → IsReadable false bytes size → space ≡ take 14 bytes →
     (get_or space 4 0 ≡ 5 → IsPayloadLength 5 (size - 5) → ⊥) → (head : QueryHead) → HasQuery bytes head → ⊥
 no_query_of_kind bytes space size r space_is none head q =
     let a = announces bytes head q in

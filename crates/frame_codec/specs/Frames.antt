@@ -3,7 +3,7 @@ use Rattle.std.specs.Prelude.{◌≡◌, ◌<◌, ◌≤◌, ◌+◌, ◌*◌, �
 use Rattle.frame_codec.specs.Numbers.{number_bytes, word_bytes}
 use Rattle.frame_codec.specs.Rows.{HasWholeRows}
 use Rattle.frame_codec.specs.declared.frame.Frame.{Frame}
-use Rattle.frame_codec.specs.declared.frame.Frame.TheVariants.{Load, Hello, HintAsk, DeltaAsk, Query, Edit, Publish, Bye, Append, Welcome, HintPart, Delta, Answer, Stale, Done, NoDelta, Refused}
+use Rattle.frame_codec.specs.declared.frame.Frame.TheVariants.{Load, Hello, HintAsk, DeltaAsk, Query, Edit, Publish, Bye, Append, ChangesAsk, Welcome, HintPart, Delta, Answer, Stale, Done, NoDelta, Changes, Refused}
 
 -- the byte that names a frame's kind
 abbrev pub kind_of : Frame → ℕ
@@ -16,6 +16,7 @@ kind_of (Edit index bytes) = 6
 kind_of Publish = 7
 kind_of Bye = 8
 kind_of (Append bytes) = 9
+kind_of (ChangesAsk since) = 10
 kind_of (Welcome profile width record_len groups count version dimension seed) = 130
 kind_of (HintPart scheme version part words) = 131
 kind_of (Delta since now count rows) = 132
@@ -23,6 +24,7 @@ kind_of (Answer scheme version words) = 133
 kind_of (Stale version count) = 134
 kind_of (Done version) = 135
 kind_of (NoDelta version count) = 136
+kind_of (Changes since now count entries) = 138
 kind_of (Refused code) = 143
 
 -- a frame's fields in their order, each number as its bytes
@@ -36,6 +38,7 @@ payload_of (Edit index bytes) = number_bytes 4 index ++ bytes
 payload_of Publish = []
 payload_of Bye = []
 payload_of (Append bytes) = bytes
+payload_of (ChangesAsk since) = number_bytes 8 since
 payload_of (Welcome profile width record_len groups count version dimension seed) =
     number_bytes 2 profile ++
     (width ∷ (number_bytes 2 record_len
@@ -47,6 +50,7 @@ payload_of (Answer scheme version words) = scheme ∷ (number_bytes 8 version ++
 payload_of (Stale version count) = number_bytes 8 version ++ number_bytes 4 count
 payload_of (Done version) = number_bytes 8 version
 payload_of (NoDelta version count) = number_bytes 8 version ++ number_bytes 4 count
+payload_of (Changes since now count entries) = number_bytes 8 since ++ (number_bytes 8 now ++ (number_bytes 4 count ++ entries))
 payload_of (Refused code) = code ∷ []
 
 -- how many bytes these are
@@ -60,6 +64,7 @@ payload_size (Edit index bytes) = 4 + length bytes
 payload_size Publish = 0
 payload_size Bye = 0
 payload_size (Append bytes) = length bytes
+payload_size (ChangesAsk since) = 8
 payload_size (Welcome profile width record_len groups count version dimension seed) = 21 + length seed
 payload_size (HintPart scheme version part words) = 13 + 4 * length words
 payload_size (Delta since now count rows) = 22 + 4 * length rows.words
@@ -67,6 +72,7 @@ payload_size (Answer scheme version words) = 9 + 4 * length words
 payload_size (Stale version count) = 12
 payload_size (Done version) = 8
 payload_size (NoDelta version count) = 12
+payload_size (Changes since now count entries) = 20 + length entries
 payload_size (Refused code) = 1
 
 -- a frame's fields are numbers of their types, and its rows are whole
@@ -80,6 +86,7 @@ HasFields (Edit index bytes) = (index < 2 ^ 32) × All (λ b. b < 2 ^ 8) bytes
 HasFields Publish = Unit {0}
 HasFields Bye = Unit {0}
 HasFields (Append bytes) = All (λ b. b < 2 ^ 8) bytes
+HasFields (ChangesAsk since) = since < 2 ^ 64
 HasFields (Welcome profile width record_len groups count version dimension seed) =
     (profile < 2 ^ 16) × (width < 2 ^ 8) × (record_len < 2 ^ 16) × (groups < 2 ^ 16) × (count < 2 ^ 32) × (version < 2 ^ 64) × (dimension < 2 ^ 16)
     × (length seed ≡ 32) × All (λ b. b < 2 ^ 8) seed
@@ -90,6 +97,7 @@ HasFields (Answer scheme version words) = (scheme < 2 ^ 8) × (version < 2 ^ 64)
 HasFields (Stale version count) = (version < 2 ^ 64) × (count < 2 ^ 32)
 HasFields (Done version) = version < 2 ^ 64
 HasFields (NoDelta version count) = (version < 2 ^ 64) × (count < 2 ^ 32)
+HasFields (Changes since now count entries) = (since < 2 ^ 64) × (now < 2 ^ 64) × (count < 2 ^ 32) × All (λ b. b < 2 ^ 8) entries
 HasFields (Refused code) = code < 2 ^ 8
 
 -- the one encoding of a frame

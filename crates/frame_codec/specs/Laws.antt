@@ -1,5 +1,5 @@
 -- Laws of readers.
-use Rattle.std.specs.Prelude.{◌≡◌, ◌≢◌, ◌⊎◌, ◌++◌, ℕ, List, Option, Result, Err}
+use Rattle.std.specs.Prelude.{◌≡◌, ◌≢◌, ◌⊎◌, ◌++◌, ℕ, List, Option, Result, Err, Bool}
 use Rattle.frame_codec.specs.declared.frame.Frame.{Frame}
 use Rattle.frame_codec.specs.declared.reader.ReadFault.{ReadFault}
 use Rattle.frame_codec.specs.declared.reader.ReadFault.TheVariants.{Memory}
@@ -7,26 +7,26 @@ use Rattle.frame_codec.specs.Streams.{Feeds, HasFrame, HasFault}
 
 -- a fault stands only where no frame does
 abbrev pub FaultsExcludeFrames : Type 0
-FaultsExcludeFrames = (fault : ReadFault) (bytes : List ℕ) → HasFault fault bytes → HasFrame bytes → ⊥
+FaultsExcludeFrames = (wide : Bool) (fault : ReadFault) (bytes : List ℕ) → HasFault wide fault bytes → HasFrame wide bytes → ⊥
 
 -- no two faults stand in one place
 abbrev pub OneFault : Type 0
-OneFault = (fault other : ReadFault) (bytes : List ℕ) → HasFault fault bytes → HasFault other bytes → fault ≡ other
+OneFault = (wide : Bool) (fault other : ReadFault) (bytes : List ℕ) → HasFault wide fault bytes → HasFault wide other bytes → fault ≡ other
 
 -- The unfinished bytes and the piece decide the answer, the frames and the bytes that are unfinished then, where memory isn't refused.
 abbrev pub FeedsDecide : Type 0
-FeedsDecide = (old : Option (List ℕ)) (piece : List ℕ) (answer other : Result (Unit {0}) ReadFault) (frames others : List Frame) (new end : Option (List ℕ)) →
-    Feeds old piece answer frames new → Feeds old piece other others end → answer ≢ Err Memory
+FeedsDecide = (wide : Bool) (old : Option (List ℕ)) (piece : List ℕ) (answer other : Result (Unit {0}) ReadFault) (frames others : List Frame) (new end : Option (List ℕ)) →
+    Feeds wide old piece answer frames new → Feeds wide old piece other others end → answer ≢ Err Memory
     → other ≢ Err Memory → (answer ≡ other) × (frames ≡ others) × (new ≡ end)
 
 -- where memory may be refused to one of them, its frames are the first of the other's
 abbrev pub FeedsBegin : Type 0
-FeedsBegin = (old : Option (List ℕ)) (piece : List ℕ) (answer other : Result (Unit {0}) ReadFault) (frames others : List Frame) (new end : Option (List ℕ)) →
-    Feeds old piece answer frames new → Feeds old piece other others end → answer ≢ Err Memory
+FeedsBegin = (wide : Bool) (old : Option (List ℕ)) (piece : List ℕ) (answer other : Result (Unit {0}) ReadFault) (frames others : List Frame) (new end : Option (List ℕ)) →
+    Feeds wide old piece answer frames new → Feeds wide old piece other others end → answer ≢ Err Memory
     → (more : List Frame) × (frames ≡ others ++ more)
 
 -- where memory may be refused to both, the frames of one of them are the first of the other's
 abbrev pub FeedsAgree : Type 0
-FeedsAgree = (old : Option (List ℕ)) (piece : List ℕ) (answer other : Result (Unit {0}) ReadFault) (frames others : List Frame) (new end : Option (List ℕ)) →
-    Feeds old piece answer frames new → Feeds old piece other others end
+FeedsAgree = (wide : Bool) (old : Option (List ℕ)) (piece : List ℕ) (answer other : Result (Unit {0}) ReadFault) (frames others : List Frame) (new end : Option (List ℕ)) →
+    Feeds wide old piece answer frames new → Feeds wide old piece other others end
     → ((more : List Frame) × (frames ≡ others ++ more)) ⊎ ((more : List Frame) × (others ≡ frames ++ more))

@@ -30,7 +30,7 @@ pub fn query_head(first: &[u8], rest: &[u8]) -> Option<QueryHead>
     ensures some { IfSome result (HasQuery (first.now ++ rest.now)) }
     ensures none { IfNone result ((head : QueryHead) → HasQuery (first.now ++ rest.now) head → ⊥) }
 {
-    let size = match split_frame_len(first, rest) {
+    let size = match split_frame_len(false, first, rest) {
         Ok(size) => size,
         Err(_) => return None,
     };

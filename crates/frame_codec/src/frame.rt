@@ -242,6 +242,10 @@ pub enum Frame {
     Append {
         bytes: Bytes,
     },
+    /// Kind 0a, of a wide database alone: the records that have changed since a version are asked for.
+    ChangesAsk {
+        since: u64,
+    },
     /// Kind 82: the layout, the current version and the public seed.
     Welcome {
         profile: u16,
@@ -288,6 +292,14 @@ pub enum Frame {
     NoDelta {
         version: u64,
         count: u32,
+    },
+    /// Kind 8a, of a wide database alone: the records of version `now`, with so many records, that differ from those of version
+    /// `since`. An entry is a record's index in four bytes, and the bytes that it had and has in the digits.
+    Changes {
+        since: u64,
+        now: u64,
+        count: u32,
+        entries: Bytes,
     },
     /// Kind 8f: the request was refused, for the reason that the code names.
     Refused {

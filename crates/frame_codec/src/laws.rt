@@ -1,13 +1,13 @@
 //! Laws of numbers, frames and streams. Each function does nothing: its clause is the law.
 
-ghost use Rattle.std.specs.Prelude.{◌≡◌, ◌≤◌, ◌<◌, ◌+◌, ◌^◌, ◌++◌, [], ℕ, List, Option, None, Some, Result, Ok, Err, length, take, slice_index};
+ghost use Rattle.std.specs.Prelude.{◌≡◌, ◌≤◌, ◌<◌, ◌+◌, ◌^◌, ◌++◌, [], ℕ, Bool, List, Option, None, Some, Result, Ok, Err, length, take, slice_index};
 ghost use Rattle.std.specs.List.{flat_map, AllByRecursion};
 ghost use Rattle.byteorder.specs.Endian.{little_bytes, little_number};
 ghost use Rattle.frame_codec.specs.declared.frame.Frame.{Frame};
 ghost use Rattle.frame_codec.specs.declared.reader.ReadFault.{ReadFault};
 ghost use Rattle.frame_codec.specs.Laws.{FaultsExcludeFrames, OneFault, FeedsDecide, FeedsBegin, FeedsAgree};
 ghost use Rattle.frame_codec.specs.Frames.{IsFrame, encoding, payload_of, payload_size};
-ghost use Rattle.frame_codec.specs.Streams.{Begins, HasFrame, Feeds, FeedsAll, Reads, Stops, Arrives, joined_pieces};
+ghost use Rattle.frame_codec.specs.Streams.{IsFrameOf, Begins, HasFrame, Feeds, FeedsAll, Reads, Stops, Arrives, joined_pieces};
 
 /// The bytes that are read as a number are its only encoding in so many bytes.
 pub fn one_number()
@@ -31,32 +31,32 @@ pub fn one_encoding()
 
 /// Bytes are read in one way as frames and a rest that begins with none.
 pub fn one_reading()
-    ensures { (bytes : List ℕ) (frames others : List Frame) (rest end : List ℕ) →
-        Begins bytes frames rest → Begins bytes others end → (HasFrame rest → ⊥) →
-        (HasFrame end → ⊥) → (frames ≡ others) × (rest ≡ end) }
+    ensures { (wide : Bool) (bytes : List ℕ) (frames others : List Frame) (rest end : List ℕ) →
+        Begins wide bytes frames rest → Begins wide bytes others end → (HasFrame wide rest → ⊥) →
+        (HasFrame wide end → ⊥) → (frames ≡ others) × (rest ≡ end) }
 {}
 
 /// However a stream is cut, the frames given are those of the stream so far, a fault comes after
 /// the frames before it, and two chunkings give the same frames and keep the same rest.
 pub fn any_chunking()
-    ensures frames { (pieces : List (List ℕ)) (frames : List Frame) (rest : List ℕ) →
-        FeedsAll [] pieces frames rest → Reads (joined_pieces pieces) frames rest }
-    ensures fault { (pieces : List (List ℕ)) (frames : List Frame) (rest piece : List ℕ)
+    ensures frames { (wide : Bool) (pieces : List (List ℕ)) (frames : List Frame) (rest : List ℕ) →
+        FeedsAll wide [] pieces frames rest → Reads wide (joined_pieces pieces) frames rest }
+    ensures fault { (wide : Bool) (pieces : List (List ℕ)) (frames : List Frame) (rest piece : List ℕ)
         (fault : ReadFault) (last : List Frame) (new : Option (List ℕ)) →
-        FeedsAll [] pieces frames rest → Feeds (Some rest) piece (Err fault) last new →
-        Stops (joined_pieces pieces ++ piece) (frames ++ last) fault }
-    ensures same { (pieces others : List (List ℕ)) (frames more : List Frame) (rest end : List ℕ) →
-        FeedsAll [] pieces frames rest → FeedsAll [] others more end →
+        FeedsAll wide [] pieces frames rest → Feeds wide (Some rest) piece (Err fault) last new →
+        Stops wide (joined_pieces pieces ++ piece) (frames ++ last) fault }
+    ensures same { (wide : Bool) (pieces others : List (List ℕ)) (frames more : List Frame) (rest end : List ℕ) →
+        FeedsAll wide [] pieces frames rest → FeedsAll wide [] others more end →
         joined_pieces pieces ≡ joined_pieces others → (frames ≡ more) × (rest ≡ end) }
 {}
 
 /// Of frames that were sent, those that are whole are read, and the others are still on their way.
 pub fn reads_what_was_sent()
-    ensures { (old piece later : List ℕ) (sent : List Frame)
+    ensures { (wide : Bool) (old piece later : List ℕ) (sent : List Frame)
         (answer : Result (Unit {0}) ReadFault) (frames : List Frame) (new : Option (List ℕ)) →
-        AllByRecursion IsFrame sent → (old ++ piece) ++ later ≡ flat_map encoding sent →
-        Feeds (Some old) piece answer frames new →
-        (more : List Frame) × (sent ≡ frames ++ more) × AllByRecursion IsFrame more ×
+        AllByRecursion (IsFrameOf wide) sent → (old ++ piece) ++ later ≡ flat_map encoding sent →
+        Feeds wide (Some old) piece answer frames new →
+        (more : List Frame) × (sent ≡ frames ++ more) × AllByRecursion (IsFrameOf wide) more ×
         Arrives answer new later more }
 {}
 

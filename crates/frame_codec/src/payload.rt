@@ -148,6 +148,17 @@ fn append_of(alloc: Global, payload: &[u8]) -> Result<Option<Frame>, AllocError>
     }))
 }
 
+fn changes_ask_of(payload: &[u8]) -> Option<Frame>
+    ensures { ReadsAs 10 payload.now result }
+{
+    if payload.len() != 8 {
+        return None;
+    }
+    Some(Frame::ChangesAsk {
+        since: u64_at(payload),
+    })
+}
+
 fn welcome_of(payload: &[u8]) -> Option<Frame>
     ensures { ReadsAs 130 payload.now result }
 {
@@ -252,6 +263,22 @@ fn no_delta_of(payload: &[u8]) -> Option<Frame>
     })
 }
 
+fn changes_of(alloc: Global, payload: &[u8]) -> Result<Option<Frame>, AllocError>
+    ensures reads { IfOk result (ReadsAs 138 payload.now) }
+    ensures memory { OnErr result (IsPayload 138 payload.now) }
+{
+    if payload.len() < 20 {
+        return Ok(None);
+    }
+    let entries = Vec::from_slice(alloc, &payload[20..])?;
+    Ok(Some(Frame::Changes {
+        since: u64_at(payload),
+        now: u64_at(&payload[8..]),
+        count: u32_at(&payload[16..]),
+        entries: Bytes::new(entries),
+    }))
+}
+
 fn refused_of(payload: &[u8]) -> Option<Frame>
     ensures { ReadsAs 143 payload.now result }
 {
@@ -283,6 +310,7 @@ pub fn is_payload_len(kind: u8, len: usize) -> bool
         0x07 => len == 0,
         0x08 => len == 0,
         0x09 => true,
+        0x0a => len == 8,
         0x82 => len == 53,
         0x83 => is_words_len(len, 13),
         0x84 => is_words_len(len, 22),
@@ -290,6 +318,7 @@ pub fn is_payload_len(kind: u8, len: usize) -> bool
         0x86 => len == 12,
         0x87 => len == 8,
         0x88 => len == 12,
+        0x8a => len >= 20,
         0x8f => len == 1,
         _ => false,
     }
@@ -310,6 +339,7 @@ pub fn decode(alloc: Global, kind: u8, payload: &[u8]) -> Result<Option<Frame>, 
         0x07 => Ok(publish_of(payload)),
         0x08 => Ok(bye_of(payload)),
         0x09 => append_of(alloc, payload),
+        0x0a => Ok(changes_ask_of(payload)),
         0x82 => Ok(welcome_of(payload)),
         0x83 => hint_part_of(alloc, payload),
         0x84 => delta_of(alloc, payload),
@@ -317,6 +347,7 @@ pub fn decode(alloc: Global, kind: u8, payload: &[u8]) -> Result<Option<Frame>, 
         0x86 => Ok(stale_of(payload)),
         0x87 => Ok(done_of(payload)),
         0x88 => Ok(no_delta_of(payload)),
+        0x8a => changes_of(alloc, payload),
         0x8f => Ok(refused_of(payload)),
         _ => Ok(None),
     }

@@ -2,8 +2,8 @@
 
 ghost use Rattle.std.specs.Prelude.{◌≡◌, ◌<◌, ◌≤◌, ◌↔◌, IsTrue, Some, ℕ, List, ◌++◌, IfOk, OnOk, IfErr, IfSome, IfNone, length, take};
 ghost use Rattle.frame_codec.specs.declared.frame.Frame.{Frame};
-ghost use Rattle.frame_codec.specs.Frames.{IsFrame, encoding};
-ghost use Rattle.frame_codec.specs.Streams.{HasBadLength, HasFault, HasFrame, HasPublishNext, IsPartial, IsReadable, StopsAt, is_kind};
+ghost use Rattle.frame_codec.specs.Frames.{encoding};
+ghost use Rattle.frame_codec.specs.Streams.{HasBadLength, HasFault, HasFrame, HasPublishNext, IsPartial, IsFrameOf, IsReadable, StopsAt, is_kind};
 
 use crate::frame::Frame;
 use crate::numbers::u32_at;
@@ -20,16 +20,16 @@ pub const HEADER_LEN: usize = 5;
 /// The frame Publish: no payload, and its kind.
 const PUBLISH: [u8; HEADER_LEN] = [0, 0, 0, 0, 7];
 
-fn is_known_kind(kind: u8) -> bool
-    ensures { result ≡ is_kind kind }
+fn is_known_kind(wide: bool, kind: u8) -> bool
+    ensures { result ≡ is_kind wide kind }
 {
-    matches!(kind, 0x01..=0x09 | 0x82..=0x88 | 0x8f)
+    matches!(kind, 0x01..=0x09 | 0x82..=0x88 | 0x8f) || (wide && matches!(kind, 0x0a | 0x8a))
 }
 
 /// The whole length of the frame at the beginning, or of a header where that isn't whole.
-pub fn frame_len(bytes: &[u8]) -> Result<usize, ReadFault>
-    ensures ok { IfOk result (λ size. IsReadable bytes.now size) }
-    ensures err { IfErr result (λ fault. HasFault fault bytes.now) }
+pub fn frame_len(wide: bool, bytes: &[u8]) -> Result<usize, ReadFault>
+    ensures ok { IfOk result (λ size. IsReadable wide bytes.now size) }
+    ensures err { IfErr result (λ fault. HasFault wide fault bytes.now) }
 {
     if bytes.len() < 4 {
         return Ok(HEADER_LEN);
@@ -41,7 +41,7 @@ pub fn frame_len(bytes: &[u8]) -> Result<usize, ReadFault>
     if bytes.len() < HEADER_LEN {
         return Ok(HEADER_LEN);
     }
-    if !is_known_kind(bytes[4]) {
+    if !is_known_kind(wide, bytes[4]) {
         return Err(ReadFault::UnknownKind);
     }
     Ok(HEADER_LEN + len)
@@ -49,13 +49,13 @@ pub fn frame_len(bytes: &[u8]) -> Result<usize, ReadFault>
 
 /// The same of bytes that stand in two places, one after the other. Where the whole frame has come, its length is
 /// judged by its kind, too. All this takes no memory.
-pub fn split_frame_len(first: &[u8], rest: &[u8]) -> Result<usize, ReadFault>
-    ensures ok { IfOk result (λ size. IsReadable (first.now ++ rest.now) size) }
-    ensures judged { OnOk result (HasBadLength (first.now ++ rest.now) → ⊥) }
-    ensures err { IfErr result (λ fault. HasFault fault (first.now ++ rest.now)) }
+pub fn split_frame_len(wide: bool, first: &[u8], rest: &[u8]) -> Result<usize, ReadFault>
+    ensures ok { IfOk result (λ size. IsReadable wide (first.now ++ rest.now) size) }
+    ensures judged { OnOk result (HasBadLength wide (first.now ++ rest.now) → ⊥) }
+    ensures err { IfErr result (λ fault. HasFault wide fault (first.now ++ rest.now)) }
 {
     let (header, len) = header_of(first, rest);
-    let size = frame_len(&header[..len])?;
+    let size = frame_len(wide, &header[..len])?;
     if first.len().saturating_add(rest.len()) < size {
         return Ok(size);
     }
@@ -103,15 +103,19 @@ pub fn fill_front(space: &mut [u8], first: &[u8], rest: &[u8]) -> usize
 
 /// The frame at the beginning and the bytes after it, if it is whole. `Memory` comes only where a frame
 /// stands there.
-pub fn frame_at<'a>(alloc: Global, bytes: &'a [u8]) -> Result<Option<(Frame, &'a [u8])>, ReadFault>
+pub fn frame_at<'a>(
+    alloc: Global,
+    wide: bool,
+    bytes: &'a [u8],
+) -> Result<Option<(Frame, &'a [u8])>, ReadFault>
     ensures whole { IfOk result (λ o. IfSome o (λ found.
-        IsFrame found.0 × (bytes.now ≡ encoding found.0 ++ found.1.now) ×
+        IsFrameOf wide found.0 × (bytes.now ≡ encoding found.0 ++ found.1.now) ×
         (length found.1.now < length bytes.now))) }
-    ensures partial { IfOk result (λ o. IfNone o (IsPartial bytes.now)) }
-    ensures fault { IfErr result (λ fault. StopsAt fault bytes.now) }
-    ensures memory { IfErr result (λ fault. fault ≡ ReadFault.Memory → HasFrame bytes.now) }
+    ensures partial { IfOk result (λ o. IfNone o (IsPartial wide bytes.now)) }
+    ensures fault { IfErr result (λ fault. StopsAt wide fault bytes.now) }
+    ensures memory { IfErr result (λ fault. fault ≡ ReadFault.Memory → HasFrame wide bytes.now) }
 {
-    let size = frame_len(bytes)?;
+    let size = frame_len(wide, bytes)?;
     if bytes.len() < size {
         return Ok(None);
     }

@@ -1,10 +1,10 @@
 //! Frames out of a stream that comes in pieces.
 
-ghost use Rattle.std.specs.Prelude.{◌≡◌, ◌≤◌, ◌↔◌, ◌-◌, IsTrue, ℕ, List, [], ◌∷◌, ◌++◌, length, take, drop, None, Some, IfOk, IfErr, IfSome, IfNone, OnOk, OnErr, vec_capacity};
+ghost use Rattle.std.specs.Prelude.{◌≡◌, ◌≤◌, ◌↔◌, ◌-◌, IsTrue, true, ℕ, List, [], ◌∷◌, ◌++◌, length, take, drop, None, Some, IfOk, IfErr, IfSome, IfNone, OnOk, OnErr, vec_capacity};
 ghost use Rattle.frame_codec.specs.declared.frame.Frame.{Frame};
 ghost use Rattle.frame_codec.specs.declared.ahead.QueryHead.{QueryHead};
-ghost use Rattle.frame_codec.specs.Frames.{IsFrame, encoding};
-ghost use Rattle.frame_codec.specs.Streams.{Feeds, FeedsFrame, TakesFrame, HasPublishNext, HasQueryNext, IsPartial, SeesFrame, StopsAt, unfinished_size};
+ghost use Rattle.frame_codec.specs.Frames.{encoding};
+ghost use Rattle.frame_codec.specs.Streams.{Feeds, FeedsFrame, TakesFrame, HasPublishNext, HasQueryNext, IsFrameOf, IsPartial, SeesFrame, StopsAt, unfinished_size};
 
 use crate::ahead::{QueryHead, query_head};
 use crate::frame::Frame;
@@ -19,7 +19,7 @@ pub enum ReadFault {
     /// A payload of more than 16,777,216 bytes. It comes with the fourth byte of the frame.
     #[error("a payload of more than 16777216 bytes")]
     TooLong,
-    /// A kind that there is not. It comes with the fifth byte of the frame.
+    /// A kind that there is not; 0a and 8a are kinds of a wide database alone. It comes with the fifth byte of the frame.
     #[error("an unknown kind of frame")]
     UnknownKind,
     /// A payload that no frame of its kind has. It comes with the last byte of the payload.
@@ -62,7 +62,8 @@ pub struct Taken {
     pub frame: Option<Frame>,
 }
 
-/// The bytes of an unfinished frame, or that the stream has failed: then it keeps none, and no room for any.
+/// The bytes of an unfinished frame, or that the stream has failed: then it keeps none, and no room for any. Whether the stream is one
+/// of a wide database, which has two kinds of frames more, is said at each call.
 #[derive(Drop)]
 pub struct Reader {
     alloc: Global,
@@ -78,7 +79,7 @@ impl Model for Reader {
 
     ghost view = { λ r. cond r.failed None (Some r.pending.items) };
 
-    ghost invariant = { λ r. (r.failed ≡ false → IsPartial r.pending.items)
+    ghost invariant = { λ r. (r.failed ≡ false → IsPartial true r.pending.items)
         × (r.failed ≡ true → vec_capacity r.pending ≡ 0) };
 }
 
@@ -135,13 +136,13 @@ impl Reader {
     /// # Errors
     ///
     /// The fault that feeding the piece would answer in the place of the first frame.
-    pub fn next_frame(&self, piece: &[u8]) -> Result<Option<Frame>, ReadFault>
-        ensures { SeesFrame self.now piece.now result }
+    pub fn next_frame(&self, wide: bool, piece: &[u8]) -> Result<Option<Frame>, ReadFault>
+        ensures { SeesFrame wide self.now piece.now result }
     {
         if self.failed {
             Err(ReadFault::Failed)
         } else {
-            see_frame(self.alloc, &self.pending, piece)
+            see_frame(self.alloc, wide, &self.pending, piece)
         }
     }
 
@@ -153,13 +154,13 @@ impl Reader {
     /// `TooLong` or `UnknownKind` stands after them, nor a whole payload of a length that no frame of its kind has:
     /// these are judged before memory is taken. Only the rows of a Delta can't be judged, where memory to put its
     /// payload together is refused.
-    pub fn feed(&mut self, piece: &[u8], out: &mut Vec<Frame>) -> Result<(), ReadFault>
+    pub fn feed(&mut self, wide: bool, piece: &[u8], out: &mut Vec<Frame>) -> Result<(), ReadFault>
         ensures { (frames : List Frame) × (out.new.items ≡ out.old.items ++ frames) ×
-            Feeds self.old piece.now result frames self.new }
+            Feeds wide self.old piece.now result frames self.new }
     {
         let mut rest = piece;
         'frames: loop {
-            let Taken { count, frame } = self.feed_frame(rest)?;
+            let Taken { count, frame } = self.feed_frame(wide, rest)?;
             let Some(frame) = frame else {
                 return Ok(());
             };
@@ -179,13 +180,13 @@ impl Reader {
     ///
     /// As [`Reader::feed`], where the fault comes in the place of the first frame. What had come of that one is
     /// given up with its room, and every later feed answers `Failed`.
-    pub fn feed_frame(&mut self, piece: &[u8]) -> Result<Taken, ReadFault>
-        ensures { FeedsFrame self.old piece.now result self.new }
+    pub fn feed_frame(&mut self, wide: bool, piece: &[u8]) -> Result<Taken, ReadFault>
+        ensures { FeedsFrame wide self.old piece.now result self.new }
     {
         if self.failed {
             return Err(ReadFault::Failed);
         }
-        let answer = advance(self.alloc, &mut self.pending, piece);
+        let answer = advance(self.alloc, wide, &mut self.pending, piece);
         if answer.is_err() {
             // What had come of the bad one is of no more use.
             self.pending = Vec::new(self.alloc);
@@ -214,16 +215,21 @@ fn add(frame: Frame, out: &mut Vec<Frame>) -> Result<(), AllocError>
 
 /// Reads a piece after an unfinished frame, up to the end of the first frame that is whole then, and keeps what
 /// has come of an unfinished one.
-fn advance(alloc: Global, pending: &mut Vec<u8>, piece: &[u8]) -> Result<Taken, ReadFault>
-    requires { IsPartial pending.old.items }
-    ensures ok { IfOk result (λ taken. TakesFrame (Some pending.old.items) piece.now taken
+fn advance(
+    alloc: Global,
+    wide: bool,
+    pending: &mut Vec<u8>,
+    piece: &[u8],
+) -> Result<Taken, ReadFault>
+    requires { IsPartial true pending.old.items }
+    ensures ok { IfOk result (λ taken. TakesFrame wide (Some pending.old.items) piece.now taken
         (Some pending.new.items)) }
-    ensures err { IfErr result (λ fault. StopsAt fault (pending.old.items ++ piece.now)) }
+    ensures err { IfErr result (λ fault. StopsAt wide fault (pending.old.items ++ piece.now)) }
 {
     if pending.is_empty() {
-        return start(alloc, pending, piece);
+        return start(alloc, wide, pending, piece);
     }
-    match finish(alloc, pending, piece)? {
+    match finish(alloc, wide, pending, piece)? {
         None => Ok(Taken {
             count: piece.len(),
             frame: None,
@@ -236,13 +242,13 @@ fn advance(alloc: Global, pending: &mut Vec<u8>, piece: &[u8]) -> Result<Taken, 
 }
 
 /// Reads a piece where no frame is unfinished.
-fn start(alloc: Global, pending: &mut Vec<u8>, piece: &[u8]) -> Result<Taken, ReadFault>
+fn start(alloc: Global, wide: bool, pending: &mut Vec<u8>, piece: &[u8]) -> Result<Taken, ReadFault>
     requires { pending.old.items ≡ [] }
-    ensures ok { IfOk result (λ taken. TakesFrame (Some []) piece.now taken
+    ensures ok { IfOk result (λ taken. TakesFrame wide (Some []) piece.now taken
         (Some pending.new.items)) }
-    ensures err { IfErr result (λ fault. StopsAt fault piece.now) }
+    ensures err { IfErr result (λ fault. StopsAt wide fault piece.now) }
 {
-    match frame_at(alloc, piece)? {
+    match frame_at(alloc, wide, piece)? {
         None => {
             pending.extend_from_slice(piece)?;
             Ok(Taken {
@@ -258,19 +264,24 @@ fn start(alloc: Global, pending: &mut Vec<u8>, piece: &[u8]) -> Result<Taken, Re
 }
 
 /// The frame at the beginning of an unfinished frame and then a piece, if it is whole then.
-fn see_frame(alloc: Global, pending: &[u8], piece: &[u8]) -> Result<Option<Frame>, ReadFault>
-    requires { IsPartial pending.now }
-    ensures { SeesFrame (Some pending.now) piece.now result }
+fn see_frame(
+    alloc: Global,
+    wide: bool,
+    pending: &[u8],
+    piece: &[u8],
+) -> Result<Option<Frame>, ReadFault>
+    requires { IsPartial true pending.now }
+    ensures { SeesFrame wide (Some pending.now) piece.now result }
 {
     // Judged before memory is taken.
-    let enough = split_frame_len(pending, piece)?;
+    let enough = split_frame_len(wide, pending, piece)?;
     if pending.len().saturating_add(piece.len()) < enough {
         return Ok(None);
     }
     // A copy: the reader's own bytes stay as they are.
     let mut bytes = Vec::with_capacity(alloc, enough)?;
     bytes.extend_from_slice(pending)?;
-    match finish(alloc, &mut bytes, piece)? {
+    match finish(alloc, wide, &mut bytes, piece)? {
         None => Ok(None),
         Some((frame, _)) => Ok(Some(frame)),
     }
@@ -280,20 +291,21 @@ fn see_frame(alloc: Global, pending: &[u8], piece: &[u8]) -> Result<Option<Frame
 /// with what is left of the piece.
 fn finish<'a>(
     alloc: Global,
+    wide: bool,
     pending: &mut Vec<u8>,
     piece: &'a [u8],
 ) -> Result<Option<(Frame, &'a [u8])>, ReadFault>
-    requires { IsPartial pending.old.items }
-    ensures whole { IfOk result (λ o. IfSome o (λ found. IsFrame found.0
+    requires { IsPartial true pending.old.items }
+    ensures whole { IfOk result (λ o. IfSome o (λ found. IsFrameOf wide found.0
         × (pending.old.items ++ piece.now ≡ encoding found.0 ++ found.1.now)
         × (length found.1.now ≤ length piece.now) × (pending.new.items ≡ []))) }
     ensures room { IfOk result (λ o. IfSome o (λ _. vec_capacity pending.new ≡ 0)) }
     ensures partial { IfOk result (λ o. IfNone o
-        ((pending.new.items ≡ pending.old.items ++ piece.now) × IsPartial pending.new.items)) }
-    ensures err { IfErr result (λ fault. StopsAt fault (pending.old.items ++ piece.now)) }
+        ((pending.new.items ≡ pending.old.items ++ piece.now) × IsPartial wide pending.new.items)) }
+    ensures err { IfErr result (λ fault. StopsAt wide fault (pending.old.items ++ piece.now)) }
 {
-    let rest = fill(pending, piece)?;
-    let Some((frame, _)) = frame_at(alloc, pending)? else {
+    let rest = fill(wide, pending, piece)?;
+    let Some((frame, _)) = frame_at(alloc, wide, pending)? else {
         return Ok(None);
     };
     // A long frame's room is given back.
@@ -304,17 +316,17 @@ fn finish<'a>(
 /// Gives an unfinished frame what it lacks: its header and its payload. Answers the rest of the piece. The
 /// header is judged before memory is taken, and so is the length of a payload that is whole now, so that a fault
 /// of these is never answered as `Memory`.
-fn fill<'a>(pending: &mut Vec<u8>, piece: &'a [u8]) -> Result<&'a [u8], ReadFault>
-    requires { IsPartial pending.old.items }
+fn fill<'a>(wide: bool, pending: &mut Vec<u8>, piece: &'a [u8]) -> Result<&'a [u8], ReadFault>
+    requires { IsPartial true pending.old.items }
     ensures whole { IfOk result (λ rest. pending.new.items ++ rest.now
         ≡ pending.old.items ++ piece.now) }
-    ensures alone { OnOk result ((f : Frame) (more : List ℕ) → IsFrame f →
+    ensures alone { OnOk result ((f : Frame) (more : List ℕ) → IsFrameOf wide f →
         pending.new.items ≡ encoding f ++ more → more ≡ []) }
-    ensures until { IfOk result (λ rest. IsPartial pending.new.items → rest.now ≡ []) }
+    ensures until { IfOk result (λ rest. IsPartial wide pending.new.items → rest.now ≡ []) }
     ensures rest { IfOk result (λ rest. length rest.now ≤ length piece.now) }
-    ensures err { IfErr result (λ fault. StopsAt fault (pending.old.items ++ piece.now)) }
+    ensures err { IfErr result (λ fault. StopsAt wide fault (pending.old.items ++ piece.now)) }
 {
-    let size = split_frame_len(pending, piece)?;
+    let size = split_frame_len(wide, pending, piece)?;
     top_up(pending, piece, size)
 }
 

@@ -3,7 +3,7 @@
 ghost use Rattle.std.specs.Prelude.{◌≡◌, ◌≤◌, ◌<◌, ◌+◌, ◌*◌, ◌^◌, [], ◌∷◌, ◌++◌, All, length, vec_len, vec_capacity, IsOk, OnOk, OnErr};
 ghost use Rattle.frame_codec.specs.Frames.{HasFields, IsFrame, encoding, payload_of, payload_size, kind_of, payload_limit};
 ghost use Rattle.frame_codec.specs.Numbers.{number_bytes, word_bytes};
-ghost use Rattle.frame_codec.specs.declared.frame.Frame.TheVariants.{Delta, HintPart, Load};
+ghost use Rattle.frame_codec.specs.declared.frame.Frame.TheVariants.{Changes, Delta, HintPart, Load};
 
 use crate::frame::{Bytes, Frame, Rows, Words};
 use crate::numbers::{put, put_u16, put_u32, put_u64, put_words};
@@ -25,6 +25,7 @@ fn kind_number(frame: &Frame) -> u8
         Frame::Publish => 0x07,
         Frame::Bye => 0x08,
         Frame::Append { .. } => 0x09,
+        Frame::ChangesAsk { .. } => 0x0a,
         Frame::Welcome { .. } => 0x82,
         Frame::HintPart { .. } => HINT_PART,
         Frame::Delta { .. } => 0x84,
@@ -32,6 +33,7 @@ fn kind_number(frame: &Frame) -> u8
         Frame::Stale { .. } => 0x86,
         Frame::Done { .. } => 0x87,
         Frame::NoDelta { .. } => 0x88,
+        Frame::Changes { .. } => 0x8a,
         Frame::Refused { .. } => 0x8f,
     }
 }
@@ -48,7 +50,7 @@ impl Frame {
             }
             Frame::Hello { key, .. } => 2 + key.as_slice().len(),
             Frame::HintAsk { .. } => 13,
-            Frame::DeltaAsk { .. } | Frame::Done { .. } => 8,
+            Frame::DeltaAsk { .. } | Frame::ChangesAsk { .. } | Frame::Done { .. } => 8,
             Frame::Edit { bytes, .. } => 4 + bytes.as_slice().len(),
             Frame::Publish | Frame::Bye => 0,
             Frame::Append { bytes } => bytes.as_slice().len(),
@@ -56,6 +58,7 @@ impl Frame {
             Frame::HintPart { words, .. } => 13 + 4 * words.as_slice().len(),
             Frame::Delta { rows, .. } => 22 + 4 * rows.as_slice().len(),
             Frame::Stale { .. } | Frame::NoDelta { .. } => 12,
+            Frame::Changes { entries, .. } => 20 + entries.as_slice().len(),
             Frame::Refused { .. } => 1,
         }
     }
@@ -87,7 +90,7 @@ fn put_payload(out: &mut Vec<u8>, frame: &Frame)
             put_scheme(out, *scheme, *version);
             put_u32(out, *part);
         }
-        Frame::DeltaAsk { since } => put_u64(out, *since),
+        Frame::DeltaAsk { since } | Frame::ChangesAsk { since } => put_u64(out, *since),
         Frame::Query {
             scheme,
             version,
@@ -128,6 +131,12 @@ fn put_reply(out: &mut Vec<u8>, frame: &Frame)
             count,
             rows,
         } => put_delta_fields(out, *since, *now, *count, rows),
+        Frame::Changes {
+            since,
+            now,
+            count,
+            entries,
+        } => put_changes_fields(out, *since, *now, *count, entries),
         Frame::Answer {
             scheme,
             version,
@@ -201,6 +210,20 @@ fn put_delta_fields(out: &mut Vec<u8>, since: u64, now: u64, count: u32, rows: &
     put_u32(out, count);
     put_u16(out, rows.dimension());
     put_words(out, rows.as_slice());
+}
+
+#[tactic(auto, using(crate::proofs::NumberBytes::lengths), unfolding(crate::specs::Frames::payload_of))]
+fn put_changes_fields(out: &mut Vec<u8>, since: u64, now: u64, count: u32, entries: &Bytes)
+    requires { vec_len out.old + (20 + length entries.now) ≤ vec_capacity out.old }
+    ensures items { out.new.items ≡ out.old.items ++ payload_of
+        (Changes since now count entries.now) }
+    ensures fields { HasFields (Changes since now count entries.now) }
+    ensures capacity { vec_capacity out.old ≤ vec_capacity out.new }
+{
+    put_u64(out, since);
+    put_u64(out, now);
+    put_u32(out, count);
+    put(out, entries.as_slice());
 }
 
 /// The payload of a part of a hint.

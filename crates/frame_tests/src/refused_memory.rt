@@ -113,7 +113,7 @@ fn a_refused_frame_is_written_later(rt: HostRuntime) -> Result<(), Fail> {
 // Feeds a stream in pieces, the longest of which has seven bytes.
 fn reads(reader: &mut Reader, stream: &[u8], frames: &mut Vec<Frame>) -> Result<(), ReadFault> {
     for piece in stream.chunks(7) {
-        reader.feed(piece, frames)?;
+        reader.feed(false, piece, frames)?;
     }
     Ok(())
 }
@@ -129,7 +129,7 @@ fn has_stopped(
     assert_eq!(rt; reader.unfinished_len(), 0);
     let given = written(rt, alloc, frames);
     assert!(rt; stream.starts_with(&given));
-    assert_eq!(rt; reader.feed(&BYE, frames), Err(ReadFault::Failed));
+    assert_eq!(rt; reader.feed(false, &BYE, frames), Err(ReadFault::Failed));
     assert_eq!(rt; written(rt, alloc, frames).len(), given.len());
 }
 
@@ -162,10 +162,13 @@ fn a_short_greeting_is_bad_though_memory_is_refused(rt: HostRuntime) -> Result<(
     let (first, last) = greeting.split_at(8);
     let mut reader = Reader::new(rt.alloc());
     let mut frames = Vec::new(rt.alloc());
-    if reader.feed(first, &mut frames).is_err() {
+    if reader.feed(false, first, &mut frames).is_err() {
         reader = Reader::new(rt.alloc());
-        assert_eq!(rt; reader.feed(first, &mut frames), Ok(()));
+        assert_eq!(rt; reader.feed(false, first, &mut frames), Ok(()));
     }
-    assert_eq!(rt; reader.feed(last, &mut frames), Err(ReadFault::BadPayload));
+    assert_eq!(rt;
+        reader.feed(false, last, &mut frames),
+        Err(ReadFault::BadPayload)
+    );
     Ok(())
 }

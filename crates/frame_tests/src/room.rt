@@ -32,7 +32,7 @@ fn a_payload_that_never_comes(rt: HostRuntime) -> Result<(), Fail> {
     // An edit of 16,777,216 bytes, of which few come.
     let pieces: [&[u8]; 4] = [&[0, 0, 0, 1, 0x06], &[1], &[2, 3], &[4]];
     for piece in pieces {
-        assert_eq!(rt; reader.feed(piece, &mut frames), Ok(()));
+        assert_eq!(rt; reader.feed(false, piece, &mut frames), Ok(()));
     }
     assert_eq!(rt; frames.len(), 0);
     assert!(rt; !reader.is_between_frames());

@@ -55,7 +55,7 @@ fn read(rt: &HostRuntime, turns: u32, bytes: &[u8]) -> Option<(u64, Frame)> {
     for _turn in 0..turns {
         let mut reader = Reader::new(rt.alloc());
         let start = now(rt)?;
-        let taken = reader.feed_frame(bytes);
+        let taken = reader.feed_frame(false, bytes);
         least = least.min(nanos_since(rt, start)?);
         last = taken.ok()?.frame?;
     }

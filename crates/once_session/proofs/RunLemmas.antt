@@ -23,7 +23,7 @@ pub waits_none : WaitsForMore stage.Fresh [] stage.Fresh (Some []) []
 waits_none = record {
   frames = [];
   rest = [];
-  reads = record { begins = begins_none []; partial = nothing_partial };
+  reads = record { begins = begins_none false []; partial = nothing_partial false };
   codec_is = refl;
   stage_is = refl;
   out_is = refl;
@@ -43,9 +43,9 @@ both_outs fs gs st out more o s tail m =
 both_stages : (fs gs : List Frame) (st : Stage) → st ≡ stage_after stage.Fresh fs → stage_after st gs ≡ stage_after stage.Fresh (fs ++ gs)
 both_stages fs gs st s = ap (λ x. stage_after x gs) s ∙ sym (stage_after-append stage.Fresh fs gs)
 
-both_begin : (read piece : List ℕ) (fs gs : List Frame) (rest last : List ℕ) → Begins read fs rest → Begins (rest ++ piece) gs last →
-    Begins (read ++ piece) (fs ++ gs) last
-both_begin read piece fs gs rest last a b = begins_both (read ++ piece) fs gs (rest ++ piece) last (begins_ahead read fs rest piece a) b
+both_begin : (read piece : List ℕ) (fs gs : List Frame) (rest last : List ℕ) → Begins false read fs rest → Begins false (rest ++ piece) gs last →
+    Begins false (read ++ piece) (fs ++ gs) last
+both_begin read piece fs gs rest last a b = begins_both false (read ++ piece) fs gs (rest ++ piece) last (begins_ahead false read fs rest piece a) b
 
 -- the work goes on
 pub waits_on : (read out piece more : List ℕ) (st new : Stage) (codec left : Option (List ℕ)) (w : WaitsForMore stage.Fresh read st codec out) →
@@ -226,7 +226,7 @@ turned_off st new stream more left over t = subst (λ b. MatchBool b (WaitsForMo
 -- no room for a piece: nothing was read
 pub nothing_served : (turns : ℕ) (left : Option (List ℕ)) → ServesOneStream turns (Err fault.Memory) [] [] left
 nothing_served turns left =
-    record { frames = []; rest = []; begins = begins_none []; out_is = refl; open_still = refl; unfaulted = partial_stops [] nothing_partial }
+    record { frames = []; rest = []; begins = begins_none false []; out_is = refl; open_still = refl; unfaulted = partial_stops false [] (nothing_partial false) }
 
 -- the refusal of a frame that is cut was written in part
 pub finish_cut : (e : OnceFault) (rest : List ℕ) (n : ℕ) → (rest ≡ [] → ⊥) → e ≡ fault.Write → Finishes (Err e) rest (take n (encoding (Refused 1)))

@@ -1,5 +1,5 @@
 -- What a piece leads to.
-use Rattle.std.proofs.Common.{◌≡◌, ℕ, zero, suc, ◌<◌, List, [], ◌∷◌, ◌++◌, append_assoc, length, take, drop, Bool, true, false, Option, Some, Result, Ok, Err, arith, ap, ◌∙◌, sym, refl, subst, inl, inr, ◌⊎◌}
+use Rattle.std.proofs.Common.{◌≡◌, ℕ, zero, suc, ◌<◌, List, [], ◌∷◌, ◌++◌, append_assoc, length, take, drop, Bool, true, false, Option, Some, Ok, Err, arith, ap, ◌∙◌, sym, refl, subst, inl, inr, ◌⊎◌}
 use Rattle.std.specs.Prelude.{cond, MatchBool}
 use Rattle.std.specs.List.{flat_map, AllByRecursion}
 use Rattle.std.proofs.lemmas.List.{append-nil, take-append-drop}
@@ -8,8 +8,8 @@ use Rattle.frame_codec.specs.declared.frame.Frame.{Frame}
 use Rattle.frame_codec.specs.declared.frame.Frame.TheVariants.{Refused}
 use Rattle.frame_codec.specs.declared.reader.ReadFault.{ReadFault}
 use Rattle.frame_codec.specs.declared.reader.ReadFault.TheVariants.{TooLong, UnknownKind, BadPayload, Memory, Failed}
-use Rattle.frame_codec.specs.Frames.{encoding, IsFrame}
-use Rattle.frame_codec.specs.Streams.{Begins, Feeds, HasFault, HasFrame, StopsAt}
+use Rattle.frame_codec.specs.Frames.{encoding}
+use Rattle.frame_codec.specs.Streams.{IsFrameOf, Begins, Feeds, HasFault, HasFrame, StopsAt}
 use Rattle.frame_codec.proofs.Pieces.{frame_stops}
 use Rattle.once_session.specs.declared.stage.Stage.{Stage}
 use Rattle.once_session.specs.declared.stage.Stage.TheVariants as stage
@@ -37,7 +37,7 @@ not_both : (b : Bool) → b ≡ false → b ≡ true → ⊥
 not_both b e f = let no : false ≡ true = sym e ∙ f in cc
 
 -- a frame ended the work
-pub turn_over : (old new : Stage) (stream : List ℕ) (frames : List Frame) (rest : List ℕ) (codec : Option (List ℕ)) (out : List ℕ) → Begins stream frames rest →
+pub turn_over : (old new : Stage) (stream : List ℕ) (frames : List Frame) (rest : List ℕ) (codec : Option (List ℕ)) (out : List ℕ) → Begins false stream frames rest →
     new ≡ stage_after old frames → goes_on new ≡ false → out ≡ encodings (replies_to old frames) → Turns (Ok tt) old stream new codec out
 turn_over old new stream frames rest codec out begins is over o =
     let shut : goes_on (stage_after old frames) ≡ false = ap goes_on (sym is) ∙ over in
@@ -52,14 +52,14 @@ turn_over old new stream frames rest codec out begins is over o =
       well_is = ends_as new rest over ∙ ap (λ s. is_well s rest) is;
     })
 
-judged_fault : (fault : ReadFault) (rest : List ℕ) → IsJudged fault → StopsAt fault rest → HasFault fault rest
+judged_fault : (fault : ReadFault) (rest : List ℕ) → IsJudged fault → StopsAt false fault rest → HasFault false fault rest
 judged_fault TooLong rest j s = s
 judged_fault UnknownKind rest j s = s
 judged_fault BadPayload rest j s = s
 judged_fault Memory rest j s = absurd j
 judged_fault Failed rest j s = absurd j
 
-some_bytes : (fault : ReadFault) (rest : List ℕ) → HasFault fault rest → rest ≡ [] → ⊥
+some_bytes : (fault : ReadFault) (rest : List ℕ) → HasFault false fault rest → rest ≡ [] → ⊥
 some_bytes TooLong rest h e = let none : length rest ≡ 0 = ap length e in omega (arith, h.0)
 some_bytes UnknownKind rest h e = let none : length rest ≡ 0 = ap length e in omega (arith, h.0)
 some_bytes BadPayload rest h e = let none : length rest ≡ 0 = ap length e in omega (arith, h.0)
@@ -87,25 +87,25 @@ owed_at old frames rest going some =
 
 -- what can't be read was refused
 pub turn_refused : (old new : Stage) (stream : List ℕ) (frames : List Frame) (rest : List ℕ) (fault : ReadFault) (codec : Option (List ℕ)) (out : List ℕ) →
-    Begins stream frames rest →
-    StopsAt fault rest → IsJudged fault → goes_on (stage_after old frames) ≡ true → new ≡ stage.Bad →
+    Begins false stream frames rest →
+    StopsAt false fault rest → IsJudged fault → goes_on (stage_after old frames) ≡ true → new ≡ stage.Bad →
     out ≡ encodings (replies_to old frames) ++ encoding (Refused 1) → Turns (Ok tt) old stream new codec out
 turn_refused old new stream frames rest fault codec out begins stops judged going bad o =
-    let has : HasFault fault rest = judged_fault fault rest judged stops in
+    let has : HasFault false fault rest = judged_fault fault rest judged stops in
     let some : rest ≡ [] → ⊥ = some_bytes fault rest has in
     at_false (goes_on new) (WaitsForMore old stream new codec out) (EndsWork old stream new out) (ap goes_on bad) (record {
       frames = frames;
       rest = rest;
       begins = begins;
-      no_frame = λ _. fault_of_frame fault rest has;
+      no_frame = λ _. fault_of_frame false fault rest has;
       no_part = λ _ p. p.no_fault fault has;
       out_is = o ∙ owed_at old frames rest going some;
       well_is = ap is_done bad ∙ sym (ill_rest (stage_after old frames) rest going some);
     })
 
 -- and here the refusal, or nothing of it, was written in part
-pub turn_cut : (old : Stage) (stream : List ℕ) (frames : List Frame) (rest : List ℕ) (fault : ReadFault) (n : ℕ) → Begins stream frames rest →
-    StopsAt fault rest → goes_on (stage_after old frames) ≡ true → ((n ≡ 0) ⊎ IsJudged fault) →
+pub turn_cut : (old : Stage) (stream : List ℕ) (frames : List Frame) (rest : List ℕ) (fault : ReadFault) (n : ℕ) → Begins false stream frames rest →
+    StopsAt false fault rest → goes_on (stage_after old frames) ≡ true → ((n ≡ 0) ⊎ IsJudged fault) →
     Breaks old stream (encodings (replies_to old frames) ++ take n (encoding (Refused 1)))
 turn_cut old stream frames rest fault n begins stops going (inl none) = record {
   frames = frames;
@@ -116,14 +116,14 @@ turn_cut old stream frames rest fault n begins stops going (inl none) = record {
       inl (subst (λ (b : List ℕ). IsPrefixOf b (encodings (replies_to old frames))) nothing (all_prefix (encodings (replies_to old frames))));
 }
 turn_cut old stream frames rest fault n begins stops going (inr judged) =
-    let has : HasFault fault rest = judged_fault fault rest judged stops in
+    let has : HasFault false fault rest = judged_fault fault rest judged stops in
     let some : rest ≡ [] → ⊥ = some_bytes fault rest has in
     record {
       frames = frames;
       rest = rest;
       begins = begins;
       prefix = inr (
-        (λ _. fault_of_frame fault rest has),
+        (λ _. fault_of_frame false fault rest has),
         (λ _ p. p.no_fault fault has),
         subst (IsPrefixOf (encodings (replies_to old frames) ++ take n (encoding (Refused 1)))) (owed_at old frames rest going some)
             (prefix_after (encodings (replies_to old frames)) (take n (encoding (Refused 1))) (encoding (Refused 1)) (prefix_taken n (encoding (Refused 1)))),
@@ -141,7 +141,7 @@ sends_before does fault.TurnsUsedUp a m b bytes more s t = sends_both does a m b
 
 -- the work goes on
 pub turn_on : (old new : Stage) (rest piece : List ℕ) (frames : List Frame) (codec : Option (List ℕ)) (out : List ℕ) →
-    Feeds (Some rest) piece (Ok tt) frames codec →
+    Feeds false (Some rest) piece (Ok tt) frames codec →
     new ≡ stage_after old frames → goes_on new ≡ true → out ≡ encodings (replies_to old frames) → Turns (Ok tt) old (rest ++ piece) new codec out
 turn_on old new rest piece frames codec out feeds is going o =
     subst (λ b. MatchBool b (WaitsForMore old (rest ++ piece) new codec out) (EndsWork old (rest ++ piece) new out)) (sym going)
@@ -149,8 +149,8 @@ turn_on old new rest piece frames codec out feeds is going o =
 
 -- ---- refused memory
 
-has_next : (frames : List Frame) (count : ℕ) (rest : List ℕ) → AllByRecursion IsFrame frames → count < length frames →
-    HasFrame (flat_map encoding (drop count frames) ++ rest)
+has_next : (frames : List Frame) (count : ℕ) (rest : List ℕ) → AllByRecursion (IsFrameOf false) frames → count < length frames →
+    HasFrame false (flat_map encoding (drop count frames) ++ rest)
 has_next [] count rest all lt = absurd (omega arith)
 has_next (f ∷ fs) zero rest all lt = (
   f,
@@ -160,14 +160,14 @@ has_next (f ∷ fs) zero rest all lt = (
 )
 has_next (f ∷ fs) (suc count) rest all lt = has_next fs count rest all.1 (omega arith)
 
-first_each : (frames : List Frame) (count : ℕ) → AllByRecursion IsFrame frames → AllByRecursion IsFrame (take count frames)
+first_each : (frames : List Frame) (count : ℕ) → AllByRecursion (IsFrameOf false) frames → AllByRecursion (IsFrameOf false) (take count frames)
 first_each frames zero all = tt
 first_each [] (suc count) all = tt
 first_each (f ∷ fs) (suc count) all = (all.0, first_each fs count all.1)
 
 -- the first frames, and what follows them
-first_begin : (stream : List ℕ) (frames : List Frame) (rest : List ℕ) (count : ℕ) → Begins stream frames rest →
-    Begins stream (take count frames) (flat_map encoding (drop count frames) ++ rest)
+first_begin : (stream : List ℕ) (frames : List Frame) (rest : List ℕ) (count : ℕ) → Begins false stream frames rest →
+    Begins false stream (take count frames) (flat_map encoding (drop count frames) ++ rest)
 first_begin stream frames rest count begins = record {
   whole = begins.whole
       ∙ ap (λ (x : List ℕ). x ++ rest) (ap (flat_map encoding) (sym (take-append-drop count frames))
@@ -179,7 +179,7 @@ first_begin stream frames rest count begins = record {
 -- the replies to some frames failed: a write did, or memory was refused to one of them
 pub frames_failed : {C : Type 0} (does : C → Call → C → Type 0) (e : OnceFault) (old : Stage) (stream : List ℕ) (frames : List Frame) (rest : List ℕ)
     (new : Stage) (codec : Option (List ℕ)) (a b : C)
-    → IsServeFault e → Begins stream frames rest → (out : List ℕ) × SendsBefore does e a out b × IsPrefixOf out (encodings (replies_to old frames))
+    → IsServeFault e → Begins false stream frames rest → (out : List ℕ) × SendsBefore does e a out b × IsPrefixOf out (encodings (replies_to old frames))
     → (e ≡ fault.Memory → LacksMemoryForFrame does frames old a new b)
     → (out : List ℕ) × WritesWorkReplies does (Err e) a out b × Turns (Err e) old stream new codec out
 frames_failed does e old stream frames rest new codec a b (inl is) begins part lacks = (
@@ -199,12 +199,12 @@ frames_failed does e old stream frames rest new codec a b (inr is) begins part l
         begins = first_begin stream frames rest l.0 begins;
         out_is = refl;
         open_still = ap goes_on (sym l.3) ∙ l.4;
-        unfaulted = frame_stops later (has_next frames l.0 rest begins.each l.1);
+        unfaulted = frame_stops false later (has_next frames l.0 rest begins.each l.1);
       }),
     )
 
 -- what stopped the reading and was not judged is refused memory
-unjudged_stops : (fault : ReadFault) (rest : List ℕ) → (IsJudged fault → ⊥) → StopsAt fault rest → StopsAt Memory rest
+unjudged_stops : (fault : ReadFault) (rest : List ℕ) → (IsJudged fault → ⊥) → StopsAt false fault rest → StopsAt false Memory rest
 unjudged_stops TooLong rest j s = absurd (j tt)
 unjudged_stops UnknownKind rest j s = absurd (j tt)
 unjudged_stops BadPayload rest j s = absurd (j tt)
@@ -214,7 +214,7 @@ unjudged_stops Failed rest j s = absurd s
 -- what stopped the reading could not be answered: a write failed, or memory had been refused
 pub stop_failed : {C : Type 0} (does : C → Call → C → Type 0) (e : OnceFault) (old : Stage) (stream : List ℕ) (frames : List Frame) (rest : List ℕ)
     (why : ReadFault) (new : Stage) (codec : Option (List ℕ)) (a m b : C)
-    → IsServeFault e → Begins stream frames rest → StopsAt why rest → goes_on (stage_after old frames) ≡ true
+    → IsServeFault e → Begins false stream frames rest → StopsAt false why rest → goes_on (stage_after old frames) ≡ true
     → Sends does a (encodings (replies_to old frames)) m
     → (n : ℕ) × SendsBefore does e m (take n (encoding (Refused 1))) b × ((n ≡ 0) ⊎ IsJudged why)
     → (IsJudged why → e ≡ fault.Write) → (e ≡ fault.Memory → b ≡ m)

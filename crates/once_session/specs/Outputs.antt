@@ -40,14 +40,14 @@ is_well (Loaded t) (b ∷ bs) = false
 
 -- Nothing more comes of what was read: where no frame ended it, no frame begins the rest, and a rest that more bytes could make a frame is all that there is
 pub record IsLast (st : Stage) (rest : List ℕ) (left : Option (List ℕ)) : Type 0 where
-  pub no_frame : goes_on st ≡ true → HasFrame rest → ⊥
-  pub no_more : goes_on st ≡ true → IsPartial rest → IsAtEnd left
+  pub no_frame : goes_on st ≡ true → HasFrame false rest → ⊥
+  pub no_more : goes_on st ≡ true → IsPartial false rest → IsAtEnd left
 
 -- the whole output for what was read, and whether it ended well
 pub record IsOutput (read out : List ℕ) (left : Option (List ℕ)) (well : Bool) : Type 0 where
   pub frames : List Frame
   pub rest : List ℕ
-  pub begins : Begins read frames rest
+  pub begins : Begins false read frames rest
   pub last : IsLast (stage_after Fresh frames) rest left
   pub out_is : out ≡ output_of frames rest
   pub well_is : well ≡ is_well (stage_after Fresh frames) rest
@@ -56,7 +56,7 @@ pub record IsOutput (read out : List ℕ) (left : Option (List ℕ)) (well : Boo
 pub record IsOnceReply (read out : List ℕ) : Type 0 where
   pub frames : List Frame
   pub rest : List ℕ
-  pub reads : Reads read frames rest
+  pub reads : Reads false read frames rest
   pub open_still : goes_on (stage_after Fresh frames) ≡ true
   pub out_is : out ≡ encodings (replies_to Fresh frames)
 
@@ -68,7 +68,7 @@ IsPrefixOf prefix all = (rest : List ℕ) × (all ≡ prefix ++ rest)
 pub record IsStreamCut (read out : List ℕ) (left : Option (List ℕ)) : Type 0 where
   pub frames : List Frame
   pub rest : List ℕ
-  pub begins : Begins read frames rest
+  pub begins : Begins false read frames rest
   pub prefix : IsPrefixOf out (encodings (replies_to Fresh frames)) ⊎ (IsLast (stage_after Fresh frames) rest left × IsPrefixOf out (output_of frames rest))
 
 -- Memory was refused to work that was open: the replies to whole frames went out, all of each, and no fault that the
@@ -76,10 +76,10 @@ pub record IsStreamCut (read out : List ℕ) (left : Option (List ℕ)) : Type 0
 pub record LacksMemoryAfter (old : Stage) (stream out : List ℕ) : Type 0 where
   pub frames : List Frame
   pub rest : List ℕ
-  pub begins : Begins stream frames rest
+  pub begins : Begins false stream frames rest
   pub out_is : out ≡ encodings (replies_to old frames)
   pub open_still : goes_on (stage_after old frames) ≡ true
-  pub unfaulted : StopsAt no_memory rest
+  pub unfaulted : StopsAt false no_memory rest
 
 -- what was written for what was read in at most so many turns, by the answer
 abbrev pub ServesOneStream : ℕ → Result (Unit {0}) OnceFault → List ℕ → List ℕ → Option (List ℕ) → Type 0
@@ -118,9 +118,9 @@ is_done Bad = false
 pub record EndsWork (old : Stage) (stream : List ℕ) (new : Stage) (out : List ℕ) : Type 0 where
   pub frames : List Frame
   pub rest : List ℕ
-  pub begins : Begins stream frames rest
-  pub no_frame : goes_on (stage_after old frames) ≡ true → HasFrame rest → ⊥
-  pub no_part : goes_on (stage_after old frames) ≡ true → IsPartial rest → ⊥
+  pub begins : Begins false stream frames rest
+  pub no_frame : goes_on (stage_after old frames) ≡ true → HasFrame false rest → ⊥
+  pub no_part : goes_on (stage_after old frames) ≡ true → IsPartial false rest → ⊥
   pub out_is : out ≡ encodings (replies_to old frames) ++ cond (goes_on (stage_after old frames)) (rest_reply rest) []
   pub well_is : is_done new ≡ is_well (stage_after old frames) rest
 
@@ -128,7 +128,7 @@ pub record EndsWork (old : Stage) (stream : List ℕ) (new : Stage) (out : List 
 pub record WaitsForMore (old : Stage) (stream : List ℕ) (new : Stage) (codec : Option (List ℕ)) (out : List ℕ) : Type 0 where
   pub frames : List Frame
   pub rest : List ℕ
-  pub reads : Reads stream frames rest
+  pub reads : Reads false stream frames rest
   pub codec_is : codec ≡ Some rest
   pub stage_is : new ≡ stage_after old frames
   pub out_is : out ≡ encodings (replies_to old frames)
@@ -137,9 +137,9 @@ pub record WaitsForMore (old : Stage) (stream : List ℕ) (new : Stage) (codec :
 pub record Breaks (old : Stage) (stream : List ℕ) (out : List ℕ) : Type 0 where
   pub frames : List Frame
   pub rest : List ℕ
-  pub begins : Begins stream frames rest
+  pub begins : Begins false stream frames rest
   pub prefix : IsPrefixOf out (encodings (replies_to old frames))
-      ⊎ ((goes_on (stage_after old frames) ≡ true → HasFrame rest → ⊥) × (goes_on (stage_after old frames) ≡ true → IsPartial rest → ⊥)
+      ⊎ ((goes_on (stage_after old frames) ≡ true → HasFrame false rest → ⊥) × (goes_on (stage_after old frames) ≡ true → IsPartial false rest → ⊥)
       × IsPrefixOf out (encodings (replies_to old frames) ++ cond (goes_on (stage_after old frames)) (rest_reply rest) []))
 
 -- what a piece does at an open stage, where `stream` is the unfinished frame before it and the piece

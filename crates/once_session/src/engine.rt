@@ -240,7 +240,7 @@ fn serve_read<K: Kernel, C: Connection>(
     requires open { goes_on stage.old ≡ true }
     ensures table { OnOk result (HasTable stage.new) }
     ensures turned { (rest piece : List ℕ) (codec : Option (List ℕ)) →
-        Feeds (Some rest) piece read frames.now codec → (out : List ℕ)
+        Feeds false (Some rest) piece read frames.now codec → (out : List ℕ)
         × WritesWorkReplies C.does result connection.old out connection.new
         × Turns result stage.old (rest ++ piece) stage.new codec out }
     ensures fault { IfErr result IsServeFault }
@@ -282,11 +282,11 @@ pub(crate) fn serve_chunk<K: Kernel, C: Connection>(
     ensures fault { IfErr result IsServeFault }
     ensures memory { IfErr result (λ e. e ≡ OnceFault.Memory →
         (read : Result (Unit {0}) ReadFault) × (frames : List Frame)
-        × Feeds codec.old piece.now read frames codec.new
+        × Feeds false codec.old piece.now read frames codec.new
         × LacksMemory C.does read frames stage.old connection.old stage.new connection.new) }
 {
     let mut frames = Vec::new(alloc);
-    let read = codec.feed(piece, &mut frames);
+    let read = codec.feed(false, piece, &mut frames);
     match serve_read(alloc, kernel, refusal, &frames, read, stage, connection) {
         Ok(()) => Ok(()),
         Err(fault) => Err(fault),

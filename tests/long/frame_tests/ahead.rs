@@ -31,14 +31,14 @@ fn query_next(reader: &Reader, piece: &[u8]) -> Option<QueryHead> {
 }
 
 fn next_frame(reader: &Reader, piece: &[u8]) -> Result<Option<Frame>, ReadFault> {
-    reader.next_frame(piece)
+    reader.next_frame(false, piece)
 }
 
 // A reader that keeps these bytes, with which no frame is whole.
 fn reader_of(alloc: Global, kept: &[u8]) -> Result<Reader, Fail> {
     let mut reader = Reader::new(alloc);
     let mut frames = Vec::new(alloc);
-    reader.feed(kept, &mut frames)?;
+    reader.feed(false, kept, &mut frames)?;
     Ok(reader)
 }
 
@@ -112,7 +112,7 @@ fn a_fault_is_no_query(rt: HostRuntime) -> Result<(), Fail> {
         assert_eq!(rt; query_next(&reader, &bytes), None);
         assert_eq!(rt; next_frame(&reader, &bytes).err(), Some(fault));
         let mut frames = Vec::new(rt.alloc());
-        assert_eq!(rt; reader.feed(&bytes, &mut frames), Err(fault));
+        assert_eq!(rt; reader.feed(false, &bytes, &mut frames), Err(fault));
         assert_eq!(rt; query_next(&reader, &QUERY), None);
         assert_eq!(rt; next_frame(&reader, &QUERY).err(), Some(ReadFault::Failed));
     }

@@ -295,7 +295,7 @@ fn has_its_reply_fields(frame: Frame) -> bool {
 fn reads_the_fields_of_each_kind(rt: HostRuntime) -> Result<(), Fail> {
     let mut reader = Reader::new(rt.alloc());
     let mut frames = Vec::new(rt.alloc());
-    reader.feed(&each_kind_encoded(rt.alloc())?, &mut frames)?;
+    reader.feed(false, &each_kind_encoded(rt.alloc())?, &mut frames)?;
     let mut seen = 0;
     for frame in frames {
         assert!(rt; has_its_fields(frame), "frame {seen}");
@@ -315,7 +315,7 @@ fn reads_the_same_frames_however_cut(rt: HostRuntime) -> Result<(), Fail> {
         let (piece, later) = stream.split_at(cut);
         let mut reader = Reader::new(rt.alloc());
         let mut frames = Vec::new(rt.alloc());
-        reader.feed(piece, &mut frames)?;
+        reader.feed(false, piece, &mut frames)?;
         assert_eq!(rt;
             frames.len(),
             ends.iter().filter(|end| **end <= cut).count(),
@@ -326,7 +326,7 @@ fn reads_the_same_frames_however_cut(rt: HostRuntime) -> Result<(), Fail> {
             cut == 0 || ends.contains(&cut),
             "cut at {cut}"
         );
-        reader.feed(later, &mut frames)?;
+        reader.feed(false, later, &mut frames)?;
         assert_eq!(rt;
             encoded(&rt, rt.alloc(), &frames)?.as_slice(),
             stream.as_slice(),
@@ -342,7 +342,7 @@ fn reads_byte_by_byte(rt: HostRuntime) -> Result<(), Fail> {
     let mut reader = Reader::new(rt.alloc());
     let mut frames = Vec::new(rt.alloc());
     for byte in &stream {
-        reader.feed(&[*byte], &mut frames)?;
+        reader.feed(false, &[*byte], &mut frames)?;
     }
     assert_eq!(rt;
         encoded(&rt, rt.alloc(), &frames)?.as_slice(),
@@ -361,7 +361,7 @@ fn many_small_frames_in_one_piece(rt: HostRuntime) -> Result<(), Fail> {
         stream.extend_from_slice(&BYE)?;
         let mut reader = Reader::new(rt.alloc());
         let mut frames = Vec::new(rt.alloc());
-        assert_eq!(rt; reader.feed(&stream, &mut frames), Ok(()), "{round}");
+        assert_eq!(rt; reader.feed(false, &stream, &mut frames), Ok(()), "{round}");
         assert!(rt; reader.is_between_frames());
         assert_eq!(rt;
             encoded(&rt, rt.alloc(), &frames)?.as_slice(),
@@ -382,14 +382,14 @@ fn must_fail_at_last(
 ) -> Result<(), Fail> {
     let mut single = Reader::new(alloc);
     let mut frames = Vec::new(alloc);
-    single.feed(&STALE, &mut frames)?;
+    single.feed(false, &STALE, &mut frames)?;
     assert!(rt; !bad.is_empty());
     let (early, last) = bad.split_at(bad.len() - 1);
     for byte in early {
-        single.feed(&[*byte], &mut frames)?;
+        single.feed(false, &[*byte], &mut frames)?;
     }
-    assert_eq!(rt; single.feed(last, &mut frames), Err(fault));
-    assert_eq!(rt; single.feed(&STALE, &mut frames), Err(ReadFault::Failed));
+    assert_eq!(rt; single.feed(false, last, &mut frames), Err(fault));
+    assert_eq!(rt; single.feed(false, &STALE, &mut frames), Err(ReadFault::Failed));
     assert_eq!(rt; encoded(rt, alloc, &frames)?.as_slice(), STALE.as_slice());
 
     let mut piece = Vec::from_slice(alloc, &STALE)?;
@@ -397,8 +397,8 @@ fn must_fail_at_last(
     piece.extend_from_slice(&STALE)?;
     let mut whole = Reader::new(alloc);
     let mut frames = Vec::new(alloc);
-    assert_eq!(rt; whole.feed(&piece, &mut frames), Err(fault));
-    assert_eq!(rt; whole.feed(&[], &mut frames), Err(ReadFault::Failed));
+    assert_eq!(rt; whole.feed(false, &piece, &mut frames), Err(fault));
+    assert_eq!(rt; whole.feed(false, &[], &mut frames), Err(ReadFault::Failed));
     assert_eq!(rt; encoded(rt, alloc, &frames)?.as_slice(), STALE.as_slice());
     Ok(())
 }
@@ -414,7 +414,7 @@ fn a_long_payload_fails_at_byte_four(rt: HostRuntime) -> Result<(), Fail> {
     )?;
     let mut reader = Reader::new(rt.alloc());
     let mut frames = Vec::new(rt.alloc());
-    reader.feed(&[0, 0, 0, 0x01, 0x05], &mut frames)?;
+    reader.feed(false, &[0, 0, 0, 0x01, 0x05], &mut frames)?;
     assert!(rt; frames.is_empty());
     Ok(())
 }
@@ -491,7 +491,7 @@ fn an_append_may_have_no_bytes(rt: HostRuntime) -> Result<(), Fail> {
     let stream = [0, 0, 0, 0, 0x09];
     let mut reader = Reader::new(rt.alloc());
     let mut frames = Vec::new(rt.alloc());
-    reader.feed(&stream, &mut frames)?;
+    reader.feed(false, &stream, &mut frames)?;
     assert_eq!(rt;
         encoded(&rt, rt.alloc(), &frames)?.as_slice(),
         stream.as_slice()
@@ -511,7 +511,7 @@ fn a_row_may_have_no_words(rt: HostRuntime) -> Result<(), Fail> {
     }
     let mut reader = Reader::new(rt.alloc());
     let mut frames = Vec::new(rt.alloc());
-    reader.feed(&stream, &mut frames)?;
+    reader.feed(false, &stream, &mut frames)?;
     assert_eq!(rt;
         encoded(&rt, rt.alloc(), &frames)?.as_slice(),
         stream.as_slice()
@@ -528,13 +528,13 @@ fn read_in_small_pieces(
 ) -> Result<(), Fail> {
     let mut reader = Reader::new(alloc);
     let mut frames = Vec::new(alloc);
-    reader.feed(&header, &mut frames)?;
+    reader.feed(false, &header, &mut frames)?;
     let piece = [0x07; 1000];
     for _ in 0..len / 1000 {
-        reader.feed(&piece, &mut frames)?;
+        reader.feed(false, &piece, &mut frames)?;
     }
     assert!(rt; frames.is_empty());
-    reader.feed(&piece[..len % 1000], &mut frames)?;
+    reader.feed(false, &piece[..len % 1000], &mut frames)?;
     assert_eq!(rt; frames.len(), 1);
     assert_eq!(rt; frames[0].payload_len(), len);
     assert!(rt; reader.is_between_frames());
@@ -555,13 +555,13 @@ fn sixteen_mebibytes_of_small_frames(rt: HostRuntime) -> Result<(), Fail> {
     }
     let mut reader = Reader::new(rt.alloc());
     let mut frames = Vec::new(rt.alloc());
-    reader.feed(&stream, &mut frames)?;
+    reader.feed(false, &stream, &mut frames)?;
     assert_eq!(rt; frames.len(), 986_895);
     assert!(rt; reader.is_between_frames());
 
     let mut frames = Vec::new(rt.alloc());
     for piece in stream.chunks(1000) {
-        reader.feed(piece, &mut frames)?;
+        reader.feed(false, piece, &mut frames)?;
     }
     assert_eq!(rt; frames.len(), 986_895);
     Ok(())

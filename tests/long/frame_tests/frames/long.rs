@@ -23,7 +23,7 @@ fn one_piece_of_more_than_65536_bytes(rt: HostRuntime) -> Result<(), Fail> {
     let piece = long_piece(rt.alloc())?;
     let mut reader = Reader::new(rt.alloc());
     let mut frames = Vec::new(rt.alloc());
-    assert_eq!(rt; reader.feed(&piece, &mut frames), Ok(()));
+    assert_eq!(rt; reader.feed(false, &piece, &mut frames), Ok(()));
     assert_eq!(rt; frames.len(), 2);
     match frames.first() {
         Some(Frame::Edit { index, bytes }) => {
@@ -36,7 +36,7 @@ fn one_piece_of_more_than_65536_bytes(rt: HostRuntime) -> Result<(), Fail> {
         _ => panic!(rt; "the first frame is no edit"),
     }
     assert!(rt; matches!(frames.last(), Some(Frame::Bye)));
-    assert_eq!(rt; reader.feed(&[0, 0, 0x08], &mut frames), Ok(()));
+    assert_eq!(rt; reader.feed(false, &[0, 0, 0x08], &mut frames), Ok(()));
     assert_eq!(rt; frames.len(), 3);
     assert!(rt; reader.is_between_frames());
     Ok(())

@@ -1,4 +1,4 @@
-use Rattle.std.proofs.Common.{◌≡◌, ◌++◌, ◌<◌, ◌≤◌, ◌∙◌, List, ℕ, length, take, arith, refl, sym}
+use Rattle.std.proofs.Common.{◌≡◌, ◌++◌, ◌<◌, ◌≤◌, ◌∙◌, List, ℕ, length, take, arith, false, refl, sym}
 use Rattle.std.proofs.lemmas.List.{length-append}
 use Rattle.frame_codec.proofs.Fronts.{copied_all, IsBytes-append}
 use Rattle.frame_codec.proofs.Pieces.{readable_limit}
@@ -19,7 +19,7 @@ returns-then-saturating_add-size-clause-none c =
             length-append c.args.first.now c.args.rest.now,
             c.saturating_add.ensures,
             w.if-saturating_add-size.true,
-            readable_limit bytes c.in-Ok.size c.in-Ok.ensures.ok,
+            readable_limit false bytes c.in-Ok.size c.in-Ok.ensures.ok,
           )
       | then-saturating_add-size-via-else-saturating_add-size+then-size-lt-QUERY_HEAD_LEN w ↦
           absurd (omega (arith, long, w.if-size-lt-QUERY_HEAD_LEN.true))

@@ -1,5 +1,5 @@
 use Rattle.std.proofs.Common.{refl}
-use Rattle.frame_codec.proofs.PayloadLengths.{load_lengths, hello_lengths, hint_ask_lengths, delta_ask_lengths, edit_lengths, publish_lengths, bye_lengths, welcome_lengths, stale_lengths, done_lengths, no_delta_lengths, refused_lengths, query_lengths, hint_part_lengths, delta_lengths, answer_lengths, append_length}
+use Rattle.frame_codec.proofs.PayloadLengths.{load_lengths, hello_lengths, hint_ask_lengths, delta_ask_lengths, edit_lengths, publish_lengths, bye_lengths, welcome_lengths, stale_lengths, done_lengths, no_delta_lengths, changes_ask_lengths, changes_lengths, refused_lengths, query_lengths, hint_part_lengths, delta_lengths, answer_lengths, append_length}
 use Rattle.frame_codec.proofs.payload.is_payload_len.Goals as goal
 
 pub returns-in-1 : goal.returns-in-1
@@ -29,6 +29,9 @@ returns-in-8 c = rw c.in-8.is (bye_lengths c.args.len)
 pub returns-in-9 : goal.returns-in-9
 returns-in-9 c = rw c.in-9.is (λ h. append_length c.args.len, λ h. refl)
 
+pub returns-in-10 : goal.returns-in-10
+returns-in-10 c = rw c.in-10.is (changes_ask_lengths c.args.len)
+
 pub returns-in-130 : goal.returns-in-130
 returns-in-130 c = rw c.in-130.is (welcome_lengths c.args.len)
 
@@ -49,6 +52,9 @@ returns-in-135 c = rw c.in-135.is (done_lengths c.args.len)
 
 pub returns-in-136 : goal.returns-in-136
 returns-in-136 c = rw c.in-136.is (no_delta_lengths c.args.len)
+
+pub returns-in-138 : goal.returns-in-138
+returns-in-138 c = rw c.in-138.is (changes_lengths c.args.len)
 
 pub returns-in-143 : goal.returns-in-143
 returns-in-143 c = rw c.in-143.is (refused_lengths c.args.len)

@@ -13,6 +13,6 @@ returns-then-saturating_add-enough c =
       length-append c.args.pending.now c.args.piece.now,
       c.saturating_add.ensures,
       c.if-saturating_add-enough.true,
-      readable_limit bytes c.in_ok-enough.enough c.in_ok-enough.ensures.ok,
+      readable_limit c.args.wide bytes c.in_ok-enough.enough c.in_ok-enough.ensures.ok,
     ) in
-    sound_partial bytes c.in_ok-enough.enough c.in_ok-enough.ensures.ok few
+    sound_partial c.args.wide bytes c.in_ok-enough.enough c.in_ok-enough.ensures.ok few

@@ -12,18 +12,18 @@ returns-in_default c =
       i.frames ++ [],
       i.added ∙ ap (λ (x : List Frame). c.args.out.now.items ++ x) (sym (append-nil i.frames)),
       i.goes_on (Ok tt) [] c.feed_frame.new.self
-          (fed_none c.frames.self c.frames.rest.now c.in_ok-count.field-0 c.feed_frame.new.self c.in_ok-count.ensures c.in_default.is),
+          (fed_none c.args.wide c.frames.self c.frames.rest.now c.in_ok-count.field-0 c.feed_frame.new.self c.in_ok-count.ensures c.in_default.is),
     )
 
 pub returns-in_default-add : goal.returns-in_default-add
 returns-in_default-add c =
     let i = c.frames.invariant in
     let is : c.in_ok-count.field-0.frame ≡ Some c.in-Some.frame = cc in
-    let fed = fed_one c.frames.self c.frames.rest.now c.in_ok-count.field-0 c.feed_frame.new.self c.in-Some.frame c.in_ok-count.ensures is in
-    let stop = refused_frame c.frames.self c.frames.rest.now c.in_ok-count.field-0.count c.in-Some.frame c.feed_frame.new.self fed in (
+    let fed = fed_one c.args.wide c.frames.self c.frames.rest.now c.in_ok-count.field-0 c.feed_frame.new.self c.in-Some.frame c.in_ok-count.ensures is in
+    let stop = refused_frame c.args.wide c.frames.self c.frames.rest.now c.in_ok-count.field-0.count c.in-Some.frame c.feed_frame.new.self fed in (
       i.frames ++ [],
       c.in_default-add.ensures.err ∙ i.added ∙ ap (λ (x : List Frame). c.args.out.now.items ++ x) (sym (append-nil i.frames)),
-      subst (λ (x : Option (List ℕ)). Feeds c.args.self.now c.args.piece.now (Err Memory) (i.frames ++ []) x) (sym c.fail.ensures)
+      subst (λ (x : Option (List ℕ)). Feeds c.args.wide c.args.self.now c.args.piece.now (Err Memory) (i.frames ++ []) x) (sym c.fail.ensures)
           (i.goes_on (Err Memory) [] None stop),
     )
 
@@ -31,12 +31,12 @@ pub frames-preserved : goal.frames-preserved
 frames-preserved c =
     let i = c.frames.invariant in
     let is : c.in_ok-count.field-0.frame ≡ Some c.in-Some.frame = cc in
-    let fed = fed_one c.frames.self c.frames.rest.now c.in_ok-count.field-0 c.feed_frame.new.self c.in-Some.frame c.in_ok-count.ensures is in
+    let fed = fed_one c.args.wide c.frames.self c.frames.rest.now c.in_ok-count.field-0 c.feed_frame.new.self c.in-Some.frame c.in_ok-count.ensures is in
     record {
       frames = i.frames ++ c.in-Some.frame ∷ [];
       added = c.in-Ok.ensures.ok ∙ ap (λ (x : List Frame). x ++ c.in-Some.frame ∷ []) i.added ∙ append_assoc c.args.out.now.items i.frames (c.in-Some.frame ∷ []);
-      goes_on = subst (λ (x : List ℕ). GoesOn c.args.self.now c.args.piece.now (i.frames ++ c.in-Some.frame ∷ []) c.feed_frame.new.self x)
+      goes_on = subst (λ (x : List ℕ). GoesOn c.args.wide c.args.self.now c.args.piece.now (i.frames ++ c.in-Some.frame ∷ []) c.feed_frame.new.self x)
           (sym c.split_at.ensures.back)
-          (goes_on_frame c.args.self.now c.args.piece.now i.frames c.frames.self c.frames.rest.now c.in_ok-count.field-0.count c.in-Some.frame c.feed_frame.new.self
+          (goes_on_frame c.args.wide c.args.self.now c.args.piece.now i.frames c.frames.self c.frames.rest.now c.in_ok-count.field-0.count c.in-Some.frame c.feed_frame.new.self
           i.goes_on fed);
     }

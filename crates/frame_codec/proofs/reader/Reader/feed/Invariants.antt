@@ -7,7 +7,7 @@ abbrev pub invariant-frames : goal.invariant-frames
 invariant-frames l = record {
   frames : List Frame;
   added : l.out.items ≡ l.fn.out.items ++ frames;
-  goes_on : GoesOn l.fn.self l.fn.piece frames l.self l.rest;
+  goes_on : GoesOn l.fn.wide l.fn.self l.fn.piece frames l.self l.rest;
 }
 
 abbrev pub decreases-frames : goal.decreases-frames
