@@ -1,15 +1,21 @@
 -- The laws of what logs make of stores and of snapshots.
-use Rattle.std.proofs.Common.{◌≡◌, ◌∙◌, ℕ, suc, ◌+◌, ◌<◌, ◌≤◌, List, [], ◌∷◌, ◌++◌, Bool, true, false, length, take, refl, sym, ap, arith, cond, lit≤, inl, inr}
+use Rattle.std.proofs.Common.{◌≡◌, ◌∙◌, ℕ, suc, ◌+◌, ◌<◌, ◌≤◌, List, [], ◌∷◌, ◌++◌, Bool, true, false, length, take, refl, sym, ap, subst, arith, cond, lit≤, inl, inr}
 use Rattle.std.specs.Prelude.{nat_lt, slice_set}
-use Rattle.std.proofs.lemmas.Bool.{cases_lt}
-use Rattle.std.proofs.lemmas.List.{take-take}
+use Rattle.std.proofs.lemmas.Bool.{cases_Bool, cases_lt}
+use Rattle.std.proofs.lemmas.List.{append-nil, take-take}
+use Rattle.digit_pack.specs.Layout.{is_wide}
+use Rattle.pir_schemes.specs.declared.plan.Plan.{Plan}
+use Rattle.record_log.specs.OldRecords.{OldRecord}
 use Rattle.publication_log.specs.Publications.{Placed, Published}
 use Rattle.snapshot_file.specs.declared.snapshot.Header.{Header}
 use Rattle.version_store.specs.Histories.{StoreState, held_edited, held_appended, held_published, held_after, draft_rows}
+use Rattle.version_store.specs.OldRecords.{olds_replaced, with_olds}
+use Rattle.version_store.proofs.OldsKept.{ordinary_keeps}
 use Rattle.version_store.specs.Openings.{held_of, plan_held, records_for}
 use Rattle.log_replay.specs.Replays.{record_changed, records_after, edits_and_appends, replayed, replayed_all}
 use Rattle.log_replay.specs.Records.{AreRecordsReplayed}
-use Rattle.log_replay.specs.Laws.{ReplayedIsPublished, DraftIsReplayed, RecordsReplayAlike, LastSixteenSuffice, without_draft, with_log}
+use Rattle.log_replay.specs.Laws.{ReplayedIsPublished, DraftIsReplayed, RecordsReplayAlike, LastSixteenSuffice, without_draft, with_logs}
+use Rattle.log_replay.proofs.OldsMeet.{MeetAfter, few_kept, met, one_more_kept}
 use Rattle.log_replay.proofs.ChangeLemmas.{held_change, held_first}
 
 -- ---- a publication is that of a draft
@@ -54,13 +60,14 @@ opened h records = record {
   marked = false;
   publisher = h.publisher;
   log = [];
+  olds = [];
 }
 
 one_alike : (h h' : Header) (bytes bytes' : List ℕ) (p : Published) → AreRecordsReplayed h bytes p h' bytes' →
-    held_of h' bytes' ≡ with_log [] (replayed p (held_of h bytes))
+    held_of h' bytes' ≡ with_logs [] [] (replayed p (held_of h bytes))
 one_alike h h' bytes bytes' p is =
     let rs : List (List ℕ) = records_after (records_for h bytes) p.changes in
-    ap (opened h') is.held ∙ ap (λ (k : Header). opened k rs) is.header ∙ ap (with_log []) (sym (is_published p (held_of h bytes)))
+    ap (opened h') is.held ∙ ap (λ (k : Header). opened k rs) is.header ∙ ap (with_logs [] []) (sym (is_published p (held_of h bytes)))
 
 -- ---- logs of changed rows
 
@@ -71,26 +78,38 @@ rows_of p s = draft_rows (record s { draft = records_after s.draft p.changes })
 abbrev logged : Published → StoreState → List (List ℕ) → List (List ℕ)
 logged p s log = take 16 (rows_of p s ∷ log)
 
--- a store with another log differs after a publication in its log alone
-other_log : (p : Published) (s : StoreState) (log : List (List ℕ)) → replayed p (with_log log s) ≡ with_log (logged p s log) (replayed p s)
-other_log p s log = is_published p (with_log log s) ∙ ap (with_log (logged p s log)) (sym (is_published p s))
+-- the old bytes that are kept with those of a publication
+abbrev kept : Published → StoreState → List (List OldRecord) → List (List OldRecord)
+kept p s olds = with_olds s.edition.plan olds (olds_replaced s.edition.plan s.edition.records (records_after s.draft p.changes))
+
+-- a store with other logs differs after a publication in its logs alone
+other_logs : (p : Published) (s : StoreState) (log : List (List ℕ)) (olds : List (List OldRecord)) →
+    replayed p (with_logs log olds s) ≡ with_logs (logged p s log) (kept p s olds) (replayed p s)
+other_logs p s log olds = is_published p (with_logs log olds s) ∙ ap (with_logs (logged p s log) (kept p s olds)) (sym (is_published p s))
 
 log_is : (p : Published) (s : StoreState) → (replayed p s).log ≡ logged p s s.log
 log_is p s = ap (λ (t : StoreState). t.log) (is_published p s)
 
-log_apart : (ps : List Published) (s : StoreState) (log : List (List ℕ)) → with_log [] (replayed_all ps (with_log log s)) ≡ with_log [] (replayed_all ps s)
-log_apart [] s log = refl
-log_apart (p ∷ ps) s log =
-    ap (λ (t : StoreState). with_log [] (replayed_all ps t)) (other_log p s log)
-    ∙ log_apart ps (replayed p s) (logged p s log)
+olds_is : (p : Published) (s : StoreState) → (replayed p s).olds ≡ kept p s s.olds
+olds_is p s = ap (λ (t : StoreState). t.olds) (is_published p s)
+
+plan_is : (p : Published) (s : StoreState) → (replayed p s).edition.plan ≡ s.edition.plan
+plan_is p s = ap (λ (t : StoreState). t.edition.plan) (is_published p s)
+
+logs_apart : (ps : List Published) (s : StoreState) (log : List (List ℕ)) (olds : List (List OldRecord)) →
+    with_logs [] [] (replayed_all ps (with_logs log olds s)) ≡ with_logs [] [] (replayed_all ps s)
+logs_apart [] s log olds = refl
+logs_apart (p ∷ ps) s log olds =
+    ap (λ (t : StoreState). with_logs [] [] (replayed_all ps t)) (other_logs p s log olds)
+    ∙ logs_apart ps (replayed p s) (logged p s log) (kept p s olds)
 
 pub records_alike : RecordsReplayAlike
 records_alike h h' bytes bytes' [] is =
     ap (λ (k : Header). held_of k bytes') is.0 ∙ ap (held_of h) is.1
 records_alike h h' bytes bytes' (p ∷ ps) (mid, between, first, rest) =
     records_alike mid h' between bytes' ps rest
-    ∙ ap (λ (t : StoreState). with_log [] (replayed_all ps t)) (one_alike h mid bytes between p first)
-    ∙ log_apart ps (replayed p (held_of h bytes)) []
+    ∙ ap (λ (t : StoreState). with_logs [] [] (replayed_all ps t)) (one_alike h mid bytes between p first)
+    ∙ logs_apart ps (replayed p (held_of h bytes)) [] []
 
 -- ---- the latest sixteen
 
@@ -112,19 +131,66 @@ one_more x xs ys n same lt =
     ∙ ap (λ (zs : List (List ℕ)). x ∷ zs) same
     ∙ sym (take-take (suc n) 16 (x ∷ ys) (omega (arith, lt)))
 
+few_olds : (p : Published) (s : StoreState) → length s.olds ≤ 16 → length (replayed p s).olds ≤ 16
+few_olds p s few =
+    omega (
+      arith,
+      ap length (olds_is p s),
+      few_kept s.edition.plan s.olds (olds_replaced s.edition.plan s.edition.records (records_after s.draft p.changes)) few,
+    )
+
+all_few : (ps : List Published) (s : StoreState) → length s.olds ≤ 16 → length (replayed_all ps s).olds ≤ 16
+all_few [] s few = few
+all_few (p ∷ ps) s few = all_few ps (replayed p s) (few_olds p s few)
+
+-- an ordinary store keeps no old bytes
+none_kept : (ps : List Published) (s : StoreState) → (is_wide s.edition.plan.form ≡ false → s.olds ≡ []) →
+    is_wide (replayed_all ps s).edition.plan.form ≡ false → (replayed_all ps s).olds ≡ []
+none_kept [] s none = none
+none_kept (p ∷ ps) s none =
+    none_kept ps (replayed p s) (λ ordinary.
+    let still : is_wide s.edition.plan.form ≡ false = ap (λ (q : Plan). is_wide q.form) (sym (plan_is p s)) ∙ ordinary in
+    olds_is p s
+    ∙ ordinary_keeps s.edition.plan s.olds (olds_replaced s.edition.plan s.edition.records (records_after s.draft p.changes)) still
+    ∙ none still)
+
+meet_next : (p : Published) (s : StoreState) (olds : List (List OldRecord)) (n : ℕ) → MeetAfter s.edition.plan n olds s.olds →
+    MeetAfter (replayed p s).edition.plan (suc n) (kept p s olds) (replayed p s).olds
+meet_next p s olds n meet =
+    subst (λ (q : Plan). MeetAfter q (suc n) (kept p s olds) (replayed p s).olds) (sym (plan_is p s))
+    (subst (MeetAfter s.edition.plan (suc n) (kept p s olds)) (sym (olds_is p s))
+    (one_more_kept s.edition.plan n olds s.olds (olds_replaced s.edition.plan s.edition.records (records_after s.draft p.changes)) meet))
+
+same_logs : (s : StoreState) (log : List (List ℕ)) (olds : List (List OldRecord)) → log ≡ s.log → olds ≡ s.olds → with_logs log olds s ≡ s
+same_logs s log olds rows bytes =
+    ap (λ (l : List (List ℕ)). with_logs l olds s) rows ∙ ap (λ (o : List (List OldRecord)). with_logs s.log o s) bytes
+
 -- stores that differ in their logs, which are the same for so many, keep the same once enough publications came
-logs_meet : (ps : List Published) (s : StoreState) (log : List (List ℕ)) (n : ℕ) → take n log ≡ take n s.log → take 16 log ≡ log → take 16 s.log ≡ s.log →
-    16 ≤ n + length ps → replayed_all ps (with_log log s) ≡ replayed_all ps s
-logs_meet [] s log n same few fewer enough = ap (λ (l : List (List ℕ)). with_log l s) (same_log s log n same few fewer (omega (arith, enough)))
-logs_meet (p ∷ ps) s log n same few fewer enough = elim (cases_lt n 16) [
+logs_meet : (ps : List Published) (s : StoreState) (log : List (List ℕ)) (olds : List (List OldRecord)) (n : ℕ) → take n log ≡ take n s.log →
+    take 16 log ≡ log → take 16 s.log ≡ s.log → MeetAfter s.edition.plan n olds s.olds → length s.olds ≤ 16 →
+    16 ≤ n + length ps → replayed_all ps (with_logs log olds s) ≡ replayed_all ps s
+logs_meet [] s log olds n same few fewer meet small enough =
+    same_logs s log olds (same_log s log n same few fewer (omega (arith, enough))) (met s.edition.plan n olds s.olds meet (omega (arith, enough)) small)
+logs_meet (p ∷ ps) s log olds n same few fewer meet small enough = elim (cases_lt n 16) [
   | inl lt ↦
-      ap (replayed_all ps) (other_log p s log)
-      ∙ logs_meet ps (replayed p s) (logged p s log) (suc n)
+      ap (replayed_all ps) (other_logs p s log olds)
+      ∙ logs_meet ps (replayed p s) (logged p s log) (kept p s olds) (suc n)
       (one_more (rows_of p s) log s.log n same lt ∙ ap (take (suc n)) (sym (log_is p s)))
       (take-take 16 16 (rows_of p s ∷ log) (lit≤ tt))
       (few_logged (p ∷ []) s fewer)
+      (meet_next p s olds n meet)
+      (few_olds p s small)
       (omega (arith, enough))
-  | inr le ↦ ap (λ (l : List (List ℕ)). replayed_all (p ∷ ps) (with_log l s)) (same_log s log n same few fewer le)
+  | inr le ↦
+      ap (replayed_all (p ∷ ps))
+      (same_logs s log olds (same_log s log n same few fewer le) (met s.edition.plan n olds s.olds meet le small))
+]
+
+-- a store without logs, and one with those of all publications
+begins : (s : StoreState) → (is_wide s.edition.plan.form ≡ false → s.olds ≡ []) → MeetAfter s.edition.plan 0 [] s.olds
+begins s none = elim (cases_Bool (is_wide s.edition.plan.form)) [
+  | inl wide ↦ inr (wide, omega arith, s.olds, sym (append-nil s.olds))
+  | inr ordinary ↦ inl (sym (none ordinary))
 ]
 
 replayed_parts : (ps qs : List Published) (s : StoreState) → replayed_all (ps ++ qs) s ≡ replayed_all qs (replayed_all ps s)
@@ -135,5 +201,6 @@ pub last_sixteen : LastSixteenSuffice
 last_sixteen h h' bytes bytes' earlier latest is enough =
     let s : StoreState = replayed_all earlier (held_of h bytes) in
     ap (replayed_all latest) (records_alike h h' bytes bytes' earlier is)
-    ∙ logs_meet latest s [] 0 refl refl (few_logged earlier (held_of h bytes) refl) (omega (arith, enough))
+    ∙ logs_meet latest s [] [] 0 refl refl (few_logged earlier (held_of h bytes) refl) (begins s (none_kept earlier (held_of h bytes) (λ _. refl)))
+    (all_few earlier (held_of h bytes) (omega arith)) (omega (arith, enough))
     ∙ sym (replayed_parts earlier latest (held_of h bytes))

@@ -1,6 +1,7 @@
 -- Laws of what logs make of stores and of snapshots.
 use Rattle.std.specs.Prelude.{◌≡◌, ◌≤◌, ℕ, List, [], ◌∷◌, ◌++◌, length, false}
 use Rattle.publication_log.specs.Publications.{Published}
+use Rattle.record_log.specs.OldRecords.{OldRecord}
 use Rattle.snapshot_file.specs.declared.snapshot.Header.{Header}
 use Rattle.version_store.specs.Histories.{StoreState, held_published}
 use Rattle.version_store.specs.Openings.{held_of}
@@ -26,18 +27,18 @@ AreRecordsReplayedAll h bytes [] h' bytes' = (h' ≡ h) × (bytes' ≡ bytes)
 AreRecordsReplayedAll h bytes (p ∷ ps) h' bytes' =
     (mid : Header) × (between : List ℕ) × AreRecordsReplayed h bytes p mid between × AreRecordsReplayedAll mid between ps h' bytes'
 
--- a store with another log of changed rows
-abbrev pub with_log : List (List ℕ) → StoreState → StoreState
-with_log log s = record s { log = log }
+-- a store with other logs of the rows and of the old bytes that publications changed
+abbrev pub with_logs : List (List ℕ) → List (List OldRecord) → StoreState → StoreState
+with_logs log olds s = record s { log = log; olds = olds }
 
 -- a store that is opened with a snapshot after publications keeps what the store that is opened with the snapshot before them keeps
--- after them, but the rows that they changed
+-- after them, but the rows and the old bytes that they changed
 abbrev pub RecordsReplayAlike : Type 0
 RecordsReplayAlike = (h h' : Header) (bytes bytes' : List ℕ) (ps : List Published) → AreRecordsReplayedAll h bytes ps h' bytes' →
-    held_of h' bytes' ≡ with_log [] (replayed_all ps (held_of h bytes))
+    held_of h' bytes' ≡ with_logs [] [] (replayed_all ps (held_of h bytes))
 
 -- a store that is opened with a later snapshot, and on which 16 publications or more are replayed, keeps what the store keeps that is
--- opened with the first snapshot and on which all are replayed, the rows that the latest 16 changed too
+-- opened with the first snapshot and on which all are replayed, the rows and the old bytes that the latest 16 changed too
 abbrev pub LastSixteenSuffice : Type 0
 LastSixteenSuffice = (h h' : Header) (bytes bytes' : List ℕ) (earlier latest : List Published) → AreRecordsReplayedAll h bytes earlier h' bytes' →
     16 ≤ length latest → replayed_all latest (held_of h' bytes') ≡ replayed_all (earlier ++ latest) (held_of h bytes)

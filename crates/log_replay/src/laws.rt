@@ -18,13 +18,14 @@ pub fn draft_is_replayed()
     ensures { DraftIsReplayed }
 {}
 
-/// Opening after [`replay_records`](crate::replay_records) gives what replaying after opening gives, but the rows that the
-/// publications changed.
+/// Opening after [`replay_records`](crate::replay_records) gives what replaying after opening gives, but the rows and
+/// the old bytes that the publications changed.
 pub fn records_replay_alike()
     ensures { RecordsReplayAlike }
 {}
 
-/// With 16 publications or more after a later snapshot nothing is missing, not even the rows that the latest 16 changed.
+/// With 16 publications or more after a later snapshot nothing is missing, not even the rows and the old bytes that the
+/// latest 16 changed.
 pub fn last_sixteen_suffice()
     ensures { LastSixteenSuffice }
 {}

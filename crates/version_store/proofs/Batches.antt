@@ -135,15 +135,6 @@ few_in_batch l k n g layout few same turn =
 pub bytes_end : (i k r len total : ℕ) → i < k → r ≡ len → total ≡ k * len → i * r + r ≤ total
 bytes_end i k r len total lt same is = omega (arith, row_fits i r k r lt (omega arith), ap (λ x. k * x) same, is)
 
--- record i, as it stands in the bytes of all
-pub record_of_batch : (l : Shape) (k : ℕ) (bytes : List ℕ) (i r : ℕ) → i < k → r ≡ l.record_len →
-    take (i * r + r - i * r) (drop (i * r) bytes) ≡ record_at (records_in (counted l k) bytes) i
-record_of_batch l k bytes i r lt same =
-    let cut : i * r + r - i * r ≡ r = omega arith in
-    ap (λ n. take n (drop (i * r) bytes)) cut
-    ∙ ap (λ n. take n (drop (i * n) bytes)) same
-    ∙ sym (at-list_of_any k (λ j. take l.record_len (drop (j * l.record_len) bytes)) i [] lt)
-
 add_times : (p q m : ℕ) → (p + q) * m ≡ p * m + q * m
 add_times p q m = omega arith
 

@@ -11,6 +11,7 @@ use Rattle.digit_pack.specs.Layout.{IsLayout, is_layout, record_at}
 use Rattle.digit_pack.proofs.Layouts.{layout_accepted}
 use Rattle.pir_schemes.specs.declared.plan.Plan.{Plan}
 use Rattle.pir_schemes.specs.Plans.{fits, shape_at}
+use Rattle.record_log.specs.OldRecords.{OldRecord}
 use Rattle.version_store.specs.Drafts.{Changes, change_at, bytes_or, draft_of, is_some_change, grown_to, HasAppended, IsHeld}
 use Rattle.version_store.specs.Editions.{Records}
 use Rattle.version_store.specs.Histories.{StoreState}
@@ -50,24 +51,26 @@ fewer_records p n k h lt =
 -- ---- what is seen of a draft
 
 -- what a store with these parts is seen as
-abbrev pub state_of : ℕ → Records → ℕ → Changes → List ℕ → List (List ℕ) → StoreState
-state_of version e n changes publisher log = record {
+abbrev pub state_of : ℕ → Records → ℕ → Changes → List ℕ → List (List ℕ) → List (List OldRecord) → StoreState
+state_of version e n changes publisher log olds = record {
   version = version;
   edition = e;
   draft = draft_of (grown_to n e).records changes;
   marked = is_some_change changes;
   publisher = publisher;
   log = log;
+  olds = olds;
 }
 
-draft-at : (e : Records) (n : ℕ) (changes : Changes) (k : ℕ) → length e.records ≤ n → k < n →
+pub draft-at : (e : Records) (n : ℕ) (changes : Changes) (k : ℕ) → length e.records ≤ n → k < n →
     record_at (draft_of (grown_to n e).records changes) k ≡ bytes_or (change_at changes k) (record_at (grown_to n e).records k)
 draft-at e n changes k le lt =
     let rs : List (List ℕ) = (grown_to n e).records in
     at-list_of_any (length rs) (λ i. bytes_or (change_at changes i) (record_at rs i)) k [] (omega (arith, lt, length-grown e.plan n e.records le))
 
-module _ (version : ℕ) (e : Records) (n : ℕ) (changes : Changes) (publisher : List ℕ) (log : List (List ℕ)) (held : IsHeld e n changes log) where
-  unchanged_at : (k : ℕ) → k < n → change_at changes k ≡ None → IsUnchangedAt (state_of version e n changes publisher log) k
+module _ (version : ℕ) (e : Records) (n : ℕ) (changes : Changes) (publisher : List ℕ) (log : List (List ℕ)) (olds : List (List OldRecord))
+    (held : IsHeld e n changes log) where
+  unchanged_at : (k : ℕ) → k < n → change_at changes k ≡ None → IsUnchangedAt (state_of version e n changes publisher log olds) k
   unchanged_at k lt none = elim (cases_lt k (length e.records)) [
     | inl old ↦ (
       old,
@@ -79,7 +82,7 @@ module _ (version : ℕ) (e : Records) (n : ℕ) (changes : Changes) (publisher 
   ]
 
   change_is : (o : Option (Vec ℕ Global)) (low i : ℕ) (bytes : List ℕ) → change_at changes i ≡ o → low ≤ i → IsSomeAnd o (λ v. bytes ≡ v.items) →
-      ((k : ℕ) → low ≤ k → k < i → change_at changes k ≡ None) → IsNextChange (state_of version e n changes publisher log) low i bytes
+      ((k : ℕ) → low ≤ k → k < i → change_at changes k ≡ None) → IsNextChange (state_of version e n changes publisher log olds) low i bytes
   change_is None low i bytes is at some between = absurd some
   change_is (Some v) low i bytes is at some between =
       let fit : (i < length (grown_to n e).records) × (fits e.plan v.items ≡ true) =
@@ -95,10 +98,10 @@ module _ (version : ℕ) (e : Records) (n : ℕ) (changes : Changes) (publisher 
       }
 
   pub next_is : (low i : ℕ) (bytes : List ℕ) → low ≤ i → IsSomeAnd (change_at changes i) (λ v. bytes ≡ v.items) →
-      ((k : ℕ) → low ≤ k → k < i → change_at changes k ≡ None) → IsNextChange (state_of version e n changes publisher log) low i bytes
+      ((k : ℕ) → low ≤ k → k < i → change_at changes k ≡ None) → IsNextChange (state_of version e n changes publisher log olds) low i bytes
   next_is low i bytes at some between = change_is (change_at changes i) low i bytes refl at some between
 
-  pub none_is : (low : ℕ) → ((k : ℕ) → low ≤ k → change_at changes k ≡ None) → HasNoChange (state_of version e n changes publisher log) low
+  pub none_is : (low : ℕ) → ((k : ℕ) → low ≤ k → change_at changes k ≡ None) → HasNoChange (state_of version e n changes publisher log olds) low
   none_is low none = record {
     count = omega (arith, held.more, length-draft e n changes held.more);
     after = λ k le lt. unchanged_at k (omega (arith, lt, length-draft e n changes held.more)) (none k le);

@@ -263,7 +263,7 @@ digits-grown p n records form some le =
 
 -- ---- their hints
 
-hint_is : (p : Plan) (records : List (List ℕ)) →
+pub hint_is : (p : Plan) (records : List (List ℕ)) →
     hint_matrix Simple p records ≡ product (digits_at p records) (first_public (shape_at p (length records)) p.dimension p.seed)
 unfolding hint_matrix hint_of
 hint_is p records = refl

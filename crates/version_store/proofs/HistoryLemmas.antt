@@ -1,6 +1,6 @@
 -- What a store stands for after an edit, an append and a publication.
 use Rattle.std.proofs.Common.{◌≡◌, ℕ, ◌+◌, arith, ap, ◌∙◌, sym, refl, List, [], ◌∷◌, ◌++◌, length, take, lit≤, Option}
-use Rattle.std.proofs.lemmas.List.{take-take}
+use Rattle.std.proofs.lemmas.List.{length-set, length_push, take-take}
 use Rattle.std.specs.Prelude.{slice_set}
 use Rattle.snapshot_file.specs.declared.snapshot.Header.{Header}
 use Rattle.digit_pack.specs.Layout.{digit_rows}
@@ -9,6 +9,9 @@ use Rattle.pir_schemes.specs.Plans.{shape_at, digits_at, records_held}
 use Rattle.version_store.specs.Deltas.{changed_rows, changes_of}
 use Rattle.version_store.specs.Openings.{held_of, plan_held}
 use Rattle.version_store.specs.Histories.{StoreState, History, StandsFor, current_version, delta_rows, opened, after_edit, after_append, published, held_edited, held_appended, held_published, Change, Edited, Appended, Published, history_after, held_after}
+use Rattle.record_log.specs.OldRecords.{OldRecord}
+use Rattle.version_store.specs.OldRecords.{kept_olds, olds_replaced, with_olds}
+use Rattle.version_store.proofs.OldsKept.{one_more}
 use Rattle.version_store.proofs.LoggedRows.{rows_logged, history_rows, held_rows, rows_as_logged}
 
 pub edit_stands : (old new : StoreState) (i : ℕ) (bytes : List ℕ) → new ≡ held_edited i bytes old →
@@ -19,6 +22,8 @@ edit_stands old new i bytes e h s = record {
   draft = ap (λ (d : List (List ℕ)). slice_set d i bytes) s.draft ∙ sym (ap (λ t. t.draft) e);
   marked = sym (ap (λ t. t.marked) e);
   log = ap (λ t. take 16 (changes_of t.edition.plan h.current h.past)) e ∙ s.log ∙ sym (ap (λ t. t.log) e);
+  olds = ap (λ t. kept_olds t.edition.plan h.current h.past) e ∙ s.olds ∙ sym (ap (λ t. t.olds) e);
+  growing = (omega (arith, s.growing.0, length-set h.draft i bytes), s.growing.1);
 }
 
 pub append_stands : (old new : StoreState) (bytes : List ℕ) → new ≡ held_appended bytes old →
@@ -29,6 +34,8 @@ append_stands old new bytes e h s = record {
   draft = ap (λ (d : List (List ℕ)). d ++ bytes ∷ []) s.draft ∙ sym (ap (λ t. t.draft) e);
   marked = sym (ap (λ t. t.marked) e);
   log = ap (λ t. take 16 (changes_of t.edition.plan h.current h.past)) e ∙ s.log ∙ sym (ap (λ t. t.log) e);
+  olds = ap (λ t. kept_olds t.edition.plan h.current h.past) e ∙ s.olds ∙ sym (ap (λ t. t.olds) e);
+  growing = (omega (arith, s.growing.0, length_push h.draft bytes), s.growing.1);
 }
 
 -- a list before others, of which so many are kept
@@ -38,10 +45,10 @@ first_of x xs ys e =
     ap (λ (zs : List (List ℕ)). x ∷ zs) (fewer ∙ ap (take 15) e)
 
 -- the log of a history with one more version
-one_more : (p : Plan) (current draft : List (List ℕ)) (past : List (List (List ℕ))) (log : List (List ℕ)) → take 16 (changes_of p current past) ≡ log →
+one_more_logged : (p : Plan) (current draft : List (List ℕ)) (past : List (List (List ℕ))) (log : List (List ℕ)) → take 16 (changes_of p current past) ≡ log →
     take 16 (changes_of p draft (current ∷ past)) ≡ take 16 (changed_rows (digits_at p current) (digits_at p draft) ∷ log)
 unfolding changes_of
-one_more p current draft past log e = first_of (changed_rows (digits_at p current) (digits_at p draft)) (changes_of p current past) log e
+one_more_logged p current draft past log e = first_of (changed_rows (digits_at p current) (digits_at p draft)) (changes_of p current past) log e
 
 pub publish_stands : (old new : StoreState) → new ≡ held_published old → (h : History) → StandsFor old h → StandsFor new (published h)
 publish_stands old new e h s =
@@ -52,21 +59,30 @@ publish_stands old new e h s =
       draft = s.draft ∙ sym (ap (λ t. t.draft) e);
       marked = sym (ap (λ t. t.marked) e);
       log = ap (λ t. take 16 (changes_of t.edition.plan h.draft (h.current ∷ h.past))) e
-          ∙ one_more old.edition.plan h.current h.draft h.past old.log s.log
+          ∙ one_more_logged old.edition.plan h.current h.draft h.past old.log s.log
           ∙ ap (λ (rs : List (List ℕ)). take 16 (changed_rows (digits_at old.edition.plan rs) (digits_at old.edition.plan h.draft) ∷ old.log)) s.current
           ∙ ap (λ (rs : List (List ℕ)). take 16 (changed_rows (digits_at old.edition.plan old.edition.records) (digits_at old.edition.plan rs) ∷ old.log))
           s.draft
           ∙ sym (ap (λ t. t.log) e);
+      olds = ap (λ t. kept_olds t.edition.plan h.draft (h.current ∷ h.past)) e
+          ∙ one_more old.edition.plan h.current h.draft h.past
+          ∙ ap (λ (ls : List (List OldRecord)). with_olds old.edition.plan ls (olds_replaced old.edition.plan h.current h.draft)) s.olds
+          ∙ ap (λ (rs : List (List ℕ)). with_olds old.edition.plan old.olds (olds_replaced old.edition.plan rs h.draft)) s.current
+          ∙ ap (λ (rs : List (List ℕ)). with_olds old.edition.plan old.olds (olds_replaced old.edition.plan old.edition.records rs)) s.draft
+          ∙ sym (ap (λ t. t.olds) e);
+      growing = (omega arith, s.growing);
     }
 
 pub open_stands : (s : StoreState) (h : Header) (bytes : List ℕ) → s ≡ held_of h bytes → StandsFor s (opened h.version (records_held (plan_held h) h.count bytes))
-unfolding changes_of
+unfolding changes_of kept_olds
 open_stands s h bytes e = record {
   version = omega (arith, ap (λ t. t.version) e);
   current = sym (ap (λ t. t.edition.records) e);
   draft = sym (ap (λ t. t.draft) e);
   marked = sym (ap (λ t. t.marked) e);
   log = sym (ap (λ t. t.log) e);
+  olds = sym (ap (λ t. t.olds) e);
+  growing = (omega arith, tt);
 }
 
 -- the rows that a store and its history give

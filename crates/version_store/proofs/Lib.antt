@@ -23,3 +23,7 @@ pub mod RecordsPut
 pub mod KeptDigits
 pub mod Batches
 pub mod Prepared
+pub mod OldsKept
+pub mod OldSlots
+pub mod ChangesSince
+pub mod ChangesMove

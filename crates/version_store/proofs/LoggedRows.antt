@@ -41,7 +41,7 @@ held_rows s since = rows_logged (digit_rows (version_shape s.edition)) (kept_log
 -- ---- the lists of the log are those of consecutive versions
 
 -- a record list of a history, counted from the current one back
-at_back : List (List (List ℕ)) → ℕ → List (List ℕ)
+unfoldable pub at_back : List (List (List ℕ)) → ℕ → List (List ℕ)
 at_back all k = unwrap_or (slice_get all k) []
 
 length-changes : (p : Plan) (current : List (List ℕ)) (past : List (List (List ℕ))) → length (changes_of p current past) ≡ length past
@@ -57,7 +57,7 @@ change_at p current (before ∷ past) zero lt = refl
 change_at p current (before ∷ past) (suc k) lt = change_at p before past k (omega arith)
 
 -- the records of a version are those so far back
-records_back : (h : History) (v k : ℕ) → v + k ≡ current_version h → version_records h v ≡ at_back (h.current ∷ h.past) k
+pub records_back : (h : History) (v k : ℕ) → v + k ≡ current_version h → version_records h v ≡ at_back (h.current ∷ h.past) k
 unfolding at_back
 records_back h v k e =
     let low : v ≤ current_version h = omega (arith, e) in

@@ -1,16 +1,20 @@
 -- All versions of the records, a draft, and a mark.
-use Rattle.std.specs.Prelude.{◌≡◌, ℕ, ◌+◌, ◌-◌, List, [], ◌∷◌, ◌++◌, length, Bool, true, false, Option, Some, None, nat_eq, nat_lt, nat_le, ◌&&◌, if◌then◌else◌, unwrap_or, filter, slice_set, slice_get, take}
+use Rattle.std.specs.Prelude.{⊤, ◌≡◌, ◌≤◌, ℕ, ◌+◌, ◌-◌, List, [], ◌∷◌, ◌++◌, length, Bool, true, false, Option, Some, None, nat_eq, nat_lt, nat_le, ◌&&◌, if◌then◌else◌, unwrap_or, filter, slice_set, slice_get, take}
 use Rattle.std.specs.List.{list_any, range_with_len}
 use Rattle.digit_pack.specs.Layout.{digit_rows}
 use Rattle.pir_schemes.specs.declared.plan.Plan.{Plan}
-use Rattle.pir_schemes.specs.Plans.{shape_at, digits_at}
+use Rattle.pir_schemes.specs.Plans.{shape_at, digits_at, slots}
+use Rattle.hint_changes.specs.Changes.{changes_between}
 use Rattle.hint_update.specs.Logs.{Log}
+use Rattle.record_log.specs.OldRecords.{OldRecord, entries_bytes}
 use Rattle.version_store.specs.Deltas.{changed_rows, changes_of}
 use Rattle.version_store.specs.Editions.{Records}
+use Rattle.version_store.specs.OldRecords.{kept_olds, olds_replaced, slots_with_blanks, with_olds}
 
 -- what a store keeps: the number of the current version and its records, the draft, whether an edit or an append was
--- accepted since the last publication, the digest of the publisher's key, and the rows of digits that each of the newest 16
--- publications changed, the newest first
+-- accepted since the last publication, the digest of the publisher's key, the rows of digits that each of the newest 16
+-- publications changed, the newest first, and the old bytes of the records that each of the newest publications changed, the
+-- oldest first
 pub record StoreState : Type 0 where
   pub version : ℕ
   pub edition : Records
@@ -18,6 +22,7 @@ pub record StoreState : Type 0 where
   pub marked : Bool
   pub publisher : List ℕ
   pub log : List (List ℕ)
+  pub olds : List (List OldRecord)
 
 -- a history: the number of the opening version, the versions before the current one, the newest first, the current one,
 -- the draft, and the mark
@@ -64,6 +69,10 @@ held_appended bytes s = record s { draft = s.draft ++ bytes ∷ []; marked = tru
 abbrev pub draft_rows : StoreState → List ℕ
 draft_rows s = changed_rows (digits_at s.edition.plan s.edition.records) (digits_at s.edition.plan s.draft)
 
+-- what is kept of old bytes after a publication of the draft
+abbrev pub olds_after_draft : StoreState → List (List OldRecord)
+olds_after_draft s = with_olds s.edition.plan s.olds (olds_replaced s.edition.plan s.edition.records s.draft)
+
 -- what is kept after a publication
 abbrev pub held_published : StoreState → StoreState
 held_published s = record s {
@@ -71,6 +80,7 @@ held_published s = record s {
   edition = record s.edition { records = s.draft };
   marked = false;
   log = take 16 (draft_rows s ∷ s.log);
+  olds = olds_after_draft s;
 }
 
 -- an accepted edit of a record, an accepted append, or a publication
@@ -93,6 +103,11 @@ held_after (Edited i bytes ∷ more) s = held_after more (held_edited i bytes s)
 held_after (Appended bytes ∷ more) s = held_after more (held_appended bytes s)
 held_after (Published ∷ more) s = held_after more (held_published s)
 
+-- each version has as many records as the one before it or more; given are the newest, and those before it, the newest first
+abbrev pub AreGrowing : List (List ℕ) → List (List (List ℕ)) → Type 0
+AreGrowing newest [] = ⊤
+AreGrowing newest (before ∷ past) = (length before ≤ length newest) × AreGrowing before past
+
 -- what is kept is that of the history
 pub record StandsFor (s : StoreState) (h : History) : Type 0 where
   pub version : current_version h ≡ s.version
@@ -100,6 +115,8 @@ pub record StandsFor (s : StoreState) (h : History) : Type 0 where
   pub draft : h.draft ≡ s.draft
   pub marked : h.marked ≡ s.marked
   pub log : take 16 (changes_of s.edition.plan h.current h.past) ≡ s.log
+  pub olds : kept_olds s.edition.plan h.current h.past ≡ s.olds
+  pub growing : AreGrowing h.draft (h.current ∷ h.past)
 
 -- ---- what publications changed
 -- the records of a version, and none where there is no such version
@@ -124,6 +141,23 @@ unfoldable pub delta_rows : Plan → History → ℕ → Option (List ℕ)
 delta_rows p h since =
     if is_recent h since then Some (filter (changed_since p h since) (range_with_len 0 (digit_rows (shape_at p (length h.current)))))
     else None
+
+-- what differs between a version and the current one, as entries: of the bytes that records have in the digits, where blanks stand
+-- for records that were appended since
+abbrev pub entries_between : Plan → History → ℕ → List ℕ
+entries_between p h since =
+    entries_bytes (changes_between (slots_with_blanks p (length h.current) (version_records h since)) (slots p h.current))
+
+-- whether old bytes of all publications since a version are among those of the newest so many
+abbrev pub reaches_olds : ℕ → ℕ → ℕ → Bool
+reaches_olds current kept since = nat_le since current && nat_le (current - since) kept
+
+-- what differs between a version and the current one, as entries; none if there is no such version, old bytes since it were
+-- dropped, or the entries have more than so many bytes
+unfoldable pub changes_since : Plan → History → ℕ → ℕ → Option (List ℕ)
+changes_since p h since most =
+    if reaches_olds (current_version h) (length (kept_olds p h.current h.past)) since
+    then (if nat_le (length (entries_between p h since)) most then Some (entries_between p h since) else None) else None
 
 -- the log that a store keeps
 abbrev pub kept_log : StoreState → Log

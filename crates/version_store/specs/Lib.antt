@@ -1,6 +1,7 @@
 pub mod Editions
 pub mod Drafts
 pub mod Deltas
+pub mod OldRecords
 pub mod Histories
 pub mod DraftChanges
 pub mod Openings

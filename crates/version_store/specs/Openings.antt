@@ -55,6 +55,7 @@ held_of h records = record {
   marked = false;
   publisher = h.publisher;
   log = [];
+  olds = [];
 }
 
 -- a store as it is opened with a snapshot of this header and these records, and the snapshot's digest

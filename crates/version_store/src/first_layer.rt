@@ -147,6 +147,9 @@ impl FirstLayer {
     pub fn bytes_len(&self) -> usize
         ensures value { result ≡ length (bytes_of_records (slots self.now.plan self.now.records)) }
         ensures each { result ≡ length self.now.records * self.now.plan.record_len }
+        ensures records { records_in (version_shape self.now)
+            (bytes_of_records (slots self.now.plan self.now.records))
+            ≡ slots self.now.plan self.now.records }
         ensures few { result ≤ 2 ^ 38 }
     {
         self.layout.count() * self.layout.record_len()

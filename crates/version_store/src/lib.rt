@@ -11,6 +11,7 @@ mod edition;
 mod first_layer;
 mod held_records;
 pub mod laws;
+mod old_bytes;
 mod opening;
 mod preparing;
 mod record_batches;

@@ -1,6 +1,6 @@
 //! The store: the current version, a draft, and their publication.
 
-ghost use Rattle.std.specs.Prelude.{All, ℕ, List, ◌≡◌, ◌≢◌, ◌+◌, ◌*◌, ◌^◌, ◌<◌, ◌≤◌, ◌↔◌, length, true, false, OnOk, OnErr, IfErr, IfOk, IfSome, IfNone, IsNone, IsSome, option_map, take, slice_set, IsErrOf, IsTrue, vec_capacity, []};
+ghost use Rattle.std.specs.Prelude.{All, ℕ, List, ◌≡◌, ◌≢◌, ◌+◌, ◌*◌, ◌/◌, ◌^◌, ◌<◌, ◌≤◌, ◌↔◌, length, true, false, OnOk, OnErr, IfErr, IfOk, IfSome, IfNone, IsNone, IsSome, option_map, take, slice_set, IsErrOf, IsTrue, vec_capacity, []};
 ghost use Rattle.matrix_u32.specs.Matrix.{row};
 ghost use Rattle.digit_pack.specs.Layout.{is_wide, digits_per_record, digit_rows, is_layout, record_at, records_in};
 ghost use Rattle.digit_pack.specs.Packed.{packed};
@@ -18,7 +18,8 @@ ghost use Rattle.version_store.specs.Rooms.{scheme_answered, IsAnswerRoom};
 ghost use Rattle.std.specs.Io.KnownBytes.{Appends, Consumes, IsAtEnd};
 ghost use Rattle.snapshot_file.specs.declared.snapshot.Header.{Header};
 ghost use Rattle.snapshot_file.specs.Verdicts.{MayRefuse, StopsReadingAt};
-ghost use Rattle.version_store.specs.Histories.{StoreState, History, StandsFor, opened, after_edit, after_append, published, held_edited, held_appended, held_published, delta_rows, kept_log};
+ghost use Rattle.version_store.specs.Histories.{StoreState, History, StandsFor, opened, after_edit, after_append, published, held_edited, held_appended, held_published, delta_rows, kept_log, changes_since, reaches_olds};
+ghost use Rattle.version_store.specs.OldRecords.{draft_olds, with_newest};
 ghost use Rattle.version_store.specs.DraftChanges.{IsNextChange, HasNoChange};
 ghost use Rattle.version_store.specs.Names.{append_fault_name, edit_fault_name, publish_fault_name};
 
@@ -26,6 +27,7 @@ use crate::answer_room::AnswerRoom;
 use crate::drafts::{Changes, first_change};
 use crate::edition::Edition;
 use crate::held_records::HeldRecords;
+use crate::old_bytes::old_bytes;
 use crate::opening::{OpenError, plan_of, sizes_of};
 use crate::row_marks::{marks_for, push_marked};
 use crate::rows::FollowRoom;
@@ -34,6 +36,7 @@ use digit_pack::{Layout, is_wide};
 use hint_update::DeltaLog;
 use matrix_u32::Kernel;
 use pir_schemes::{Plan, Scheme, part_words};
+use record_log::{OldRecords, RecordLog};
 use simple_scheme::{HintWatcher, Unwatched};
 use snapshot_file::{
     Header, Snapshot, SnapshotFault, WriteFault, write_snapshot_bytes, write_snapshot_from,
@@ -171,12 +174,14 @@ pub struct Store<K: Kernel> {
     count: usize,
     changes: Changes,
     log: DeltaLog,
+    olds: RecordLog,
     publisher: [u8; 32],
 }
 
 impl<K: Kernel> Model for Store<K> {
     ghost use Rattle.version_store.specs.Histories.{StoreState};
     ghost use Rattle.version_store.specs.Drafts.{draft_of, is_some_change, grown_to, IsHeld};
+    ghost use Rattle.version_store.specs.OldRecords.{IsOldsLog};
 
     ghost Value = { StoreState };
 
@@ -187,9 +192,11 @@ impl<K: Kernel> Model for Store<K> {
       marked = is_some_change s.changes.entries;
       publisher = s.publisher;
       log = s.log.lists;
+      olds = s.olds.lists;
     } };
 
-    ghost invariant = { λ s. IsHeld s.edition s.count s.changes.entries s.log.lists };
+    ghost invariant = { λ s. IsHeld s.edition s.count s.changes.entries s.log.lists
+        × IsOldsLog s.edition s.olds };
 }
 
 impl<K: Kernel> Store<K> {
@@ -237,12 +244,14 @@ impl<K: Kernel> Store<K> {
         let count = layout.count();
         let edition = Edition::open(alloc, kernel, plan, layout, held, watcher)?;
         let log = DeltaLog::new(alloc, header.version)?;
+        let olds = olds_log(alloc, edition.layout(), plan.dimension)?;
         Ok(Store {
             alloc,
             edition,
             count,
             changes: Changes::new(alloc),
             log,
+            olds,
             publisher: header.publisher,
         })
     }
@@ -459,6 +468,41 @@ impl<K: Kernel> Store<K> {
         self.log.rows_since(version)
     }
 
+    /// What differs between an earlier version and the current one, as entries: of each record that differs its index in four bytes,
+    /// the bytes that it had in the digits and those that it has, ascending. A record that was appended since had a blank. Only a wide
+    /// store keeps what it needs for this.
+    ///
+    /// `None` if the version is neither the current one nor one of the 16 before it, or old bytes since then were dropped, or the
+    /// entries have more than `most` bytes. Only refused memory gives an `Err`.
+    pub fn changes_since(&self, version: u64, most: usize) -> Result<Option<Vec<u8>>, AllocError>
+        ensures history { (h : History) → StandsFor self.now h → IfOk result (λ made.
+            option_map (λ v. v.items) made ≡ changes_since self.now.edition.plan h version most) }
+        ensures len { IfOk result (λ made. IfSome made (λ v. length v.items ≤ most)) }
+    {
+        let Some(n) = self.olds_since(version) else {
+            return Ok(None);
+        };
+        let layer = self.edition.layer();
+        // Called for what it says of the bytes.
+        layer.bytes_len();
+        let count = layer.layout().count();
+        self.olds.changes_since(self.alloc, n, layer, count, most)
+    }
+
+    // How many publications there were since a version, if old bytes of all of them are kept.
+    fn olds_since(&self, version: u64) -> Option<usize>
+        ensures some { IfSome result (λ n. version + n ≡ self.now.version) }
+        ensures few { IfSome result (λ n. n ≤ length self.now.olds) }
+        ensures none { IsNone result ↔
+            (reaches_olds self.now.version (length self.now.olds) version ≡ false) }
+    {
+        let now = self.version();
+        if version > now || now - version > self.olds.len() as u64 {
+            return None;
+        }
+        Some((now - version) as usize)
+    }
+
     /// Memory for the answer to a scheme's query on the current version. It is taken by sizes alone, before a
     /// query is looked at. Only refused memory gives an `Err`.
     pub fn answer_room(&self, scheme: Scheme) -> Result<AnswerRoom, AllocError>
@@ -670,6 +714,7 @@ impl<K: Kernel> Store<K> {
         if self.version() == u64::MAX {
             return Err(PublishError::VersionsUsedUp);
         }
+        let olds = self.draft_olds()?;
         let changes = self.changes.len();
         let layout = self.edition.layout();
         let mut scratch = scratch_for(self.alloc, layout)?;
@@ -683,7 +728,19 @@ impl<K: Kernel> Store<K> {
             .apply(&mut self.changes, &mut scratch, &mut marks, &mut room);
         push_marked(&marks, &mut rows);
         self.log.add(rows);
+        keep_olds(&mut self.olds, olds);
         Ok(self.version())
+    }
+
+    // The old bytes of the records that the draft changes. Only a wide store asks for them.
+    fn draft_olds(&self) -> Result<Option<OldRecords>, AllocError>
+        ensures { IfOk result (λ olds. olds ≡ draft_olds self.now.edition self.now.draft) }
+    {
+        if !is_wide(self.edition.plan().form) {
+            return Ok(None);
+        }
+        let olds = old_bytes(self.alloc, self.edition.layer(), &self.changes, self.count)?;
+        Ok(Some(olds))
     }
 }
 
@@ -711,6 +768,29 @@ pub fn write_snapshot<K: Kernel, W: Write>(
     // Called for what it says of the bytes.
     layer.bytes_len();
     write_snapshot_from(alloc, &header, layer, writer)
+}
+
+// A log of the old bytes of records, which keeps an eighth of the bytes of the hint at most.
+fn olds_log(alloc: Global, layout: &Layout, dimension: u16) -> Result<RecordLog, AllocError>
+    requires { dimension ≤ 1024 }
+    ensures { IfOk result (λ log. log ≡ record {
+      record_len = layout.now.record_len;
+      most = digit_rows layout.now * dimension / 2;
+      lists = [];
+    }) }
+{
+    let most = layout.rows() * usize::from(dimension) / 2;
+    RecordLog::new(alloc, layout.record_len(), most)
+}
+
+// Keeps the old bytes of a publication, if there are any to keep. It takes no memory.
+fn keep_olds(log: &mut RecordLog, olds: Option<OldRecords>)
+    requires { IfSome olds (λ newest. newest.record_len ≡ log.old.record_len) }
+    ensures { log.new ≡ with_newest log.old olds }
+{
+    if let Some(newest) = olds {
+        log.push(newest);
+    }
 }
 
 // Room for the digits of a record.

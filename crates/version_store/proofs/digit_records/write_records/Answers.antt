@@ -1,9 +1,10 @@
 use Rattle.std.proofs.Common.{◌≡◌, ◌∙◌, ◌+◌, ◌-◌, ◌*◌, ◌/◌, ◌%◌, ◌<◌, ℕ, List, length, ap, sym, arith}
 use Rattle.digit_pack.specs.Layout.{Shape, first_row, column_of, record_digits, records_in}
 use Rattle.digit_pack.proofs.ColumnLemmas.{written_as}
+use Rattle.digit_pack.proofs.RecordLemmas.{record_in}
 use Rattle.version_store.specs.KeptRecords.{counted}
 use Rattle.version_store.proofs.Versions.{long_records}
-use Rattle.version_store.proofs.Batches.{none_written, none_more, one_more, all_written, few_in_batch, bytes_end, record_of_batch}
+use Rattle.version_store.proofs.Batches.{none_written, none_more, one_more, all_written, few_in_batch, bytes_end}
 use Rattle.version_store.proofs.digit_records.write_records.Goals as goal
 
 pub loop-n-init : goal.loop-n-init
@@ -76,7 +77,7 @@ loop-n-preserved c =
           (omega (arith, c.loop-n-test.true, turns_are k c.groups-groups.result l.groups c.groups-groups.ensures.value))
           (written_as c.loop-n.digits _ c.write_place.new.digits _ _ _ _ _ _ (c.loop-n.invariant.so_far xs long is)
           (ap (λ x. first_row l (x + i)) (sym long)) (ap (λ x. column_of l (x + i)) (sym long))
-          (ap (record_digits l) (record_of_batch l k c.args.bytes.now i c.record_len-len.result inside c.record_len-len.ensures.value))
+          (ap (record_digits l) (record_in (counted l k) c.args.bytes.now i c.record_len-len.result c.record_len-len.ensures.value inside))
           c.write_place.ensures);
     }
 

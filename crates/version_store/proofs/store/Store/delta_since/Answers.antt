@@ -25,7 +25,7 @@ returns-clause-history g c h s =
     let held : StoreState → Type 0 = λ s. IfOk c.rows_since.result (λ found. option_map (λ rows. rows.items) found ≡ held_rows s c.args.version) in
     let named : held c.args.self.now =
     subst held c.self.view_is
-    (log_answer (digit_rows (version_shape c.self.inside.edition)) c.self.inside.log c.args.version c.rows_since.result c.self.invariant.rows
+    (log_answer (digit_rows (version_shape c.self.inside.edition)) c.self.inside.log c.args.version c.rows_since.result c.self.invariant.0.rows
     c.rows_since.ensures.none c.rows_since.ensures.rows) in
     let is : Option (List ℕ) → Type 0 = λ rows. IfOk c.rows_since.result (λ found. option_map (λ rows. rows.items) found ≡ rows) in
     subst is (held_as_history c.args.self.now h c.args.version s) named
@@ -35,5 +35,5 @@ returns-clause-inside g c =
     let below : StoreState → Type 0 = λ s. IfOk c.rows_since.result (λ found. IfSome found (λ rows.
     All (λ r. r < digit_rows (version_shape s.edition)) rows.items)) in
     subst below c.self.view_is
-    (answer_below (digit_rows (version_shape c.self.inside.edition)) c.self.inside.log c.args.version c.rows_since.result c.self.invariant.rows
+    (answer_below (digit_rows (version_shape c.self.inside.edition)) c.self.inside.log c.args.version c.rows_since.result c.self.invariant.0.rows
     c.rows_since.ensures.rows)

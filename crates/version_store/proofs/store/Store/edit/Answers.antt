@@ -16,14 +16,14 @@ returns-in-Ok-clause-accepted g c =
     let n : ℕ = c.self.inside.count in
     let e : Records = grown_to n held in
     let many : length c.args.self.now.draft ≡ n =
-    sym (ap (λ s. length s.draft) c.self.view_is) ∙ length-draft held n c.self.inside.changes.entries c.self.invariant.more in
+    sym (ap (λ s. length s.draft) c.self.view_is) ∙ length-draft held n c.self.inside.changes.entries c.self.invariant.0.more in
     let inside : c.args.i < length e.records =
-    omega (arith, many, c.has_record.ensures.0 c.if-not-has_record.false, length-grown held.plan n held.records c.self.invariant.more) in
+    omega (arith, many, c.has_record.ensures.0 c.if-not-has_record.false, length-grown held.plan n held.records c.self.invariant.0.more) in
     let draft : draft_of e.records c.insert.new.self.entries ≡ slice_set (draft_of e.records c.self.inside.changes.entries) c.args.i c.args.bytes.now =
     draft-inserted e.records c.self.inside.changes c.insert.new.self c.args.i _ c.in-Ok.ensures.updates inside
     ∙ ap (λ (b : List ℕ). slice_set (draft_of e.records c.self.inside.changes.entries) c.args.i b) c.in_ok-copy.ensures in
     let made : List (List ℕ) → Bool →
-    StoreState = λ d m. record { version = c.self.inside.log.version; edition = held; draft = d; marked = m; publisher = c.self.inside.publisher; log = c.self.inside.log.lists } in
+    StoreState = λ d m. record { version = c.self.inside.log.version; edition = held; draft = d; marked = m; publisher = c.self.inside.publisher; log = c.self.inside.log.lists; olds = c.self.inside.olds.lists } in
     let after : StoreState → StoreState = λ s. record s { draft = slice_set s.draft c.args.i c.args.bytes.now; marked = true } in
     ap (λ d. made d (is_some_change c.insert.new.self.entries)) draft
     ∙ ap (made (slice_set (draft_of e.records c.self.inside.changes.entries) c.args.i c.args.bytes.now))
@@ -40,17 +40,19 @@ invariant_of-self g c =
     let n : ℕ = c.self.inside.count in
     let e : Records = grown_to n held in
     let many : length c.args.self.now.draft ≡ n =
-    sym (ap (λ s. length s.draft) c.self.view_is) ∙ length-draft held n c.self.inside.changes.entries c.self.invariant.more in
+    sym (ap (λ s. length s.draft) c.self.view_is) ∙ length-draft held n c.self.inside.changes.entries c.self.invariant.0.more in
     let inside : c.args.i < length e.records =
-    omega (arith, many, c.has_record.ensures.0 c.if-not-has_record.false, length-grown held.plan n held.records c.self.invariant.more) in
+    omega (arith, many, c.has_record.ensures.0 c.if-not-has_record.false, length-grown held.plan n held.records c.self.invariant.0.more) in
     let fit : fits e.plan c.in_ok-copy.copy.items ≡ true =
-    ap (fits e.plan) c.in_ok-copy.ensures ∙ ap (λ s. fits s.edition.plan c.args.bytes.now) c.self.view_is ∙ sym c.fits.ensures ∙ c.if-not-fits.false in
-    record {
-      more = c.self.invariant.more;
-      layout = c.self.invariant.layout;
-      fit = fit-updated e c.self.inside.changes c.insert.new.self c.args.i (Some c.in_ok-copy.copy) c.in-Ok.ensures.updates (inside, fit)
-          c.self.invariant.fit;
-      appended = appended-updated held n n c.self.inside.changes c.insert.new.self c.args.i c.in_ok-copy.copy c.in-Ok.ensures.updates (λ i lt apart. lt)
-          c.self.invariant.appended;
-      rows = c.self.invariant.rows;
-    }
+    ap (fits e.plan) c.in_ok-copy.ensures ∙ ap (λ s. fits s.edition.plan c.args.bytes.now) c.self.view_is ∙ sym c.fits.ensures ∙ c.if-not-fits.false in (
+      record {
+        more = c.self.invariant.0.more;
+        layout = c.self.invariant.0.layout;
+        fit = fit-updated e c.self.inside.changes c.insert.new.self c.args.i (Some c.in_ok-copy.copy) c.in-Ok.ensures.updates (inside, fit)
+            c.self.invariant.0.fit;
+        appended = appended-updated held n n c.self.inside.changes c.insert.new.self c.args.i c.in_ok-copy.copy c.in-Ok.ensures.updates (λ i lt apart. lt)
+            c.self.invariant.0.appended;
+        rows = c.self.invariant.0.rows;
+      },
+      c.self.invariant.1,
+    )
