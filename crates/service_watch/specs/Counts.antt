@@ -16,9 +16,9 @@ cause_slot cause.Idle = 5
 cause_slot cause.Memory = 6
 cause_slot cause.TooMany = 7
 
--- where frames of a kind are counted: of the kinds 1 to 9 each apart, and all others together
+-- where frames of a kind are counted: of the kinds 1 to 10 each apart, and all others together
 abbrev pub frame_slot : ℕ → ℕ
-frame_slot kind = cond (nat_le kind 9) (8 + kind) 8
+frame_slot kind = cond (nat_le kind 9) (8 + kind) (cond (kind == 10) 45 8)
 
 -- 1 for DoublePIR
 abbrev pub scheme_offset : ℕ → ℕ
@@ -29,12 +29,12 @@ abbrev pub refusal_slot : ℕ → ℕ
 refusal_slot code = cond (nat_le code 14) (29 + code) 44
 
 -- where replies of a kind are counted, by the first byte of their payload: Welcome, a hint's parts and answers by scheme, Delta, Stale,
--- Done, NoDelta, refusals by code
+-- Done, NoDelta, Changes, refusals by code
 abbrev pub reply_slot : ℕ → ℕ → ℕ
 reply_slot kind first =
     cond (kind == 0x82) 21 (cond (kind == 0x83) (22 + scheme_offset first) (cond (kind == 0x84) 24
     (cond (kind == 0x85) (25 + scheme_offset first) (cond (kind == 0x86) 27 (cond (kind == 0x87) 28
-    (cond (kind == 0x88) 29 (cond (kind == 0x8f) (refusal_slot first) 44)))))))
+    (cond (kind == 0x88) 29 (cond (kind == 0x8a) 46 (cond (kind == 0x8f) (refusal_slot first) 44))))))))
 
 -- where a thing is counted
 abbrev pub slot_of : Counted → ℕ

@@ -115,7 +115,11 @@ fn frame_slot(kind: u8) -> usize
     ensures slot { result ≡ frame_slot kind }
     ensures within { result < 48 }
 {
-    if kind <= 9 { 8 + kind as usize } else { 8 }
+    match kind {
+        0..=9 => 8 + kind as usize,
+        0x0a => 45,
+        _ => 8,
+    }
 }
 
 // Where replies are counted: those that no server makes together.
@@ -131,6 +135,7 @@ fn reply_slot(kind: u8, first: u8) -> usize
         0x86 => 27,
         0x87 => 28,
         0x88 => 29,
+        0x8a => 46,
         0x8f => refusal_slot(first),
         _ => 44,
     }

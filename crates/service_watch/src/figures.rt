@@ -222,6 +222,7 @@ fn push_frames(alloc: Global, text: &mut String, figures: &Figures) -> Result<()
             counted("{kind=\"publish\"}", counters.of(Counted::Frame(7))),
             counted("{kind=\"bye\"}", counters.of(Counted::Frame(8))),
             counted("{kind=\"append\"}", counters.of(Counted::Frame(9))),
+            counted("{kind=\"changes_ask\"}", counters.of(Counted::Frame(10))),
             counted("{kind=\"other\"}", counters.of(Counted::Frame(0))),
         ],
     )
@@ -277,6 +278,7 @@ fn push_other_replies(
             counted("{kind=\"delta\"}", counters.of(Counted::Reply(0x84, 0))),
             counted("{kind=\"done\"}", counters.of(Counted::Reply(0x87, 0))),
             counted("{kind=\"no_delta\"}", counters.of(Counted::Reply(0x88, 0))),
+            counted("{kind=\"changes\"}", counters.of(Counted::Reply(0x8a, 0))),
         ],
     )
 }
