@@ -12,7 +12,7 @@ use Rattle.server_core.specs.declared.standing.Standing.{Standing}
 use Rattle.server_core.specs.declared.standing.Standing.TheVariants.{Stranger, Reader, Publisher, Closed}
 use Rattle.server_core.specs.Courses.{SessionCourse, course_of, at_end, course_of_piece, is_memory, lacks_memory}
 use Rattle.server_core.specs.Laws.{IsAlike, PiecesDecide, PiecesAgree, SessionsNeverMeet}
-use Rattle.server_core.specs.Serving.{Setting, ServesAll, is_closed}
+use Rattle.server_core.specs.Serving.{is_wide_setting, Setting, ServesAll, is_closed}
 use Rattle.server_core.specs.Sessions.{Session, AfterReading, EndsPiece, ServesPiece}
 use Rattle.server_core.proofs.Courses.{decided}
 use Rattle.server_core.proofs.Runs.{not_both}
@@ -117,20 +117,20 @@ closed_alone c answer shut = rw shut refl
 piece_decided : FeedsDecide → FeedsBegin →
     (x : Setting) (h : History) (old : Session) (piece : List ℕ) (h2 : History) (new : Session) (replies : List Frame) (answer : Result (Unit {0}) ReadFault)
     (frames : List Frame) (rest : Option (List ℕ)) → ServesPiece x h old piece h2 new replies
-    → lacks_memory replies ≡ false → Feeds old.unfinished piece answer frames rest → answer ≢ Err Memory
+    → lacks_memory replies ≡ false → Feeds (is_wide_setting x) old.unfinished piece answer frames rest → answer ≢ Err Memory
     → (record { history = h2; standing = new.standing; replies = replies } ≡ course_of_piece x h old.standing frames answer)
     × (is_closed new.standing ≡ false → new.unfinished ≡ rest)
 piece_decided decide begin x h old piece h2 new replies answer frames rest s lacks reads clear =
     elim (memory_or s.answer) [
       | inl m ↦
           let q = silent x h old piece h2 new replies s m in
-          let b = begin old.unfinished piece answer s.answer frames s.frames rest new.unfinished reads s.reads clear in
+          let b = begin (is_wide_setting x) old.unfinished piece answer s.answer frames s.frames rest new.unfinished reads s.reads clear in
           let c : SessionCourse = record { history = h2; standing = new.standing; replies = replies } in
           let e : c ≡ course_of x h old.standing frames =
           closing_course x h old.standing s.frames frames b.0 h2 new.standing replies q.serves q.shut lacks b.1 in
           (closed_alone c answer q.shut ∙ by_course x h old.standing frames answer c e, λ open_. not_both new.standing q.shut open_)
       | inr pure ↦
-          let d = decide old.unfinished piece s.answer answer s.frames frames new.unfinished rest s.reads reads pure clear in
+          let d = decide (is_wide_setting x) old.unfinished piece s.answer answer s.frames frames new.unfinished rest s.reads reads pure clear in
           let c : SessionCourse = record { history = h2; standing = s.middle; replies = s.reported } in
           let e : c ≡ course_of x h old.standing frames =
           rw (← d.1) (decided x h old.standing s.frames h2 s.middle s.reported s.serves (reported_clear replies s.reported s.more s.all lacks)) in
@@ -187,7 +187,7 @@ both_served decide begin agree x h old piece h2 h3 new new2 replies replies2 s t
             let q = silent x h old piece h2 new replies s m in
             let r = silent x h old piece h3 new2 replies2 t n in
             let same : course h2 new.standing replies ≡ course h3 new2.standing replies2 =
-            elim (agree old.unfinished piece s.answer t.answer s.frames t.frames new.unfinished new2.unfinished s.reads t.reads) [
+            elim (agree (is_wide_setting x) old.unfinished piece s.answer t.answer s.frames t.frames new.unfinished new2.unfinished s.reads t.reads) [
               | inl e ↦ decided x h old.standing s.frames h2 new.standing replies q.serves lacks
                   ∙ sym (closing_course x h old.standing t.frames s.frames e.0 h3 new2.standing replies2 r.serves r.shut lacks2 e.1)
               | inr e ↦ closing_course x h old.standing s.frames t.frames e.0 h2 new.standing replies q.serves q.shut lacks e.1

@@ -16,50 +16,50 @@ use Rattle.frame_codec.proofs.Runs.{all_append}
 use Rattle.version_store.specs.Histories.{StoreState, History, StandsFor}
 use Rattle.server_core.specs.declared.standing.Standing.{Standing}
 use Rattle.server_core.specs.declared.standing.Standing.TheVariants.{Closed}
-use Rattle.server_core.specs.Serving.{Setting, setting_of, Serves, ServedAll, is_closed}
+use Rattle.server_core.specs.Serving.{is_wide_setting, Setting, setting_of, Serves, ServedAll, is_closed}
 use Rattle.server_core.specs.Sessions.{Session, IsLive, ServesPiece, IsStop, IsUnjudged, IsFirstUnread, FedFirst, Ended, ServedFrames, frames_taken, bytes_used, reading_end, ServesFrame, HasTaken}
 use Rattle.server_core.specs.Laws.{FirstsArePieces, StopsArePieces}
 use Rattle.server_core.proofs.Pieces.{stays_live, unread, ended}
 use Rattle.server_core.proofs.Runs.{serves_one}
 
 -- so many bytes of the piece are what the reader was fed
-pub fed_used : (old : Option (List ℕ)) (piece : List ℕ) (answer : Result Taken ReadFault) (new : Option (List ℕ)) → FeedsFrame old piece answer new →
-    Feeds old (take (bytes_used piece answer) piece) (reading_end answer) (frames_taken answer) new
-fed_used old piece (Ok t) new f = f.fed
-fed_used old piece (Err fault) new f = rw take-length f
+pub fed_used : (wide : Bool) (old : Option (List ℕ)) (piece : List ℕ) (answer : Result Taken ReadFault) (new : Option (List ℕ)) → FeedsFrame wide old piece answer new →
+    Feeds wide old (take (bytes_used piece answer) piece) (reading_end answer) (frames_taken answer) new
+fed_used wide old piece (Ok t) new f = f.fed
+fed_used wide old piece (Err fault) new f = rw take-length f
 
-pub used_within : (old : Option (List ℕ)) (piece : List ℕ) (answer : Result Taken ReadFault) (new : Option (List ℕ)) → FeedsFrame old piece answer new →
+pub used_within : (wide : Bool) (old : Option (List ℕ)) (piece : List ℕ) (answer : Result Taken ReadFault) (new : Option (List ℕ)) → FeedsFrame wide old piece answer new →
     bytes_used piece answer ≤ length piece
-used_within old piece (Ok t) new f = f.within
-used_within old piece (Err fault) new f = omega arith
+used_within wide old piece (Ok t) new f = f.within
+used_within wide old piece (Err fault) new f = omega arith
 
 -- a byte at least, where there is one
-pub used_some : (old : Option (List ℕ)) (piece : List ℕ) (answer : Result Taken ReadFault) (new : Option (List ℕ)) → FeedsFrame old piece answer new →
+pub used_some : (wide : Bool) (old : Option (List ℕ)) (piece : List ℕ) (answer : Result Taken ReadFault) (new : Option (List ℕ)) → FeedsFrame wide old piece answer new →
     0 < length piece → 0 < bytes_used piece answer
-used_some old piece (Ok t) new f some = by_frame t.frame f.whole f.ends
+used_some wide old piece (Ok t) new f some = by_frame t.frame f.whole f.ends
   where
     by_frame : (o : Option Frame) → IfNone o (t.count ≡ length piece) → IfSome o (λ _. (0 < t.count) × (new ≡ Some [])) → 0 < t.count
     by_frame None whole ends = omega (arith, whole, some)
     by_frame (Some g) whole ends = ends.0
-used_some old piece (Err fault) new f some = some
+used_some wide old piece (Err fault) new f some = some
 
-pub first_live : (old : Option (List ℕ)) (piece : List ℕ) (answer : Result Taken ReadFault) (new : Option (List ℕ)) (after : Standing) →
-    FeedsFrame old piece answer new → (is_closed after ≡ false → IsOk (reading_end answer)) → IsLive after new
-first_live old piece answer new after f live =
-    stays_live old (take (bytes_used piece answer) piece) (reading_end answer) (frames_taken answer) new after (fed_used old piece answer new f) live
+pub first_live : (wide : Bool) (old : Option (List ℕ)) (piece : List ℕ) (answer : Result Taken ReadFault) (new : Option (List ℕ)) (after : Standing) →
+    FeedsFrame wide old piece answer new → (is_closed after ≡ false → IsOk (reading_end answer)) → IsLive after new
+first_live wide old piece answer new after f live =
+    stays_live wide old (take (bytes_used piece answer) piece) (reading_end answer) (frames_taken answer) new after (fed_used wide old piece answer new f) live
 
 -- an open session's reading that stopped without a fault was refused memory
-pub first_unread : (old : Option (List ℕ)) (piece : List ℕ) (answer : Result Taken ReadFault) (new : Option (List ℕ)) → old ≢ None →
-    FeedsFrame old piece answer new → IsUnjudged (reading_end answer) → IsFirstUnread old piece new
-first_unread old piece (Ok t) new live f u = absurd u
-first_unread old piece (Err fault) new live f u =
-    let is : Err fault ≡ Err Memory = unread old piece (Err fault) [] new live f u in
-    subst (λ (r : Result (Unit {0}) ReadFault). Feeds old piece r [] new) is f
+pub first_unread : (x : Setting) (old : Option (List ℕ)) (piece : List ℕ) (answer : Result Taken ReadFault) (new : Option (List ℕ)) → old ≢ None →
+    FeedsFrame (is_wide_setting x) old piece answer new → IsUnjudged (reading_end answer) → IsFirstUnread x old piece new
+first_unread x old piece (Ok t) new live f u = absurd u
+first_unread x old piece (Err fault) new live f u =
+    let is : Err fault ≡ Err Memory = unread (is_wide_setting x) old piece (Err fault) [] new live f u in
+    subst (λ (r : Result (Unit {0}) ReadFault). Feeds (is_wide_setting x) old piece r [] new) is f
 
 -- ---- served, or not
 
 pub first_well : (x : Setting) (h : History) (old : Session) (piece : List ℕ) (store : StoreState) (after : Standing) (u : Option (List ℕ))
-    (before new : List ℕ) (answer : Result Taken ReadFault) → is_closed old.standing ≡ false → FeedsFrame old.unfinished piece answer u →
+    (before new : List ℕ) (answer : Result Taken ReadFault) → is_closed old.standing ≡ false → FeedsFrame (is_wide_setting x) old.unfinished piece answer u →
     ServedFrames x h old.standing (frames_taken answer) (reading_end answer) store after before new
     → FedFirst x h old piece (Ok (bytes_used piece answer)) store (record { standing = after; unfinished = u }) before new
 first_well x h old piece store after u before new answer open_ reads s =
@@ -89,7 +89,7 @@ first_well x h old piece store after u before new answer open_ reads s =
     }
 
 pub first_short : (x : Setting) (h : History) (old : Session) (piece : List ℕ) (e : AllocError) (store : StoreState) (u : Option (List ℕ))
-    (before new : List ℕ) (answer : Result Taken ReadFault) → is_closed old.standing ≡ false → FeedsFrame old.unfinished piece answer u →
+    (before new : List ℕ) (answer : Result Taken ReadFault) → is_closed old.standing ≡ false → FeedsFrame (is_wide_setting x) old.unfinished piece answer u →
     HasTaken answer → setting_of store ≡ x → StandsFor store h → new ≡ before
     → FedFirst x h old piece (Err e) store (record { standing = Closed; unfinished = u }) before new
 first_short x h old piece e store u before new answer open_ reads stop set stands same = record {
@@ -179,8 +179,8 @@ firsts_are_pieces x h old piece count h2 new replies f = by_state (is_closed old
       middle = f.middle;
       reported = f.reported;
       more = f.more;
-      reads = subst (λ (n : ℕ). Feeds old.unfinished (take n piece) (reading_end f.answer) (frames_taken f.answer) new.unfinished) (sym f.count_is)
-          (fed_used old.unfinished piece f.answer new.unfinished f.reads);
+      reads = subst (λ (n : ℕ). Feeds (is_wide_setting x) old.unfinished (take n piece) (reading_end f.answer) (frames_taken f.answer) new.unfinished) (sym f.count_is)
+          (fed_used (is_wide_setting x) old.unfinished piece f.answer new.unfinished f.reads);
       serves = f.serves;
       ends = f.ends;
       all = f.all;
@@ -199,7 +199,7 @@ stops_are_pieces x h old piece e h2 new replies f =
     let s = f.1 in
     let used : ℕ = bytes_used piece s.answer in (
       used,
-      used_within old.unfinished piece s.answer new.unfinished s.reads,
+      used_within (is_wide_setting x) old.unfinished piece s.answer new.unfinished s.reads,
       (
         f.0,
         record {
@@ -207,7 +207,7 @@ stops_are_pieces x h old piece e h2 new replies f =
           frames = frames_taken s.answer;
           count = 0;
           middle = old.standing;
-          reads = fed_used old.unfinished piece s.answer new.unfinished s.reads;
+          reads = fed_used (is_wide_setting x) old.unfinished piece s.answer new.unfinished s.reads;
           stop = stops_there s.answer s.stop;
           serves = (s.same, refl, s.none);
           goes_on = f.0;

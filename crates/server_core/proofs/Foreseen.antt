@@ -11,12 +11,12 @@ use Rattle.frame_codec.specs.declared.reader.Taken.{Taken}
 use Rattle.frame_codec.specs.declared.reader.ReadFault.{ReadFault}
 use Rattle.frame_codec.specs.declared.reader.ReadFault.TheVariants.{TooLong, UnknownKind, BadPayload, Memory, Failed}
 use Rattle.frame_codec.specs.Frames.{IsFrame, encoding, payload_of}
-use Rattle.frame_codec.specs.Streams.{HasFrame, HasPublishNext, Feeds, FeedsFrame, Reads}
+use Rattle.frame_codec.specs.Streams.{IsFrameOf, HasFrame, HasPublishNext, Feeds, FeedsFrame, Reads}
 use Rattle.frame_codec.proofs.Unique.{one_encoding, fault_of_frame}
 use Rattle.version_store.specs.Histories.{StoreState, History, StandsFor, current_version, published}
 use Rattle.server_core.specs.declared.standing.Standing.{Standing}
 use Rattle.server_core.specs.declared.standing.Standing.TheVariants.{Stranger, Reader, Publisher, Closed}
-use Rattle.server_core.specs.Serving.{Setting, Outcome, MayPublish, IsOutcome, ServesAll, is_closed, is_publisher, outcome_of_frame}
+use Rattle.server_core.specs.Serving.{is_wide_setting, Setting, Outcome, MayPublish, IsOutcome, ServesAll, is_closed, is_publisher, outcome_of_frame}
 use Rattle.server_core.specs.Sessions.{Session, AfterReading, ServesFrame, frames_taken}
 use Rattle.server_core.specs.Laws.{ForeseenArePublished}
 
@@ -25,30 +25,34 @@ publish_fits : IsFrame Publish
 unfolding payload_of
 publish_fits = record { fields = tt; short = omega arith }
 
+-- of every stream
+publish_fits_in : (wide : Bool) → IsFrameOf wide Publish
+publish_fits_in wide = record { frame = publish_fits; known = refl }
+
 -- where it is next, there is no fault
-no_fault : (kept piece : List ℕ) (fault : ReadFault) (new : Option (List ℕ)) (middle after : Standing) (more : List Frame) → HasFrame (kept ++ piece) →
-    Feeds (Some kept) piece (Err fault) [] new → AfterReading (Err fault) middle after more → ⊥
-no_fault kept piece TooLong new middle after more h f ends = fault_of_frame TooLong f.0.0 f.0.2 (subst HasFrame f.0.1.whole h)
-no_fault kept piece UnknownKind new middle after more h f ends = fault_of_frame UnknownKind f.0.0 f.0.2 (subst HasFrame f.0.1.whole h)
-no_fault kept piece BadPayload new middle after more h f ends = fault_of_frame BadPayload f.0.0 f.0.2 (subst HasFrame f.0.1.whole h)
-no_fault kept piece Memory new middle after more h f ends = ends
-no_fault kept piece Failed new middle after more h f ends = ends
+no_fault : (wide : Bool) (kept piece : List ℕ) (fault : ReadFault) (new : Option (List ℕ)) (middle after : Standing) (more : List Frame) → HasFrame wide (kept ++ piece) →
+    Feeds wide (Some kept) piece (Err fault) [] new → AfterReading (Err fault) middle after more → ⊥
+no_fault wide kept piece TooLong new middle after more h f ends = fault_of_frame wide TooLong f.0.0 f.0.2 (subst (HasFrame wide) f.0.1.whole h)
+no_fault wide kept piece UnknownKind new middle after more h f ends = fault_of_frame wide UnknownKind f.0.0 f.0.2 (subst (HasFrame wide) f.0.1.whole h)
+no_fault wide kept piece BadPayload new middle after more h f ends = fault_of_frame wide BadPayload f.0.0 f.0.2 (subst (HasFrame wide) f.0.1.whole h)
+no_fault wide kept piece Memory new middle after more h f ends = ends
+no_fault wide kept piece Failed new middle after more h f ends = ends
 
 -- and it is the frame that is taken
-taken_is : (kept piece more rest : List ℕ) (count : ℕ) (frame : Option Frame) → kept ++ piece ≡ encoding Publish ++ more →
-    Reads (kept ++ take count piece) (option_to_list frame) rest → IfNone frame (count ≡ length piece) → option_to_list frame ≡ Publish ∷ []
-taken_is kept piece more rest count None e r all =
+taken_is : (wide : Bool) (kept piece more rest : List ℕ) (count : ℕ) (frame : Option Frame) → kept ++ piece ≡ encoding Publish ++ more →
+    Reads wide (kept ++ take count piece) (option_to_list frame) rest → IfNone frame (count ≡ length piece) → option_to_list frame ≡ Publish ∷ []
+taken_is wide kept piece more rest count None e r all =
     let whole : take count piece ≡ piece = take_all count piece (omega (arith, all)) in
     let is : rest ≡ encoding Publish ++ more = sym r.begins.whole ∙ ap (λ (y : List ℕ). kept ++ y) whole ∙ e in
-    absurd (r.partial.no_frame (Publish, more, publish_fits, is))
-taken_is kept piece more rest count (Some f) e r all =
+    absurd (r.partial.no_frame (Publish, more, publish_fits_in wide, is))
+taken_is wide kept piece more rest count (Some f) e r all =
     let first : encoding f ++ (rest ++ drop count piece) ≡ encoding Publish ++ more =
     sym (append_assoc (encoding f) rest (drop count piece))
     ∙ ap (λ (y : List ℕ). (y ++ rest) ++ drop count piece) (sym (append-nil (encoding f)))
     ∙ ap (λ (y : List ℕ). y ++ drop count piece) (sym r.begins.whole)
     ∙ append_assoc kept (take count piece) (drop count piece)
     ∙ ap (λ (y : List ℕ). kept ++ y) (take-append-drop count piece) ∙ e in
-    ap (λ (g : Frame). g ∷ []) (one_encoding f Publish (rest ++ drop count piece) more r.begins.each.0 publish_fits first).0
+    ap (λ (g : Frame). g ∷ []) (one_encoding f Publish (rest ++ drop count piece) more r.begins.each.0.frame publish_fits first).0
 
 -- the publisher's session is open
 is_open : (A B : Type 0) (st : Standing) → is_publisher st ≡ true → MatchBool (is_closed st) A B → (st ≡ Publisher) × B
@@ -125,14 +129,14 @@ served : (x : Setting) (h : History) (standing : Standing) (unfinished : Option 
     → StandsFor after h2 → written ≡ out ++ flat_map encoding replies → Told store after out written
 served x h standing None piece store after count h2 new replies out written answer s may next is w a stands bytes = absurd next
 served x h standing (Some kept) piece store after count h2 new replies out written (Err fault) s may next is w a stands bytes =
-    let reads = subst (λ (r : Result Taken ReadFault). FeedsFrame (Some kept) piece r new.unfinished) a w.reads in
+    let reads = subst (λ (r : Result Taken ReadFault). FeedsFrame (is_wide_setting x) (Some kept) piece r new.unfinished) a w.reads in
     let serves = subst (λ (r : Result Taken ReadFault). ServesAll x h standing (frames_taken r) h2 w.middle w.reported) a w.serves in
     let open_ : is_closed w.middle ≡ false = ap is_closed (serves.1 ∙ is) in
     let ends = rw (a, open_) at w.ends in
-    absurd (no_fault kept piece fault new.unfinished w.middle new.standing w.more (Publish, next.0, publish_fits, next.1) reads ends)
+    absurd (no_fault (is_wide_setting x) kept piece fault new.unfinished w.middle new.standing w.more (Publish, next.0, publish_fits_in (is_wide_setting x), next.1) reads ends)
 served x h standing (Some kept) piece store after count h2 new replies out written (Ok taken) s may next is w a stands bytes =
-    let reads = subst (λ (r : Result Taken ReadFault). FeedsFrame (Some kept) piece r new.unfinished) a w.reads in
-    let frame = taken_is kept piece next.0 reads.fed.0 taken.count taken.frame next.1 (reads.fed.1) reads.whole in
+    let reads = subst (λ (r : Result Taken ReadFault). FeedsFrame (is_wide_setting x) (Some kept) piece r new.unfinished) a w.reads in
+    let frame = taken_is (is_wide_setting x) kept piece next.0 reads.fed.0 taken.count taken.frame next.1 (reads.fed.1) reads.whole in
     let first = subst (λ (r : Result Taken ReadFault). ServesAll x h standing (frames_taken r) h2 w.middle w.reported) a w.serves in
     let second = subst (λ (fs : List Frame). ServesAll x h standing fs h2 w.middle w.reported) frame first in
     let serves = subst (λ (st : Standing). ServesAll x h st (Publish ∷ []) h2 w.middle w.reported) is second in

@@ -10,3 +10,4 @@ pub mod Runs
 pub mod Alike
 pub mod Deltas
 pub mod Memories
+pub mod ReplyKinds

@@ -11,7 +11,7 @@ use Rattle.frame_codec.specs.Streams.{Feeds}
 use Rattle.version_store.specs.Histories.{History}
 use Rattle.server_core.specs.Courses.{SessionCourse, course_of_piece, is_memory, lacks_memory, ServesWithMemory, FeedsWithMemory, WasShortOfMemory}
 use Rattle.server_core.specs.Laws.{FeedsAreAlike, FeedsHadMemory}
-use Rattle.server_core.specs.Serving.{Setting, is_closed}
+use Rattle.server_core.specs.Serving.{is_wide_setting, Setting, is_closed}
 use Rattle.server_core.specs.Sessions.{Session, ServesPiece}
 use Rattle.server_core.proofs.Courses.{decided}
 use Rattle.server_core.proofs.Agreement.{memory_or, after_frames, silent, by_course, served_open, served_closed, same_session}
@@ -42,7 +42,7 @@ served_alike : FeedsDecide → (x : Setting) (h : History) (old : Session) (piec
 served_alike decide x h old piece h2 h3 new new2 replies replies2 m n =
     let s = m.serves in
     let t = n.serves in
-    let d = decide old.unfinished piece s.answer t.answer s.frames t.frames new.unfinished new2.unfinished s.reads t.reads m.read n.read in
+    let d = decide (is_wide_setting x) old.unfinished piece s.answer t.answer s.frames t.frames new.unfinished new2.unfinished s.reads t.reads m.read n.read in
     let same : course_of_piece x h old.standing s.frames s.answer ≡ course_of_piece x h old.standing t.frames t.answer = rw (d.0, d.1) refl in
     let e : record { history = h2; standing = new.standing; replies = replies } ≡ record { history = h3; standing = new2.standing; replies = replies2 } =
     piece_course x h old piece h2 new replies m ∙ same ∙ sym (piece_course x h old piece h3 new2 replies2 n) in (
@@ -84,11 +84,11 @@ lacks_more (f ∷ rs) more e = first (is_memory f) (lacks_memory rs) (lacks_memo
     first false b c e f = f e
 
 served_had : (x : Setting) (h : History) (old : Session) (piece : List ℕ) (h2 : History) (new : Session) (replies : List Frame) →
-    ServesPiece x h old piece h2 new replies → ServesWithMemory x h old piece h2 new replies ⊎ WasShortOfMemory old piece new replies
+    ServesPiece x h old piece h2 new replies → ServesWithMemory x h old piece h2 new replies ⊎ WasShortOfMemory x old piece new replies
 served_had x h old piece h2 new replies s = elim (memory_or s.answer) [
   | inl m ↦ inr (inr (
     s.frames,
-    subst (λ (r : Result (Unit {0}) ReadFault). Feeds old.unfinished piece r s.frames new.unfinished) m s.reads,
+    subst (λ (r : Result (Unit {0}) ReadFault). Feeds (is_wide_setting x) old.unfinished piece r s.frames new.unfinished) m s.reads,
     (silent x h old piece h2 new replies s m).shut,
   ))
   | inr pure ↦ elim (cases_Bool (lacks_memory s.reported)) [

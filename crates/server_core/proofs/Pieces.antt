@@ -1,5 +1,5 @@
 -- What a piece does to a session.
-use Rattle.std.proofs.Common.{◌≡◌, ◌≢◌, ℕ, true, false, List, [], ◌∷◌, ◌++◌, length, Some, None, Option, refl, sym, ap, ◌∙◌, append_assoc, inl, inr, Result, Ok, Err, IsErr, OnErr, OnOk, IfOk}
+use Rattle.std.proofs.Common.{Bool, ◌≡◌, ◌≢◌, ℕ, true, false, List, [], ◌∷◌, ◌++◌, length, Some, None, Option, refl, sym, ap, ◌∙◌, append_assoc, inl, inr, Result, Ok, Err, IsErr, OnErr, OnOk, IfOk}
 use Rattle.std.proofs.Math.Seq.{take-length}
 use Rattle.std.specs.Prelude.{IsOk}
 use Rattle.std.specs.List.{flat_map}
@@ -17,7 +17,7 @@ use Rattle.frame_codec.proofs.Runs.{all_append}
 use Rattle.version_store.specs.Histories.{StoreState, History, StandsFor}
 use Rattle.server_core.specs.declared.standing.Standing.{Standing}
 use Rattle.server_core.specs.declared.standing.Standing.TheVariants.{Closed}
-use Rattle.server_core.specs.Serving.{Setting, setting_of, ServedAll, is_closed, BrokenOff}
+use Rattle.server_core.specs.Serving.{is_wide_setting, Setting, setting_of, ServedAll, is_closed, BrokenOff}
 use Rattle.server_core.specs.Sessions.{Session, IsLive, AfterReading, ServesPiece, Fed, Ended, ServedFrames, ServedOpen, StoppedFrames, IsUnjudged, IsUnread}
 
 -- ---- a piece's frames and its end
@@ -79,7 +79,7 @@ fed_closed x h old piece d store before shut s i =
 
 pub fed_well : (x : Setting) (h : History) (old : Session) (piece : List ℕ) (d : Unit {0}) (store : StoreState) (after : Standing) (u : Option (List ℕ))
     (before new : List ℕ) (answer : Result (Unit {0}) ReadFault) (frames : List Frame) → is_closed old.standing ≡ false
-    → Feeds old.unfinished piece answer frames u → ServedFrames x h old.standing frames answer store after before new →
+    → Feeds (is_wide_setting x) old.unfinished piece answer frames u → ServedFrames x h old.standing frames answer store after before new →
     Fed x h old piece (Ok d) store (record { standing = after; unfinished = u }) before new
 fed_well x h old piece d store after u before new answer frames open_ reads s =
     let a = s.frames_are in
@@ -109,7 +109,7 @@ fed_well x h old piece d store after u before new answer frames open_ reads s =
 
 pub fed_short : (x : Setting) (h : History) (old : Session) (piece : List ℕ) (e : AllocError) (store : StoreState) (u : Option (List ℕ)) (before new : List ℕ)
     (answer : Result (Unit {0}) ReadFault) (frames : List Frame) → is_closed old.standing ≡ false
-    → Feeds old.unfinished piece answer frames u → StoppedFrames x h old.standing frames answer store before new →
+    → Feeds (is_wide_setting x) old.unfinished piece answer frames u → StoppedFrames x h old.standing frames answer store before new →
     Fed x h old piece (Err e) store (record { standing = Closed; unfinished = u }) before new
 fed_short x h old piece e store u before new answer frames open_ reads s =
     let a = s.frames_are in
@@ -138,25 +138,25 @@ fed_short x h old piece e store u before new answer frames open_ reads s =
 
 -- ---- an open session's stream has not failed
 
-reads_on : (old : Option (List ℕ)) (piece : List ℕ) (d : Unit {0}) (frames : List Frame) (u : Option (List ℕ)) → Feeds old piece (Ok d) frames u → u ≢ None
-reads_on None piece d frames u f n = let bad : Ok d ≡ Err Failed = f.0 in cc
-reads_on (Some bytes) piece d frames u f n = let bad : Some f.0 ≡ None = sym f.2 ∙ n in cc
+reads_on : (wide : Bool) (old : Option (List ℕ)) (piece : List ℕ) (d : Unit {0}) (frames : List Frame) (u : Option (List ℕ)) → Feeds wide old piece (Ok d) frames u → u ≢ None
+reads_on wide None piece d frames u f n = let bad : Ok d ≡ Err Failed = f.0 in cc
+reads_on wide (Some bytes) piece d frames u f n = let bad : Some f.0 ≡ None = sym f.2 ∙ n in cc
 
-pub stays_live : (old : Option (List ℕ)) (piece : List ℕ) (answer : Result (Unit {0}) ReadFault) (frames : List Frame) (u : Option (List ℕ)) (after : Standing) →
-    Feeds old piece answer frames u → (is_closed after ≡ false → IsOk answer) → IsLive after u
-stays_live old piece (Ok d) frames u after f live open_ = reads_on old piece d frames u f
-stays_live old piece (Err e) frames u after f live open_ = let bad : false ≡ true = live open_ in absurd cc
+pub stays_live : (wide : Bool) (old : Option (List ℕ)) (piece : List ℕ) (answer : Result (Unit {0}) ReadFault) (frames : List Frame) (u : Option (List ℕ)) (after : Standing) →
+    Feeds wide old piece answer frames u → (is_closed after ≡ false → IsOk answer) → IsLive after u
+stays_live wide old piece (Ok d) frames u after f live open_ = reads_on wide old piece d frames u f
+stays_live wide old piece (Err e) frames u after f live open_ = let bad : false ≡ true = live open_ in absurd cc
 
 -- an open session's reading that stopped without a fault was refused memory
-pub unread : (old : Option (List ℕ)) (piece : List ℕ) (answer : Result (Unit {0}) ReadFault) (frames : List Frame) (new : Option (List ℕ)) → old ≢ None →
-    Feeds old piece answer frames new → IsUnjudged answer → answer ≡ Err Memory
-unread None piece answer frames new live f u = absurd (live refl)
-unread (Some bytes) piece (Ok d) frames new live f u = absurd u
-unread (Some bytes) piece (Err TooLong) frames new live f u = absurd u
-unread (Some bytes) piece (Err UnknownKind) frames new live f u = absurd u
-unread (Some bytes) piece (Err BadPayload) frames new live f u = absurd u
-unread (Some bytes) piece (Err Memory) frames new live f u = refl
-unread (Some bytes) piece (Err Failed) frames new live f u = absurd f.0.2
+pub unread : (wide : Bool) (old : Option (List ℕ)) (piece : List ℕ) (answer : Result (Unit {0}) ReadFault) (frames : List Frame) (new : Option (List ℕ)) → old ≢ None →
+    Feeds wide old piece answer frames new → IsUnjudged answer → answer ≡ Err Memory
+unread wide None piece answer frames new live f u = absurd (live refl)
+unread wide (Some bytes) piece (Ok d) frames new live f u = absurd u
+unread wide (Some bytes) piece (Err TooLong) frames new live f u = absurd u
+unread wide (Some bytes) piece (Err UnknownKind) frames new live f u = absurd u
+unread wide (Some bytes) piece (Err BadPayload) frames new live f u = absurd u
+unread wide (Some bytes) piece (Err Memory) frames new live f u = refl
+unread wide (Some bytes) piece (Err Failed) frames new live f u = absurd f.0.2
 
 is_err : (answer : Result (Unit {0}) ReadFault) → IsUnjudged answer → IsErr answer
 is_err (Ok d) u = absurd u
@@ -165,14 +165,14 @@ is_err (Err fault) u = refl
 -- and so were no frames of the piece left out
 pub unread_after : (x : Setting) (h : History) (old : Session) (piece : List ℕ) (e : AllocError) (store : StoreState) (u : Option (List ℕ))
     (before new : List ℕ) (answer : Result (Unit {0}) ReadFault) (frames : List Frame) → is_closed old.standing ≡ false → IsLive old.standing old.unfinished
-    → Feeds old.unfinished piece answer frames u → IsUnjudged answer → ServedOpen x h old.standing frames store before new →
+    → Feeds (is_wide_setting x) old.unfinished piece answer frames u → IsUnjudged answer → ServedOpen x h old.standing frames store before new →
     IsUnread x h old piece store (record { standing = Closed; unfinished = u }) before new
 unfolding fed_short stopped_after
 unread_after x h old piece e store u before new answer frames open_ live reads unjudged s = record {
   refusal = e;
   fed = fed_short x h old piece e store u before new answer frames open_ reads
       (stopped_after x h old.standing frames answer store s.middle before new new s.goes_on s.frames_are (is_err answer unjudged) refl);
-  answer_is = unread old.unfinished piece answer frames u (live open_) reads unjudged;
+  answer_is = unread (is_wide_setting x) old.unfinished piece answer frames u (live open_) reads unjudged;
   all = refl;
 }
 

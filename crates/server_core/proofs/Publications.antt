@@ -1,5 +1,5 @@
 -- What makes a session's next frame a publication.
-use Rattle.std.proofs.Common.{◌≡◌, ℕ, List, [], ◌∷◌, ◌++◌, take, drop, Option, Some, None, Result, Ok, Err, sym, ap, ◌∙◌, append_assoc, inl, inr}
+use Rattle.std.proofs.Common.{◌≡◌, ℕ, Bool, List, [], ◌∷◌, ◌++◌, take, drop, Option, Some, None, Result, Ok, Err, sym, ap, ◌∙◌, append_assoc, inl, inr}
 use Rattle.std.specs.List.{flat_map}
 use Rattle.std.proofs.lemmas.List.{append-nil, take-append-drop}
 use Rattle.frame_codec.specs.declared.frame.Frame.{Frame}
@@ -17,11 +17,11 @@ publishes_since f before after (inl same) = inl same
 publishes_since f before after (inr made) = inr (f made.0, made.1)
 
 -- a reader that takes the frame Publish had it next
-pub taken_publish : (old : Option (List ℕ)) (piece : List ℕ) (answer : Result Taken ReadFault) (new : Option (List ℕ)) →
-    FeedsFrame old piece answer new → frames_taken answer ≡ Publish ∷ [] → HasPublishNext old piece
-taken_publish old piece (Err fault) new f e = let no : [] ≡ Publish ∷ [] = e in cc
-taken_publish None piece (Ok taken) new f e = let no : Ok tt ≡ Err _ = f.fed.0 in cc
-taken_publish (Some kept) piece (Ok taken) new f e =
+pub taken_publish : (wide : Bool) (old : Option (List ℕ)) (piece : List ℕ) (answer : Result Taken ReadFault) (new : Option (List ℕ)) →
+    FeedsFrame wide old piece answer new → frames_taken answer ≡ Publish ∷ [] → HasPublishNext old piece
+taken_publish wide old piece (Err fault) new f e = let no : [] ≡ Publish ∷ [] = e in cc
+taken_publish wide None piece (Ok taken) new f e = let no : Ok tt ≡ Err _ = f.fed.0 in cc
+taken_publish wide (Some kept) piece (Ok taken) new f e =
     let n : ℕ = taken.count in
     let rest : List ℕ = f.fed.0 in
     let frames : List Frame = frames_taken (Ok taken) in

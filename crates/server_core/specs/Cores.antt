@@ -59,10 +59,10 @@ IsComingIn coming None piece store = coming ≡ Short
 IsComingIn coming (Some s) piece store = IsComing coming s piece store
 
 -- memory was refused to the reading of the first frame of a session's piece
-abbrev pub IsFirstUnreadBy : Option Session → List ℕ → Option Session → Type 0
-IsFirstUnreadBy None piece new = ⊥
-IsFirstUnreadBy (Some old) piece None = ⊥
-IsFirstUnreadBy (Some old) piece (Some new) = IsFirstUnread old.unfinished piece new.unfinished
+abbrev pub IsFirstUnreadBy : Setting → Option Session → List ℕ → Option Session → Type 0
+IsFirstUnreadBy x None piece new = ⊥
+IsFirstUnreadBy x (Some old) piece None = ⊥
+IsFirstUnreadBy x (Some old) piece (Some new) = IsFirstUnread x old.unfinished piece new.unfinished
 
 -- What a piece did, as the answer says: all of it was served, or memory was refused. Without a session nothing is served.
 abbrev pub FeedsCore : Setting → History → Session → List ℕ → Result (Unit {0}) FeedError → StoreState → Session → List ℕ → List ℕ → Type 0

@@ -10,7 +10,7 @@ use Rattle.frame_codec.specs.Streams.{Feeds}
 use Rattle.version_store.specs.Histories.{History}
 use Rattle.server_core.specs.declared.standing.Standing.{Standing}
 use Rattle.server_core.specs.declared.standing.Standing.TheVariants.{Closed}
-use Rattle.server_core.specs.Serving.{Setting, Outcome, outcome_of_frame, is_closed}
+use Rattle.server_core.specs.Serving.{Setting, is_wide_setting, Outcome, outcome_of_frame, is_closed}
 use Rattle.server_core.specs.Sessions.{Session, ServesPiece}
 
 -- the history and the standing after some frames, and the replies
@@ -63,7 +63,7 @@ FeedsWithMemory x h old piece h2 new replies =
     MatchBool (is_closed old.standing) ((h2 ≡ h) × (new ≡ old) × (replies ≡ [])) (ServesWithMemory x h old piece h2 new replies)
 
 -- Memory was refused while a piece was served to its end: a reply says so, or the reading was refused it after frames that had closed the session.
-abbrev pub WasShortOfMemory : Session → List ℕ → Session → List Frame → Type 0
-WasShortOfMemory old piece new replies =
+abbrev pub WasShortOfMemory : Setting → Session → List ℕ → Session → List Frame → Type 0
+WasShortOfMemory x old piece new replies =
     (lacks_memory replies ≡ true)
-    ⊎ ((frames : List Frame) × Feeds old.unfinished piece (Err Memory) frames new.unfinished × (is_closed new.standing ≡ true))
+    ⊎ ((frames : List Frame) × Feeds (is_wide_setting x) old.unfinished piece (Err Memory) frames new.unfinished × (is_closed new.standing ≡ true))

@@ -1,5 +1,5 @@
 -- Laws of sessions.
-use Rattle.std.specs.Prelude.{◌≡◌, ◌≢◌, ◌⊎◌, ◌≤◌, ◌+◌, ℕ, List, [], ◌∷◌, ◌++◌, length, take, false, Option, Result, Ok, Err}
+use Rattle.std.specs.Prelude.{◌≡◌, ◌≢◌, ◌⊎◌, ◌≤◌, ◌+◌, ℕ, List, [], ◌∷◌, ◌++◌, length, take, true, false, Option, Some, None, Result, Ok, Err}
 use Rattle.std.specs.declared.alloc.AllocError.{AllocError}
 use Rattle.pir_schemes.specs.declared.scheme.Scheme.{Scheme}
 use Rattle.pir_schemes.specs.Retrievals.{answer_words}
@@ -10,11 +10,11 @@ use Rattle.frame_codec.specs.Refusals.{refused}
 use Rattle.frame_codec.specs.Frames.{encoding, kind_of, payload_of}
 use Rattle.frame_codec.specs.declared.reader.ReadFault.{ReadFault}
 use Rattle.frame_codec.specs.declared.reader.ReadFault.TheVariants.{Memory}
-use Rattle.frame_codec.specs.Streams.{Feeds}
+use Rattle.frame_codec.specs.Streams.{Feeds, is_kind}
 use Rattle.version_store.specs.Histories.{StoreState, History, StandsFor, current_version}
 use Rattle.server_core.specs.declared.standing.Standing.{Standing}
 use Rattle.server_core.specs.Courses.{course_of_piece, lacks_memory, FeedsWithMemory, WasShortOfMemory}
-use Rattle.server_core.specs.Serving.{Setting, is_closed, outcome_of_frame, replies_with, words_answered}
+use Rattle.server_core.specs.Serving.{Setting, is_wide_setting, is_closed, outcome_of_frame, replies_with, words_answered}
 use Rattle.server_core.specs.Sessions.{Session, FeedsSession, FeedsFirst, Fed, FedFirst, WouldPublish}
 
 -- Sessions that nobody can tell apart: the same standing and the same unfinished bytes, of which a closed session reads no more.
@@ -27,7 +27,7 @@ abbrev pub PiecesDecide : Type 0
 PiecesDecide = (x : Setting) (h : History) (old : Session) (piece : List ℕ) (done : Unit {0}) (h2 : History) (new : Session) (replies : List Frame)
     (answer : Result (Unit {0}) ReadFault) (frames : List Frame) (rest : Option (List ℕ))
     → is_closed old.standing ≡ false → FeedsSession x h old piece (Ok done) h2 new replies → lacks_memory replies ≡ false →
-    Feeds old.unfinished piece answer frames rest → answer ≢ Err Memory
+    Feeds (is_wide_setting x) old.unfinished piece answer frames rest → answer ≢ Err Memory
     → (record { history = h2; standing = new.standing; replies = replies } ≡ course_of_piece x h old.standing frames answer)
     × (is_closed new.standing ≡ false → new.unfinished ≡ rest)
 
@@ -88,7 +88,7 @@ FeedsAreAlike = (x : Setting) (h : History) (old : Session) (piece : List ℕ) (
 abbrev pub FeedsHadMemory : Type 0
 FeedsHadMemory = (x : Setting) (h : History) (old : Session) (piece : List ℕ) (done : Unit {0}) (h2 : History) (new : Session) (replies : List Frame) →
     FeedsSession x h old piece (Ok done) h2 new replies
-    → FeedsWithMemory x h old piece h2 new replies ⊎ WasShortOfMemory old piece new replies
+    → FeedsWithMemory x h old piece h2 new replies ⊎ WasShortOfMemory x old piece new replies
 
 -- replies alike: the same, but for the words of an answer, of which there are as many
 abbrev pub AreAlikeReplies : Frame → Frame → Type 0
@@ -123,6 +123,15 @@ RepliesHoldNoLength = (x : Setting) (h g : History) (st : Standing) (scheme vers
 abbrev pub AnswersHaveTheirLayoutsLength : Type 0
 AnswersHaveTheirLayoutsLength = (x : Setting) (h : History) (scheme : Scheme) (words : List ℕ) →
     length (answer_words scheme x.plan h.current words) ≡ words_answered x scheme h.current
+
+-- a reply, if there is one, has a kind of frames that the streams of a setting have
+abbrev pub HasKnownKind : Setting → Option Frame → Type 0
+HasKnownKind x None = Unit {0}
+HasKnownKind x (Some reply) = is_kind (is_wide_setting x) (kind_of reply) ≡ true
+
+-- No frame leads to a reply of a kind that the session's stream doesn't have: the kinds of a wide database are sent to its own sessions alone.
+abbrev pub RepliesHaveKnownKinds : Type 0
+RepliesHaveKnownKinds = (x : Setting) (h : History) (st : Standing) (f : Frame) → HasKnownKind x (outcome_of_frame x h st f).reply
 
 -- A publication that was foreseen is made and told, or memory is refused to it, and the version stays.
 abbrev pub ForeseenArePublished : Type 0

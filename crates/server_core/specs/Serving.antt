@@ -1,12 +1,12 @@
 -- What the server does with a frame.
-use Rattle.std.specs.Prelude.{◌≡◌, ℕ, ◌+◌, ◌*◌, ◌^◌, ◌<◌, ◌≤◌, List, [], ◌∷◌, ◌++◌, length, map, take, replicate, Bool, true, false, not, Option, Some, None, ◌==◌, ◌⊎◌, nat_eq, nat_le, nat_lt, if◌then◌else◌, MatchBool, option_to_list, vec_len, vec_capacity}
+use Rattle.std.specs.Prelude.{◌≡◌, ℕ, ◌+◌, ◌*◌, ◌^◌, ◌<◌, ◌≤◌, List, [], ◌∷◌, ◌++◌, length, map, take, replicate, Bool, true, false, not, min, Option, Some, None, ◌==◌, ◌⊎◌, nat_eq, nat_le, nat_lt, if◌then◌else◌, MatchBool, option_to_list, vec_len, vec_capacity}
 use Rattle.std.specs.Cmp.Lexicographic.{pointwise}
 use Rattle.std.specs.declared.vec.Vec.{Vec}
 use Rattle.std.specs.declared.alloc.Global.{Global}
 use Rattle.std.specs.List.{flat_map, AllByRecursion}
 use Rattle.sha2.specs.Sha256.{sha256}
 use Rattle.matrix_u32.specs.Matrix.{row}
-use Rattle.digit_pack.specs.Layout.{is_layout}
+use Rattle.digit_pack.specs.Layout.{is_layout, is_wide}
 use Rattle.pir_schemes.specs.declared.scheme.Scheme.{Scheme}
 use Rattle.pir_schemes.specs.declared.scheme.Scheme.TheVariants.{Simple}
 use Rattle.pir_schemes.specs.Schemes.{scheme_byte, scheme_of_byte}
@@ -14,9 +14,10 @@ use Rattle.pir_schemes.specs.Parts.{part_of, is_part_of}
 use Rattle.pir_schemes.specs.declared.plan.Plan.{Plan}
 use Rattle.pir_schemes.specs.Plans.{shape_at, profile_of, accepts_profile, fits}
 use Rattle.pir_schemes.specs.Retrievals.{hint_matrix, query_count, answer_count, answer_words}
-use Rattle.version_store.specs.Histories.{StoreState, History, StandsFor, current_version, after_edit, after_append, published, delta_rows}
+use Rattle.version_store.specs.Histories.{StoreState, History, StandsFor, current_version, after_edit, after_append, published, delta_rows, changes_since}
+use Rattle.version_store.specs.OldRecords.{most_old_bytes}
 use Rattle.frame_codec.specs.declared.frame.Frame.{Frame}
-use Rattle.frame_codec.specs.declared.frame.Frame.TheVariants.{Hello, HintAsk, DeltaAsk, Query, Edit, Append, Publish, Bye, Welcome, HintPart, Delta, Answer, Stale, Done, NoDelta}
+use Rattle.frame_codec.specs.declared.frame.Frame.TheVariants.{Hello, HintAsk, DeltaAsk, Query, Edit, Append, Publish, Bye, ChangesAsk, Welcome, HintPart, Delta, Answer, Stale, Done, NoDelta, Changes}
 use Rattle.frame_codec.specs.declared.refusal.Refusal.{Refusal}
 use Rattle.frame_codec.specs.declared.refusal.Refusal.TheVariants as refusal
 use Rattle.frame_codec.specs.Refusals.{refused}
@@ -33,6 +34,14 @@ pub record Setting : Type 0 where
 -- the setting of what a store keeps
 abbrev pub setting_of : StoreState → Setting
 setting_of s = record { plan = s.edition.plan; publisher = s.publisher }
+
+-- whether a setting is that of a wide database, whose streams have two kinds of frames more
+abbrev pub is_wide_setting : Setting → Bool
+is_wide_setting x = is_wide x.plan.form
+
+-- how many bytes the entries of changed records may have in a reply: no more than fit into a frame, and an eighth of the hint's
+abbrev pub most_changes : Setting → ℕ
+most_changes x = min 16777196 (most_old_bytes x.plan)
 
 -- the key of 32 zero bytes is a reader's
 unfoldable pub is_reader_key : List ℕ → Bool
@@ -143,6 +152,11 @@ delta_asked x h st since (Some rows) =
     then replies_with (Delta since (current_version h) (length h.current) (named_hint_rows x h.current rows)) st h
     else no_delta st h
 
+-- the records that changed since a version are asked for, and these are the entries of what differs, if they can be given
+abbrev pub changes_asked : Setting → History → Standing → ℕ → Option (List ℕ) → Outcome
+changes_asked x h st since None = no_delta st h
+changes_asked x h st since (Some entries) = replies_with (Changes since (current_version h) (length h.current) entries) st h
+
 -- a query is asked
 abbrev pub query_asked : Setting → History → Standing → Option Scheme → ℕ → List ℕ → Outcome
 query_asked x h st None version words = refuses refusal.BadScheme st h
@@ -196,6 +210,10 @@ outcome_of_frame x h st Publish =
     else refuses refusal.NothingToPublish st h)
     else refuses refusal.NotPublisher st h)
     else refuses refusal.NotWelcome st h
+outcome_of_frame x h st (ChangesAsk since) =
+    if is_wide_setting x then (
+    if is_welcome st then changes_asked x h st since (changes_since x.plan h since (most_changes x)) else refuses refusal.NotWelcome st h)
+    else refuses refusal.BadFrame Closed h
 outcome_of_frame x h st Bye = record { reply = None; standing = Closed; history = h }
 outcome_of_frame x h st _ = refuses refusal.BadFrame Closed h
 
@@ -226,6 +244,7 @@ takes_memory x h st (Append bytes) =
 takes_memory x h st Publish =
     if is_welcome st then (
     if is_publisher st then (if h.marked then not (current_version h + 1 == 2 ^ 64) else false) else false) else false
+takes_memory x h st (ChangesAsk since) = if is_wide_setting x then is_welcome st else false
 takes_memory x h st _ = false
 
 -- there is room for so many bytes more

@@ -1,5 +1,5 @@
 -- What a piece of its stream does to a session.
-use Rattle.std.specs.Prelude.{◌≡◌, ◌≢◌, ◌⊎◌, ℕ, ◌<◌, List, [], ◌∷◌, ◌++◌, length, take, true, false, Option, Some, None, MatchBool, Result, Ok, Err, IsErr, IsSome, option_to_list}
+use Rattle.std.specs.Prelude.{◌≡◌, ◌≢◌, ◌⊎◌, ℕ, ◌<◌, List, [], ◌∷◌, ◌++◌, length, take, Bool, true, false, Option, Some, None, MatchBool, Result, Ok, Err, IsErr, IsSome, option_to_list}
 use Rattle.std.specs.List.{flat_map, AllByRecursion}
 use Rattle.std.specs.declared.alloc.AllocError.{AllocError}
 use Rattle.version_store.specs.Histories.{StoreState, History, StandsFor}
@@ -19,7 +19,7 @@ use Rattle.server_core.specs.declared.standing.Standing.{Standing}
 use Rattle.server_core.specs.declared.standing.Standing.TheVariants.{Stranger, Closed}
 use Rattle.server_core.specs.declared.session.Coming.{Coming}
 use Rattle.server_core.specs.declared.session.Coming.TheVariants.{Short, LongAnswer, Publication}
-use Rattle.server_core.specs.Serving.{Setting, setting_of, ServesAll, ServedAll, MayPublish, is_closed, is_welcome, words_asked}
+use Rattle.server_core.specs.Serving.{Setting, is_wide_setting, setting_of, ServesAll, ServedAll, MayPublish, is_closed, is_welcome, words_asked}
 
 -- who the session speaks for, and the bytes of its unfinished frame, which are None once its stream has failed
 pub record Session : Type 0 where
@@ -67,7 +67,7 @@ pub record ServesPiece (x : Setting) (h : History) (old : Session) (piece : List
   pub middle : Standing
   pub reported : List Frame
   pub more : List Frame
-  pub reads : Feeds old.unfinished piece answer frames new.unfinished
+  pub reads : Feeds (is_wide_setting x) old.unfinished piece answer frames new.unfinished
   pub serves : ServesAll x h old.standing frames h2 middle reported
   pub ends : EndsPiece answer middle new.standing more
   pub all : replies ≡ reported ++ more
@@ -78,7 +78,7 @@ pub record ClosesForMemory (x : Setting) (h : History) (old : Session) (piece : 
   pub frames : List Frame
   pub count : ℕ
   pub middle : Standing
-  pub reads : Feeds old.unfinished piece answer frames new.unfinished
+  pub reads : Feeds (is_wide_setting x) old.unfinished piece answer frames new.unfinished
   pub stop : IsStop answer frames count
   pub serves : ServesAll x h old.standing (take count frames) h2 middle replies
   pub goes_on : is_closed middle ≡ false
@@ -174,8 +174,8 @@ pub record WouldAnswer (s : Session) (piece : List ℕ) (store : StoreState) (sc
   pub count_is : head.count ≡ words_asked (setting_of store) scheme store.edition.records
 
 -- These are the words of the next frame of a session's stream, which a piece completes.
-abbrev pub HasWordsNext : Session → List ℕ → List ℕ → Type 0
-HasWordsNext s piece words = (scheme : ℕ) × (version : ℕ) × SeesFrame s.unfinished piece (Ok (Some (Query scheme version words)))
+abbrev pub HasWordsNext : Bool → Session → List ℕ → List ℕ → Type 0
+HasWordsNext wide s piece words = (scheme : ℕ) × (version : ℕ) × SeesFrame wide s.unfinished piece (Ok (Some (Query scheme version words)))
 
 -- what feeding a piece of a session's stream would do first
 abbrev pub IsComing : Coming → Session → List ℕ → StoreState → Type 0
@@ -189,7 +189,7 @@ pub record ServesFrame (x : Setting) (h : History) (old : Session) (piece : List
   pub middle : Standing
   pub reported : List Frame
   pub more : List Frame
-  pub reads : FeedsFrame old.unfinished piece answer new.unfinished
+  pub reads : FeedsFrame (is_wide_setting x) old.unfinished piece answer new.unfinished
   pub count_is : count ≡ bytes_used piece answer
   pub serves : ServesAll x h old.standing (frames_taken answer) h2 middle reported
   pub ends : EndsPiece (reading_end answer) middle new.standing more
@@ -203,15 +203,15 @@ HasTaken (Err fault) = Unit {0}
 -- memory for that was refused: nothing was served, and the session is closed
 pub record ClosesBeforeFrame (x : Setting) (h : History) (old : Session) (piece : List ℕ) (h2 : History) (new : Session) (replies : List Frame) : Type 0 where
   pub answer : Result Taken ReadFault
-  pub reads : FeedsFrame old.unfinished piece answer new.unfinished
+  pub reads : FeedsFrame (is_wide_setting x) old.unfinished piece answer new.unfinished
   pub stop : HasTaken answer
   pub same : h2 ≡ h
   pub none : replies ≡ []
   pub shut : new.standing ≡ Closed
 
 -- memory was refused to the reading of the first frame
-abbrev pub IsFirstUnread : Option (List ℕ) → List ℕ → Option (List ℕ) → Type 0
-IsFirstUnread old piece new = FeedsFrame old piece (Err Memory) new
+abbrev pub IsFirstUnread : Setting → Option (List ℕ) → List ℕ → Option (List ℕ) → Type 0
+IsFirstUnread x old piece new = FeedsFrame (is_wide_setting x) old piece (Err Memory) new
 
 -- What the first frame of a piece does to a session, as `FeedsSession` of a whole piece. A closed session takes all of it.
 abbrev pub FeedsFirst : Setting → History → Session → List ℕ → Result ℕ AllocError → History → Session → List Frame → Type 0

@@ -13,6 +13,7 @@ ghost use Rattle.server_core.specs.Laws.{
   SessionsNeverMeet,
   FeedsAreAlike,
   FeedsHadMemory,
+  RepliesHaveKnownKinds,
   RepliesHoldNoIndex,
   RepliesHoldNoLength,
   AnswersHaveTheirLayoutsLength,
@@ -67,6 +68,11 @@ pub fn feeds_are_alike()
 {
     frame_codec::laws::feeds_decide();
 }
+
+/// No reply has a kind of frame that the session's stream doesn't have: an ordinary session gets none of those of a wide database.
+pub fn replies_have_known_kinds()
+    ensures { RepliesHaveKnownKinds }
+{}
 
 /// The kind, the version, the count and the length of the reply to a query are decided by the setting, the
 /// history, the standing, and the query's scheme, version and word count.

@@ -2,17 +2,17 @@
 
 ghost use Rattle.std.specs.Prelude.{All, ◌≡◌, ◌≤◌, ◌<◌, ◌+◌, ◌*◌, ◌∷◌, ◌++◌, length, vec_len, vec_capacity, OnOk, OnErr, IfOk, IfSome, IfNone, true, false};
 ghost use Rattle.frame_codec.specs.Frames.{IsFrame, encoding, payload_size};
-ghost use Rattle.frame_codec.specs.declared.frame.Frame.TheVariants.{Answer, Delta, Done, HintPart, NoDelta, Stale, Welcome};
+ghost use Rattle.frame_codec.specs.declared.frame.Frame.TheVariants.{Answer, Changes, Delta, Done, HintPart, NoDelta, Stale, Welcome};
 ghost use Rattle.frame_codec.specs.Refusals.{refused};
 ghost use Rattle.pir_schemes.specs.Schemes.{scheme_byte};
 ghost use Rattle.pir_schemes.specs.Plans.{profile_of};
 ghost use Rattle.pir_schemes.specs.Retrievals.{answer_words};
 ghost use Rattle.digit_pack.specs.Layout.{digit_rows};
 ghost use Rattle.version_store.specs.Editions.{version_shape};
-ghost use Rattle.server_core.specs.Serving.{setting_of, has_part, part_words, named_hint_rows, words_asked, words_answered, hint_row, HasRoom, IsRowRoom};
+ghost use Rattle.server_core.specs.Serving.{setting_of, has_part, most_changes, part_words, named_hint_rows, words_asked, words_answered, hint_row, HasRoom, IsRowRoom};
 ghost use Rattle.version_store.specs.Rooms.{scheme_answered, IsAnswerRoom};
 
-use frame_codec::{Bytes32, Frame, Refusal, Rows, Words, write_frame, write_hint_part};
+use frame_codec::{Bytes, Bytes32, Frame, Refusal, Rows, Words, write_frame, write_hint_part};
 use matrix_u32::Kernel;
 use pir_schemes::{Scheme, answer_count};
 use std::alloc::{AllocError, Global};
@@ -20,6 +20,9 @@ use version_store::{AnswerRoom, Store};
 
 /// The room that every reply but a hint's part, a delta and an answer fits into.
 pub const SHORT_REPLY: usize = 64;
+
+// How many bytes the entries of changed records may have, so that their frame has a payload that is short enough.
+const MOST_ENTRIES: usize = 16_777_196;
 
 // How many bytes the frame of an answer has before its words.
 const ANSWER_HEAD: usize = 14;
@@ -142,6 +145,40 @@ pub fn put_no_delta<K: Kernel>(store: &Store<K>, out: &mut Vec<u8>)
         count: store.layout().count() as u32,
     };
     put(&reply, out);
+}
+
+/// How many bytes the entries of changed records may have in a reply: no more than fit into a frame, and an eighth of the hint's.
+pub fn most_changes<K: Kernel>(store: &Store<K>) -> usize
+    ensures value { result ≡ most_changes (setting_of store.now) }
+    ensures short { result ≤ 16777196 }
+{
+    let hint = store.layout().rows() * store.dimension();
+    (hint / 2).min(MOST_ENTRIES)
+}
+
+/// Adds the records that changed since a version, as entries. Only where its room is missing, and more is refused, comes an `Err`, and
+/// then nothing was added. The entries are moved into the reply.
+pub fn put_changes<K: Kernel>(
+    store: &Store<K>,
+    since: u64,
+    entries: Vec<u8>,
+    out: &mut Vec<u8>,
+) -> Result<(), AllocError>
+    requires { length entries.items ≤ 16777196 }
+    ensures ok { OnOk result (out.new.items ≡ out.old.items ++ encoding
+        (Changes since store.now.version (length store.now.edition.records) entries.items)) }
+    ensures fits { OnOk result (IsFrame
+        (Changes since store.now.version (length store.now.edition.records) entries.items)) }
+    ensures err { OnErr result (out.new.items ≡ out.old.items) }
+    ensures room { vec_capacity out.old ≤ vec_capacity out.new }
+{
+    let reply = Frame::Changes {
+        since,
+        now: store.version(),
+        count: store.layout().count() as u32,
+        entries: Bytes::new(entries),
+    };
+    write_frame(&reply, out)
 }
 
 /// Memory for the words of so many rows of the current SimplePIR hint, each after its number, and room in `out` for

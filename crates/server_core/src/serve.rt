@@ -2,19 +2,20 @@
 
 ghost use Rattle.std.specs.Prelude.{◌≡◌, ◌≤◌, ◌+◌, ◌++◌, length, vec_len, vec_capacity, OnOk, OnErr, IfOk};
 ghost use Rattle.frame_codec.specs.Frames.{IsFrame, encoding};
-ghost use Rattle.frame_codec.specs.declared.frame.Frame.TheVariants.{Answer, Append, DeltaAsk, Edit, Hello, HintAsk, Publish, Query};
+ghost use Rattle.frame_codec.specs.declared.frame.Frame.TheVariants.{Answer, Append, ChangesAsk, DeltaAsk, Edit, Hello, HintAsk, Publish, Query};
 ghost use Rattle.frame_codec.specs.Refusals.{refused};
 ghost use Rattle.pir_schemes.specs.Schemes.{scheme_byte};
 ghost use Rattle.pir_schemes.specs.Retrievals.{answer_words};
 ghost use Rattle.version_store.specs.Histories.{History, StandsFor};
-ghost use Rattle.server_core.specs.Serving.{setting_of, is_publisher_key, is_reader_key, outcome_of_frame, words_asked, HasRoom, HasOutcome, Serves, ServedAll, BrokenOff, IsFull, MayPublish, PublishesIf};
+ghost use Rattle.server_core.specs.Serving.{setting_of, is_wide_setting, is_publisher_key, is_reader_key, outcome_of_frame, words_asked, HasRoom, HasOutcome, Serves, ServedAll, BrokenOff, IsFull, MayPublish, PublishesIf};
 
 use crate::replies::{
-    SHORT_REPLY, part_of_hint, put_answer, put_delta, put_done, put_made_answer, put_no_delta,
-    put_part, put_refused, put_stale, put_welcome, room_for_answer, room_for_answer_frame,
-    room_for_rows,
+    SHORT_REPLY, most_changes, part_of_hint, put_answer, put_changes, put_delta, put_done,
+    put_made_answer, put_no_delta, put_part, put_refused, put_stale, put_welcome, room_for_answer,
+    room_for_answer_frame, room_for_rows,
 };
 use crate::standing::Standing;
+use digit_pack::is_wide;
 use frame_codec::{Bytes, Bytes32, Frame, Refusal, Words};
 use matrix_u32::Kernel;
 use pir_schemes::{DELTA_ROWS, Scheme};
@@ -132,6 +133,47 @@ fn serve_delta_ask<K: Kernel>(
         return put_refused(Refusal::Memory, out);
     };
     put_delta(store, since, &rows, room, out);
+}
+
+/// Whether the streams of a store's sessions have the frames of a wide database.
+pub fn has_wide_frames<K: Kernel>(store: &Store<K>) -> bool
+    ensures { result ≡ is_wide_setting (setting_of store.now) }
+{
+    is_wide(store.plan().form)
+}
+
+/// Gives the records that have changed since a version, if the database is wide; no other stream has this frame. Answers the standing
+/// after it.
+fn serve_changes_ask<K: Kernel>(
+    store: &Store<K>,
+    standing: Standing,
+    since: u64,
+    out: &mut Vec<u8>,
+) -> Standing
+    requires { vec_len out.old + 64 ≤ vec_capacity out.old }
+    ensures { (h : History) → StandsFor store.now h →
+        Serves (setting_of store.now) h standing
+        (ChangesAsk since) store.now result out.old.items out.new.items }
+{
+    if !has_wide_frames(store) {
+        return serve_bad_frame(out);
+    }
+    if !standing.is_welcome() {
+        put_refused(Refusal::NotWelcome, out);
+        return standing;
+    }
+    let Ok(found) = store.changes_since(since, most_changes(store)) else {
+        put_refused(Refusal::Memory, out);
+        return standing;
+    };
+    let Some(entries) = found else {
+        put_no_delta(store, out);
+        return standing;
+    };
+    if put_changes(store, since, entries, out).is_err() {
+        put_refused(Refusal::Memory, out);
+    }
+    standing
 }
 
 /// Answers a query.
@@ -324,6 +366,7 @@ fn serve_with_room<K: Kernel>(
             serve_delta_ask(alloc, store, standing, *since, out);
             standing
         }
+        Frame::ChangesAsk { since } => serve_changes_ask(store, standing, *since, out),
         Frame::Query {
             scheme,
             version,

@@ -8,6 +8,7 @@ ghost use Rattle.server_core.specs.Cores.{session_of, is_open, IsComingIn, MayWa
 ghost use Rattle.server_core.specs.Serving.{setting_of, IsFull, PublishesIf};
 ghost use Rattle.server_core.specs.Sessions as sessions;
 
+use crate::serve::has_wide_frames;
 use crate::session::{Coming, Session};
 use matrix_u32::Kernel;
 use pir_schemes::Scheme;
@@ -231,7 +232,11 @@ impl<K: Kernel> ServerCore<K> {
         let Some(session) = self.sessions.get(&id) else {
             return false;
         };
-        let Some(words) = session.next_words(piece, self.store.query_words(scheme)) else {
+        let Some(words) = session.next_words(
+            has_wide_frames(&self.store),
+            piece,
+            self.store.query_words(scheme),
+        ) else {
             return false;
         };
         if self.store.begin_answer(scheme, words).is_err() {
@@ -407,7 +412,7 @@ impl<K: Kernel> ServerCore<K> {
         ensures no_session { IsErrOf result FeedError.NoSession ↔
             (session_of self.old.sessions id ≡ None) }
         ensures full { IsErrOf result FeedError.Memory → IsFull out.new ⊎ IsFirstUnreadBy
-            (session_of self.old.sessions id) piece.now (session_of self.new.sessions id) }
+            (setting_of self.old.store) (session_of self.old.sessions id) piece.now (session_of self.new.sessions id) }
         ensures unchanged { OnNoSession result ((self.new ≡ self.old) ×
             (out.new.items ≡ out.old.items)) }
         ensures version { PublishesIf (PublishesNext self.old id piece.now) self.old.store.version

@@ -10,7 +10,7 @@ ghost use Rattle.server_core.specs.Serving.{setting_of, is_closed, IsFull, MayPu
 ghost use Rattle.server_core.specs.Sessions.{new_session, frames_taken, bytes_used, reading_end, HasTaken, Ended, Fed, FedFirst, ServedFrames, ServedOpen, StoppedFrames, IsUnjudged, HasWordsNext, IsComing, IsUnread, IsFirstUnread, WouldAnswer, WouldPublish};
 
 use crate::replies::{SHORT_REPLY, put_refused};
-use crate::serve::{serve_frame, serve_frames};
+use crate::serve::{has_wide_frames, serve_frame, serve_frames};
 use crate::standing::Standing;
 use frame_codec::{Frame, ReadFault, Reader, Refusal, Taken, Words};
 use matrix_u32::Kernel;
@@ -118,11 +118,11 @@ impl Session {
 
     /// The words of the next frame of the stream, which a piece completes, if that is a query of so many words. There is
     /// none where memory is refused, too.
-    pub fn next_words(&self, piece: &[u8], count: usize) -> Option<Vec<u32>>
-        ensures words { IfSome result (λ words. HasWordsNext self.now piece.now words.items) }
+    pub fn next_words(&self, wide: bool, piece: &[u8], count: usize) -> Option<Vec<u32>>
+        ensures words { IfSome result (λ words. HasWordsNext wide self.now piece.now words.items) }
         ensures count { IfSome result (λ words. length words.items ≡ count) }
     {
-        match self.reader.next_frame(piece) {
+        match self.reader.next_frame(wide, piece) {
             Ok(Some(Frame::Query { words, .. })) => words_of_count(words, count),
             _ => None,
         }
@@ -149,7 +149,7 @@ impl Session {
             return Ok(());
         }
         let mut frames = Vec::new(alloc);
-        let read = self.reader.feed(piece, &mut frames);
+        let read = self.reader.feed(has_wide_frames(store), piece, &mut frames);
         match serve_completed(alloc, store, self.standing, &frames, read, out) {
             Ok(standing) => {
                 self.standing = standing;
@@ -181,14 +181,14 @@ impl Session {
         ensures refused { OnErr result ((store.new ≡ store.old) ×
             (out.new.items ≡ out.old.items)) }
         ensures full { OnErr result (IsFull out.new ⊎
-            IsFirstUnread self.old.unfinished piece.now self.new.unfinished) }
+            IsFirstUnread (setting_of store.old) self.old.unfinished piece.now self.new.unfinished) }
         ensures version { PublishesIf (WouldPublish self.old piece.now store.old)
             store.old.version store.new.version }
     {
         if self.standing.is_closed() {
             return Ok(piece.len());
         }
-        let read = self.reader.feed_frame(piece);
+        let read = self.reader.feed_frame(has_wide_frames(store), piece);
         let count = used_of(&read, piece.len());
         let Ok(standing) = serve_read(alloc, store, self.standing, read, out) else {
             self.standing = Standing::Closed;
