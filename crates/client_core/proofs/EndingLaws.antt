@@ -17,13 +17,13 @@ use Rattle.client_core.specs.declared.state.ClientState.{ClientState}
 use Rattle.client_core.specs.declared.state.ServerInfo.{ServerInfo}
 use Rattle.client_core.specs.declared.state.Hint.{Hint}
 use Rattle.client_core.specs.declared.state.Call.{Call}
-use Rattle.client_core.specs.declared.state.Call.TheVariants.{Idle, Hello, Sync, Delta, Ask, Edit, Append, Publish}
+use Rattle.client_core.specs.declared.state.Call.TheVariants.{Idle, Hello, Sync, Delta, Changes, Ask, Edit, Append, Publish}
 use Rattle.client_core.specs.declared.state.Event.{Event}
 use Rattle.client_core.specs.declared.state.Event.TheVariants.{Welcomed, Synced, Retrieved, Unreadable, Stale, Done, Refused}
 use Rattle.client_core.specs.declared.state.ClientFault.{ClientFault}
 use Rattle.client_core.specs.declared.state.Reaction.{Reaction}
 use Rattle.client_core.specs.declared.state.Reaction.TheVariants.{Asks, Reports, Fails}
-use Rattle.client_core.specs.Replies.{Taken, reaction_to_reply, is_accepted_welcome, takes_welcome, is_part, more_parts, takes_asked_part, takes_part, event_read, plan_given, is_answer, answered, takes_answer, is_current, reaction_to_stale, takes_stale, row_numbers, is_delta, moved, takes_delta, goes_by_parts, takes_no_delta, takes_done, takes_refused}
+use Rattle.client_core.specs.Replies.{Taken, reaction_to_reply, is_accepted_welcome, takes_welcome, is_part, more_parts, takes_asked_part, takes_part, event_read, plan_given, is_answer, answered, takes_answer, is_current, reaction_to_stale, takes_stale, row_numbers, is_delta, moved, takes_delta, is_changes, changed, takes_changes, goes_by_parts, takes_no_delta, takes_done, takes_refused}
 use Rattle.client_core.specs.Feeding.{Client, Course, start, course_after_reply, course_more, runs, takes_all, sends_of, events_of, fault_of, failing, ends_with, codec_fault, Follows, BreaksOff, FeedsOpen, FeedsFailed}
 use Rattle.client_core.specs.Endings.{Ends, FirstEventEndsTheCall, FeedingSpendsNoNumber}
 use Rattle.client_core.proofs.NumberLaws.{takes_number}
@@ -48,6 +48,7 @@ welcome_reacts Idle c plan count version = tt
 welcome_reacts (Hello key) c plan count version = if_reacts (Hello key) (is_accepted_welcome c.profile plan count version) _ _ (λ _. tt) tt
 welcome_reacts (Sync s v p) c plan count version = tt
 welcome_reacts (Delta since) c plan count version = tt
+welcome_reacts (Changes since) c plan count version = tt
 welcome_reacts (Ask i x v m) c plan count version = tt
 welcome_reacts (Edit i b) c plan count version = tt
 welcome_reacts (Append b) c plan count version = tt
@@ -76,6 +77,7 @@ part_reacts Idle c scheme version part words = tt
 part_reacts (Hello key) c scheme version part words = tt
 part_reacts (Sync s v p) c scheme version part words = asked_part_reacts c.known s c v p scheme version part words
 part_reacts (Delta since) c scheme version part words = tt
+part_reacts (Changes since) c scheme version part words = tt
 part_reacts (Ask i x v m) c scheme version part words = tt
 part_reacts (Edit i b) c scheme version part words = tt
 part_reacts (Append b) c scheme version part words = tt
@@ -107,6 +109,7 @@ answer_reacts Idle c scheme version words = tt
 answer_reacts (Hello key) c scheme version words = tt
 answer_reacts (Sync s v p) c scheme version words = tt
 answer_reacts (Delta since) c scheme version words = tt
+answer_reacts (Changes since) c scheme version words = tt
 answer_reacts (Ask i x v m) c scheme version words = answered_reacts x c.known c.hint c i v m scheme version words
 answer_reacts (Edit i b) c scheme version words = tt
 answer_reacts (Append b) c scheme version words = tt
@@ -138,6 +141,7 @@ stale_reacts Idle c version count = tt
 stale_reacts (Hello key) c version count = tt
 stale_reacts (Sync s v p) c version count = stale_sync_reacts c.known (record c { parts = [] }) c s v p version count
 stale_reacts (Delta since) c version count = tt
+stale_reacts (Changes since) c version count = tt
 stale_reacts (Ask i x v m) c version count = stale_ask_reacts x c.known c c i v m version count
 stale_reacts (Edit i b) c version count = tt
 stale_reacts (Append b) c version count = tt
@@ -155,30 +159,60 @@ delta_reacts Idle c since now count rows = tt
 delta_reacts (Hello key) c since now count rows = tt
 delta_reacts (Sync s v p) c since now count rows = tt
 delta_reacts (Delta asked) c since now count rows = moved_reacts c.known c.hint c asked since now count rows
+delta_reacts (Changes asked) c since now count rows = tt
 delta_reacts (Ask i x v m) c since now count rows = tt
 delta_reacts (Edit i b) c since now count rows = tt
 delta_reacts (Append b) c since now count rows = tt
 delta_reacts Publish c since now count rows = tt
 
--- a sync that goes on by parts ends as one by delta may
-parts_end : (asked v : ℕ) (e : Event) → Ends (Sync Simple v 0) e → Ends (Delta asked) e
-parts_end asked v (Welcomed version) h = h
-parts_end asked v (Synced of version) h = h.0
-parts_end asked v (Retrieved index version bytes) h = h
-parts_end asked v (Unreadable index version) h = h
-parts_end asked v (Stale version) h = tt
-parts_end asked v (Done version) h = h
-parts_end asked v (Refused code) h = h
+changed_reacts : (known : Option ServerInfo) (hint : Option Hint) (c : ClientState) (asked since now count : ℕ) (entries : List ℕ) →
+    ReactsTo (Changes asked) (changed known hint c asked since now count entries)
+changed_reacts None hint c asked since now count entries = tt
+changed_reacts (Some k) None c asked since now count entries = tt
+changed_reacts (Some k) (Some h) c asked since now count entries =
+    if_reacts (Changes asked) (is_changes k asked since now count entries) _ _ (λ _. refl) tt
 
-by_parts_reacts : (known : Option ServerInfo) (c : ClientState) (asked version count : ℕ) → ReactsTo (Delta asked) (goes_by_parts known c version count)
-by_parts_reacts None c asked version count = tt
-by_parts_reacts (Some k) c asked version count = if_reacts (Delta asked) (is_current k version count) _ _ (λ _. parts_end asked version) tt
+changes_react : (call : Call) (c : ClientState) (since now count : ℕ) (entries : List ℕ) → ReactsTo call (takes_changes call c since now count entries)
+changes_react Idle c since now count entries = tt
+changes_react (Hello key) c since now count entries = tt
+changes_react (Sync s v p) c since now count entries = tt
+changes_react (Delta asked) c since now count entries = tt
+changes_react (Changes asked) c since now count entries = changed_reacts c.known c.hint c asked since now count entries
+changes_react (Ask i x v m) c since now count entries = tt
+changes_react (Edit i b) c since now count entries = tt
+changes_react (Append b) c since now count entries = tt
+changes_react Publish c since now count entries = tt
+
+-- a sync that goes on by parts ends as one by what changed may
+parts_end_delta : (asked v : ℕ) (e : Event) → Ends (Sync Simple v 0) e → Ends (Delta asked) e
+parts_end_delta asked v (Welcomed version) h = h
+parts_end_delta asked v (Synced of version) h = h.0
+parts_end_delta asked v (Retrieved index version bytes) h = h
+parts_end_delta asked v (Unreadable index version) h = h
+parts_end_delta asked v (Stale version) h = tt
+parts_end_delta asked v (Done version) h = h
+parts_end_delta asked v (Refused code) h = h
+
+parts_end_changes : (asked v : ℕ) (e : Event) → Ends (Sync Simple v 0) e → Ends (Changes asked) e
+parts_end_changes asked v (Welcomed version) h = h
+parts_end_changes asked v (Synced of version) h = h.0
+parts_end_changes asked v (Retrieved index version bytes) h = h
+parts_end_changes asked v (Unreadable index version) h = h
+parts_end_changes asked v (Stale version) h = tt
+parts_end_changes asked v (Done version) h = h
+parts_end_changes asked v (Refused code) h = h
+
+by_parts_reacts : (call : Call) (known : Option ServerInfo) (c : ClientState) (version count : ℕ) →
+    ((e : Event) → Ends (Sync Simple version 0) e → Ends call e) → ReactsTo call (goes_by_parts known c version count)
+by_parts_reacts call None c version count ends = tt
+by_parts_reacts call (Some k) c version count ends = if_reacts call (is_current k version count) _ _ (λ _. ends) tt
 
 no_delta_reacts : (call : Call) (c : ClientState) (version count : ℕ) → ReactsTo call (takes_no_delta call c version count)
 no_delta_reacts Idle c version count = tt
 no_delta_reacts (Hello key) c version count = tt
 no_delta_reacts (Sync s v p) c version count = tt
-no_delta_reacts (Delta asked) c version count = by_parts_reacts c.known c asked version count
+no_delta_reacts (Delta asked) c version count = by_parts_reacts (Delta asked) c.known c version count (parts_end_delta asked version)
+no_delta_reacts (Changes asked) c version count = by_parts_reacts (Changes asked) c.known c version count (parts_end_changes asked version)
 no_delta_reacts (Ask i x v m) c version count = tt
 no_delta_reacts (Edit i b) c version count = tt
 no_delta_reacts (Append b) c version count = tt
@@ -189,6 +223,7 @@ done_reacts Idle c version = tt
 done_reacts (Hello key) c version = tt
 done_reacts (Sync s v p) c version = tt
 done_reacts (Delta since) c version = tt
+done_reacts (Changes since) c version = tt
 done_reacts (Ask i x v m) c version = tt
 done_reacts (Edit i b) c version = tt
 done_reacts (Append b) c version = tt
@@ -199,6 +234,7 @@ refused_reacts Idle c code = tt
 refused_reacts (Hello key) c code = tt
 refused_reacts (Sync s v p) c code = tt
 refused_reacts (Delta since) c code = tt
+refused_reacts (Changes since) c code = tt
 refused_reacts (Ask i x v m) c code = tt
 refused_reacts (Edit i b) c code = tt
 refused_reacts (Append b) c code = tt
@@ -211,6 +247,7 @@ reacts c (frame.HintPart scheme version part words) = part_reacts c.call c schem
 reacts c (frame.Answer scheme version words) = answer_reacts c.call c scheme version words
 reacts c (frame.Stale version count) = stale_reacts c.call c version count
 reacts c (frame.Delta since now count rows) = delta_reacts c.call c since now count rows
+reacts c (frame.Changes since now count entries) = changes_react c.call c since now count entries
 reacts c (frame.NoDelta version count) = no_delta_reacts c.call c version count
 reacts c (frame.Done version) = done_reacts c.call c version
 reacts c (frame.Refused code) = refused_reacts c.call c code

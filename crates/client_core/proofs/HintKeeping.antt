@@ -9,10 +9,10 @@ use Rattle.client_core.specs.declared.state.ClientState.{ClientState}
 use Rattle.client_core.specs.declared.state.ServerInfo.{ServerInfo}
 use Rattle.client_core.specs.declared.state.Hint.{Hint}
 use Rattle.client_core.specs.declared.state.Call.{Call}
-use Rattle.client_core.specs.declared.state.Call.TheVariants.{Idle, Hello, Sync, Delta, Ask, Edit, Append, Publish}
+use Rattle.client_core.specs.declared.state.Call.TheVariants.{Idle, Hello, Sync, Delta, Changes, Ask, Edit, Append, Publish}
 use Rattle.client_core.specs.declared.state.Event.{Event}
 use Rattle.client_core.specs.declared.state.ClientFault.{ClientFault}
-use Rattle.client_core.specs.Replies.{Taken, reaction_to_reply, plan_given, takes_welcome, takes_part, answered, takes_answer, reaction_to_stale, takes_stale, takes_delta, takes_no_delta, takes_done, takes_refused}
+use Rattle.client_core.specs.Replies.{Taken, reaction_to_reply, plan_given, takes_welcome, takes_part, answered, takes_answer, reaction_to_stale, takes_stale, takes_delta, takes_changes, takes_no_delta, takes_done, takes_refused}
 use Rattle.client_core.specs.Feeding.{Client, Course, start, course_after_reply, course_more, runs, takes_all, failing, ends_with, codec_fault, Follows, BreaksOff, FeedsOpen, FeedsFailed}
 use Rattle.client_core.specs.Endings.{IsNoSync, OnlySyncsChangeTheHint}
 
@@ -41,6 +41,7 @@ welcome_stays (Hello key) c plan count version a calm =
     either c _ _ _ (ended_stays c (record c { known = Some (record { version = version; count = count; plan = plan }) }) refl) (failed_stays c calm)
 welcome_stays (Sync s v p) c plan count version a calm = absurd a
 welcome_stays (Delta since) c plan count version a calm = absurd a
+welcome_stays (Changes since) c plan count version a calm = absurd a
 welcome_stays (Ask i x v m) c plan count version a calm = failed_stays c calm
 welcome_stays (Edit i b) c plan count version a calm = failed_stays c calm
 welcome_stays (Append b) c plan count version a calm = failed_stays c calm
@@ -52,6 +53,7 @@ part_stays Idle c scheme version part words a calm = failed_stays c calm
 part_stays (Hello key) c scheme version part words a calm = failed_stays c calm
 part_stays (Sync s v p) c scheme version part words a calm = absurd a
 part_stays (Delta since) c scheme version part words a calm = absurd a
+part_stays (Changes since) c scheme version part words a calm = absurd a
 part_stays (Ask i x v m) c scheme version part words a calm = failed_stays c calm
 part_stays (Edit i b) c scheme version part words a calm = failed_stays c calm
 part_stays (Append b) c scheme version part words a calm = failed_stays c calm
@@ -69,6 +71,7 @@ answer_stays Idle c scheme version words a calm = failed_stays c calm
 answer_stays (Hello key) c scheme version words a calm = failed_stays c calm
 answer_stays (Sync s v p) c scheme version words a calm = absurd a
 answer_stays (Delta since) c scheme version words a calm = absurd a
+answer_stays (Changes since) c scheme version words a calm = absurd a
 answer_stays (Ask i x v m) c scheme version words a calm = answered_stays c.known c.hint c i v m scheme version words calm
 answer_stays (Edit i b) c scheme version words a calm = failed_stays c calm
 answer_stays (Append b) c scheme version words a calm = failed_stays c calm
@@ -84,6 +87,7 @@ stale_stays Idle c version count a calm = failed_stays c calm
 stale_stays (Hello key) c version count a calm = failed_stays c calm
 stale_stays (Sync s v p) c version count a calm = absurd a
 stale_stays (Delta since) c version count a calm = absurd a
+stale_stays (Changes since) c version count a calm = absurd a
 stale_stays (Ask i x v m) c version count a calm = staled_stays c.known c v version count calm
 stale_stays (Edit i b) c version count a calm = failed_stays c calm
 stale_stays (Append b) c version count a calm = failed_stays c calm
@@ -95,16 +99,30 @@ delta_stays Idle c since now count rows a calm = failed_stays c calm
 delta_stays (Hello key) c since now count rows a calm = failed_stays c calm
 delta_stays (Sync s v p) c since now count rows a calm = absurd a
 delta_stays (Delta asked) c since now count rows a calm = absurd a
+delta_stays (Changes asked) c since now count rows a calm = absurd a
 delta_stays (Ask i x v m) c since now count rows a calm = failed_stays c calm
 delta_stays (Edit i b) c since now count rows a calm = failed_stays c calm
 delta_stays (Append b) c since now count rows a calm = failed_stays c calm
 delta_stays Publish c since now count rows a calm = failed_stays c calm
+
+changes_stay : (k : Call) (c : ClientState) (since now count : ℕ) (entries : List ℕ) → IsNoSync k → IsNoSync c.call →
+    Stays c (takes_changes k c since now count entries).state
+changes_stay Idle c since now count entries a calm = failed_stays c calm
+changes_stay (Hello key) c since now count entries a calm = failed_stays c calm
+changes_stay (Sync s v p) c since now count entries a calm = absurd a
+changes_stay (Delta asked) c since now count entries a calm = absurd a
+changes_stay (Changes asked) c since now count entries a calm = absurd a
+changes_stay (Ask i x v m) c since now count entries a calm = failed_stays c calm
+changes_stay (Edit i b) c since now count entries a calm = failed_stays c calm
+changes_stay (Append b) c since now count entries a calm = failed_stays c calm
+changes_stay Publish c since now count entries a calm = failed_stays c calm
 
 no_delta_stays : (k : Call) (c : ClientState) (version count : ℕ) → IsNoSync k → IsNoSync c.call → Stays c (takes_no_delta k c version count).state
 no_delta_stays Idle c version count a calm = failed_stays c calm
 no_delta_stays (Hello key) c version count a calm = failed_stays c calm
 no_delta_stays (Sync s v p) c version count a calm = absurd a
 no_delta_stays (Delta asked) c version count a calm = absurd a
+no_delta_stays (Changes asked) c version count a calm = absurd a
 no_delta_stays (Ask i x v m) c version count a calm = failed_stays c calm
 no_delta_stays (Edit i b) c version count a calm = failed_stays c calm
 no_delta_stays (Append b) c version count a calm = failed_stays c calm
@@ -115,6 +133,7 @@ done_stays Idle c version a calm = failed_stays c calm
 done_stays (Hello key) c version a calm = failed_stays c calm
 done_stays (Sync s v p) c version a calm = absurd a
 done_stays (Delta since) c version a calm = absurd a
+done_stays (Changes since) c version a calm = absurd a
 done_stays (Ask i x v m) c version a calm = failed_stays c calm
 done_stays (Edit i b) c version a calm = ended_stays c c refl
 done_stays (Append b) c version a calm = ended_stays c c refl
@@ -125,6 +144,7 @@ refused_stays Idle c code a calm = failed_stays c calm
 refused_stays (Hello key) c code a calm = ended_stays c c refl
 refused_stays (Sync s v p) c code a calm = absurd a
 refused_stays (Delta since) c code a calm = absurd a
+refused_stays (Changes since) c code a calm = absurd a
 refused_stays (Ask i x v m) c code a calm = ended_stays c c refl
 refused_stays (Edit i b) c code a calm = ended_stays c c refl
 refused_stays (Append b) c code a calm = ended_stays c c refl
@@ -137,6 +157,7 @@ takes_stays c (frame.HintPart scheme version part words) calm = part_stays c.cal
 takes_stays c (frame.Answer scheme version words) calm = answer_stays c.call c scheme version words calm calm
 takes_stays c (frame.Stale version count) calm = stale_stays c.call c version count calm calm
 takes_stays c (frame.Delta since now count rows) calm = delta_stays c.call c since now count rows calm calm
+takes_stays c (frame.Changes since now count entries) calm = changes_stay c.call c since now count entries calm calm
 takes_stays c (frame.NoDelta version count) calm = no_delta_stays c.call c version count calm calm
 takes_stays c (frame.Done version) calm = done_stays c.call c version calm calm
 takes_stays c (frame.Refused code) calm = refused_stays c.call c code calm calm

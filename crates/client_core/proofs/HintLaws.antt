@@ -22,7 +22,7 @@ use Rattle.client_core.specs.declared.state.Call.TheVariants.{Idle, Sync}
 use Rattle.client_core.specs.declared.state.Event.{Event}
 use Rattle.client_core.specs.declared.state.Event.TheVariants.{Synced, Stale, Refused}
 use Rattle.client_core.specs.declared.state.Reaction.TheVariants.{Asks, Reports, Fails}
-use Rattle.client_core.specs.Replies.{Taken, plan_given, reaction_to_reply, faulty, ended, is_part, more_parts, hint_made, takes_asked_part, takes_part, takes_welcome, takes_answer, takes_stale, takes_delta, takes_no_delta, takes_done, takes_refused, reaction_to_stale, is_current, with_current, is_delta, row_numbers, with_rows, hint_with_rows, moved}
+use Rattle.client_core.specs.Replies.{Taken, plan_given, reaction_to_reply, faulty, ended, is_part, more_parts, hint_made, takes_asked_part, takes_part, takes_welcome, takes_answer, takes_stale, takes_delta, takes_changes, takes_no_delta, takes_done, takes_refused, reaction_to_stale, is_current, with_current, is_delta, row_numbers, with_rows, hint_with_rows, moved}
 use Rattle.client_core.specs.Feeding.{Course, course_after_reply, runs}
 use Rattle.client_core.specs.Laws.{ArePartsFrom, ArePartsOf, IsMadeOfParts, SyncedHintIsMadeOfParts, PartsOfAHintMakeIt, DeltaMakesTheHint, rows_of}
 use Rattle.client_core.proofs.Courses.{fault_stays}
@@ -107,6 +107,8 @@ leads s k c v p (frame.Stale version count) e a =
     (not (version == v) && is_current k version count) refl
 leads s k c v p (frame.Delta since now count rows) e a =
     bad_part s k c v p (frame.Delta since now count rows) (ap (λ (x : Call). takes_delta x c since now count rows) a)
+leads s k c v p (frame.Changes since now count entries) e a =
+    bad_part s k c v p (frame.Changes since now count entries) (ap (λ (x : Call). takes_changes x c since now count entries) a)
 leads s k c v p (frame.NoDelta version count) e a =
     bad_part s k c v p (frame.NoDelta version count) (ap (λ (x : Call). takes_no_delta x c version count) a)
 leads s k c v p (frame.Done version) e a = bad_part s k c v p (frame.Done version) (ap (λ (x : Call). takes_done x c version) a)
@@ -121,6 +123,7 @@ idle_bad c (frame.HintPart scheme version part words) a = ap (λ (x : Call). tak
 idle_bad c (frame.Answer scheme version words) a = ap (λ (x : Call). takes_answer x c scheme version words) a
 idle_bad c (frame.Stale version count) a = ap (λ (x : Call). takes_stale x c version count) a
 idle_bad c (frame.Delta since now count rows) a = ap (λ (x : Call). takes_delta x c since now count rows) a
+idle_bad c (frame.Changes since now count entries) a = ap (λ (x : Call). takes_changes x c since now count entries) a
 idle_bad c (frame.NoDelta version count) a = ap (λ (x : Call). takes_no_delta x c version count) a
 idle_bad c (frame.Done version) a = ap (λ (x : Call). takes_done x c version) a
 idle_bad c (frame.Refused code) a = ap (λ (x : Call). takes_refused x c code) a

@@ -19,11 +19,11 @@ use Rattle.client_core.specs.declared.state.ClientState.{ClientState}
 use Rattle.client_core.specs.declared.state.ServerInfo.{ServerInfo}
 use Rattle.client_core.specs.declared.state.Hint.{Hint}
 use Rattle.client_core.specs.declared.state.Call.{Call}
-use Rattle.client_core.specs.declared.state.Call.TheVariants.{Idle, Hello, Sync, Delta, Ask, Edit, Append, Publish}
+use Rattle.client_core.specs.declared.state.Call.TheVariants.{Idle, Hello, Sync, Delta, Changes, Ask, Edit, Append, Publish}
 use Rattle.client_core.specs.declared.state.Event.TheVariants.{Welcomed}
 use Rattle.client_core.specs.declared.state.ClientFault.TheVariants.{BadWelcome, BadReply}
 use Rattle.client_core.specs.States.{IsState, IsKnown, shape_known, Keeps, KnownFits, HintFits, CallFits, is_layout}
-use Rattle.client_core.specs.Replies.{Taken, plan_given, reaction_to_reply, faulty, ended, is_accepted_welcome, takes_welcome, is_part, more_parts, takes_asked_part, takes_part, is_answer, answered, takes_answer, is_current, with_current, reaction_to_stale, takes_stale, are_ascending, row_numbers, is_delta, moved, takes_delta, goes_by_parts, takes_no_delta, takes_done, takes_refused}
+use Rattle.client_core.specs.Replies.{Taken, plan_given, reaction_to_reply, faulty, ended, is_accepted_welcome, takes_welcome, is_part, more_parts, takes_asked_part, takes_part, is_answer, answered, takes_answer, is_current, with_current, reaction_to_stale, takes_stale, are_ascending, row_numbers, is_delta, moved, takes_delta, are_entries, have_slots, is_changes, changed, takes_changes, goes_by_parts, takes_no_delta, takes_done, takes_refused}
 use Rattle.client_core.proofs.MovedRows.{with_rows-rows, with_rows-cols}
 use Rattle.digit_pack.proofs.Layouts.{layout_means}
 
@@ -86,6 +86,7 @@ welcome_keeps (Hello key) c plan count version s fits =
     (λ _. faulty_keeps c s)
 welcome_keeps (Sync x v p) c plan count version s fits = faulty_keeps c s
 welcome_keeps (Delta since) c plan count version s fits = faulty_keeps c s
+welcome_keeps (Changes since) c plan count version s fits = faulty_keeps c s
 welcome_keeps (Ask i x v m) c plan count version s fits = faulty_keeps c s
 welcome_keeps (Edit i b) c plan count version s fits = faulty_keeps c s
 welcome_keeps (Append b) c plan count version s fits = faulty_keeps c s
@@ -143,6 +144,7 @@ part_keeps Idle c scheme version part words s fits = faulty_keeps c s
 part_keeps (Hello key) c scheme version part words s fits = faulty_keeps c s
 part_keeps (Sync x v p) c scheme version part words s fits = asked_part_keeps c.known x c v p scheme version part words refl s fits
 part_keeps (Delta since) c scheme version part words s fits = faulty_keeps c s
+part_keeps (Changes since) c scheme version part words s fits = faulty_keeps c s
 part_keeps (Ask i x v m) c scheme version part words s fits = faulty_keeps c s
 part_keeps (Edit i b) c scheme version part words s fits = faulty_keeps c s
 part_keeps (Append b) c scheme version part words s fits = faulty_keeps c s
@@ -162,6 +164,7 @@ answer_keeps Idle c scheme version words s = faulty_keeps c s
 answer_keeps (Hello key) c scheme version words s = faulty_keeps c s
 answer_keeps (Sync x v p) c scheme version words s = faulty_keeps c s
 answer_keeps (Delta since) c scheme version words s = faulty_keeps c s
+answer_keeps (Changes since) c scheme version words s = faulty_keeps c s
 answer_keeps (Ask i x v m) c scheme version words s = answered_keeps c.known c.hint c i v m scheme version words s
 answer_keeps (Edit i b) c scheme version words s = faulty_keeps c s
 answer_keeps (Append b) c scheme version words s = faulty_keeps c s
@@ -178,7 +181,7 @@ same_rows k version count (Some h) fits = (fits.0 ∙ rows_stay h.scheme k count
     rows_stay Simple k count = refl
     rows_stay Double k count = refl
 
-current_known : (k : ServerInfo) (version count : ℕ) → IsKnown k → is_current k version count ≡ true → IsKnown (with_current k version count)
+pub current_known : (k : ServerInfo) (version count : ℕ) → IsKnown k → is_current k version count ≡ true → IsKnown (with_current k version count)
 current_known k version count old h =
     let b = and_parts (nat_lt 0 version) (is_layout (shape_at k.plan count)) h in
     record { form = old.form; layout = layout_means (shape_at k.plan count) b.1; low = old.low; high = old.high }
@@ -212,12 +215,13 @@ stale_keeps Idle c version count s = faulty_keeps c s
 stale_keeps (Hello key) c version count s = faulty_keeps c s
 stale_keeps (Sync x v p) c version count s = staled_keeps c.known c (record c { parts = [] }) v version count refl s refl refl
 stale_keeps (Delta since) c version count s = faulty_keeps c s
+stale_keeps (Changes since) c version count s = faulty_keeps c s
 stale_keeps (Ask i x v m) c version count s = staled_keeps c.known c c v version count refl s refl refl
 stale_keeps (Edit i b) c version count s = faulty_keeps c s
 stale_keeps (Append b) c version count s = faulty_keeps c s
 stale_keeps Publish c version count s = faulty_keeps c s
 
--- ---- Delta and NoDelta
+-- ---- Delta, Changes and NoDelta
 
 moved_keeps : (known : Option ServerInfo) (hint : Option Hint) (c : ClientState) (asked since now count : ℕ) (rows : RowList) → c.known ≡ known →
     c.hint ≡ hint → IsState c → Keeps c (moved known hint c asked since now count rows).state
@@ -254,10 +258,52 @@ delta_keeps Idle c since now count rows s = faulty_keeps c s
 delta_keeps (Hello key) c since now count rows s = faulty_keeps c s
 delta_keeps (Sync x v p) c since now count rows s = faulty_keeps c s
 delta_keeps (Delta asked) c since now count rows s = moved_keeps c.known c.hint c asked since now count rows refl refl s
+delta_keeps (Changes asked) c since now count rows s = faulty_keeps c s
 delta_keeps (Ask i x v m) c since now count rows s = faulty_keeps c s
 delta_keeps (Edit i b) c since now count rows s = faulty_keeps c s
 delta_keeps (Append b) c since now count rows s = faulty_keeps c s
 delta_keeps Publish c since now count rows s = faulty_keeps c s
+
+-- changes that were asked for name a version that can be
+changes_current : (k : ServerInfo) (asked since now count : ℕ) (entries : List ℕ) → is_changes k asked since now count entries ≡ true →
+    is_current k now count ≡ true
+changes_current k asked since now count entries h =
+    let a = and_parts (since == asked) (is_current k now count && (are_entries (shape_at k.plan count) entries && have_slots k.plan entries)) h in
+    (and_parts (is_current k now count) (are_entries (shape_at k.plan count) entries && have_slots k.plan entries) a.1).0
+
+changed_keeps : (known : Option ServerInfo) (hint : Option Hint) (c : ClientState) (asked since now count : ℕ) (entries : List ℕ) → c.known ≡ known →
+    c.hint ≡ hint → IsState c → Keeps c (changed known hint c asked since now count entries).state
+changed_keeps None hint c asked since now count entries e eh s = faulty_keeps c s
+changed_keeps (Some k) None c asked since now count entries e eh s = faulty_keeps c s
+changed_keeps (Some k) (Some h) c asked since now count entries e eh s =
+    let known : IsKnown k = let P : Option ServerInfo → Type 0 = KnownFits in subst P e s.known in
+    let held : HintFits (Some k) c.hint = let P : Option ServerInfo → Type 0 = λ o. HintFits o c.hint in subst P e s.hint in
+    let hint : HintFits (Some k) (Some h) = let P : Option Hint → Type 0 = λ o. HintFits (Some k) o in subst P eh held in
+    let fits : HintFits (Some (with_current k now count)) (Some h) = same_rows k now count (Some h) hint in
+    if_keeps c (is_changes k asked since now count entries) _ (faulty c BadReply)
+    (λ is. record {
+      good = record {
+        number = s.number;
+        known = current_known k now count known (changes_current k asked since now count entries is);
+        hint = (fits.0, fits.1);
+        call = tt;
+        delta = tt;
+      };
+      number = refl;
+    })
+    (λ _. faulty_keeps c s)
+
+changes_keep : (call : Call) (c : ClientState) (since now count : ℕ) (entries : List ℕ) → IsState c →
+    Keeps c (takes_changes call c since now count entries).state
+changes_keep Idle c since now count entries s = faulty_keeps c s
+changes_keep (Hello key) c since now count entries s = faulty_keeps c s
+changes_keep (Sync x v p) c since now count entries s = faulty_keeps c s
+changes_keep (Delta asked) c since now count entries s = faulty_keeps c s
+changes_keep (Changes asked) c since now count entries s = changed_keeps c.known c.hint c asked since now count entries refl refl s
+changes_keep (Ask i x v m) c since now count entries s = faulty_keeps c s
+changes_keep (Edit i b) c since now count entries s = faulty_keeps c s
+changes_keep (Append b) c since now count entries s = faulty_keeps c s
+changes_keep Publish c since now count entries s = faulty_keeps c s
 
 by_parts_keeps : (known : Option ServerInfo) (c : ClientState) (version count : ℕ) → c.known ≡ known → IsState c →
     Keeps c (goes_by_parts known c version count).state
@@ -276,6 +322,7 @@ no_delta_keeps Idle c version count s = faulty_keeps c s
 no_delta_keeps (Hello key) c version count s = faulty_keeps c s
 no_delta_keeps (Sync x v p) c version count s = faulty_keeps c s
 no_delta_keeps (Delta asked) c version count s = by_parts_keeps c.known c version count refl s
+no_delta_keeps (Changes asked) c version count s = by_parts_keeps c.known c version count refl s
 no_delta_keeps (Ask i x v m) c version count s = faulty_keeps c s
 no_delta_keeps (Edit i b) c version count s = faulty_keeps c s
 no_delta_keeps (Append b) c version count s = faulty_keeps c s
@@ -288,6 +335,7 @@ done_keeps Idle c version s = faulty_keeps c s
 done_keeps (Hello key) c version s = faulty_keeps c s
 done_keeps (Sync x v p) c version s = faulty_keeps c s
 done_keeps (Delta since) c version s = faulty_keeps c s
+done_keeps (Changes since) c version s = faulty_keeps c s
 done_keeps (Ask i x v m) c version s = faulty_keeps c s
 done_keeps (Edit i b) c version s = ended_keeps c s
 done_keeps (Append b) c version s = ended_keeps c s
@@ -298,6 +346,7 @@ refused_keeps Idle c code s = faulty_keeps c s
 refused_keeps (Hello key) c code s = ended_keeps c s
 refused_keeps (Sync x v p) c code s = emptied_keeps c s
 refused_keeps (Delta since) c code s = ended_keeps c s
+refused_keeps (Changes since) c code s = ended_keeps c s
 refused_keeps (Ask i x v m) c code s = ended_keeps c s
 refused_keeps (Edit i b) c code s = ended_keeps c s
 refused_keeps (Append b) c code s = ended_keeps c s
@@ -312,6 +361,7 @@ takes_keeps c (frame.HintPart scheme version part words) s = part_keeps c.call c
 takes_keeps c (frame.Answer scheme version words) s = answer_keeps c.call c scheme version words s
 takes_keeps c (frame.Stale version count) s = stale_keeps c.call c version count s
 takes_keeps c (frame.Delta since now count rows) s = delta_keeps c.call c since now count rows s
+takes_keeps c (frame.Changes since now count entries) s = changes_keep c.call c since now count entries s
 takes_keeps c (frame.NoDelta version count) s = no_delta_keeps c.call c version count s
 takes_keeps c (frame.Done version) s = done_keeps c.call c version s
 takes_keeps c (frame.Refused code) s = refused_keeps c.call c code s

@@ -1,5 +1,6 @@
 pub mod Queries
 pub mod MovedRows
+pub mod Entries
 pub mod Keeping
 pub mod Courses
 pub mod NumberLaws

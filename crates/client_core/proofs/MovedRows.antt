@@ -90,7 +90,7 @@ pub ascending_begins : (limit : ℕ) (is : List ℕ) → are_ascending 0 limit i
 ascending_begins limit is = refl
 
 -- a number in order is within the limits
-ascending_here : (from limit i : ℕ) (is : List ℕ) → are_ascending from limit (i ∷ is) ≡ true →
+pub ascending_here : (from limit i : ℕ) (is : List ℕ) → are_ascending from limit (i ∷ is) ≡ true →
     (from ≤ i) × (i < limit) × (are_ascending (i + 1) limit is ≡ true)
 unfolding are_ascending
 ascending_here from limit i is h =

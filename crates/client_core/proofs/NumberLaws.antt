@@ -13,7 +13,7 @@ use Rattle.client_core.specs.declared.state.Call.{Call}
 use Rattle.client_core.specs.declared.state.Call.TheVariants as call
 use Rattle.client_core.specs.States.{delta_base}
 use Rattle.client_core.specs.Calls.{Want, Hello, Sync, Ask, Edit, Append, Publish, sync_begun}
-use Rattle.client_core.specs.Replies.{Taken, plan_given, reaction_to_reply, takes_welcome, more_parts, takes_asked_part, takes_part, answered, takes_answer, reaction_to_stale, takes_stale, moved, takes_delta, goes_by_parts, takes_no_delta, takes_done, takes_refused}
+use Rattle.client_core.specs.Replies.{Taken, plan_given, reaction_to_reply, takes_welcome, more_parts, takes_asked_part, takes_part, answered, takes_answer, reaction_to_stale, takes_stale, moved, takes_delta, changed, takes_changes, goes_by_parts, takes_no_delta, takes_done, takes_refused}
 use Rattle.client_core.specs.Laws.{Happening, Accepted, TurnedDown, Lacking, Taken as Reply, Failing, after, numbers, NoNumberTwice}
 
 -- ---- no reply changes the number
@@ -28,6 +28,7 @@ welcome_number call.Idle c plan count version = refl
 welcome_number (call.Hello key) c plan count version = either c.number _ _ _ refl refl
 welcome_number (call.Sync s v p) c plan count version = refl
 welcome_number (call.Delta since) c plan count version = refl
+welcome_number (call.Changes since) c plan count version = refl
 welcome_number (call.Ask i x v m) c plan count version = refl
 welcome_number (call.Edit i b) c plan count version = refl
 welcome_number (call.Append b) c plan count version = refl
@@ -44,6 +45,7 @@ part_number call.Idle c scheme version part words = refl
 part_number (call.Hello key) c scheme version part words = refl
 part_number (call.Sync s v p) c scheme version part words = asked_part_number c.known s c v p scheme version part words
 part_number (call.Delta since) c scheme version part words = refl
+part_number (call.Changes since) c scheme version part words = refl
 part_number (call.Ask i x v m) c scheme version part words = refl
 part_number (call.Edit i b) c scheme version part words = refl
 part_number (call.Append b) c scheme version part words = refl
@@ -60,6 +62,7 @@ answer_number call.Idle c scheme version words = refl
 answer_number (call.Hello key) c scheme version words = refl
 answer_number (call.Sync s v p) c scheme version words = refl
 answer_number (call.Delta since) c scheme version words = refl
+answer_number (call.Changes since) c scheme version words = refl
 answer_number (call.Ask i x v m) c scheme version words = answered_number c.known c.hint c i v m scheme version words
 answer_number (call.Edit i b) c scheme version words = refl
 answer_number (call.Append b) c scheme version words = refl
@@ -75,6 +78,7 @@ stale_number call.Idle c version count = refl
 stale_number (call.Hello key) c version count = refl
 stale_number (call.Sync s v p) c version count = staled_number c.known (record c { parts = [] }) c v version count refl
 stale_number (call.Delta since) c version count = refl
+stale_number (call.Changes since) c version count = refl
 stale_number (call.Ask i x v m) c version count = staled_number c.known c c v version count refl
 stale_number (call.Edit i b) c version count = refl
 stale_number (call.Append b) c version count = refl
@@ -91,10 +95,29 @@ delta_number call.Idle c since now count rows = refl
 delta_number (call.Hello key) c since now count rows = refl
 delta_number (call.Sync s v p) c since now count rows = refl
 delta_number (call.Delta asked) c since now count rows = moved_number c.known c.hint c asked since now count rows
+delta_number (call.Changes asked) c since now count rows = refl
 delta_number (call.Ask i x v m) c since now count rows = refl
 delta_number (call.Edit i b) c since now count rows = refl
 delta_number (call.Append b) c since now count rows = refl
 delta_number call.Publish c since now count rows = refl
+
+changed_number : (known : Option ServerInfo) (hint : Option Hint) (c : ClientState) (asked since now count : ℕ) (entries : List ℕ) →
+    (changed known hint c asked since now count entries).state.number ≡ c.number
+changed_number None hint c asked since now count entries = refl
+changed_number (Some k) None c asked since now count entries = refl
+changed_number (Some k) (Some h) c asked since now count entries = either c.number _ _ _ refl refl
+
+changes_number : (k : Call) (c : ClientState) (since now count : ℕ) (entries : List ℕ) →
+    (takes_changes k c since now count entries).state.number ≡ c.number
+changes_number call.Idle c since now count entries = refl
+changes_number (call.Hello key) c since now count entries = refl
+changes_number (call.Sync s v p) c since now count entries = refl
+changes_number (call.Delta asked) c since now count entries = refl
+changes_number (call.Changes asked) c since now count entries = changed_number c.known c.hint c asked since now count entries
+changes_number (call.Ask i x v m) c since now count entries = refl
+changes_number (call.Edit i b) c since now count entries = refl
+changes_number (call.Append b) c since now count entries = refl
+changes_number call.Publish c since now count entries = refl
 
 by_parts_number : (known : Option ServerInfo) (c : ClientState) (version count : ℕ) → (goes_by_parts known c version count).state.number ≡ c.number
 by_parts_number None c version count = refl
@@ -105,6 +128,7 @@ no_delta_number call.Idle c version count = refl
 no_delta_number (call.Hello key) c version count = refl
 no_delta_number (call.Sync s v p) c version count = refl
 no_delta_number (call.Delta asked) c version count = by_parts_number c.known c version count
+no_delta_number (call.Changes asked) c version count = by_parts_number c.known c version count
 no_delta_number (call.Ask i x v m) c version count = refl
 no_delta_number (call.Edit i b) c version count = refl
 no_delta_number (call.Append b) c version count = refl
@@ -115,6 +139,7 @@ done_number call.Idle c version = refl
 done_number (call.Hello key) c version = refl
 done_number (call.Sync s v p) c version = refl
 done_number (call.Delta since) c version = refl
+done_number (call.Changes since) c version = refl
 done_number (call.Ask i x v m) c version = refl
 done_number (call.Edit i b) c version = refl
 done_number (call.Append b) c version = refl
@@ -125,6 +150,7 @@ refused_number call.Idle c code = refl
 refused_number (call.Hello key) c code = refl
 refused_number (call.Sync s v p) c code = refl
 refused_number (call.Delta since) c code = refl
+refused_number (call.Changes since) c code = refl
 refused_number (call.Ask i x v m) c code = refl
 refused_number (call.Edit i b) c code = refl
 refused_number (call.Append b) c code = refl
@@ -137,6 +163,7 @@ takes_number c (frame.HintPart scheme version part words) = part_number c.call c
 takes_number c (frame.Answer scheme version words) = answer_number c.call c scheme version words
 takes_number c (frame.Stale version count) = stale_number c.call c version count
 takes_number c (frame.Delta since now count rows) = delta_number c.call c since now count rows
+takes_number c (frame.Changes since now count entries) = changes_number c.call c since now count entries
 takes_number c (frame.NoDelta version count) = no_delta_number c.call c version count
 takes_number c (frame.Done version) = done_number c.call c version
 takes_number c (frame.Refused code) = refused_number c.call c code

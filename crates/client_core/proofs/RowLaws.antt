@@ -19,7 +19,7 @@ use Rattle.client_core.specs.declared.state.CallFault.TheVariants.{NotReady, Bus
 use Rattle.client_core.specs.declared.state.ClientFault.TheVariants.{BadReply}
 use Rattle.client_core.specs.States.{shape_known, is_idle, is_ready, known_version, known_count, scheme_held}
 use Rattle.client_core.specs.Calls.{Ask, state_after_call, call_words}
-use Rattle.client_core.specs.Replies.{Taken, reaction_to_reply, plan_given, faulty, ended, event_of, is_answer, answered, with_current, reaction_to_stale, takes_welcome, takes_part, takes_answer, takes_stale, takes_delta, takes_no_delta, takes_done, takes_refused}
+use Rattle.client_core.specs.Replies.{Taken, reaction_to_reply, plan_given, faulty, ended, event_of, is_answer, answered, with_current, reaction_to_stale, takes_welcome, takes_part, takes_answer, takes_stale, takes_delta, takes_changes, takes_no_delta, takes_done, takes_refused}
 use Rattle.client_core.specs.Feeding.{Course, start, course_after_reply, course_more, runs, takes_all}
 use Rattle.client_core.specs.Resuming.{HasRowsOf, holding, course_holding, RowsOfTheRecordSuffice}
 
@@ -41,6 +41,7 @@ bad_when_idle c (frame.HintPart scheme version part words) e = ap (λ (k : Call)
 bad_when_idle c (frame.Answer scheme version words) e = ap (λ (k : Call). takes_answer k c scheme version words) e
 bad_when_idle c (frame.Stale version count) e = ap (λ (k : Call). takes_stale k c version count) e
 bad_when_idle c (frame.Delta since now count rows) e = ap (λ (k : Call). takes_delta k c since now count rows) e
+bad_when_idle c (frame.Changes since now count entries) e = ap (λ (k : Call). takes_changes k c since now count entries) e
 bad_when_idle c (frame.NoDelta version count) e = ap (λ (k : Call). takes_no_delta k c version count) e
 bad_when_idle c (frame.Done version) e = ap (λ (k : Call). takes_done k c version) e
 bad_when_idle c (frame.Refused code) e = ap (λ (k : Call). takes_refused k c code) e
@@ -61,6 +62,7 @@ when_asked c i v n s (frame.HintPart scheme version part words) e = ap (λ (k : 
 when_asked c i v n s (frame.Answer scheme version words) e = ap (λ (k : Call). takes_answer k c scheme version words) e
 when_asked c i v n s (frame.Stale version count) e = ap (λ (k : Call). takes_stale k c version count) e
 when_asked c i v n s (frame.Delta since now count rows) e = ap (λ (k : Call). takes_delta k c since now count rows) e
+when_asked c i v n s (frame.Changes since now count entries) e = ap (λ (k : Call). takes_changes k c since now count entries) e
 when_asked c i v n s (frame.NoDelta version count) e = ap (λ (k : Call). takes_no_delta k c version count) e
 when_asked c i v n s (frame.Done version) e = ap (λ (k : Call). takes_done k c version) e
 when_asked c i v n s (frame.Refused code) e = ap (λ (k : Call). takes_refused k c code) e

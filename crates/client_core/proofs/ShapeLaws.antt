@@ -22,12 +22,12 @@ use Rattle.client_core.specs.declared.state.Call.{Call}
 use Rattle.client_core.specs.declared.state.Call.TheVariants as call
 use Rattle.client_core.specs.declared.state.CallFault.{CallFault}
 use Rattle.client_core.specs.declared.state.CallFault.TheVariants.{NotReady, Busy, BadIndex, SeedUsedUp, Failed, AlreadyWelcome}
-use Rattle.client_core.specs.States.{shape_known, is_idle, is_ready, known_version, known_count, scheme_held, delta_base}
-use Rattle.client_core.specs.Calls.{Want, Hello, Sync, Ask, Edit, Append, Publish, sync_begun, state_after_call, call_frame, call_words, refusal, spent}
-use Rattle.client_core.specs.Replies.{Taken, plan_given, reaction_to_reply, is_accepted_welcome, takes_welcome, is_part, more_parts, takes_asked_part, takes_part, is_answer, answered, takes_answer, is_current, with_current, reaction_to_stale, takes_stale, row_numbers, is_delta, moved, takes_delta, goes_by_parts, takes_no_delta, takes_done, takes_refused}
+use Rattle.client_core.specs.States.{shape_known, is_idle, is_ready, known_version, known_count, scheme_held, delta_base, is_wide_client}
+use Rattle.client_core.specs.Calls.{Want, Hello, Sync, Ask, Edit, Append, Publish, call_since, sync_begun, state_after_call, call_frame, call_words, refusal, spent}
+use Rattle.client_core.specs.Replies.{Taken, plan_given, reaction_to_reply, is_accepted_welcome, takes_welcome, is_part, more_parts, takes_asked_part, takes_part, is_answer, answered, takes_answer, is_current, with_current, reaction_to_stale, takes_stale, row_numbers, is_delta, moved, takes_delta, is_changes, changed, takes_changes, goes_by_parts, takes_no_delta, takes_done, takes_refused}
 use Rattle.client_core.specs.Feeding.{sends_of}
 use Rattle.client_core.specs.Laws.{Happening, Accepted, TurnedDown, Lacking, Taken as Reply, Failing, after}
-use Rattle.client_core.specs.Shapes.{frames_at, frames, FrameShape, shape_of_frame, frame_shape, BlankCall, BlankHello, BlankAsk, blank_call, blank_reply, BlankHappening, blank, Awaited, NoReply, APart, awaited, HintName, hint_name, Outline, outline, asked_count, named_base, sync_shape, call_shape, outline_of_sync, outline_after_call, outline_spent, Reacted, after_welcome, after_good_part, after_asked_part, after_part, after_asked_delta, after_delta, after_asked_no_delta, after_no_delta, after_asked_answer, after_answer, after_asked_stale, after_stale, after_done, after_refused, after_reply, outline_after, shapes_at, shapes, HasWholeKey, KeyIsWhole, IndexIsBelow, EqualShapes}
+use Rattle.client_core.specs.Shapes.{frames_at, frames, FrameShape, shape_of_frame, frame_shape, BlankCall, BlankHello, BlankAsk, blank_call, blank_reply, BlankHappening, blank, Awaited, NoReply, APart, awaited, HintName, hint_name, Outline, outline, asked_count, named_base, kind_since, sync_shape, call_shape, outline_of_sync, outline_after_call, outline_spent, Reacted, after_welcome, after_good_part, after_asked_part, after_part, after_asked_delta, after_delta, after_asked_changes, after_changes, after_asked_no_delta, after_no_delta, after_asked_answer, after_answer, after_asked_stale, after_stale, after_done, after_refused, after_reply, outline_after, shapes_at, shapes, HasWholeKey, KeyIsWhole, IndexIsBelow, EqualShapes}
 
 -- a frame's shape by the size of its fields
 pub sized : (f : Frame) → shape_of_frame f ≡ frame_shape (kind_of f) (payload_size f)
@@ -48,9 +48,14 @@ base_named Simple (Some h) = refl
 base_named Double None = refl
 base_named Double (Some h) = refl
 
-sync_shaped : (base : Option ℕ) (s : Scheme) (c : ClientState) → shape_of_frame (call_frame (sync_begun base s c) (sync_begun base s c).call) ≡ sync_shape base
+since_shaped : (wide : Bool) (since : ℕ) (c : ClientState) → shape_of_frame (call_frame c (call_since wide since)) ≡ frame_shape (kind_since wide) 8
+since_shaped true since c = sized (frame.ChangesAsk since)
+since_shaped false since c = sized (frame.DeltaAsk since)
+
+sync_shaped : (base : Option ℕ) (s : Scheme) (c : ClientState) →
+    shape_of_frame (call_frame (sync_begun base s c) (sync_begun base s c).call) ≡ sync_shape (is_wide_client c) base
 sync_shaped None s c = sized (frame.HintAsk (scheme_byte s) (known_version c.known) 0)
-sync_shaped (Some since) s c = sized (frame.DeltaAsk since)
+sync_shaped (Some since) s c = since_shaped (is_wide_client c) since (sync_begun (Some since) s c)
 
 sync_outlined : (base : Option ℕ) (s : Scheme) (c : ClientState) → outline (sync_begun base s c) ≡ outline_of_sync base s (outline c)
 sync_outlined None s c = refl
@@ -59,7 +64,7 @@ sync_outlined (Some since) s c = refl
 call_shaped : (c : ClientState) (want : Want) → HasWholeKey want → shape_of_frame (call_frame (state_after_call want c) (state_after_call want c).call)
     ≡ call_shape (outline c) (blank_call want)
 call_shaped c (Hello key) whole = sized (call_frame (state_after_call (Hello key) c) (call.Hello key)) ∙ ap (λ (x : ℕ). frame_shape 2 (2 + x)) whole
-call_shaped c (Sync scheme) whole = sync_shaped (delta_base scheme c.hint) scheme c ∙ ap sync_shape (base_named scheme c.hint)
+call_shaped c (Sync scheme) whole = sync_shaped (delta_base scheme c.hint) scheme c ∙ ap (sync_shape (is_wide_client c)) (base_named scheme c.hint)
 call_shaped c (Ask i) whole =
     sized (call_frame (state_after_call (Ask i) c) (state_after_call (Ask i) c).call)
     ∙ ap (λ (x : ℕ). frame_shape 5 (9 + 4 * x)) (asked_length c.known c.hint c.seed c.number i)
@@ -99,6 +104,7 @@ welcome_reacts call.Idle c plan count version = refl
 welcome_reacts (call.Hello key) c plan count version = either (is_accepted_welcome c.profile plan count version) _ _ _ _ refl refl
 welcome_reacts (call.Sync s v p) c plan count version = refl
 welcome_reacts (call.Delta since) c plan count version = refl
+welcome_reacts (call.Changes since) c plan count version = refl
 welcome_reacts (call.Ask i s v m) c plan count version = refl
 welcome_reacts (call.Edit i b) c plan count version = refl
 welcome_reacts (call.Append b) c plan count version = refl
@@ -127,6 +133,7 @@ part_reacts call.Idle c scheme version part words = refl
 part_reacts (call.Hello key) c scheme version part words = refl
 part_reacts (call.Sync s v p) c scheme version part words = asked_part_reacts c.known s c v p scheme version part words
 part_reacts (call.Delta since) c scheme version part words = refl
+part_reacts (call.Changes since) c scheme version part words = refl
 part_reacts (call.Ask i s v m) c scheme version part words = refl
 part_reacts (call.Edit i b) c scheme version part words = refl
 part_reacts (call.Append b) c scheme version part words = refl
@@ -144,6 +151,7 @@ answer_reacts call.Idle c scheme version words = refl
 answer_reacts (call.Hello key) c scheme version words = refl
 answer_reacts (call.Sync s v p) c scheme version words = refl
 answer_reacts (call.Delta since) c scheme version words = refl
+answer_reacts (call.Changes since) c scheme version words = refl
 answer_reacts (call.Ask i s v m) c scheme version words = answered_reacts c.known c.hint c i v m scheme version words
 answer_reacts (call.Edit i b) c scheme version words = refl
 answer_reacts (call.Append b) c scheme version words = refl
@@ -160,6 +168,7 @@ stale_reacts call.Idle c version count = refl
 stale_reacts (call.Hello key) c version count = refl
 stale_reacts (call.Sync s v p) c version count = staled_reacts c.known (record c { parts = [] }) c v version count
 stale_reacts (call.Delta since) c version count = refl
+stale_reacts (call.Changes since) c version count = refl
 stale_reacts (call.Ask i s v m) c version count = staled_reacts c.known c c v version count
 stale_reacts (call.Edit i b) c version count = refl
 stale_reacts (call.Append b) c version count = refl
@@ -179,10 +188,29 @@ delta_reacts call.Idle c since now count rows = refl
 delta_reacts (call.Hello key) c since now count rows = refl
 delta_reacts (call.Sync s v p) c since now count rows = refl
 delta_reacts (call.Delta asked) c since now count rows = moved_reacts c.known c.hint c asked since now count rows
+delta_reacts (call.Changes asked) c since now count rows = refl
 delta_reacts (call.Ask i s v m) c since now count rows = refl
 delta_reacts (call.Edit i b) c since now count rows = refl
 delta_reacts (call.Append b) c since now count rows = refl
 delta_reacts call.Publish c since now count rows = refl
+
+changed_reacts : (known : Option ServerInfo) (hint : Option Hint) (c : ClientState) (asked since now count : ℕ) (entries : List ℕ) →
+    reacted (changed known hint c asked since now count entries) ≡ after_asked_changes known (hint_name hint) (outline c) asked since now count entries
+changed_reacts None hint c asked since now count entries = refl
+changed_reacts (Some k) None c asked since now count entries = refl
+changed_reacts (Some k) (Some h) c asked since now count entries = either (is_changes k asked since now count entries) _ _ _ _ refl refl
+
+changes_react : (k : Call) (c : ClientState) (since now count : ℕ) (entries : List ℕ) →
+    reacted (takes_changes k c since now count entries) ≡ after_changes (awaited k) (outline c) since now count entries
+changes_react call.Idle c since now count entries = refl
+changes_react (call.Hello key) c since now count entries = refl
+changes_react (call.Sync s v p) c since now count entries = refl
+changes_react (call.Delta asked) c since now count entries = refl
+changes_react (call.Changes asked) c since now count entries = changed_reacts c.known c.hint c asked since now count entries
+changes_react (call.Ask i s v m) c since now count entries = refl
+changes_react (call.Edit i b) c since now count entries = refl
+changes_react (call.Append b) c since now count entries = refl
+changes_react call.Publish c since now count entries = refl
 
 by_parts_reacts : (known : Option ServerInfo) (c : ClientState) (version count : ℕ) →
     reacted (goes_by_parts known c version count) ≡ after_asked_no_delta known (outline c) version count
@@ -202,6 +230,7 @@ no_delta_reacts call.Idle c version count = refl
 no_delta_reacts (call.Hello key) c version count = refl
 no_delta_reacts (call.Sync s v p) c version count = refl
 no_delta_reacts (call.Delta asked) c version count = by_parts_reacts c.known c version count
+no_delta_reacts (call.Changes asked) c version count = by_parts_reacts c.known c version count
 no_delta_reacts (call.Ask i s v m) c version count = refl
 no_delta_reacts (call.Edit i b) c version count = refl
 no_delta_reacts (call.Append b) c version count = refl
@@ -212,6 +241,7 @@ done_reacts call.Idle c version = refl
 done_reacts (call.Hello key) c version = refl
 done_reacts (call.Sync s v p) c version = refl
 done_reacts (call.Delta since) c version = refl
+done_reacts (call.Changes since) c version = refl
 done_reacts (call.Ask i s v m) c version = refl
 done_reacts (call.Edit i b) c version = refl
 done_reacts (call.Append b) c version = refl
@@ -222,6 +252,7 @@ refused_reacts call.Idle c code = refl
 refused_reacts (call.Hello key) c code = refl
 refused_reacts (call.Sync s v p) c code = refl
 refused_reacts (call.Delta since) c code = refl
+refused_reacts (call.Changes since) c code = refl
 refused_reacts (call.Ask i s v m) c code = refl
 refused_reacts (call.Edit i b) c code = refl
 refused_reacts (call.Append b) c code = refl
@@ -234,6 +265,7 @@ reply_reacts c (frame.HintPart scheme version part words) = part_reacts c.call c
 reply_reacts c (frame.Answer scheme version words) = answer_reacts c.call c scheme version words
 reply_reacts c (frame.Stale version count) = stale_reacts c.call c version count
 reply_reacts c (frame.Delta since now count rows) = delta_reacts c.call c since now count rows
+reply_reacts c (frame.Changes since now count entries) = changes_react c.call c since now count entries
 reply_reacts c (frame.NoDelta version count) = no_delta_reacts c.call c version count
 reply_reacts c (frame.Done version) = done_reacts c.call c version
 reply_reacts c (frame.Refused code) = refused_reacts c.call c code
@@ -298,6 +330,7 @@ idle_same call.Idle = refl
 idle_same (call.Hello key) = refl
 idle_same (call.Sync s v p) = refl
 idle_same (call.Delta since) = refl
+idle_same (call.Changes since) = refl
 idle_same (call.Ask i s v m) = refl
 idle_same (call.Edit i b) = refl
 idle_same (call.Append b) = refl

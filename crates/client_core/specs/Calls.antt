@@ -1,5 +1,5 @@
 -- What a client does with a call.
-use Rattle.std.specs.Prelude.{◌≡◌, ◌+◌, ◌^◌, ℕ, List, [], Option, Some, None, is_some, nat_lt, if◌then◌else◌, ◌⊎◌}
+use Rattle.std.specs.Prelude.{◌≡◌, ◌+◌, ◌^◌, ℕ, List, [], Bool, true, false, Option, Some, None, is_some, nat_lt, if◌then◌else◌, ◌⊎◌}
 use Rattle.frame_codec.specs.declared.frame.Frame.{Frame}
 use Rattle.frame_codec.specs.declared.frame.Frame.TheVariants as frame
 use Rattle.frame_codec.specs.Frames.{IsFrame, encoding}
@@ -12,7 +12,7 @@ use Rattle.client_core.specs.declared.state.Call.{Call}
 use Rattle.client_core.specs.declared.state.Call.TheVariants as call
 use Rattle.client_core.specs.declared.state.CallFault.{CallFault}
 use Rattle.client_core.specs.declared.state.CallFault.TheVariants.{NotReady, Busy, BadIndex, SeedUsedUp, Memory, Failed, AlreadyWelcome}
-use Rattle.client_core.specs.States.{shape_known, is_idle, is_ready, known_version, known_count, scheme_held, delta_base}
+use Rattle.client_core.specs.States.{shape_known, is_idle, is_ready, known_version, known_count, scheme_held, delta_base, is_wide_client}
 
 -- a call, with what the caller gives it
 pub data Want : Type 0 where
@@ -45,9 +45,14 @@ refusal (Edit i bytes) c = change_refusal c
 refusal (Append bytes) c = change_refusal c
 refusal Publish c = change_refusal c
 
--- a sync begins: by delta from a version, and the hint is kept meanwhile; or by the parts of the last version known, and it is dropped
+-- the call that asks for what changed since a version: for records in a wide store, for rows of the hint in an ordinary one
+abbrev pub call_since : Bool → ℕ → Call
+call_since true since = call.Changes since
+call_since false since = call.Delta since
+
+-- a sync begins: by what changed since a version, and the hint is kept meanwhile; or by the parts of the last version known, and it is dropped
 abbrev pub sync_begun : Option ℕ → Scheme → ClientState → ClientState
-sync_begun (Some since) scheme c = record c { call = call.Delta since }
+sync_begun (Some since) scheme c = record c { call = call_since (is_wide_client c) since }
 sync_begun None scheme c = record c { call = call.Sync scheme (known_version c.known) 0; hint = None; parts = [] }
 
 -- the state after an accepted call
@@ -75,6 +80,7 @@ call_frame c call.Idle = frame.Bye
 call_frame c (call.Hello key) = frame.Hello c.profile key
 call_frame c (call.Sync scheme version part) = frame.HintAsk (scheme_byte scheme) version part
 call_frame c (call.Delta since) = frame.DeltaAsk since
+call_frame c (call.Changes since) = frame.ChangesAsk since
 call_frame c (call.Ask i scheme version number) = frame.Query (scheme_byte scheme) version (call_words c.known scheme c.seed number i)
 call_frame c (call.Edit i bytes) = frame.Edit i bytes
 call_frame c (call.Append bytes) = frame.Append bytes

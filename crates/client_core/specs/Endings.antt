@@ -2,14 +2,14 @@
 use Rattle.std.specs.Prelude.{◌≡◌, ◌≢◌, ℕ, List, ◌∷◌, Option, false}
 use Rattle.pir_schemes.specs.declared.scheme.Scheme.TheVariants.{Simple}
 use Rattle.client_core.specs.declared.state.Call.{Call}
-use Rattle.client_core.specs.declared.state.Call.TheVariants.{Hello, Sync, Delta, Ask, Edit, Append, Publish}
+use Rattle.client_core.specs.declared.state.Call.TheVariants.{Hello, Sync, Delta, Changes, Ask, Edit, Append, Publish}
 use Rattle.client_core.specs.declared.state.Event.{Event}
 use Rattle.client_core.specs.declared.state.Event.TheVariants.{Welcomed, Synced, Retrieved, Unreadable, Stale, Done, Refused}
 use Rattle.client_core.specs.declared.state.ClientFault.{ClientFault}
 use Rattle.client_core.specs.Feeding.{Client, FeedsClient}
 
--- The events that a call can end with: those of its own kind, for what was asked; or a refusal. A sync by delta may go on by parts, and then become
--- stale.
+-- The events that a call can end with: those of its own kind, for what was asked; or a refusal. A sync by delta or by changed records may go on by
+-- parts, and then become stale.
 abbrev pub Ends : Call → Event → Type 0
 Ends (Hello key) (Welcomed version) = Unit {0}
 Ends (Hello key) (Refused code) = Unit {0}
@@ -19,6 +19,9 @@ Ends (Sync scheme asked part) (Refused code) = Unit {0}
 Ends (Delta since) (Synced of version) = of ≡ Simple
 Ends (Delta since) (Stale version) = Unit {0}
 Ends (Delta since) (Refused code) = Unit {0}
+Ends (Changes since) (Synced of version) = of ≡ Simple
+Ends (Changes since) (Stale version) = Unit {0}
+Ends (Changes since) (Refused code) = Unit {0}
 Ends (Ask i scheme asked number) (Retrieved index version bytes) = (index ≡ i) × (version ≡ asked)
 Ends (Ask i scheme asked number) (Unreadable index version) = (index ≡ i) × (version ≡ asked)
 Ends (Ask i scheme asked number) (Stale version) = version ≢ asked
@@ -45,6 +48,7 @@ FeedingSpendsNoNumber = (old new : Client) (piece out : List ℕ) (events : List
 abbrev pub IsNoSync : Call → Type 0
 IsNoSync (Sync scheme version part) = ⊥
 IsNoSync (Delta since) = ⊥
+IsNoSync (Changes since) = ⊥
 IsNoSync _ = Unit {0}
 
 -- what a client is fed leaves the hint as it is where no sync is outstanding, unless it fails

@@ -13,6 +13,7 @@ use Rattle.client_core.specs.declared.state.ClientFault.{ClientFault}
 use Rattle.client_core.specs.declared.state.ClientFault.TheVariants.{BadReply, Memory, Failed}
 use Rattle.client_core.specs.declared.state.Reaction.{Reaction}
 use Rattle.client_core.specs.declared.state.Reaction.TheVariants.{Asks, Reports, Fails}
+use Rattle.client_core.specs.States.{is_wide_client}
 use Rattle.client_core.specs.Replies.{Taken, reaction_to_reply}
 use Rattle.pir_schemes.specs.Schemes.{scheme_byte}
 
@@ -110,7 +111,7 @@ pub record BreaksOff (c : ClientState) (frames : List Frame) (out : List ℕ) (e
 pub record FeedsOpen (old : Client) (piece : List ℕ) (out : List ℕ) (events : List Event) (fault : Option ClientFault) (new : Client) : Type 0 where
   pub answer : Result (Unit {0}) ReadFault
   pub frames : List Frame
-  pub reads : Feeds old.reader piece answer frames new.reader
+  pub reads : Feeds (is_wide_client old.state) old.reader piece answer frames new.reader
   pub takes : Follows (ends_with (takes_all old.state frames) answer) out events fault new.state ⊎ BreaksOff old.state frames out events fault new.state
 
 -- a piece fed to one that had: nothing comes of it

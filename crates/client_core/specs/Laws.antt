@@ -1,7 +1,10 @@
 -- Laws of clients.
 use Rattle.std.specs.Prelude.{◌≡◌, ◌<◌, ◌≤◌, ◌+◌, ℕ, List, [], ◌∷◌, ◌++◌, ◌⊎◌, length, map, slice_index, Some, None, true}
 use Rattle.std.specs.List.{Contains}
-use Rattle.matrix_u32.specs.Matrix.{WordMatrix, IsWhole, row}
+use Rattle.matrix_u32.specs.Matrix.{WordMatrix, IsWhole, row, product}
+use Rattle.digit_pack.specs.Layout.{digit_matrix}
+use Rattle.hint_changes.specs.Changes.{changes_between}
+use Rattle.hint_changes.specs.Entries.{changes_in}
 use Rattle.frame_codec.specs.Rows.{Row, row_list}
 use Rattle.frame_codec.specs.declared.frame.Frame.{Frame}
 use Rattle.frame_codec.specs.declared.frame.Frame.TheVariants as frame
@@ -9,15 +12,17 @@ use Rattle.pir_schemes.specs.declared.scheme.Scheme.{Scheme}
 use Rattle.pir_schemes.specs.declared.scheme.Scheme.TheVariants.{Simple}
 use Rattle.pir_schemes.specs.Schemes.{scheme_byte}
 use Rattle.pir_schemes.specs.Parts.{part_of}
+use Rattle.pir_schemes.specs.declared.plan.Plan.{Plan}
+use Rattle.pir_schemes.specs.Plans.{shape_at, first_public}
 use Rattle.pir_schemes.specs.Retrievals.{hint_rows, hint_len}
 use Rattle.client_core.specs.States.{shape_known}
 use Rattle.client_core.specs.declared.state.ClientState.{ClientState}
 use Rattle.client_core.specs.declared.state.ServerInfo.{ServerInfo}
 use Rattle.client_core.specs.declared.state.Hint.{Hint}
-use Rattle.client_core.specs.declared.state.Call.TheVariants.{Sync, Delta}
+use Rattle.client_core.specs.declared.state.Call.TheVariants.{Sync, Delta, Changes}
 use Rattle.client_core.specs.declared.state.Event.TheVariants.{Synced}
 use Rattle.client_core.specs.Calls.{Want, Ask, state_after_call, spent}
-use Rattle.client_core.specs.Replies.{reaction_to_reply, ended, hint_made, with_current, is_delta}
+use Rattle.client_core.specs.Replies.{reaction_to_reply, ended, hint_made, with_current, is_delta, is_changes}
 use Rattle.client_core.specs.Feeding.{takes_all}
 
 -- what happens to a client: a call is accepted, a call is refused by a check, a call is refused memory, a reply is taken, the client fails
@@ -108,3 +113,18 @@ DeltaMakesTheHint = (c : ClientState) (k : ServerInfo) (h : Hint) (since now cou
     ((i : ℕ) → i < hint.rows → Contains numbers i ⊎ (row h.matrix i ≡ row hint i)) →
     reaction_to_reply c (frame.Delta since now count (row_list hint.cols (rows_of hint numbers)))
     ≡ ended (record c { known = Some (with_current k now count); hint = Some (record h { version = now; matrix = hint }) }) (Synced Simple now)
+
+-- the SimplePIR hint of records with these bytes in the digits, made from scratch for a version of so many records
+abbrev pub hint_of_slots : Plan → ℕ → List (List ℕ) → WordMatrix
+hint_of_slots p count slots = product (digit_matrix (shape_at p count) slots) (first_public (shape_at p count) p.dimension p.seed)
+
+-- If the entries of Changes are what differs between two lists of records that are as long, and the hint held is the one made from scratch of the
+-- records before, the hint held then is the one made from scratch of the records after.
+abbrev pub ChangesMakeTheHint : Type 0
+ChangesMakeTheHint = (c : ClientState) (k : ServerInfo) (h : Hint) (since now count : ℕ) (entries : List ℕ) (before after : List (List ℕ)) →
+    c.known ≡ Some k → c.hint ≡ Some h → c.call ≡ Changes since → is_changes k since since now count entries ≡ true →
+    changes_in k.plan.record_len entries ≡ changes_between before after → length before ≡ length after → length after ≤ count →
+    h.matrix ≡ hint_of_slots k.plan count before →
+    reaction_to_reply c (frame.Changes since now count entries)
+    ≡ ended (record c { known = Some (with_current k now count); hint = Some (record h { version = now; matrix = hint_of_slots k.plan count after }) })
+    (Synced Simple now)

@@ -1,23 +1,26 @@
 -- What a client does with a reply.
-use Rattle.std.specs.Prelude.{◌+◌, ℕ, List, [], ◌∷◌, ◌++◌, length, map, Bool, true, not, ◌&&◌, Option, Some, None, ◌==◌, nat_lt, nat_le, if◌then◌else◌}
+use Rattle.std.specs.Prelude.{◌+◌, ◌%◌, ℕ, List, [], ◌∷◌, ◌++◌, length, map, Bool, true, not, ◌&&◌, Option, Some, None, ◌==◌, nat_lt, nat_le, if◌then◌else◌}
+use Rattle.std.specs.List.{list_all}
 use Rattle.frame_codec.specs.declared.frame.Frame.{Frame}
 use Rattle.frame_codec.specs.declared.frame.Frame.TheVariants as frame
 use Rattle.frame_codec.specs.Rows.{Row, RowList, rows_in}
 use Rattle.matrix_u32.specs.Matrix.{WordMatrix, with_row}
-use Rattle.digit_pack.specs.Layout.{digit_rows}
+use Rattle.digit_pack.specs.Layout.{Shape, digit_rows}
+use Rattle.hint_changes.specs.Changes.{moved as moved_matrix}
+use Rattle.hint_changes.specs.Entries.{changes_in, entry_len}
 use Rattle.pir_schemes.specs.declared.scheme.Scheme.{Scheme}
 use Rattle.pir_schemes.specs.declared.scheme.Scheme.TheVariants.{Simple}
 use Rattle.pir_schemes.specs.Schemes.{scheme_byte}
 use Rattle.pir_schemes.specs.Parts.{part_len}
 use Rattle.pir_schemes.specs.declared.plan.Plan.{Plan}
 use Rattle.digit_pack.specs.Slots.{is_form}
-use Rattle.pir_schemes.specs.Plans.{accepts_profile, shape_at, record_of}
+use Rattle.pir_schemes.specs.Plans.{accepts_profile, shape_at, is_slot_of, first_public, record_of}
 use Rattle.pir_schemes.specs.Retrievals.{hint_rows, hint_len, answer_count, reading}
 use Rattle.client_core.specs.declared.state.ClientState.{ClientState}
 use Rattle.client_core.specs.declared.state.ServerInfo.{ServerInfo}
 use Rattle.client_core.specs.declared.state.Hint.{Hint}
 use Rattle.client_core.specs.declared.state.Call.{Call}
-use Rattle.client_core.specs.declared.state.Call.TheVariants.{Idle, Hello, Sync, Delta, Ask, Edit, Append, Publish}
+use Rattle.client_core.specs.declared.state.Call.TheVariants.{Idle, Hello, Sync, Delta, Changes, Ask, Edit, Append, Publish}
 use Rattle.client_core.specs.declared.state.Event.{Event}
 use Rattle.client_core.specs.declared.state.Event.TheVariants.{Welcomed, Synced, Retrieved, Unreadable, Stale, Done, Refused}
 use Rattle.client_core.specs.declared.state.ClientFault.{ClientFault}
@@ -158,7 +161,7 @@ takes_stale (Sync s v p) c version count = reaction_to_stale c.known (record c {
 takes_stale (Ask i s v n) c version count = reaction_to_stale c.known c c v version count
 takes_stale _ c version count = faulty c BadReply
 
--- ---- Delta and NoDelta
+-- ---- Delta
 
 -- the numbers ascend from one on, each once, and stay below another
 unfoldable pub are_ascending : ℕ → ℕ → List ℕ → Bool
@@ -198,6 +201,47 @@ abbrev pub takes_delta : Call → ClientState → ℕ → ℕ → ℕ → RowLis
 takes_delta (Delta asked) c since now count rows = moved c.known c.hint c asked since now count rows
 takes_delta _ c since now count rows = faulty c BadReply
 
+-- ---- Changes
+
+-- whether bytes are whole entries, ascending, of records that there are
+unfoldable pub are_entries : Shape → List ℕ → Bool
+are_entries l entries =
+    (length entries % entry_len l.record_len == 0) && are_ascending 0 l.count (map (λ c. c.index) (changes_in l.record_len entries))
+
+-- whether the old and the new bytes in each entry are those of a record of the plan
+unfoldable pub have_slots : Plan → List ℕ → Bool
+have_slots p entries = list_all (λ c. is_slot_of p c.old && is_slot_of p c.new) (changes_in p.record_len entries)
+
+-- Changes that were asked for: from the version asked to one that can be, of records of that version, ascending, with the bytes of records
+abbrev pub is_changes : ServerInfo → ℕ → ℕ → ℕ → ℕ → List ℕ → Bool
+is_changes k asked since now count entries =
+    (since == asked) && (is_current k now count && (are_entries (shape_at k.plan count) entries && have_slots k.plan entries))
+
+-- a hint of another version, moved by the changes in entries, if that version has so many records
+abbrev pub hint_with_entries : Plan → Hint → ℕ → ℕ → List ℕ → Hint
+hint_with_entries p h version count entries = record h {
+  version = version;
+  matrix =
+      moved_matrix (shape_at p count) (first_public (shape_at p count) p.dimension p.seed) (changes_in p.record_len entries) h.matrix;
+}
+
+-- its entries move the hint held, whose version and count are the last known then
+abbrev pub changed : Option ServerInfo → Option Hint → ClientState → ℕ → ℕ → ℕ → ℕ → List ℕ → Taken
+changed None hint c asked since now count entries = faulty c BadReply
+changed (Some k) None c asked since now count entries = faulty c BadReply
+changed (Some k) (Some h) c asked since now count entries =
+    if is_changes k asked since now count entries
+    then ended (record c { known = Some (with_current k now count); hint = Some (hint_with_entries k.plan h now count entries) })
+    (Synced Simple now)
+    else faulty c BadReply
+
+-- Changes answer a sync by changed records alone
+abbrev pub takes_changes : Call → ClientState → ℕ → ℕ → ℕ → List ℕ → Taken
+takes_changes (Changes asked) c since now count entries = changed c.known c.hint c asked since now count entries
+takes_changes _ c since now count entries = faulty c BadReply
+
+-- ---- NoDelta
+
 -- the hint held is dropped, and the sync goes on by the parts of the version named, which is the last known
 abbrev pub goes_by_parts : Option ServerInfo → ClientState → ℕ → ℕ → Taken
 goes_by_parts None c version count = faulty c BadReply
@@ -209,9 +253,10 @@ goes_by_parts (Some k) c version count =
     }
     else faulty c BadReply
 
--- NoDelta answers a sync by delta alone
+-- NoDelta answers a sync by delta or by changed records alone
 abbrev pub takes_no_delta : Call → ClientState → ℕ → ℕ → Taken
 takes_no_delta (Delta asked) c version count = goes_by_parts c.known c version count
+takes_no_delta (Changes asked) c version count = goes_by_parts c.known c version count
 takes_no_delta _ c version count = faulty c BadReply
 
 -- ---- Done and Refused
@@ -239,6 +284,7 @@ reaction_to_reply c (frame.HintPart scheme version part words) = takes_part c.ca
 reaction_to_reply c (frame.Answer scheme version words) = takes_answer c.call c scheme version words
 reaction_to_reply c (frame.Stale version count) = takes_stale c.call c version count
 reaction_to_reply c (frame.Delta since now count rows) = takes_delta c.call c since now count rows
+reaction_to_reply c (frame.Changes since now count entries) = takes_changes c.call c since now count entries
 reaction_to_reply c (frame.NoDelta version count) = takes_no_delta c.call c version count
 reaction_to_reply c (frame.Done version) = takes_done c.call c version
 reaction_to_reply c (frame.Refused code) = takes_refused c.call c code

@@ -1,6 +1,7 @@
 -- The kinds and lengths of the frames that a client sends, as a function of what holds no index and no word.
 use Rattle.std.specs.Prelude.{◌≡◌, ◌≢◌, ◌⊎◌, ◌<◌, ◌+◌, ◌*◌, ℕ, List, [], ◌∷◌, ◌++◌, length, map, Bool, true, false, not, ◌&&◌, Option, Some, None, is_some, Result, Ok, Err, ◌==◌, if◌then◌else◌}
 use Rattle.std.specs.List.{flat_map, AllByRecursion}
+use Rattle.digit_pack.specs.Layout.{is_wide}
 use Rattle.frame_codec.specs.declared.frame.Frame.{Frame}
 use Rattle.frame_codec.specs.declared.frame.Frame.TheVariants as frame
 use Rattle.frame_codec.specs.declared.reader.ReadFault.{ReadFault}
@@ -17,13 +18,13 @@ use Rattle.client_core.specs.declared.state.ServerInfo.{ServerInfo}
 use Rattle.client_core.specs.declared.state.Hint.{Hint}
 use Rattle.client_core.specs.declared.state.Call.{Call}
 use Rattle.client_core.specs.declared.state.Call.TheVariants as call
-use Rattle.client_core.specs.States.{shape_known, known_version, known_count, simple_version}
+use Rattle.client_core.specs.States.{is_wide_client, shape_known, known_version, known_count, simple_version}
 use Rattle.client_core.specs.declared.state.CallFault.{CallFault}
 use Rattle.client_core.specs.declared.state.ClientFault.{ClientFault}
 use Rattle.client_core.specs.declared.state.ClientFault.TheVariants.{Memory}
 use Rattle.client_core.specs.declared.state.Event.{Event}
-use Rattle.client_core.specs.Calls.{Want, Hello, Sync, Ask, Edit, Append, Publish, state_after_call, call_frame, refusal, Accepts, Refuses}
-use Rattle.client_core.specs.Replies.{reaction_to_reply, plan_given, is_accepted_welcome, is_current, with_current, row_numbers, is_delta}
+use Rattle.client_core.specs.Calls.{Want, Hello, Sync, Ask, Edit, Append, Publish, call_since, state_after_call, call_frame, refusal, Accepts, Refuses}
+use Rattle.client_core.specs.Replies.{reaction_to_reply, plan_given, is_accepted_welcome, is_current, with_current, row_numbers, is_delta, is_changes}
 use Rattle.client_core.specs.Feeding.{Client, sends_of, events_of, fault_of, takes_all, FeedsClient}
 use Rattle.client_core.specs.Laws.{Happening, Accepted, TurnedDown, Lacking, Taken, Failing, after}
 
@@ -75,11 +76,12 @@ blank_call (Edit i bytes) = BlankEdit (length bytes)
 blank_call (Append bytes) = BlankAppend (length bytes)
 blank_call Publish = BlankPublish
 
--- a reply: its kind, its versions and its counts; the numbers of a Delta's rows; and a Welcome whole
+-- a reply: its kind, its versions and its counts; the numbers of a Delta's rows; and a Welcome and Changes whole
 pub data BlankReply : Type 0 where
   BlankWelcome : (plan : Plan) (count version : ℕ) → BlankReply
   BlankPart : (scheme version part count : ℕ) → BlankReply
   BlankDelta : (since now count dimension : ℕ) (numbers : List ℕ) → BlankReply
+  BlankChanges : (since now count : ℕ) (entries : List ℕ) → BlankReply
   BlankAnswer : (scheme version count : ℕ) → BlankReply
   BlankStale : (version count : ℕ) → BlankReply
   BlankDone : BlankReply
@@ -93,6 +95,7 @@ blank_reply (frame.Welcome profile width record_len groups count version dimensi
     BlankWelcome (plan_given profile width record_len groups dimension seed) count version
 blank_reply (frame.HintPart scheme version part words) = BlankPart scheme version part (length words)
 blank_reply (frame.Delta since now count rows) = BlankDelta since now count rows.dimension (row_numbers rows)
+blank_reply (frame.Changes since now count entries) = BlankChanges since now count entries
 blank_reply (frame.Answer scheme version words) = BlankAnswer scheme version (length words)
 blank_reply (frame.Stale version count) = BlankStale version count
 blank_reply (frame.Done version) = BlankDone
@@ -116,12 +119,13 @@ blank (Lacking want) = BlankLacking (blank_call want)
 blank (Taken reply) = BlankTaken (blank_reply reply)
 blank Failing = BlankFailing
 
--- what the client waits for: nothing; a Welcome; a part of a version's hint; a Delta from a version; an answer of a version; a Done
+-- what the client waits for: nothing; a Welcome; a part of a version's hint; a Delta or Changes from a version; an answer of a version; a Done
 pub data Awaited : Type 0 where
   NoReply : Awaited
   AWelcome : Awaited
   APart : (scheme : Scheme) (version part : ℕ) → Awaited
   ADelta : (since : ℕ) → Awaited
+  TheChanges : (since : ℕ) → Awaited
   AnAnswer : (version : ℕ) → Awaited
   ADone : Awaited
 
@@ -131,6 +135,7 @@ awaited call.Idle = NoReply
 awaited (call.Hello key) = AWelcome
 awaited (call.Sync scheme version part) = APart scheme version part
 awaited (call.Delta since) = ADelta since
+awaited (call.Changes since) = TheChanges since
 awaited (call.Ask i scheme version number) = AnAnswer version
 awaited (call.Edit i bytes) = ADone
 awaited (call.Append bytes) = ADone
@@ -168,20 +173,25 @@ asked_count None hint = 0
 asked_count (Some k) None = query_count Simple (shape_known k)
 asked_count (Some k) (Some h) = query_count h.scheme (shape_known k)
 
--- the version from which a sync of a scheme goes by delta, where this hint is held
+-- the version since which a sync of a scheme asks for what changed, if this hint is held
 abbrev pub named_base : Scheme → Option HintName → Option ℕ
 named_base Simple (Some h) = simple_version h.scheme h.version
 named_base _ hint = None
 
--- the shape of the first frame of a sync: by delta, or by parts
-abbrev pub sync_shape : Option ℕ → FrameShape
-sync_shape (Some since) = frame_shape 4 8
-sync_shape None = frame_shape 3 13
+-- the kind of the frame that asks for what changed: for records in a wide store, for rows of the hint in an ordinary one
+abbrev pub kind_since : Bool → ℕ
+kind_since true = 10
+kind_since false = 4
+
+-- the shape of the first frame of a sync, in a wide store or an ordinary one: by what changed, or by parts
+abbrev pub sync_shape : Bool → Option ℕ → FrameShape
+sync_shape wide (Some since) = frame_shape (kind_since wide) 8
+sync_shape wide None = frame_shape 3 13
 
 -- the shape of a call's frame
 abbrev pub call_shape : Outline → BlankCall → FrameShape
 call_shape x BlankHello = frame_shape 2 34
-call_shape x (BlankSync scheme) = sync_shape (named_base scheme x.hint)
+call_shape x (BlankSync scheme) = sync_shape (is_wide x.profile) (named_base scheme x.hint)
 call_shape x BlankAsk = frame_shape 5 (9 + 4 * asked_count x.known x.hint)
 call_shape x (BlankEdit count) = frame_shape 6 (4 + count)
 call_shape x (BlankAppend count) = frame_shape 9 count
@@ -189,7 +199,7 @@ call_shape x BlankPublish = frame_shape 7 0
 
 -- the outline where a sync begins
 abbrev pub outline_of_sync : Option ℕ → Scheme → Outline → Outline
-outline_of_sync (Some since) scheme x = record x { call = ADelta since }
+outline_of_sync (Some since) scheme x = record x { call = awaited (call_since (is_wide x.profile) since) }
 outline_of_sync None scheme x = record x { call = APart scheme (known_version x.known) 0; hint = None; words = 0 }
 
 -- the outline after an accepted call
@@ -260,6 +270,19 @@ abbrev pub after_delta : Awaited → Outline → ℕ → ℕ → ℕ → ℕ →
 after_delta (ADelta asked) x since now count dimension numbers = after_asked_delta x.known x.hint x asked since now count dimension numbers
 after_delta _ x since now count dimension numbers = fails x
 
+-- Changes give the hint held their version, if they are ones that were asked for
+abbrev pub after_asked_changes : Option ServerInfo → Option HintName → Outline → ℕ → ℕ → ℕ → ℕ → List ℕ → Reacted
+after_asked_changes None hint x asked since now count entries = fails x
+after_asked_changes (Some k) None x asked since now count entries = fails x
+after_asked_changes (Some k) (Some h) x asked since now count entries =
+    if is_changes k asked since now count entries
+    then ends (record x { known = Some (with_current k now count); hint = Some (record h { version = now }) }) else fails x
+
+-- Changes answer a sync by changed records alone
+abbrev pub after_changes : Awaited → Outline → ℕ → ℕ → ℕ → List ℕ → Reacted
+after_changes (TheChanges asked) x since now count entries = after_asked_changes x.known x.hint x asked since now count entries
+after_changes _ x since now count entries = fails x
+
 -- a NoDelta drops the hint held, and the sync goes on by parts
 abbrev pub after_asked_no_delta : Option ServerInfo → Outline → ℕ → ℕ → Reacted
 after_asked_no_delta None x version count = fails x
@@ -271,9 +294,10 @@ after_asked_no_delta (Some k) x version count =
     }
     else fails x
 
--- NoDelta answers a sync by delta alone
+-- NoDelta answers a sync by delta or by changed records alone
 abbrev pub after_no_delta : Awaited → Outline → ℕ → ℕ → Reacted
 after_no_delta (ADelta asked) x version count = after_asked_no_delta x.known x version count
+after_no_delta (TheChanges asked) x version count = after_asked_no_delta x.known x version count
 after_no_delta _ x version count = fails x
 
 -- an answer has the scheme of the hint, the version asked and as many words as these want
@@ -320,6 +344,7 @@ after_reply x (BlankPart scheme version part count) = after_part x.call x scheme
 after_reply x (BlankAnswer scheme version count) = after_answer x.call x scheme version count
 after_reply x (BlankStale version count) = after_stale x.call x version count
 after_reply x (BlankDelta since now count dimension numbers) = after_delta x.call x since now count dimension numbers
+after_reply x (BlankChanges since now count entries) = after_changes x.call x since now count entries
 after_reply x (BlankNoDelta version count) = after_no_delta x.call x version count
 after_reply x BlankDone = after_done x.call x
 after_reply x BlankRefused = after_refused x.call x
@@ -420,7 +445,7 @@ IsFed _ = ⊥
 pub record Happened (old : Client) (piece out : List ℕ) (events : List Event) (new : Client) : Type 0 where
   pub answer : Result (Unit {0}) ReadFault
   pub replies : List Frame
-  pub reads : Feeds old.reader piece answer replies new.reader
+  pub reads : Feeds (is_wide_client old.state) old.reader piece answer replies new.reader
   pub happenings : List Happening
   pub happenings_are : happenings ≡ happenings_of old.state replies answer
   pub fed : AllByRecursion IsFed happenings

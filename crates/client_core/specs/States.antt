@@ -1,6 +1,6 @@
 -- What a client holds, and what is true of it as long as it lives.
 use Rattle.std.specs.Prelude.{◌≡◌, ◌≤◌, ◌<◌, ◌*◌, ◌^◌, ℕ, List, [], length, Bool, true, false, Option, Some, None, ◌==◌}
-use Rattle.digit_pack.specs.Layout.{Shape}
+use Rattle.digit_pack.specs.Layout.{Shape, is_wide}
 unfoldable pub use Rattle.digit_pack.specs.Layout.{is_layout}
 use Rattle.pir_schemes.specs.declared.scheme.Scheme.{Scheme}
 use Rattle.pir_schemes.specs.declared.scheme.Scheme.TheVariants.{Simple, Double}
@@ -10,7 +10,7 @@ use Rattle.client_core.specs.declared.state.ClientState.{ClientState}
 use Rattle.client_core.specs.declared.state.ServerInfo.{ServerInfo}
 use Rattle.client_core.specs.declared.state.Hint.{Hint}
 use Rattle.client_core.specs.declared.state.Call.{Call}
-use Rattle.client_core.specs.declared.state.Call.TheVariants.{Idle, Hello, Sync, Delta, Ask, Edit, Append, Publish}
+use Rattle.client_core.specs.declared.state.Call.TheVariants.{Idle, Hello, Sync, Delta, Changes, Ask, Edit, Append, Publish}
 
 -- no call is outstanding
 abbrev pub is_idle : Call → Bool
@@ -43,10 +43,14 @@ abbrev pub simple_version : Scheme → ℕ → Option ℕ
 simple_version Simple version = Some version
 simple_version Double version = None
 
--- the version from which a sync of a scheme goes by delta: that of the hint held, where both are SimplePIR's
+-- the version since which a sync of a scheme asks for what changed: that of the hint held, if both are SimplePIR's
 abbrev pub delta_base : Scheme → Option Hint → Option ℕ
 delta_base Simple (Some h) = simple_version h.scheme h.version
 delta_base _ hint = None
+
+-- whether a client's streams have the frames of a wide database, by the profile that it greets with
+abbrev pub is_wide_client : ClientState → Bool
+is_wide_client c = is_wide c.profile
 
 -- a client of a profile that holds nothing yet
 abbrev pub fresh_in : ℕ → List ℕ → ℕ → ClientState
@@ -85,15 +89,18 @@ CallFits (Hello key) (Some k) parts = ⊥
 CallFits (Sync scheme version part) None parts = Unit {0}
 CallFits (Sync scheme version part) (Some k) parts = (length parts ≡ 65536 * part) × (length parts ≤ hint_len scheme (shape_known k) k.plan.dimension)
 CallFits (Delta since) known parts = Unit {0}
+CallFits (Changes since) known parts = Unit {0}
 CallFits (Ask index scheme version number) known parts = (index < known_count known) × (number < 2 ^ 62)
 CallFits (Edit index bytes) known parts = Unit {0}
 CallFits (Append bytes) known parts = Unit {0}
 CallFits Publish known parts = Unit {0}
 
--- in a sync by delta the hint held is SimplePIR's, of the version asked from
+-- in a sync by what changed the hint held is SimplePIR's, of the version asked from
 abbrev pub DeltaFits : Call → Option Hint → Type 0
 DeltaFits (Delta since) None = ⊥
 DeltaFits (Delta since) (Some h) = (h.scheme ≡ Simple) × (h.version ≡ since)
+DeltaFits (Changes since) None = ⊥
+DeltaFits (Changes since) (Some h) = (h.scheme ≡ Simple) × (h.version ≡ since)
 DeltaFits _ hint = Unit {0}
 
 -- what is always true of a client

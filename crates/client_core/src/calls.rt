@@ -4,9 +4,10 @@ ghost use Rattle.std.specs.Prelude.{◌≡◌, ◌≤◌, ◌<◌, ◌+◌, ◌^
 ghost use Rattle.frame_codec.specs.Frames.{IsFrame, payload_size, payload_limit, encoding};
 ghost use Rattle.pir_schemes.specs.Schemes.{scheme_byte};
 ghost use Rattle.pir_schemes.specs.Retrievals.{query_words};
+ghost use Rattle.client_core.specs.declared.state.ClientState.{ClientState};
 ghost use Rattle.client_core.specs.States.{IsKnown, shape_known, is_ready, is_idle, known_count, scheme_held, delta_base};
 ghost use Rattle.client_core.specs.Rooms.{IsAskRoom};
-ghost use Rattle.client_core.specs.Calls.{Want, refusal, hello_refusal, change_refusal};
+ghost use Rattle.client_core.specs.Calls.{Want, refusal, hello_refusal, change_refusal, call_since, call_frame};
 
 use crate::state::{Call, CallFault, ClientState, Hint, ServerInfo};
 use frame_codec::{Bytes, Frame, Words, write_frame};
@@ -123,7 +124,8 @@ pub(crate) fn scheme_of(hint: &Option<Hint>) -> Scheme
     }
 }
 
-/// The version from which a sync of a scheme goes by delta: that of the hint held, where both are SimplePIR's.
+/// The version since which a sync of a scheme asks for what changed: that of the hint held, if both are
+/// SimplePIR's.
 pub(crate) fn base_of(scheme: Scheme, hint: &Option<Hint>) -> Option<u64>
     ensures { result ≡ delta_base scheme hint.now }
 {
@@ -133,6 +135,30 @@ pub(crate) fn base_of(scheme: Scheme, hint: &Option<Hint>) -> Option<u64>
             Scheme::Double => None,
         },
         _ => None,
+    }
+}
+
+/// The call that asks for what changed since a version: for records in a wide store, for rows of the hint in an
+/// ordinary one.
+pub(crate) fn call_since(wide: bool, since: u64) -> Call
+    ensures { result ≡ call_since wide since }
+{
+    if wide {
+        Call::Changes { since }
+    } else {
+        Call::Delta { since }
+    }
+}
+
+/// The frame of that call.
+pub(crate) fn frame_since(wide: bool, since: u64) -> Frame
+    ensures frame { (c : ClientState) → result ≡ call_frame c (call_since wide since) }
+    ensures size { payload_size result ≤ payload_limit }
+{
+    if wide {
+        Frame::ChangesAsk { since }
+    } else {
+        Frame::DeltaAsk { since }
     }
 }
 

@@ -13,14 +13,15 @@ ghost use Rattle.client_core.specs.Feeding.{Client, FeedsClient};
 ghost use Rattle.client_core.specs.Resuming.{IsDropped, IsResumed, saved_of};
 
 use crate::calls::{
-    append_bytes, ask_room, base_of, edit_bytes, encoded, may_ask, may_change, may_hello,
-    query_bytes, scheme_of, spend_number,
+    append_bytes, ask_room, base_of, call_since, edit_bytes, encoded, frame_since, may_ask,
+    may_change, may_hello, query_bytes, scheme_of, spend_number,
 };
 use crate::parts::Parts;
 use crate::preparing::{next_masks, serve_next};
 use crate::resuming::{SavedClient, may_hold};
 use crate::state::{Call, CallFault, ClientFault, ClientState, Event, Hint, ServerInfo};
 use crate::taking::take_replies;
+use digit_pack::is_wide;
 use frame_codec::{Bytes, Bytes32, Frame, Reader};
 use matrix_u32::Kernel;
 use pir_schemes::{QueryMasks, Scheme, SecretSeed, client_profile};
@@ -227,9 +228,9 @@ impl<K: Kernel> ClientCore<K> {
     }
 
     /// Asks for the hint of the last version known, part by part, and drops the hint held. A client that
-    /// holds a SimplePIR hint asks for the next one by its differences from that one, and keeps it
-    /// meanwhile; where the server hasn't these, the parts are asked for. Gives the bytes to send; `feed`
-    /// gives those that ask for the further parts.
+    /// holds a SimplePIR hint asks for what changed since, and keeps the hint meanwhile: for the rows of the hint,
+    /// or, of a wide store, for the records, by which it moves the hint itself. If the server doesn't have these, the
+    /// parts are asked for. Gives the bytes to send; `feed` gives those that ask for the further parts.
     ///
     /// Refused in this order: `Failed`, `NotReady` (no Welcome came yet), `Busy`, `Memory`. A refusal changes
     /// nothing.
@@ -242,8 +243,9 @@ impl<K: Kernel> ClientCore<K> {
     {
         let known = may_change(&self.state)?;
         if let Some(since) = base_of(scheme, &self.state.hint) {
-            let bytes = encoded(self.alloc, &Frame::DeltaAsk { since })?;
-            self.state.call = Call::Delta { since };
+            let wide = is_wide(self.state.profile);
+            let bytes = encoded(self.alloc, &frame_since(wide, since))?;
+            self.state.call = call_since(wide, since);
             return Ok(bytes);
         }
         let version = known.version;
@@ -417,7 +419,8 @@ impl<K: Kernel> ClientCore<K> {
             };
         }
         let mut frames = Vec::new(self.alloc);
-        let answer = self.reader.feed(piece, &mut frames);
+        let wide = is_wide(self.state.profile);
+        let answer = self.reader.feed(wide, piece, &mut frames);
         let fault = take_replies(
             self.alloc,
             self.kernel,

@@ -120,8 +120,8 @@ fn put_row(matrix: &mut Matrix, number: usize, words: &[u32])
     matrix.row_mut(number).copy_from_slice(words);
 }
 
-/// A NoDelta answers a sync by delta: the hint held is dropped, and the parts of the version named are asked
-/// for.
+/// A NoDelta answers a sync by delta or by changed records: the hint held is dropped, and the parts of the version
+/// named are asked for.
 pub(crate) fn take_no_delta(
     alloc: Global,
     state: &mut ClientState,
@@ -131,9 +131,10 @@ pub(crate) fn take_no_delta(
     ensures state { state.new ≡ (takes_no_delta state.old.call state.old version count).state }
     ensures reaction { result ≡ (takes_no_delta state.old.call state.old version count).reaction }
 {
-    let Call::Delta { .. } = state.call else {
-        return fails(state, ClientFault::BadReply);
-    };
+    match &state.call {
+        Call::Delta { .. } | Call::Changes { .. } => {}
+        _ => return fails(state, ClientFault::BadReply),
+    }
     let Some(known) = state.known else {
         return fails(state, ClientFault::BadReply);
     };

@@ -11,6 +11,7 @@ ghost use Rattle.client_core.specs.Laws.{
   SyncedHintIsMadeOfParts,
   PartsOfAHintMakeIt,
   DeltaMakesTheHint,
+  ChangesMakeTheHint,
 };
 ghost use Rattle.client_core.specs.Resuming.{
   ResumedIsTheSaved,
@@ -39,6 +40,11 @@ pub fn parts_of_a_hint_make_it()
 /// hint.
 pub fn delta_makes_the_hint()
     ensures { DeltaMakesTheHint }
+{}
+
+/// Changes whose entries are what differs between two lists of records make the hint of the one, if it is held, that of the other.
+pub fn changes_make_the_hint()
+    ensures { ChangesMakeTheHint }
 {}
 
 /// The first event that comes of a piece is one that the outstanding call can end with: of the record, the

@@ -9,6 +9,7 @@
 #![tactic(auto)]
 
 mod calls;
+mod changes;
 mod client;
 mod deltas;
 pub mod laws;

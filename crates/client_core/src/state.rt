@@ -67,6 +67,10 @@ pub enum Call {
     Delta {
         since: u64,
     },
+    /// The records that have changed since the version of the SimplePIR hint held were asked for.
+    Changes {
+        since: u64,
+    },
     /// The query of the scheme for record `index` was sent; `number` is that of the retrieval under the seed.
     Ask {
         index: u32,

@@ -8,6 +8,7 @@ ghost use Rattle.client_core.specs.States.{IsState, Keeps};
 ghost use Rattle.client_core.specs.Replies.{reaction_to_reply};
 ghost use Rattle.client_core.specs.Feeding.{sends_of, events_of, fault_of, takes_all, ends_with, codec_fault, Follows, BreaksOff};
 
+use crate::changes::take_changes;
 use crate::deltas::{take_delta, take_no_delta};
 use crate::replies::{
     take_answer, take_done, take_other, take_part, take_refused, take_stale, take_welcome,
@@ -69,6 +70,12 @@ fn take_frame<K: Kernel>(
             count,
             rows,
         } => Ok(take_delta(state, *since, *now, *count, rows)),
+        Frame::Changes {
+            since,
+            now,
+            count,
+            entries,
+        } => take_changes(alloc, kernel, state, *since, *now, *count, entries),
         Frame::NoDelta { version, count } => Ok(take_no_delta(alloc, state, *version, *count)),
         Frame::Done { version } => Ok(take_done(state, *version)),
         Frame::Refused { code } => Ok(take_refused(alloc, state, *code)),

@@ -99,7 +99,7 @@ fn two_rows_after_two_publications_on<K: Kernel>(
 /// The words of the query in a frame, of which a server answers the digits 10 and 100 times these.
 fn answered_word(rt: &(impl Abort + AllocGlobal), sent: &[u8]) -> Result<u32, Fail> {
     let mut frames = Vec::new(rt.alloc());
-    Reader::new(rt.alloc()).feed(sent, &mut frames)?;
+    Reader::new(rt.alloc()).feed(false, sent, &mut frames)?;
     let Some(Frame::Query { words, .. }) = frames.pop() else {
         panic!(rt; "no query");
     };

@@ -123,7 +123,7 @@ fn words_of_query<K: Kernel>(
     fetches(rt, &mut client, 1, &[TWO_RECORDS_HINT])?;
     let sent = call(&mut client, Wanted::Ask(index))?;
     let mut frames = Vec::new(rt.alloc());
-    Reader::new(rt.alloc()).feed(sent.as_slice(), &mut frames)?;
+    Reader::new(rt.alloc()).feed(false, sent.as_slice(), &mut frames)?;
     let Some(Frame::Query { words, .. }) = frames.pop() else {
         panic!(rt; "no query");
     };

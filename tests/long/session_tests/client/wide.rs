@@ -1,6 +1,7 @@
 //! Clients of wide stores and of ordinary ones: how each greets, which Welcome each takes, and which sizes a wide one takes.
 
 use super::*;
+use frame_codec::Bytes;
 
 /// Two records of one byte in a wide store.
 const WIDE: Store = Store {
@@ -156,7 +157,7 @@ fn asks_for_the_hint<K: Kernel>(
 }
 
 // A client that asks with the hint of version 1 for what changed since.
-fn asks_for_a_delta<K: Kernel>(
+fn asks_for_changes<K: Kernel>(
     rt: &(impl Abort + AllocGlobal),
     kernel: K,
 ) -> Result<ClientCore<K>, Fail> {
@@ -167,16 +168,16 @@ fn asks_for_a_delta<K: Kernel>(
     Ok(client)
 }
 
-// A Delta from version 1 to 2 with no rows, and this count.
-fn empty_delta(rt: &(impl Abort + AllocGlobal), count: u32) -> Result<Vec<u8>, Fail> {
-    let rows = Rows::new(1, Words::new(Vec::new(rt.alloc())));
+// Changes from version 1 to 2 with no entries, and this count.
+fn no_changes(rt: &(impl Abort + AllocGlobal), count: u32) -> Result<Vec<u8>, Fail> {
+    let entries = Bytes::new(Vec::new(rt.alloc()));
     encode(
         rt,
-        Frame::Delta {
+        Frame::Changes {
             since: 1,
             now: 2,
             count,
-            rows,
+            entries,
         },
     )
 }
@@ -186,11 +187,11 @@ fn counts_on<K: Kernel>(rt: &(impl Abort + AllocGlobal), kernel: K) -> Result<()
         let frame = stale(rt, 2, count)?;
         let wanted = if good { "stale 2 " } else { "BadReply " };
         feeds(rt, &mut asks_for_the_hint(rt, kernel)?, frame.as_slice(), wanted)?;
-        let frame = empty_delta(rt, count)?;
+        let frame = no_changes(rt, count)?;
         let wanted = if good { "synced simple 2 " } else { "BadReply " };
-        feeds(rt, &mut asks_for_a_delta(rt, kernel)?, frame.as_slice(), wanted)?;
+        feeds(rt, &mut asks_for_changes(rt, kernel)?, frame.as_slice(), wanted)?;
         let frame = no_delta(rt, 2, count)?;
-        let mut client = asks_for_a_delta(rt, kernel)?;
+        let mut client = asks_for_changes(rt, kernel)?;
         if good {
             let asked = [0x0d, 0, 0, 0, 0x03, 0, 2, 0, 0, 0, 0, 0, 0, 0, 0, 0, 0, 0];
             asks_on(rt, &mut client, frame.as_slice(), "", &asked)?;
