@@ -16,7 +16,7 @@ use Rattle.client_core.specs.declared.state.Event.{Event}
 use Rattle.client_core.specs.States.{delta_base}
 use Rattle.client_core.specs.Feeding.{Client, Course, start, course_after_reply, course_more, runs, takes_all, failing, ends_with, codec_fault, Follows, BreaksOff, FeedsOpen, FeedsFailed, FeedsClient}
 use Rattle.client_core.specs.Calls.{Want, Hello, Sync, Ask, Edit, Append, Publish, sync_begun}
-use Rattle.client_core.specs.Replies.{Taken, plan_given, reaction_to_reply, takes_welcome, more_parts, takes_asked_part, takes_part, answered, takes_answer, reaction_to_stale, takes_stale, moved, takes_delta, goes_by_parts, takes_no_delta, takes_done, takes_refused}
+use Rattle.client_core.specs.Replies.{Taken, plan_given, reaction_to_reply, takes_welcome, more_parts, takes_asked_part, takes_part, answered, takes_answer, reaction_to_stale, takes_stale, moved, takes_delta, changed, takes_changes, goes_by_parts, takes_no_delta, takes_done, takes_refused}
 use Rattle.client_core.specs.Laws.{Happening, Accepted, TurnedDown, Lacking, Taken as Reply, Failing, after}
 use Rattle.client_core.proofs.NumberLaws.{takes_number, sync_number}
 
@@ -70,12 +70,23 @@ delta_seed : (k : Call) (c : ClientState) (since now count : ℕ) (rows : RowLis
 delta_seed (call.Delta asked) c since now count rows = moved_seed c.known c.hint c asked since now count rows
 delta_seed _ c since now count rows = refl
 
+changed_seed : (known : Option ServerInfo) (hint : Option Hint) (c : ClientState) (asked since now count : ℕ) (entries : List ℕ) →
+    (changed known hint c asked since now count entries).state.seed ≡ c.seed
+changed_seed None hint c asked since now count entries = refl
+changed_seed (Some k) None c asked since now count entries = refl
+changed_seed (Some k) (Some h) c asked since now count entries = either c.seed _ _ _ refl refl
+
+changes_seed : (k : Call) (c : ClientState) (since now count : ℕ) (entries : List ℕ) → (takes_changes k c since now count entries).state.seed ≡ c.seed
+changes_seed (call.Changes asked) c since now count entries = changed_seed c.known c.hint c asked since now count entries
+changes_seed _ c since now count entries = refl
+
 by_parts_seed : (known : Option ServerInfo) (c : ClientState) (version count : ℕ) → (goes_by_parts known c version count).state.seed ≡ c.seed
 by_parts_seed None c version count = refl
 by_parts_seed (Some k) c version count = either c.seed _ _ _ refl refl
 
 no_delta_seed : (k : Call) (c : ClientState) (version count : ℕ) → (takes_no_delta k c version count).state.seed ≡ c.seed
 no_delta_seed (call.Delta asked) c version count = by_parts_seed c.known c version count
+no_delta_seed (call.Changes asked) c version count = by_parts_seed c.known c version count
 no_delta_seed _ c version count = refl
 
 done_seed : (k : Call) (c : ClientState) (version : ℕ) → (takes_done k c version).state.seed ≡ c.seed
@@ -96,6 +107,7 @@ takes_seed c (frame.HintPart scheme version part words) = part_seed c.call c sch
 takes_seed c (frame.Answer scheme version words) = answer_seed c.call c scheme version words
 takes_seed c (frame.Stale version count) = stale_seed c.call c version count
 takes_seed c (frame.Delta since now count rows) = delta_seed c.call c since now count rows
+takes_seed c (frame.Changes since now count entries) = changes_seed c.call c since now count entries
 takes_seed c (frame.NoDelta version count) = no_delta_seed c.call c version count
 takes_seed c (frame.Done version) = done_seed c.call c version
 takes_seed c (frame.Refused code) = refused_seed c.call c code

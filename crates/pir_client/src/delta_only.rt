@@ -1,11 +1,11 @@
-//! A connection over which a hint moves by delta alone.
+//! A connection over which a hint moves by delta alone, or in a wide store by the records that changed.
 
 use crate::server::Server;
 use std::cell::Cell;
 use std::io;
 use std::io::{Read, Write};
 
-/// How many bytes an ask for a delta has.
+/// How many bytes an ask for a delta has, and one for changed records.
 const DELTA_ASK_LEN: usize = 13;
 
 /// The frame Refused, with the code for a part that there is not.

@@ -16,16 +16,16 @@ use Rattle.client_core.specs.declared.state.ClientState.{ClientState}
 use Rattle.client_core.specs.declared.state.ServerInfo.{ServerInfo}
 use Rattle.client_core.specs.declared.state.Hint.{Hint}
 use Rattle.client_core.specs.declared.state.Call.{Call}
-use Rattle.client_core.specs.declared.state.Call.TheVariants.{Idle, Hello, Sync, Delta, Ask, Edit, Append, Publish}
-use Rattle.client_core.specs.States.{is_idle, is_ready, known_version, known_count, scheme_held, simple_version, delta_base}
-use Rattle.client_core.specs.Calls.{refusal, sync_begun, state_after_call, call_frame}
+use Rattle.client_core.specs.declared.state.Call.TheVariants.{Idle, Hello, Sync, Delta, Changes, Ask, Edit, Append, Publish}
+use Rattle.client_core.specs.States.{is_wide_client, is_idle, is_ready, known_version, known_count, scheme_held, simple_version, delta_base}
+use Rattle.client_core.specs.Calls.{call_since, refusal, sync_begun, state_after_call, call_frame}
 use Rattle.client_core.specs.Calls.{Hello as want_hello, Sync as want_sync, Ask as want_ask}
 use Rattle.client_core.specs.Replies.{reaction_to_reply}
 use Rattle.client_core.specs.Feeding.{takes_all, fault_of}
 use Rattle.pir_world.specs.Runs.{Wire, Link, Entry, sent, arrived, beyond, link_called, link_reported, link_served, turn_of, reported_by, reacts, reader_key}
 use Rattle.pir_world.specs.Versions.{seed_of}
 use Rattle.pir_world.specs.Headlines.{IsRight}
-use Rattle.pir_world.specs.Invariants.{GoodHistory, KnownIs, SyncIs, IsReply, InFlight, Phase, LinkInvariant}
+use Rattle.pir_world.specs.Invariants.{CallIs, DeltaIs, GoodHistory, KnownIs, SyncIs, IsReply, InFlight, Phase, LinkInvariant}
 use Rattle.pir_world.proofs.Wires.{none_arrives, one_arrives, Split, IsFew, split_few}
 use Rattle.pir_world.proofs.Serves.{served_link}
 use Rattle.pir_world.proofs.Takes.{ClientInv, taken, hint_long}
@@ -37,6 +37,7 @@ idle_is Idle e = refl
 idle_is (Hello key) e = absurd cc
 idle_is (Sync scheme v p) e = absurd cc
 idle_is (Delta since) e = absurd cc
+idle_is (Changes since) e = absurd cc
 idle_is (Ask i s v n) e = absurd cc
 idle_is (Edit i bytes) e = absurd cc
 idle_is (Append bytes) e = absurd cc
@@ -110,6 +111,17 @@ some_known : (k : Option ServerInfo) → is_some k ≡ true → (y : ServerInfo)
 some_known None e = absurd cc
 some_known (Some y) e = (y, refl)
 
+-- what holds of a call that asks for what changed, of records in a wide client
+since_is : (x : Setting) (h : History) (c : ClientState) (since : ℕ) (wide : Bool) → is_wide_client c ≡ wide → DeltaIs c since →
+    CallIs x h c (call_since wide since)
+since_is x h c since true e d = (d, e)
+since_is x h c since false e d = d
+
+since_flies : (x : Setting) (h : History) (st : Standing) (seed : List ℕ) (c : ClientState) (since : ℕ) (wide : Bool) (up down : List Frame) →
+    InFlight x h st seed c (call_since wide since) up down → Phase x h st seed c (call_since wide since) up down
+since_flies x h st seed c since true up down f = f
+since_flies x h st seed c since false up down f = f
+
 -- the link where a sync has begun
 abbrev pub link_begun : Option ℕ → Scheme → Link → Link
 link_begun base s l =
@@ -154,6 +166,8 @@ module _ (x : Setting) (h : History) (seed : List ℕ) (l : Link) (g : GoodHisto
   sync_begins (Some since) scheme is known idle =
       let y = some_known l.client.known known in
       let b = base_is scheme l.client.hint since is in
+      let c : ClientState = sync_begun (Some since) scheme l.client in
+      let d : DeltaIs c since = record { k = y.0; known_is = y.1; hint = b.hint; hint_is = b.held; scheme_is = b.simple; version_is = b.version } in
       record {
         seed_is = i.seed_is;
         profile_is = i.profile_is;
@@ -161,8 +175,9 @@ module _ (x : Setting) (h : History) (seed : List ℕ) (l : Link) (g : GoodHisto
         unclosed = i.unclosed;
         known = i.known;
         hint = i.hint;
-        call = record { k = y.0; known_is = y.1; hint = b.hint; hint_is = b.held; scheme_is = b.simple; version_is = b.version };
-        phase = flight x h l.standing seed (sync_begun (Some since) scheme l.client) (Delta since) l.up.frames l.down.frames (nothing_waits idle);
+        call = since_is x h c since (is_wide_client l.client) refl d;
+        phase = since_flies x h l.standing seed c since (is_wide_client l.client) _ _
+            (flight x h l.standing seed c (call_since (is_wide_client l.client) since) l.up.frames l.down.frames (nothing_waits idle));
       }
 
   pub called_sync : (scheme : Scheme) → refusal (want_sync scheme) l.client ≡ None → LinkInvariant x h seed (link_called (want_sync scheme) l)
@@ -283,6 +298,7 @@ module _ (law : RetrievalGivesTheRecord) (x : Setting) (seeds : List (List ℕ))
   reported_phase most (Hello key) e p = reported_flight most (Hello key) e p
   reported_phase most (Sync scheme v q) e p = reported_flight most (Sync scheme v q) e p
   reported_phase most (Delta since) e p = reported_flight most (Delta since) e p
+  reported_phase most (Changes since) e p = reported_flight most (Changes since) e p
   reported_phase most (Ask j z v m) e p = reported_flight most (Ask j z v m) e p
   reported_phase most (Edit j bytes) e p = absurd p
   reported_phase most (Append bytes) e p = absurd p
@@ -307,6 +323,7 @@ module _ (law : RetrievalGivesTheRecord) (x : Setting) (seeds : List (List ℕ))
   prefix_phase (Hello key) fs more e a p = prefix_flight (Hello key) fs more e a p
   prefix_phase (Sync scheme v q) fs more e a p = prefix_flight (Sync scheme v q) fs more e a p
   prefix_phase (Delta since) fs more e a p = prefix_flight (Delta since) fs more e a p
+  prefix_phase (Changes since) fs more e a p = prefix_flight (Changes since) fs more e a p
   prefix_phase (Ask j z v m) fs more e a p = prefix_flight (Ask j z v m) fs more e a p
   prefix_phase (Edit j bytes) fs more e a p = absurd p
   prefix_phase (Append bytes) fs more e a p = absurd p
@@ -337,6 +354,7 @@ few_frames x h st seed c Idle up down p = (inl p.0, inl p.1)
 few_frames x h st seed c (Hello key) up down p = few_flight x h st seed c (Hello key) up down p
 few_frames x h st seed c (Sync scheme v q) up down p = few_flight x h st seed c (Sync scheme v q) up down p
 few_frames x h st seed c (Delta since) up down p = few_flight x h st seed c (Delta since) up down p
+few_frames x h st seed c (Changes since) up down p = few_flight x h st seed c (Changes since) up down p
 few_frames x h st seed c (Ask j z v m) up down p = few_flight x h st seed c (Ask j z v m) up down p
 few_frames x h st seed c (Edit j bytes) up down p = absurd p
 few_frames x h st seed c (Append bytes) up down p = absurd p

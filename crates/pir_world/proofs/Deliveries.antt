@@ -7,7 +7,7 @@ use Rattle.frame_codec.specs.declared.frame.Frame.{Frame}
 use Rattle.frame_codec.specs.declared.reader.ReadFault.{ReadFault}
 use Rattle.frame_codec.specs.declared.reader.ReadFault.TheVariants as read_fault
 use Rattle.frame_codec.specs.Frames.{IsFrame, encoding}
-use Rattle.frame_codec.specs.Streams.{Feeds}
+use Rattle.frame_codec.specs.Streams.{Feeds, IsFrameOf}
 use Rattle.version_store.specs.Histories.{History, StoreState, StandsFor}
 use Rattle.server_core.specs.declared.standing.Standing.{Standing}
 use Rattle.server_core.specs.Serving.{Setting, setting_of, ServesAll, is_closed}
@@ -22,6 +22,9 @@ use Rattle.pir_schemes.specs.Laws.{RetrievalGivesTheRecord}
 use Rattle.pir_world.specs.Versions.{seed_of}
 use Rattle.pir_world.specs.Invariants.{GoodHistory, LinkInvariant}
 use Rattle.pir_world.specs.Sides.{Side, Carries, EndIs, TakesDelivery, prefix, rest}
+use Rattle.client_core.specs.States.{is_wide_client}
+use Rattle.server_core.specs.Serving.{is_wide_setting}
+use Rattle.pir_world.proofs.FrameKinds.{all_frames, profile_wide, sends_known, turn_known}
 use Rattle.pir_world.proofs.Bytes.{delivered, memory_alone, prefix_read, carries_more}
 use Rattle.pir_world.proofs.Wires.{Split, IsFew, split_prefix}
 use Rattle.pir_world.proofs.Serves.{served_link}
@@ -30,46 +33,47 @@ use Rattle.pir_world.proofs.Calls.{few_frames, prefix_good}
 -- ---- the client
 
 -- what a delivery to the client leaves where it had no fault
-pub record EndReported (e : Side) (session : Session) (l : Link) (most : ℕ) (events : List Event) : Type 0 where
-  pub end_is : EndIs e session (link_reported most l)
+pub record EndReported (wide : Bool) (e : Side) (session : Session) (l : Link) (most : ℕ) (events : List Event) : Type 0 where
+  pub end_is : EndIs wide e session (link_reported most l)
   pub events_are : events ≡ (takes_all l.client (arrived l.down most)).events
   pub good : (takes_all l.client (arrived l.down most)).fault ≡ None
 
 module _ (law : RetrievalGivesTheRecord) (x : Setting) (seeds : List (List ℕ)) (k : ℕ) (h : History) (l : Link) (g : GoodHistory x h)
-    (inv : LinkInvariant x h (seed_of seeds k) l) (e e2 : Side) (session : Session) (most : ℕ) (i : EndIs e session l) where
+    (inv : LinkInvariant x h (seed_of seeds k) l) (e e2 : Side) (session : Session) (most : ℕ) (i : EndIs (is_wide_setting x) e session l) where
   abbrev Reported : List Event → Option ClientFault → Type 0
-  Reported events fault = (fault ≡ Some Memory) ⊎ ((fault ≡ None) × EndReported e2 session l most events)
+  Reported events fault = (fault ≡ Some Memory) ⊎ ((fault ≡ None) × EndReported (is_wide_setting x) e2 session l most events)
 
   -- the frames read are good replies
-  read_good : (answer : Result (Unit {0}) ReadFault) (frames : List Frame) → Feeds e.client.reader (prefix most e.down) answer frames e2.client.reader →
+  read_good : (answer : Result (Unit {0}) ReadFault) (frames : List Frame) → Feeds (is_wide_setting x) e.client.reader (prefix most e.down) answer frames e2.client.reader →
       (takes_all e.client.state frames).fault ≡ None
   read_good answer frames reads =
       let m : ℕ = min most (length e.down) in
-      let r = prefix_read e.client.reader e.down l.down m answer frames e2.client.reader i.down reads in
+      let r = prefix_read (is_wide_setting x) e.client.reader e.down l.down m answer frames e2.client.reader i.down reads in
       let few = few_frames x h l.standing (seed_of seeds k) l.client l.client.call l.up.frames l.down.frames inv.phase in
       let f : (takes_all l.client frames).fault ≡ None = prefix_good law x seeds k h l g inv frames r.0 (split_prefix l.down.frames frames r.0 few.1 r.1) in
       subst (λ (c : ClientState). (takes_all c frames).fault ≡ None) (sym i.client_is) f
 
-  reported_well : (frames : List Frame) (done : Unit {0}) → Feeds e.client.reader (prefix most e.down) (Ok done) frames e2.client.reader →
+  reported_well : (frames : List Frame) (done : Unit {0}) → Feeds (is_wide_setting x) e.client.reader (prefix most e.down) (Ok done) frames e2.client.reader →
       (out : List ℕ) (events : List Event)
       → Gives (takes_all e.client.state frames) out events → e2.client.state ≡ (takes_all e.client.state frames).state →
       (takes_all e.client.state frames).fault ≡ None
-      → e2.up ≡ e.up ++ out → e2.down ≡ rest most e.down → EndReported e2 session l most events
+      → e2.up ≡ e.up ++ out → e2.down ≡ rest most e.down → EndReported (is_wide_setting x) e2 session l most events
   reported_well frames done reads out events gives state good up down =
-      let d = delivered e.client.reader e.down l.down most (min most (length e.down)) frames e2.client.reader refl i.down reads in
+      let d = delivered (is_wide_setting x) e.client.reader e.down l.down most (min most (length e.down)) frames e2.client.reader refl i.down reads in
       let same : takes_all e.client.state frames ≡ takes_all l.client (arrived l.down most) = ap (λ (c : ClientState). takes_all c frames) i.client_is
       ∙ ap (λ (fs : List Frame). takes_all l.client fs) d.frames_are in
-      let each : AllByRecursion IsFrame (takes_all l.client (arrived l.down most)).sends =
-      subst (λ (c : Course). AllByRecursion IsFrame c.sends) same gives.each in
+      let each : AllByRecursion (IsFrameOf (is_wide_setting x)) (takes_all l.client (arrived l.down most)).sends =
+      all_frames (is_wide_setting x) _ (subst (λ (c : Course). AllByRecursion IsFrame c.sends) same gives.each)
+      (sends_known (is_wide_setting x) l.client (arrived l.down most)) in
       let more : e2.up ≡ e.up ++ flat_map encoding (takes_all l.client (arrived l.down most)).sends = up
       ∙ ap (λ (b : List ℕ). e.up ++ b) (gives.written ∙ ap (λ (c : Course). flat_map encoding c.sends) same) in
       record {
         end_is = record {
           client_is = state ∙ ap (λ (c : Course). c.state) same;
           standing_is = i.standing_is;
-          up = subst (λ (b : List ℕ). Carries session.unfinished b (sent l.up (takes_all l.client (arrived l.down most)).sends)) (sym more)
-              (carries_more session.unfinished e.up l.up (takes_all l.client (arrived l.down most)).sends each i.up);
-          down = subst (λ (b : List ℕ). Carries e2.client.reader b (beyond l.down most)) (sym down) d.rest;
+          up = subst (λ (b : List ℕ). Carries (is_wide_setting x) session.unfinished b (sent l.up (takes_all l.client (arrived l.down most)).sends)) (sym more)
+              (carries_more (is_wide_setting x) session.unfinished e.up l.up (takes_all l.client (arrived l.down most)).sends each i.up);
+          down = subst (λ (b : List ℕ). Carries (is_wide_setting x) e2.client.reader b (beyond l.down most)) (sym down) d.rest;
         };
         events_are = gives.reported ∙ ap (λ (c : Course). c.events) same;
         good = sym (ap (λ (c : Course). c.fault) same) ∙ good;
@@ -79,7 +83,7 @@ module _ (law : RetrievalGivesTheRecord) (x : Setting) (seeds : List (List ℕ))
   fails_after : (c : Course) → c.fault ≡ None → (failing c (Some Memory)).fault ≡ Some Memory
   fails_after c e = ap (λ (o : Option ClientFault). (cond (is_some o) c (record c { state = record c.state { failed = true }; fault = Some Memory })).fault) e
 
-  followed : (answer : Result (Unit {0}) ReadFault) (frames : List Frame) → Feeds e.client.reader (prefix most e.down) answer frames e2.client.reader →
+  followed : (answer : Result (Unit {0}) ReadFault) (frames : List Frame) → Feeds (is_wide_setting x) e.client.reader (prefix most e.down) answer frames e2.client.reader →
       (out : List ℕ) (events : List Event) (fault : Option ClientFault)
       → Follows (ends_with (takes_all e.client.state frames) answer) out events fault e2.client.state → e2.up ≡ e.up ++ out → e2.down ≡ rest most e.down →
       Reported events fault
@@ -87,7 +91,7 @@ module _ (law : RetrievalGivesTheRecord) (x : Setting) (seeds : List (List ℕ))
       let good = read_good (Ok done) frames reads in
       inr (f.fault_is ∙ good, reported_well frames done reads out events f.gives f.state good up down)
   followed (Err stop) frames reads out events fault f up down =
-      let only : stop ≡ read_fault.Memory = memory_alone e.client.reader e.down l.down (min most (length e.down)) stop frames e2.client.reader i.down reads in
+      let only : stop ≡ read_fault.Memory = memory_alone (is_wide_setting x) e.client.reader e.down l.down (min most (length e.down)) stop frames e2.client.reader i.down reads in
       let at : fault ≡ (ends_with (takes_all e.client.state frames) (Err read_fault.Memory)).fault = f.fault_is
       ∙ ap (λ (r : ReadFault). (ends_with (takes_all e.client.state frames) (Err r)).fault) only in
       inl (at ∙ fails_after (takes_all e.client.state frames) (read_good (Err stop) frames reads))
@@ -95,11 +99,13 @@ module _ (law : RetrievalGivesTheRecord) (x : Setting) (seeds : List (List ℕ))
   pub reported_end : (out : List ℕ) (events : List Event) (fault : Option ClientFault) → TakesDelivery most e out events fault e2 → Reported events fault
   reported_end out events fault t =
       let alive : e.client.state.failed ≡ false = ap (λ (c : ClientState). c.failed) i.client_is ∙ inv.alive in
+      let wide : is_wide_client e.client.state ≡ is_wide_setting x =
+      ap is_wide_client i.client_is ∙ profile_wide x.plan l.client.profile inv.profile_is in
       let f : FeedsOpen e.client (prefix most e.down) out events fault e2.client =
       subst (λ (b : Bool). MatchBool b (FeedsFailed e.client out events fault e2.client)
       (FeedsOpen e.client (prefix most e.down) out events fault e2.client)) alive t.fed in
       elim f.takes [
-        | inl w ↦ followed f.answer f.frames f.reads out events fault w t.up t.down
+        | inl w ↦ followed f.answer f.frames (subst (λ (b : Bool). Feeds b e.client.reader (prefix most e.down) f.answer f.frames e2.client.reader) wide f.reads) out events fault w t.up t.down
         | inr b ↦ inl b.fault_is
       ]
 
@@ -148,10 +154,10 @@ pub record EndServed (x : Setting) (k : ℕ) (h : History) (l : Link) (most : �
   pub short : Bool
   pub setting_is : setting_of store ≡ x
   pub store_is : StandsFor store (turn_of x short k most h l).history
-  pub end_is : EndIs e2 after (link_served x short k most h l)
+  pub end_is : EndIs (is_wide_setting x) e2 after (link_served x short k most h l)
 
 module _ (x : Setting) (seeds : List (List ℕ)) (k : ℕ) (h : History) (l : Link) (good : GoodHistory x h) (inv : LinkInvariant x h (seed_of seeds k) l) (e e2 : Side)
-    (session after : Session) (store : StoreState) (most : ℕ) (replies : List ℕ) (i : EndIs e session l) where
+    (session after : Session) (store : StoreState) (most : ℕ) (replies : List ℕ) (i : EndIs (is_wide_setting x) e session l) where
   unclosed : is_closed session.standing ≡ false
   unclosed = ap is_closed i.standing_is ∙ inv.unclosed
 
@@ -165,17 +171,18 @@ module _ (x : Setting) (seeds : List (List ℕ)) (k : ℕ) (h : History) (l : Li
       inv.seed_is inv.profile_is inv.known inv.hint inv.call inv.phase).unclosed
 
   at_ok : (f : Fed x h session (prefix most e.up) (Ok tt) store after [] replies) (frames reported more : List Frame) (middle : Standing) →
-      Feeds session.unfinished (prefix most e.up) (Ok tt) frames after.unfinished
+      Feeds (is_wide_setting x) session.unfinished (prefix most e.up) (Ok tt) frames after.unfinished
       → IsTurn x k h session.standing frames f.history middle reported → (after.standing ≡ middle) × (more ≡ []) → f.replies ≡ reported ++ more
       → e2.client ≡ e.client → e2.up ≡ rest most e.up → e2.down ≡ e.down ++ replies → EndServed x k h l most store e2 after
   at_ok f frames reported more middle reads turn ends all client up down =
-      let d = delivered session.unfinished e.up l.up most (min most (length e.up)) frames after.unfinished refl i.up reads in
+      let d = delivered (is_wide_setting x) session.unfinished e.up l.up most (min most (length e.up)) frames after.unfinished refl i.up reads in
       let t : IsTurn x k h l.standing (arrived l.up most) f.history middle reported =
       subst (λ (y : Standing). IsTurn x k h y (arrived l.up most) f.history middle reported) i.standing_is
       (subst (λ (y : List Frame). IsTurn x k h session.standing y f.history middle reported) d.frames_are turn) in
       let all_reported : f.replies ≡ (turn_of x t.short k most h l).replies = all ∙ ap (λ (y : List Frame). reported ++ y) ends.1 ∙ append-nil reported
       ∙ t.replies_are in
-      let each : AllByRecursion IsFrame (turn_of x t.short k most h l).replies = subst (λ (y : List Frame). AllByRecursion IsFrame y) all_reported f.each in
+      let each : AllByRecursion (IsFrameOf (is_wide_setting x)) (turn_of x t.short k most h l).replies =
+      all_frames (is_wide_setting x) _ (subst (λ (y : List Frame). AllByRecursion IsFrame y) all_reported f.each) (turn_known x t.short k most h l) in
       let written : e2.down ≡ e.down ++ flat_map encoding (turn_of x t.short k most h l).replies = down
       ∙ ap (λ (b : List ℕ). e.down ++ b) (f.written ∙ ap (λ (y : List Frame). flat_map encoding y) all_reported) in
       record {
@@ -185,10 +192,10 @@ module _ (x : Setting) (seeds : List (List ℕ)) (k : ℕ) (h : History) (l : Li
         end_is = record {
           client_is = ap (λ (c : Client). c.state) client ∙ i.client_is;
           standing_is = ends.0 ∙ t.standing_is;
-          up = subst (λ (b : List ℕ). Carries after.unfinished b (beyond l.up most)) (sym up) d.rest;
-          down = subst (λ (c : Client). Carries c.reader e2.down (sent l.down (turn_of x t.short k most h l).replies)) (sym client)
-              (subst (λ (b : List ℕ). Carries e.client.reader b (sent l.down (turn_of x t.short k most h l).replies)) (sym written)
-              (carries_more e.client.reader e.down l.down (turn_of x t.short k most h l).replies each i.down));
+          up = subst (λ (b : List ℕ). Carries (is_wide_setting x) after.unfinished b (beyond l.up most)) (sym up) d.rest;
+          down = subst (λ (c : Client). Carries (is_wide_setting x) c.reader e2.down (sent l.down (turn_of x t.short k most h l).replies)) (sym client)
+              (subst (λ (b : List ℕ). Carries (is_wide_setting x) e.client.reader b (sent l.down (turn_of x t.short k most h l).replies)) (sym written)
+              (carries_more (is_wide_setting x) e.client.reader e.down l.down (turn_of x t.short k most h l).replies each i.down));
         };
       }
 
@@ -196,7 +203,7 @@ module _ (x : Setting) (seeds : List (List ℕ)) (k : ℕ) (h : History) (l : Li
       e2.down ≡ e.down ++ replies → EndServed x k h l most store e2 after
   served_end f client up down =
       let p : ServesPiece x h session (prefix most e.up) f.history after f.replies = rw unclosed at f.course in
-      let r = prefix_read session.unfinished e.up l.up (min most (length e.up)) p.answer p.frames after.unfinished i.up p.reads in
+      let r = prefix_read (is_wide_setting x) session.unfinished e.up l.up (min most (length e.up)) p.answer p.frames after.unfinished i.up p.reads in
       let s = split_prefix l.up.frames p.frames r.0 few r.1 in
       let t = one_turn x k h session.standing p.frames f.history p.middle p.reported unclosed (few_of_split l.up.frames p.frames r.0 few s) p.serves in
       let o : is_closed p.middle ≡ false = ap is_closed t.standing_is ∙ still_unclosed t.short p.frames r.0 s in
@@ -204,10 +211,10 @@ module _ (x : Setting) (seeds : List (List ℕ)) (k : ℕ) (h : History) (l : Li
       go p p.answer p.reads a t
     where
       go : (p : ServesPiece x h session (prefix most e.up) f.history after f.replies) (answer : Result (Unit {0}) ReadFault) →
-          Feeds session.unfinished (prefix most e.up) answer p.frames after.unfinished → AfterReading answer p.middle after.standing p.more
+          Feeds (is_wide_setting x) session.unfinished (prefix most e.up) answer p.frames after.unfinished → AfterReading answer p.middle after.standing p.more
           → IsTurn x k h session.standing p.frames f.history p.middle p.reported → EndServed x k h l most store e2 after
       go p (Ok done) reads a t = at_ok f p.frames p.reported p.more p.middle reads t a p.all client up down
       go p (Err stop) reads a t =
-          let q : stop ≡ read_fault.Memory = memory_alone session.unfinished e.up l.up (min most (length e.up)) stop p.frames after.unfinished i.up reads in
+          let q : stop ≡ read_fault.Memory = memory_alone (is_wide_setting x) session.unfinished e.up l.up (min most (length e.up)) stop p.frames after.unfinished i.up reads in
           let P : ReadFault → Type 0 = λ y. AfterReading (Err y) p.middle after.standing p.more in
           absurd (subst P q a)

@@ -102,6 +102,7 @@ reports_served k call.Idle reply e before = tt
 reports_served k (call.Hello key) reply e before = tt
 reports_served k (call.Sync scheme v p) reply e before = tt
 reports_served k (call.Delta since) reply e before = tt
+reports_served k (call.Changes since) reply e before = tt
 reports_served k (call.Ask i s v n) reply e before = tt
 reports_served k (call.Edit i bytes) reply e before = tt
 reports_served k (call.Append bytes) reply e before = tt

@@ -19,7 +19,7 @@ use Rattle.client_core.specs.declared.state.ClientState.{ClientState}
 use Rattle.client_core.specs.declared.state.ServerInfo.{ServerInfo}
 use Rattle.client_core.specs.declared.state.Hint.{Hint}
 use Rattle.client_core.specs.declared.state.Call.{Call}
-use Rattle.client_core.specs.declared.state.Call.TheVariants.{Idle, Hello, Sync, Delta, Ask, Edit, Append, Publish}
+use Rattle.client_core.specs.declared.state.Call.TheVariants.{Idle, Hello, Sync, Delta, Changes, Ask, Edit, Append, Publish}
 use Rattle.client_core.specs.declared.state.Event.{Event}
 use Rattle.client_core.specs.declared.state.Event.TheVariants.{Welcomed, Synced, Retrieved, Unreadable, Stale, Done, Refused}
 use Rattle.pir_world.specs.declared.steps.Outcome.{Outcome}
@@ -77,6 +77,7 @@ good_published x h g = record {
   first = g.first;
   versions = λ v records p. elim (version_cases h v records p) [ inl q ↦ g.versions v records q | inr e ↦ rw e g.draft ];
   draft = g.draft;
+  growing = (omega arith, g.growing);
 }
 
 record_set : (p : Plan) (records : List (List ℕ)) (i j : ℕ) (bytes : List ℕ) → IsRecordOf p bytes →
@@ -102,6 +103,7 @@ good_edited x h i bytes fits g = record {
   first = g.first;
   versions = λ v records p. g.versions v records p;
   draft = edited_records x.plan h.draft i bytes fits g.draft;
+  growing = (omega (arith, length-set h.draft i bytes, g.growing.0), g.growing.1);
 }
 
 appended_records : (p : Plan) (records : List (List ℕ)) (bytes : List ℕ) → IsRecordOf p bytes → is_layout (shape_at p (length records + 1)) ≡ true →
@@ -124,6 +126,7 @@ good_appended x h bytes fits room g = record {
   first = g.first;
   versions = λ v records p. g.versions v records p;
   draft = appended_records x.plan h.draft bytes fits room g.draft;
+  growing = (omega (arith, length-append h.draft (bytes ∷ []), g.growing.0), g.growing.1);
 }
 
 -- ---- what is said of versions
@@ -161,6 +164,7 @@ module _ (x : Setting) (h h2 : History) (later : IsLater h h2) where
     further = q.further;
   }
   call_later c (Delta since) q = q
+  call_later c (Changes since) q = q
   call_later c (Ask i s v n) q = q
   call_later c (Edit i bytes) q = q
   call_later c (Append bytes) q = q
@@ -190,6 +194,18 @@ module _ (x : Setting) (h h2 : History) (later : IsLater h h2) where
         named = d.named;
         reply_is = d.reply_is;
       }))
+  reply_later st seed (Changes since) r (inl e) = inl e
+  reply_later st seed (Changes since) r (inr (inl p)) = inr (inl (p.0, p.1, later _ _ p.2, p.3))
+  reply_later st seed (Changes since) r (inr (inr d)) =
+      inr (inr (record {
+        now = d.now;
+        records = d.records;
+        version_is = later _ _ d.version_is;
+        before = d.before;
+        since_is = later _ _ d.since_is;
+        more = d.more;
+        reply_is = d.reply_is;
+      }))
   reply_later st seed (Ask i s v n) r q = reply_of_later v r _ q
   reply_later st seed (Edit i bytes) r q = q
   reply_later st seed (Append bytes) r q = q
@@ -206,6 +222,7 @@ module _ (x : Setting) (h h2 : History) (later : IsLater h h2) where
   phase_later st seed c (Hello key) up down p = flight_later st seed c (Hello key) up down p
   phase_later st seed c (Sync scheme v p) up down q = flight_later st seed c (Sync scheme v p) up down q
   phase_later st seed c (Delta since) up down q = flight_later st seed c (Delta since) up down q
+  phase_later st seed c (Changes since) up down q = flight_later st seed c (Changes since) up down q
   phase_later st seed c (Ask i s v n) up down q = flight_later st seed c (Ask i s v n) up down q
   phase_later st seed c (Edit i bytes) up down q = q
   phase_later st seed c (Append bytes) up down q = q

@@ -18,3 +18,5 @@ pub mod ShapesServed
 pub mod ShapesClients
 pub mod ShapesLinks
 pub mod ShapesSteps
+pub mod FrameKinds
+pub mod ChangedRecords

@@ -13,7 +13,7 @@ use Rattle.version_store.specs.Histories.{History}
 use Rattle.server_core.specs.Serving.{Setting, is_closed}
 use Rattle.client_core.specs.declared.state.ClientState.{ClientState}
 use Rattle.client_core.specs.declared.state.Call.{Call}
-use Rattle.client_core.specs.declared.state.Call.TheVariants.{Idle, Hello, Sync, Delta, Ask, Edit, Append, Publish}
+use Rattle.client_core.specs.declared.state.Call.TheVariants.{Idle, Hello, Sync, Delta, Changes, Ask, Edit, Append, Publish}
 use Rattle.client_core.specs.declared.state.Event.{Event}
 use Rattle.client_core.specs.declared.state.Event.TheVariants.{Synced}
 use Rattle.client_core.specs.declared.state.Reaction.{Reaction}
@@ -141,6 +141,7 @@ module _ (j k : ℕ) (ne : k ≢ j) where
   reports_aside (Hello key) reply e = ne
   reports_aside (Sync scheme v p) reply e = ne
   reports_aside (Delta since) reply e = ne
+  reports_aside (Changes since) reply e = ne
   reports_aside (Edit i bytes) reply e = ne
   reports_aside (Append bytes) reply e = ne
   reports_aside Publish reply e = ne
@@ -184,6 +185,7 @@ module _ (x : Setting) (h h2 : History) (later : IsLater h h2) where
   earlier_later seeds before (Sent k (frame.Hello profile key)) p = p
   earlier_later seeds before (Sent k (frame.HintAsk scheme version part)) p = p
   earlier_later seeds before (Sent k (frame.DeltaAsk since)) p = p
+  earlier_later seeds before (Sent k (frame.ChangesAsk since)) p = p
   earlier_later seeds before (Sent k f) p = absurd p
   earlier_later seeds before (Served k f now reply) p = p
   earlier_later seeds before (Ended k r reply event) p =
@@ -202,6 +204,7 @@ module _ (x : Setting) (h h2 : History) (later : IsLater h h2) where
   from_later seed k (Hello key) f first p = tt
   from_later seed k (Sync scheme v n) f first p = p
   from_later seed k (Delta since) f first p = p
+  from_later seed k (Changes since) f first p = p
   from_later seed k (Edit i bytes) f first p = tt
   from_later seed k (Append bytes) f first p = tt
   from_later seed k Publish f first p = tt

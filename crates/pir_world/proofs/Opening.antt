@@ -66,6 +66,7 @@ opening_inv h bytes seeds o =
             (only_one (held h bytes) records (current_version (opening h bytes seeds).history - v)
             (sym (records_at (opening h bytes seeds).history v p.0) ∙ p.1)) all;
         draft = all;
+        growing = (omega arith, tt);
       };
       links = λ k l e. subst (λ (m : Link). LinkInvariant (setting_in h) (opening h bytes seeds).history (seed_of seeds k) m) (link_of (is_wide h.form) seeds k l e)
           (record { seed_is = refl; profile_is = asked_accepted (is_wide h.form) (h.form == 1) (h.form == 129); alive = refl; unclosed = refl; known = tt; hint = tt; call = tt; phase = (refl, refl) });
@@ -93,14 +94,14 @@ headline law h bytes seeds steps last o r =
 
 -- ---- its parts
 
-fresh_wire : Carries (Some []) [] silent
-fresh_wire = record { unfinished = []; reader_is = refl; bytes = refl; got = refl; each = tt }
+fresh_wire : (wide : Bool) → Carries wide (Some []) [] silent
+fresh_wire wide = record { unfinished = []; reader_is = refl; bytes = refl; got = refl; each = tt }
 
-fresh_end : (wide : Bool) (seed : List ℕ) → EndIs (fresh_side wide seed) new_session (fresh_link wide seed)
-fresh_end wide seed = record { client_is = refl; standing_is = refl; up = fresh_wire; down = fresh_wire }
+fresh_end : (wide : Bool) (seed : List ℕ) → EndIs wide (fresh_side wide seed) new_session (fresh_link wide seed)
+fresh_end wide seed = record { client_is = refl; standing_is = refl; up = fresh_wire wide; down = fresh_wire wide }
 
 fresh_matched : (wide : Bool) (seeds : List (List ℕ)) (k : ℕ) (o : Option Session) → (k < length seeds → o ≡ Some new_session) →
-    Matched (slice_get (map (fresh_side wide) seeds) k) o (slice_get (map (fresh_link wide) seeds) k)
+    Matched wide (slice_get (map (fresh_side wide) seeds) k) o (slice_get (map (fresh_link wide) seeds) k)
 fresh_matched wide [] k o e = tt
 fresh_matched wide (s ∷ seeds) zero o e = rw (e (omega arith)) (fresh_end wide s)
 fresh_matched wide (s ∷ seeds) (suc k) o e = fresh_matched wide seeds k o (λ lt. e (omega (arith, lt)))

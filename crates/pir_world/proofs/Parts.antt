@@ -1,7 +1,7 @@
 -- From one client's end to all.
 use Rattle.std.proofs.Common.{◌≡◌, ◌≢◌, ℕ, ◌⊎◌, Bool, true, false, cond, List, [], ◌∷◌, ◌++◌, map, Option, Some, None, Ok, refl, sym, ap, subst, ◌∙◌, inl, inr}
 use Rattle.std.specs.Prelude.{slice_get, slice_set, is_some}
-use Rattle.std.specs.List.{flat_map}
+use Rattle.std.specs.List.{AllByRecursion, flat_map}
 use Rattle.std.proofs.lemmas.List.{append-nil}
 use Rattle.std.proofs.lemmas.List.Concat.{flat_map-append}
 use Rattle.std.proofs.lemmas.Bool.{cases_eq}
@@ -33,37 +33,42 @@ use Rattle.pir_world.specs.Invariants.{WorldInvariant, LinkInvariant}
 use Rattle.pir_world.specs.Sides.{Side, Carries, EndIs, TakesDelivery, ServesDelivery, MakesCall, Matched, IsParts, prefix}
 use Rattle.pir_world.proofs.Later.{get_same, get_other}
 use Rattle.pir_world.proofs.Wires.{IsFew, split_few}
+use Rattle.frame_codec.specs.Streams.{IsFrameOf}
+use Rattle.pir_schemes.specs.Plans.{accepts_profile}
+use Rattle.client_core.specs.States.{is_wide_client}
+use Rattle.server_core.specs.Serving.{is_wide_setting}
+use Rattle.pir_world.proofs.FrameKinds.{Known, call_known, profile_wide}
 use Rattle.pir_world.proofs.Bytes.{carries_more}
 use Rattle.pir_world.proofs.Calls.{few_frames}
 use Rattle.pir_world.proofs.Deliveries.{reported_end, EndReported, served_end, few_of_split}
 
 -- a client's end has its session and its link
-pub record Met (core : Core) (k : ℕ) (e : Side) (s : State) : Type 0 where
+pub record Met (x : Setting) (core : Core) (k : ℕ) (e : Side) (s : State) : Type 0 where
   pub session : Session
   pub link : Link
   pub session_is : session_of core.sessions k ≡ Some session
   pub link_is : slice_get s.links k ≡ Some link
-  pub end_is : EndIs e session link
+  pub end_is : EndIs (is_wide_setting x) e session link
 
-met_at : (e : Side) (o : Option Session) (l : Option Link) → Matched (Some e) o l → (y : Session) × (m : Link) × (o ≡ Some y) × (l ≡ Some m) × EndIs e y m
-met_at e None l p = absurd p
-met_at e (Some y) None p = absurd p
-met_at e (Some y) (Some m) p = (y, m, refl, refl, p)
+met_at : (wide : Bool) (e : Side) (o : Option Session) (l : Option Link) → Matched wide (Some e) o l → (y : Session) × (m : Link) × (o ≡ Some y) × (l ≡ Some m) × EndIs wide e y m
+met_at wide e None l p = absurd p
+met_at wide e (Some y) None p = absurd p
+met_at wide e (Some y) (Some m) p = (y, m, refl, refl, p)
 
 pub met : (x : Setting) (core : Core) (ends : List Side) (os : List Outcome) (s : State) (k : ℕ) (e : Side) → IsParts x core ends os s →
-    slice_get ends k ≡ Some e → Met core k e s
+    slice_get ends k ≡ Some e → Met x core k e s
 met x core ends os s k e p at =
-    let P : Option Side → Type 0 = λ o. Matched o (session_of core.sessions k) (slice_get s.links k) in
-    let q = met_at e (session_of core.sessions k) (slice_get s.links k) (subst P at (p.ends_are k)) in
+    let P : Option Side → Type 0 = λ o. Matched (is_wide_setting x) o (session_of core.sessions k) (slice_get s.links k) in
+    let q = met_at (is_wide_setting x) e (session_of core.sessions k) (slice_get s.links k) (subst P at (p.ends_are k)) in
     record { session = q.0; link = q.1; session_is = q.2; link_is = q.3; end_is = q.4 }
 
 -- one end, its session and its link are replaced
 one_replaced : (x : Setting) (core core2 : Core) (ends : List Side) (os : List Outcome) (s : State) (k : ℕ) (e e2 : Side) (l l2 : Link) (y2 : Session) →
     IsParts x core ends os s → slice_get ends k ≡ Some e → slice_get s.links k ≡ Some l
-    → session_of core2.sessions k ≡ Some y2 → ((other : ℕ) → other ≢ k → session_of core2.sessions other ≡ session_of core.sessions other) → EndIs e2 y2 l2
-    → (j : ℕ) → Matched (slice_get (slice_set ends k e2) j) (session_of core2.sessions j) (slice_get (slice_set s.links k l2) j)
+    → session_of core2.sessions k ≡ Some y2 → ((other : ℕ) → other ≢ k → session_of core2.sessions other ≡ session_of core.sessions other) → EndIs (is_wide_setting x) e2 y2 l2
+    → (j : ℕ) → Matched (is_wide_setting x) (slice_get (slice_set ends k e2) j) (session_of core2.sessions j) (slice_get (slice_set s.links k l2) j)
 one_replaced x core core2 ends os s k e e2 l l2 y2 p at lat yat others i j = elim (cases_eq j k) [
-  | inl same ↦ subst (λ (n : ℕ). Matched (slice_get (slice_set ends k e2) n) (session_of core2.sessions n) (slice_get (slice_set s.links k l2) n)) (sym same)
+  | inl same ↦ subst (λ (n : ℕ). Matched (is_wide_setting x) (slice_get (slice_set ends k e2) n) (session_of core2.sessions n) (slice_get (slice_set s.links k l2) n)) (sym same)
       (rw (get_same ends k e2 e at, yat, get_same s.links k l2 l lat) i)
   | inr other ↦ rw (get_other ends k j e2 other, others j other, get_other s.links k j l2 other) (p.ends_are j)
 ]
@@ -75,6 +80,7 @@ reports_event k call.Idle reply e = refl
 reports_event k (call.Hello key) reply e = refl
 reports_event k (call.Sync scheme version part) reply e = refl
 reports_event k (call.Delta since) reply e = refl
+reports_event k (call.Changes since) reply e = refl
 reports_event k (call.Ask i s v n) reply e = refl
 reports_event k (call.Edit i bytes) reply e = refl
 reports_event k (call.Append bytes) reply e = refl
@@ -127,7 +133,7 @@ module _ (x : Setting) (core : Core) (ends : List Side) (os : List Outcome) (s :
         | inr t ↦ inr (t.0, go m i t.1)
       ]
     where
-      go : (m : Met core k e s) → LinkInvariant x s.history (seed_of seeds k) m.link → EndReported e2 m.session m.link most events →
+      go : (m : Met x core k e s) → LinkInvariant x s.history (seed_of seeds k) m.link → EndReported (is_wide_setting x) e2 m.session m.link most events →
           IsParts x core (slice_set ends k e2) (os ++ map (Reported k) events) (reported_at s k most (slice_get s.links k))
       go m i t =
           let few = (few_frames x s.history m.link.standing (seed_of seeds k) m.link.client m.link.client.call m.link.up.frames m.link.down.frames i.phase).1 in
@@ -169,13 +175,16 @@ module _ (x : Setting) (core : Core) (ends : List Side) (os : List Outcome) (s :
   refused None = []
   refused (Some fault) = CallRefused k fault ∷ []
 
-  accepted_end : (w : Want) (session : Session) (l : Link) → EndIs e session l → (bytes : List ℕ) → Accepts e.client.state w e2.client.state bytes →
+  accepted_end : (w : Want) (session : Session) (l : Link) → EndIs (is_wide_setting x) e session l → accepts_profile x.plan l.client.profile ≡ true → (bytes : List ℕ) → Accepts e.client.state w e2.client.state bytes →
       e2.client.reader ≡ e.client.reader → e2.up ≡ e.up ++ bytes → e2.down ≡ e.down
-      → (refusal w l.client ≡ None) × EndIs e2 session (link_called w l)
-  accepted_end w session l i bytes a reader up down =
+      → (refusal w l.client ≡ None) × EndIs (is_wide_setting x) e2 session (link_called w l)
+  accepted_end w session l i profile bytes a reader up down =
       let c : ClientState = state_after_call w l.client in
       let state : e2.client.state ≡ c = a.state ∙ ap (λ (y : ClientState). state_after_call w y) i.client_is in
       let fits : IsFrame (call_frame c c.call) = subst (λ (y : ClientState). IsFrame (call_frame y y.call)) state a.fits in
+      let wide : is_wide_client l.client ≡ is_wide_setting x = profile_wide x.plan l.client.profile profile in
+      let known : Known (is_wide_setting x) (call_frame c c.call) = subst (λ (b : Bool). Known b (call_frame c c.call)) wide (call_known w l.client) in
+      let each : AllByRecursion (IsFrameOf (is_wide_setting x)) (call_frame c c.call ∷ []) = (record { frame = fits; known = known }, tt) in
       let written : e2.up ≡ e.up ++ flat_map encoding (call_frame c c.call ∷ []) =
       up ∙ ap (λ (b : List ℕ). e.up ++ b) (a.written ∙ ap (λ (y : ClientState). encoding (call_frame y y.call)) state
       ∙ sym (append-nil (encoding (call_frame c c.call)))) in (
@@ -183,18 +192,18 @@ module _ (x : Setting) (core : Core) (ends : List Side) (os : List Outcome) (s :
         record {
           client_is = state;
           standing_is = i.standing_is;
-          up = subst (λ (b : List ℕ). Carries session.unfinished b (sent l.up (call_frame c c.call ∷ []))) (sym written)
-              (carries_more session.unfinished e.up l.up (call_frame c c.call ∷ []) (fits, tt) i.up);
-          down = subst (λ (b : List ℕ). Carries e2.client.reader b l.down) (sym down)
-              (subst (λ (r : Option (List ℕ)). Carries r e.down l.down) (sym reader) i.down);
+          up = subst (λ (b : List ℕ). Carries (is_wide_setting x) session.unfinished b (sent l.up (call_frame c c.call ∷ []))) (sym written)
+              (carries_more (is_wide_setting x) session.unfinished e.up l.up (call_frame c c.call ∷ []) each i.up);
+          down = subst (λ (b : List ℕ). Carries (is_wide_setting x) e2.client.reader b l.down) (sym down)
+              (subst (λ (r : Option (List ℕ)). Carries (is_wide_setting x) r e.down l.down) (sym reader) i.down);
         },
       )
 
-  pub parts_called : (w : Want) (o : Option CallFault) → MakesCall w e o e2 →
+  pub parts_called : (seeds : List (List ℕ)) → WorldInvariant x seeds s → (w : Want) (o : Option CallFault) → MakesCall w e o e2 →
       IsParts x core (slice_set ends k e2) (os ++ refused o) (called_at s w k (slice_get s.links k))
-  parts_called w None c =
+  parts_called seeds inv w None c =
       let m = met x core ends os s k e p at in
-      let t = accepted_end w m.session m.link m.end_is c.0 c.1 c.2 c.3 c.4 in
+      let t = accepted_end w m.session m.link m.end_is (inv.links k m.link m.link_is).profile_is c.0 c.1 c.2 c.3 c.4 in
       rw (m.link_is, t.0) (record {
         setting_is = p.setting_is;
         store_is = p.store_is;
@@ -202,10 +211,10 @@ module _ (x : Setting) (core : Core) (ends : List Side) (os : List Outcome) (s :
         outcomes_are = outcomes_more s.log (Called k w None ∷ Sent k (call_frame (link_called w m.link).client (link_called w m.link).client.call) ∷ []) os []
             p.outcomes_are refl;
       })
-  parts_called w (Some fault) c =
+  parts_called seeds inv w (Some fault) c =
       let m = met x core ends os s k e p at in
       let why : refusal w m.link.client ≡ Some fault = ap (λ (y : ClientState). refusal w y) (sym m.end_is.client_is) ∙ c.0 in
-      let same : EndIs e2 m.session m.link = subst (λ (y : Side). EndIs y m.session m.link) (sym c.1) m.end_is in
+      let same : EndIs (is_wide_setting x) e2 m.session m.link = subst (λ (y : Side). EndIs (is_wide_setting x) y m.session m.link) (sym c.1) m.end_is in
       rw (m.link_is, why) (record {
         setting_is = p.setting_is;
         store_is = p.store_is;
@@ -221,6 +230,6 @@ pub parts_plain : (x : Setting) (core core2 : Core) (ends : List Side) (os : Lis
 parts_plain x core core2 ends os s h o p setting stands same = record {
   setting_is = setting;
   store_is = stands;
-  ends_are = λ j. subst (λ (ss : List (ℕ × Session)). Matched (slice_get ends j) (session_of ss j) (slice_get s.links j)) (sym same) (p.ends_are j);
+  ends_are = λ j. subst (λ (ss : List (ℕ × Session)). Matched (is_wide_setting x) (slice_get ends j) (session_of ss j) (slice_get s.links j)) (sym same) (p.ends_are j);
   outcomes_are = outcomes_more s.log (Plain o ∷ []) os (o ∷ []) p.outcomes_are refl;
 }

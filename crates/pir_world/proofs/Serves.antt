@@ -1,31 +1,36 @@
 -- What the server makes of a client's frame.
 use Rattle.std.proofs.Common.{◌≡◌, ℕ, ◌*◌, ◌<◌, Bool, true, false, List, [], ◌∷◌, ◌++◌, length, Option, Some, None, ◌⊎◌, refl, sym, ap, subst, ◌∙◌, arith, inl, inr}
-use Rattle.std.specs.Prelude.{◌==◌, nat_le, option_to_list, replicate}
+use Rattle.std.specs.Prelude.{◌==◌, ◌-◌, nat_le, option_to_list, replicate, unwrap_or}
 use Rattle.std.specs.List.{AllByRecursion}
 use Rattle.std.proofs.lemmas.List.{append-nil}
 use Rattle.std.proofs.lemmas.Bool.{cases_Bool, eqb-true, eqb-false, eq-eqb, lt-ltb, leb-true}
 use Rattle.pir_schemes.specs.declared.scheme.Scheme.{Scheme}
 use Rattle.pir_schemes.specs.declared.scheme.Scheme.TheVariants.{Simple, Double}
 use Rattle.pir_schemes.specs.Schemes.{scheme_byte, scheme_of_byte}
-use Rattle.pir_schemes.specs.Plans.{shape_at, accepts_profile}
+use Rattle.pir_schemes.specs.Plans.{shape_at, accepts_profile, slots}
 use Rattle.pir_schemes.proofs.Lengths.{length_query}
 use Rattle.frame_codec.specs.declared.frame.Frame.{Frame}
 use Rattle.frame_codec.specs.declared.frame.Frame.TheVariants as frame
-use Rattle.version_store.specs.Histories.{History, current_version, delta_rows}
+use Rattle.version_store.specs.Histories.{History, changes_since, current_version, delta_rows, entries_between, reaches_olds, records_of}
 use Rattle.server_core.specs.declared.standing.Standing.{Standing}
 use Rattle.server_core.specs.declared.standing.Standing.TheVariants.{Reader}
-use Rattle.server_core.specs.Serving.{Setting, Outcome, is_closed, is_reader_key, has_part, hint_words, words_asked, no_delta, delta_asked}
+use Rattle.server_core.specs.Serving.{Setting, Outcome, changes_asked, is_closed, is_wide_setting, most_changes, is_reader_key, has_part, hint_words, words_asked, no_delta, delta_asked}
 use Rattle.client_core.specs.declared.state.ClientState.{ClientState}
 use Rattle.client_core.specs.declared.state.ServerInfo.{ServerInfo}
 use Rattle.client_core.specs.declared.state.Call.{Call}
 use Rattle.client_core.specs.declared.state.Hint.{Hint}
-use Rattle.client_core.specs.declared.state.Call.TheVariants.{Idle, Hello, Sync, Delta, Ask, Edit, Append, Publish}
+use Rattle.client_core.specs.declared.state.Call.TheVariants.{Idle, Hello, Sync, Delta, Changes, Ask, Edit, Append, Publish}
 use Rattle.client_core.specs.Calls.{call_frame, call_words}
 use Rattle.pir_world.specs.Runs.{Turn, Retrieval, served_or, serves, reader_key}
 use Rattle.pir_world.specs.Versions.{HasVersion, IsVersion, HintIs, asked_words}
 use Rattle.pir_world.specs.Headlines.{IsRightReply, IsRightQuery, IsServed, IsRight}
 use Rattle.pir_world.specs.Invariants.{GoodHistory, IsKnownOf, KnownIs, SyncIs, AskIs, CallIs, IsReply, InFlight, Phase}
-use Rattle.pir_world.proofs.Later.{newest, one_version}
+use Rattle.pir_world.proofs.Later.{newest, one_version, records_at}
+use Rattle.hint_changes.specs.Changes.{changes_between}
+use Rattle.record_log.specs.OldRecords.{entries_bytes}
+use Rattle.version_store.specs.OldRecords.{kept_olds, slots_with_blanks}
+use Rattle.version_store.proofs.ChangesMove.{given, no_more}
+use Rattle.pir_world.proofs.FrameKinds.{profile_wide}
 use Rattle.pir_world.proofs.DeltaRows.{CoversChanges, rows_cover}
 use Rattle.pir_world.proofs.Wires.{Split}
 
@@ -171,6 +176,65 @@ module _ (x : Setting) (h : History) (g : GoodHistory x h) (seed : List ℕ) (si
   replied_delta false = asked_rows (delta_rows x.plan h since) refl
   replied_delta true = record { history_is = refl; unclosed = refl; reader = λ e. e; reply = (_, refl, inl refl); right = tt }
 
+-- ---- the records that changed
+
+module _ (x : Setting) (h : History) (g : GoodHistory x h) (seed : List ℕ) (since : ℕ) (before : List (List ℕ)) (there : HasVersion h since before)
+    (wide : is_wide_setting x ≡ true) where
+  no_changes : Replied x h seed Reader (Changes since) (frame.ChangesAsk since) (no_delta Reader h)
+  no_changes = record {
+    history_is = refl;
+    unclosed = refl;
+    reader = λ e. e;
+    reply = (_, refl, inr (inl (current_version h, h.current, newest h, refl)));
+    right = tt;
+  }
+
+  -- what differs between the two versions
+  between : List ℕ
+  between = entries_bytes (changes_between (slots_with_blanks x.plan (length h.current) before) (slots x.plan h.current))
+
+  version_there : records_of h since ≡ Some before
+  version_there = there.1
+
+  entries_are : (entries : List ℕ) → changes_since x.plan h since (most_changes x) ≡ Some entries → entries ≡ between
+  unfolding changes_since between
+  entries_are entries e =
+      given (reaches_olds (current_version h) (length (kept_olds x.plan h.current h.past)) since) (most_changes x) (entries_between x.plan h since) entries e
+      ∙ ap (λ (o : Option (List (List ℕ))). entries_bytes (changes_between (slots_with_blanks x.plan (length h.current) (unwrap_or o [])) (slots x.plan h.current)))
+      version_there
+
+  some_changes : (entries : List ℕ) → changes_since x.plan h since (most_changes x) ≡ Some entries →
+      Replied x h seed Reader (Changes since) (frame.ChangesAsk since) (changes_asked x h Reader since (Some entries))
+  unfolding between
+  some_changes entries e = record {
+    history_is = refl;
+    unclosed = refl;
+    reader = λ z. z;
+    reply = (
+      _,
+      refl,
+      inr (inr (record {
+        now = current_version h;
+        records = h.current;
+        version_is = newest h;
+        before = before;
+        since_is = there;
+        more = no_more h.current h.past (current_version h - since) before g.growing.1 (sym (records_at h since there.0) ∙ there.1);
+        reply_is = ap (λ (bytes : List ℕ). frame.Changes since (current_version h) (length h.current) bytes) (entries_are entries e);
+      })),
+    );
+    right = tt;
+  }
+
+  asked_changes : (o : Option (List ℕ)) → changes_since x.plan h since (most_changes x) ≡ o →
+      Replied x h seed Reader (Changes since) (frame.ChangesAsk since) (changes_asked x h Reader since o)
+  asked_changes None e = no_changes
+  asked_changes (Some entries) e = some_changes entries e
+
+  replied_changes : (short : Bool) → Replied x h seed Reader (Changes since) (frame.ChangesAsk since) (served_or short x h Reader (frame.ChangesAsk since))
+  replied_changes false = rw wide (asked_changes (changes_since x.plan h since (most_changes x)) refl)
+  replied_changes true = rw wide (record { history_is = refl; unclosed = refl; reader = λ e. e; reply = (_, refl, inl refl); right = tt })
+
 -- ---- a query
 
 -- the words of a client's query, where what it knows is the version's
@@ -267,6 +331,7 @@ module _ (x : Setting) (seeds : List (List ℕ)) (k : ℕ) (h : History) (seed :
   flight_phase s (Hello key) up down r e d p = inr (e, (r, d, p))
   flight_phase s (Sync scheme v q) up down r e d p = inr (e, (r, d, p))
   flight_phase s (Delta since) up down r e d p = inr (e, (r, d, p))
+  flight_phase s (Changes since) up down r e d p = inr (e, (r, d, p))
   flight_phase s (Ask i z v n) up down r e d p = inr (e, (r, d, p))
   flight_phase s (Edit i bytes) up down r e d p = absurd p
   flight_phase s (Append bytes) up down r e d p = absurd p
@@ -327,6 +392,12 @@ module _ (x : Setting) (seeds : List (List ℕ)) (k : ℕ) (h : History) (seed :
       let v = hint_version c.hint i.hint since hint i.hint_is i.version_is in
       subst (λ (z : Standing). Replied x h seed z (Delta since) (frame.DeltaAsk since) (served_or short x h z (frame.DeltaAsk since)))
       (sym y.0) (replied_delta x h g seed since v.0 v.1 short)
+  replied g short (Changes since) busy s asked known hint i =
+      let y = known_is c.known i.0.k known i.0.known_is in
+      let v = hint_version c.hint i.0.hint since hint i.0.hint_is i.0.version_is in
+      let wide : is_wide_setting x ≡ true = sym (profile_wide x.plan c.profile asked) ∙ i.1 in
+      subst (λ (z : Standing). Replied x h seed z (Changes since) (frame.ChangesAsk since) (served_or short x h z (frame.ChangesAsk since)))
+      (sym y.0) (replied_changes x h g seed since v.0 v.1 wide short)
   replied g short (Ask j scheme v n) busy s asked known hint i =
       let y = known_is c.known i.k known i.known_is in
       let w = ask_words j scheme v n s known hint i in
@@ -349,6 +420,8 @@ module _ (x : Setting) (seeds : List (List ℕ)) (k : ℕ) (h : History) (seed :
       served_flight short (Sync scheme v q) up fs up2 down a o (replied g short (Sync scheme v q) (λ e. (cc)) s asked known hint i) p p
   served_link g short (Delta since) up fs up2 down a o s asked known hint i p =
       served_flight short (Delta since) up fs up2 down a o (replied g short (Delta since) (λ e. (cc)) s asked known hint i) p p
+  served_link g short (Changes since) up fs up2 down a o s asked known hint i p =
+      served_flight short (Changes since) up fs up2 down a o (replied g short (Changes since) (λ e. (cc)) s asked known hint i) p p
   served_link g short (Ask j z v n) up fs up2 down a o s asked known hint i p =
       served_flight short (Ask j z v n) up fs up2 down a o (replied g short (Ask j z v n) (λ e. (cc)) s asked known hint i) p p
   served_link g short (Edit j bytes) up fs up2 down a o s asked known hint i p = absurd p

@@ -15,8 +15,9 @@ use Rattle.client_core.specs.declared.state.ServerInfo.{ServerInfo}
 use Rattle.client_core.specs.declared.state.Hint.{Hint}
 use Rattle.client_core.specs.declared.state.Call.{Call}
 use Rattle.client_core.specs.declared.state.Call.TheVariants as call
-use Rattle.client_core.specs.States.{shape_known, known_version, scheme_held, delta_base}
-use Rattle.client_core.specs.Calls.{Want, Hello, Sync, Ask, sync_begun, state_after_call, call_frame, call_words}
+use Rattle.digit_pack.specs.Layout.{is_wide}
+use Rattle.client_core.specs.States.{is_wide_client, shape_known, known_version, scheme_held, delta_base}
+use Rattle.client_core.specs.Calls.{call_since, Want, Hello, Sync, Ask, sync_begun, state_after_call, call_frame, call_words}
 use Rattle.client_core.specs.Replies.{
   plan_given,
   Taken,
@@ -36,6 +37,9 @@ use Rattle.client_core.specs.Replies.{
   is_delta,
   moved,
   takes_delta,
+  takes_changes,
+  changed,
+  is_changes,
   goes_by_parts,
   takes_no_delta,
   takes_done,
@@ -93,14 +97,22 @@ unfolding held
 held_is None = refl
 held_is (Some h) = refl
 
--- the first frame of a sync, by delta or by parts
-first_frame : Option ℕ → Scheme → Option ServerInfo → Frame
-first_frame (Some since) s known = frame.DeltaAsk since
-first_frame None s known = frame.HintAsk (scheme_byte s) (known_version known) 0
+-- the first frame of a sync, in a wide client or another one: by what changed, or by parts
+first_frame : Bool → Option ℕ → Scheme → Option ServerInfo → Frame
+first_frame true (Some since) s known = frame.ChangesAsk since
+first_frame false (Some since) s known = frame.DeltaAsk since
+first_frame wide None s known = frame.HintAsk (scheme_byte s) (known_version known) 0
 
-begun_frame : (base : Option ℕ) (s : Scheme) (c : ClientState) → call_frame (sync_begun base s c) (sync_begun base s c).call ≡ first_frame base s c.known
+since_frame : (wide : Bool) (since : ℕ) (s : Scheme) (known : Option ServerInfo) (c : ClientState) →
+    call_frame c (call_since wide since) ≡ first_frame wide (Some since) s known
 unfolding first_frame
-begun_frame (Some since) s c = refl
+since_frame true since s known c = refl
+since_frame false since s known c = refl
+
+begun_frame : (base : Option ℕ) (s : Scheme) (c : ClientState) →
+    call_frame (sync_begun base s c) (sync_begun base s c).call ≡ first_frame (is_wide_client c) base s c.known
+unfolding first_frame
+begun_frame (Some since) s c = since_frame (is_wide_client c) since s c.known (sync_begun (Some since) s c)
 begun_frame None s c = refl
 
 -- a call that a client of a run makes
@@ -135,8 +147,9 @@ call_frame_like c d v w r a e = made v w r e
     made (Sync s) w r e =
         rw e (same_frame (call_frame (state_after_call (Sync s) c) (state_after_call (Sync s) c).call)
         (call_frame (state_after_call (Sync s) d) (state_after_call (Sync s) d).call) (begun_frame (delta_base s d.hint) s d
-        ∙ ap (λ (b : Option ℕ). first_frame b s d.known) (bases s)
-        ∙ ap (λ (k : Option ServerInfo). first_frame (delta_base s c.hint) s k) (sym known)
+        ∙ ap (λ (o : Outline). first_frame (is_wide o.profile) (delta_base s d.hint) s d.known) (sym a)
+        ∙ ap (λ (b : Option ℕ). first_frame (is_wide_client c) b s d.known) (bases s)
+        ∙ ap (λ (k : Option ServerInfo). first_frame (is_wide_client c) (delta_base s c.hint) s k) (sym known)
         ∙ sym (begun_frame (delta_base s c.hint) s c)))
     made (Ask i) w r e = rw e.1 (
       other_words e.0,
@@ -203,12 +216,23 @@ delta_sends : (k : Call) (c : ClientState) (since now count : ℕ) (rows : RowLi
 delta_sends (call.Delta asked) c since now count rows = moved_sends c.known c.hint c asked since now count rows
 delta_sends k c since now count rows = inl refl
 
+changed_sends : (known : Option ServerInfo) (hint : Option Hint) (c : ClientState) (asked since now count : ℕ) (entries : List ℕ) →
+    Sends (changed known hint c asked since now count entries)
+changed_sends None hint c asked since now count entries = inl refl
+changed_sends (Some k) None c asked since now count entries = inl refl
+changed_sends (Some k) (Some h) c asked since now count entries = either (is_changes k asked since now count entries) _ _ (inl refl) (inl refl)
+
+changes_sends : (k : Call) (c : ClientState) (since now count : ℕ) (entries : List ℕ) → Sends (takes_changes k c since now count entries)
+changes_sends (call.Changes asked) c since now count entries = changed_sends c.known c.hint c asked since now count entries
+changes_sends k c since now count entries = inl refl
+
 by_parts_sends : (known : Option ServerInfo) (c : ClientState) (version count : ℕ) → Sends (goes_by_parts known c version count)
 by_parts_sends None c version count = inl refl
 by_parts_sends (Some k) c version count = either (is_current k version count) _ _ (inr (Simple, version, 0, refl, refl)) (inl refl)
 
 no_delta_sends : (k : Call) (c : ClientState) (version count : ℕ) → Sends (takes_no_delta k c version count)
 no_delta_sends (call.Delta asked) c version count = by_parts_sends c.known c version count
+no_delta_sends (call.Changes asked) c version count = by_parts_sends c.known c version count
 no_delta_sends k c version count = inl refl
 
 done_sends : (k : Call) (c : ClientState) (version : ℕ) → Sends (takes_done k c version)
@@ -230,6 +254,7 @@ reply_sends c (frame.HintPart scheme version part words) = part_sends c.call c s
 reply_sends c (frame.Answer scheme version words) = answer_sends c.call c scheme version words
 reply_sends c (frame.Stale version count) = stale_sends c.call c version count
 reply_sends c (frame.Delta since now count rows) = delta_sends c.call c since now count rows
+reply_sends c (frame.Changes since now count entries) = changes_sends c.call c since now count entries
 reply_sends c (frame.NoDelta version count) = no_delta_sends c.call c version count
 reply_sends c (frame.Done version) = done_sends c.call c version
 reply_sends c (frame.Refused code) = refused_sends c.call c code

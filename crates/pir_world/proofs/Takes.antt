@@ -1,9 +1,9 @@
 -- What a client makes of a reply.
-use Rattle.std.proofs.Common.{◌≡◌, ℕ, ◌+◌, ◌*◌, ◌<◌, ◌⊎◌, Bool, true, false, not, cond, List, [], ◌∷◌, ◌++◌, length, take, drop, min, Option, Some, None, refl, sym, ap, subst, ◌∙◌, arith, inl, inr}
+use Rattle.std.proofs.Common.{◌≡◌, ℕ, All, ◌+◌, ◌*◌, ◌<◌, ◌⊎◌, Bool, true, false, not, cond, List, [], ◌∷◌, ◌++◌, length, take, drop, min, Option, Some, None, refl, sym, ap, subst, ◌∙◌, arith, inl, inr}
 use Rattle.std.specs.Prelude.{nat_lt, nat_le, ◌==◌, ◌&&◌, fold}
 use Rattle.std.specs.List.{AllByRecursion, Contains}
 use Rattle.frame_codec.specs.Rows.{RowList, row_list}
-use Rattle.std.proofs.lemmas.List.{length-take, length-drop, take_all}
+use Rattle.std.proofs.lemmas.List.{get_or_default, length-take, length-drop, take_all}
 use Rattle.std.proofs.Math.Seq.{take-add}
 use Rattle.std.proofs.Math.Nat.{mul-pos}
 use Rattle.std.proofs.lemmas.Bool.{cases_Bool, eqb-true, eqb-false, eq-eqb, ne_eqb, lt-ltb, le-leb, and_from}
@@ -18,7 +18,12 @@ use Rattle.pir_schemes.specs.Schemes.{scheme_byte}
 use Rattle.pir_schemes.specs.Parts.{part_len}
 use Rattle.pir_schemes.specs.declared.plan.Plan.{Plan}
 use Rattle.digit_pack.specs.Slots.{is_form}
-use Rattle.pir_schemes.specs.Plans.{IsPlan, shape_at, accepts_profile}
+use Rattle.hint_changes.specs.Changes.{changes_between, moved as moved_matrix}
+use Rattle.hint_changes.specs.Entries.{changes_in}
+use Rattle.record_log.specs.OldRecords.{entries_bytes}
+use Rattle.version_store.specs.OldRecords.{slots_with_blanks}
+use Rattle.version_store.proofs.ChangesMove.{between_moves}
+use Rattle.pir_schemes.specs.Plans.{IsPlan, IsRecordOf, first_public, shape_at, slots, accepts_profile}
 use Rattle.pir_schemes.specs.Retrievals.{hint_rows as rows_of_hint, hint_len, hint_matrix, reading}
 use Rattle.pir_schemes.specs.Laws.{RetrievalGivesTheRecord}
 use Rattle.pir_schemes.proofs.Lengths.{hint_sizes, length-answer}
@@ -34,21 +39,23 @@ use Rattle.client_core.specs.declared.state.ClientState.{ClientState}
 use Rattle.client_core.specs.declared.state.ServerInfo.{ServerInfo}
 use Rattle.client_core.specs.declared.state.Hint.{Hint}
 use Rattle.client_core.specs.declared.state.Call.{Call}
-use Rattle.client_core.specs.declared.state.Call.TheVariants.{Idle, Hello, Sync, Delta, Ask, Edit, Append, Publish}
+use Rattle.client_core.specs.declared.state.Call.TheVariants.{Idle, Hello, Sync, Delta, Changes, Ask, Edit, Append, Publish}
 use Rattle.client_core.specs.declared.state.ClientFault.TheVariants.{BadReply}
 use Rattle.client_core.specs.declared.state.Reaction.TheVariants.{Asks}
 use Rattle.client_core.specs.States.{is_layout, shape_known}
-use Rattle.client_core.specs.Replies.{Taken, reaction_to_reply, takes_welcome, takes_part, takes_answer, takes_stale, takes_no_delta, takes_refused, takes_asked_part, more_parts, is_accepted_welcome, is_part, is_answer, is_current, with_current, are_ascending, is_delta, event_of, event_read, answered, ended, faulty}
+use Rattle.client_core.specs.Replies.{Taken, reaction_to_reply, takes_welcome, takes_part, takes_answer, takes_stale, takes_no_delta, takes_refused, takes_asked_part, more_parts, is_accepted_welcome, is_part, is_answer, is_current, with_current, are_ascending, are_entries, have_slots, is_delta, is_changes, hint_with_entries, event_of, event_read, answered, ended, faulty}
 use Rattle.client_core.specs.declared.state.Event.TheVariants.{Synced}
 use Rattle.client_core.specs.Laws.{rows_of}
 use Rattle.client_core.specs.Feeding.{sends_of, fault_of}
 use Rattle.client_core.proofs.HintLaws.{delta_makes_it}
+use Rattle.client_core.proofs.Entries.{changes_taken}
+use Rattle.pir_world.proofs.ChangedRecords.{entries_good, slots_good}
 use Rattle.digit_pack.proofs.Layouts.{layout_accepted}
 use Rattle.pir_world.specs.Runs.{Retrieval, Entry, reacts}
 use Rattle.pir_world.specs.Earlier.{hint_after}
 use Rattle.pir_world.specs.Versions.{HasVersion, HintIs, asked_words, given_words, name_of, record_read, seed_of}
 use Rattle.pir_world.specs.Headlines.{IsRight, IsAnswered}
-use Rattle.pir_world.specs.Invariants.{GoodHistory, IsKnownOf, KnownIs, SyncIs, DeltaIs, IsDeltaTo, CallIs, IsReply, IsFrom, Phase, welcome_frame}
+use Rattle.pir_world.specs.Invariants.{AreRecords, IsChangesTo, GoodHistory, IsKnownOf, KnownIs, SyncIs, DeltaIs, IsDeltaTo, CallIs, IsReply, IsFrom, Phase, welcome_frame}
 use Rattle.pir_world.proofs.Later.{version_positive, one_version}
 
 pub one_alike : {X : Type 0} (x y : X) → ◌≡◌ {A = List X} (x ∷ []) (y ∷ []) → x ≡ y
@@ -63,11 +70,13 @@ pub record ClientInv (x : Setting) (h : History) (seed : List ℕ) (st : Standin
   pub hint : HintIs x h c.hint
   pub call : CallIs x h c c.call
 
--- the next part is asked for where the one before came, and the first where no Delta can be given
+-- the next part is asked for where the one before came, and the first where what changed can't be given
 abbrev pub IsPartBefore : Call → Frame → Scheme → ℕ → ℕ → Type 0
 IsPartBefore (Sync s v p) reply scheme version part =
     (scheme ≡ s) × (version ≡ v) × (part ≡ p + 1) × ((words : List ℕ) × (reply ≡ frame.HintPart (scheme_byte scheme) version p words))
 IsPartBefore (Delta since) reply scheme version part =
+    (scheme ≡ Simple) × (part ≡ 0) × ((count : ℕ) × (reply ≡ frame.NoDelta version count))
+IsPartBefore (Changes since) reply scheme version part =
     (scheme ≡ Simple) × (part ≡ 0) × ((count : ℕ) × (reply ≡ frame.NoDelta version count))
 IsPartBefore _ reply scheme version part = ⊥
 
@@ -193,6 +202,18 @@ module _ (law : RetrievalGivesTheRecord) (x : Setting) (seeds : List (List ℕ))
     next = λ f first e2. tt;
   }
 
+  refused_changes : (since code : ℕ) → IsTaken x seeds k h st c (Changes since) (frame.Refused code) (takes_refused (Changes since) c code)
+  refused_changes since code = record {
+    client = record { seed_is = i.seed_is; profile_is = i.profile_is; alive = i.alive; known = i.known; hint = i.hint; call = tt };
+    no_fault = refl;
+    phase = (refl, refl);
+    right = (tt, tt);
+    number = refl;
+    told = refl;
+    asks = λ s2 v2 q2 e2. absurd cc;
+    next = λ f first e2. tt;
+  }
+
   refused_ask : (j : ℕ) (s : Scheme) (v n : ℕ) →
       IsTaken x seeds k h st c (Ask j s v n) (refused refusal.Memory) (takes_refused (Ask j s v n) c (code_of refusal.Memory))
   refused_ask j s v n = record {
@@ -294,6 +315,38 @@ module _ (law : RetrievalGivesTheRecord) (x : Setting) (seeds : List (List ℕ))
       next = λ f first e2. sym (one_alike _ f e2);
     })
 
+    parts_for_records : (since now : ℕ) (records : List (List ℕ)) → HasVersion h now records
+        → IsTaken x seeds k h st c (Changes since) (frame.NoDelta now (length records)) (takes_no_delta (Changes since) c now (length records))
+    parts_for_records since now records p = rw (at, current_good now records p) (record {
+      client = record {
+        seed_is = i.seed_is;
+        profile_is = i.profile_is;
+        alive = i.alive;
+        known = (known.0, is_reported now records p);
+        hint = tt;
+        call = record {
+          k = with_current y now (length records);
+          known_is = refl;
+          asked = refl;
+          records = records;
+          version_is = p;
+          parts_are = refl;
+          further = hint_long x Simple records (plan_ok now records p);
+        };
+      };
+      no_fault = refl;
+      phase = inl (refl, refl);
+      right = (tt, tt);
+      number = refl;
+      told = sym (rw (eq-eqb k k refl) refl);
+      asks = λ s2 v2 q2 e2.
+          let a : s2 ≡ Simple = cc in
+          let b : v2 ≡ now = cc in
+          let d : q2 ≡ 0 = cc in
+          (a, d, (length records, rw b refl));
+      next = λ f first e2. sym (one_alike _ f e2);
+    })
+
     -- a Delta makes the hint held that of its version
     module _ (since : ℕ) (r : Frame) (d : IsDeltaTo x h since r) (calls : c.call ≡ Delta since) (a : DeltaIs c since) where
       abbrev new : WordMatrix
@@ -343,6 +396,86 @@ module _ (law : RetrievalGivesTheRecord) (x : Setting) (seeds : List (List ℕ))
           let P : Frame → Type 0 = λ f. IsTaken x seeds k h st c (Delta since) f (reaction_to_reply c f) in
           subst P (sym frame_is) (subst (λ (t : Taken). IsTaken x seeds k h st c (Delta since)
           (frame.Delta since d.now (length d.records) (row_list new.cols (rows_of new d.numbers))) t) (sym moved_is) (record {
+            client = record {
+              seed_is = i.seed_is;
+              profile_is = i.profile_is;
+              alive = i.alive;
+              known = (known.0, is_reported d.now d.records d.version_is);
+              hint = (d.records, d.version_is, ap (λ (s : Scheme). hint_matrix s x.plan d.records) (sym a.scheme_is));
+              call = tt;
+            };
+            no_fault = refl;
+            phase = (refl, refl);
+            right = ((d.records, d.version_is), tt);
+            number = refl;
+            told = ap (λ (s : Scheme). Some (s, d.now)) a.scheme_is ∙ sym (rw (eq-eqb k k refl) refl);
+            asks = λ s2 v2 q2 e2. absurd cc;
+            next = λ f first e2. tt;
+          }))
+
+    -- Changes move the hint held to that of its version
+    module _ (since : ℕ) (r : Frame) (d : IsChangesTo x h since r) (calls : c.call ≡ Changes since) (a : DeltaIs c since) where
+      abbrev entries : List ℕ
+      entries = entries_bytes (changes_between (slots_with_blanks x.plan (length d.records) d.before) (slots x.plan d.records))
+
+      abbrev newer : WordMatrix
+      newer = hint_matrix Simple x.plan d.records
+
+      all_of : (records : List (List ℕ)) → AreRecords x.plan records → All (IsRecordOf x.plan) records
+      all_of records each = λ j z lt. subst (IsRecordOf x.plan) (get_or_default records j [] z lt) (each.each j lt)
+
+      held_now : HintIs x h (Some a.hint)
+      held_now = subst (λ (o : Option Hint). HintIs x h o) a.hint_is i.hint
+
+      was_is : a.hint.matrix ≡ hint_matrix Simple x.plan d.before
+      was_is =
+          let there : HasVersion h since held_now.0 = subst (λ (n : ℕ). HasVersion h n held_now.0) a.version_is held_now.1 in
+          held_now.2 ∙ ap (λ (s : Scheme). hint_matrix s x.plan held_now.0) a.scheme_is
+          ∙ ap (λ (records : List (List ℕ)). hint_matrix Simple x.plan records) (one_version h since held_now.0 d.before there d.since_is)
+
+      ok : IsPlan x.plan (length d.records)
+      ok = (g.versions d.now d.records d.version_is).plan
+
+      newly : All (IsRecordOf x.plan) d.records
+      newly = all_of d.records (g.versions d.now d.records d.version_is)
+
+      earlier : All (IsRecordOf x.plan) d.before
+      earlier = all_of d.before (g.versions since d.before d.since_is)
+
+      plan_same : y.plan ≡ x.plan
+      plan_same = known.1.plan_is
+
+      accepted : is_changes y since since d.now (length d.records) entries ≡ true
+      accepted =
+          and_from (since == since) _ (eq-eqb since since refl)
+          (and_from (is_current y d.now (length d.records)) _ (current_good d.now d.records d.version_is)
+          (and_from (are_entries (shape_at y.plan (length d.records)) entries) (have_slots y.plan entries)
+          (ap (λ (p : Plan). are_entries (shape_at p (length d.records)) entries) plan_same
+          ∙ entries_good x.plan d.before d.records ok newly earlier d.more)
+          (ap (λ (p : Plan). have_slots p entries) plan_same ∙ slots_good x.plan d.before d.records ok newly earlier d.more)))
+
+      hint_now : hint_with_entries y.plan a.hint d.now (length d.records) entries ≡ record a.hint { version = d.now; matrix = newer }
+      hint_now =
+          ap (λ (p : Plan). hint_with_entries p a.hint d.now (length d.records) entries) plan_same
+          ∙ ap (λ (m : WordMatrix). record a.hint { version = d.now; matrix = m })
+          (ap (moved_matrix (shape_at x.plan (length d.records)) (first_public (shape_at x.plan (length d.records)) x.plan.dimension x.plan.seed)
+          (changes_in x.plan.record_len entries)) was_is
+          ∙ between_moves x.plan d.before d.records ok newly earlier d.more)
+
+      changed_is : reaction_to_reply c (frame.Changes since d.now (length d.records) entries)
+          ≡ ended (record c {
+            known = Some (with_current y d.now (length d.records));
+            hint = Some (record a.hint { version = d.now; matrix = newer });
+          }) (Synced Simple d.now)
+      changed_is =
+          changes_taken c y a.hint since since d.now (length d.records) entries calls at a.hint_is accepted
+          ∙ ap (λ (z : Hint). ended (record c { known = Some (with_current y d.now (length d.records)); hint = Some z }) (Synced Simple d.now)) hint_now
+
+      changes_came : IsTaken x seeds k h st c (Changes since) r (reaction_to_reply c r)
+      changes_came =
+          let P : Frame → Type 0 = λ f. IsTaken x seeds k h st c (Changes since) f (reaction_to_reply c f) in
+          subst P (sym d.reply_is) (subst (λ (t : Taken). IsTaken x seeds k h st c (Changes since)
+          (frame.Changes since d.now (length d.records) entries) t) (sym changed_is) (record {
             client = record {
               seed_is = i.seed_is;
               profile_is = i.profile_is;
@@ -547,6 +680,16 @@ module _ (law : RetrievalGivesTheRecord) (x : Setting) (seeds : List (List ℕ))
   reply_taken (Delta since) r e a (inr (inr d)) =
       let known = known_some x h st c.known a.k i.known a.known_is in
       delta_came a.k a.known_is known since r d e a
+  reply_taken (Changes since) r e a (inl p) =
+      rw p (by_call (λ (q : Call). takes_refused q c (code_of refusal.Memory)) (Changes since) (refused refusal.Memory) e
+      (refused_changes since (code_of refusal.Memory)))
+  reply_taken (Changes since) r e a (inr (inl p)) =
+      let known = known_some x h st c.known a.0.k i.known a.0.known_is in
+      rw p.3 (by_call (λ (q : Call). takes_no_delta q c p.0 (length p.1)) (Changes since) (frame.NoDelta p.0 (length p.1)) e
+      (parts_for_records a.0.k a.0.known_is known since p.0 p.1 p.2))
+  reply_taken (Changes since) r e a (inr (inr d)) =
+      let known = known_some x h st c.known a.0.k i.known a.0.known_is in
+      changes_came a.0.k a.0.known_is known since r d e a.0
   reply_taken (Ask j s v n) r e a (inl p) =
       rw p (by_call (λ (q : Call). takes_refused q c (code_of refusal.Memory)) (Ask j s v n) (refused refusal.Memory) e (refused_ask j s v n))
   reply_taken (Ask j s v n) r e a (inr (inl p)) =

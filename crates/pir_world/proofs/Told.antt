@@ -1,5 +1,5 @@
 -- What a client's own steps add to the log.
-use Rattle.std.proofs.Common.{◌≡◌, ℕ, ◌+◌, Bool, false, List, [], ◌∷◌, ◌++◌, Option, Some, None, refl, sym, ap, subst, ◌∙◌, append_assoc, arith, inl, inr}
+use Rattle.std.proofs.Common.{◌≡◌, ℕ, ◌+◌, Bool, true, false, List, [], ◌∷◌, ◌++◌, Option, Some, None, refl, sym, ap, subst, ◌∙◌, append_assoc, arith, inl, inr}
 use Rattle.std.specs.Prelude.{cond, fold, option_to_list, is_some}
 use Rattle.std.specs.List.{AllByRecursion}
 use Rattle.std.proofs.lemmas.List.{append-nil}
@@ -16,17 +16,17 @@ use Rattle.server_core.specs.declared.standing.Standing.{Standing}
 use Rattle.server_core.specs.Serving.{Setting, is_closed}
 use Rattle.client_core.specs.declared.state.ClientState.{ClientState}
 use Rattle.client_core.specs.declared.state.Call.{Call}
-use Rattle.client_core.specs.declared.state.Call.TheVariants.{Idle, Hello, Sync, Delta, Ask, Edit, Append, Publish}
+use Rattle.client_core.specs.declared.state.Call.TheVariants.{Idle, Hello, Sync, Delta, Changes, Ask, Edit, Append, Publish}
 use Rattle.client_core.specs.declared.state.Event.{Event}
 use Rattle.client_core.specs.declared.state.Reaction.{Reaction}
 use Rattle.client_core.specs.declared.state.Reaction.TheVariants.{Asks, Reports, Fails}
-use Rattle.client_core.specs.States.{known_version, scheme_held, delta_base}
-use Rattle.client_core.specs.Calls.{Want, sync_begun, state_after_call, call_frame}
+use Rattle.client_core.specs.States.{is_wide_client, known_version, scheme_held, delta_base}
+use Rattle.client_core.specs.Calls.{Want, call_since, sync_begun, state_after_call, call_frame}
 use Rattle.client_core.specs.Calls.{Hello as want_hello, Sync as want_sync, Ask as want_ask}
 use Rattle.client_core.specs.Replies.{reaction_to_reply}
 use Rattle.client_core.specs.Feeding.{takes_all, sends_of, fault_of}
 use Rattle.pir_world.specs.Runs.{Wire, Link, Retrieval, Entry, Called, Sent, Served, arrived, beyond, sent, serves, served_or, turn_of, link_called, link_served, link_reported, reports, reacts, reported_by, reader_key}
-use Rattle.pir_world.specs.Earlier.{IsSentLast, IsServedLast, is_ask, asks_of, hint_after, hint_named, IsAsked, HasEarlier, IsAskForPart}
+use Rattle.pir_world.specs.Earlier.{IsSentLast, IsServedLast, is_ask, asks_of, hint_after, hint_named, IsAsked, HasEarlier, IsAskForChanges, IsAskForPart}
 use Rattle.pir_world.specs.Versions.{name_of, seed_of}
 use Rattle.pir_world.specs.Invariants.{GoodHistory, IsReply, InFlight, Phase, LinkInvariant, IsFrom, LogInvariant, EachAfter}
 use Rattle.pir_world.proofs.Wires.{none_arrives, one_arrives}
@@ -60,6 +60,7 @@ up_alone x h st seed c Idle up down f e p = p.1
 up_alone x h st seed c (Hello key) up down f e p = flight_up x h st seed c (Hello key) up down f e p
 up_alone x h st seed c (Sync scheme v q) up down f e p = flight_up x h st seed c (Sync scheme v q) up down f e p
 up_alone x h st seed c (Delta since) up down f e p = flight_up x h st seed c (Delta since) up down f e p
+up_alone x h st seed c (Changes since) up down f e p = flight_up x h st seed c (Changes since) up down f e p
 up_alone x h st seed c (Ask j z v m) up down f e p = flight_up x h st seed c (Ask j z v m) up down f e p
 up_alone x h st seed c (Edit j bytes) up down f e p = absurd p
 up_alone x h st seed c (Append bytes) up down f e p = absurd p
@@ -80,6 +81,7 @@ down_alone x h st seed c Idle up down r e p = absurd (none_one down r p.1 e)
 down_alone x h st seed c (Hello key) up down r e p = flight_down x h st seed c (Hello key) up down r e p
 down_alone x h st seed c (Sync scheme v q) up down r e p = flight_down x h st seed c (Sync scheme v q) up down r e p
 down_alone x h st seed c (Delta since) up down r e p = flight_down x h st seed c (Delta since) up down r e p
+down_alone x h st seed c (Changes since) up down r e p = flight_down x h st seed c (Changes since) up down r e p
 down_alone x h st seed c (Ask j z v m) up down r e p = flight_down x h st seed c (Ask j z v m) up down r e p
 down_alone x h st seed c (Edit j bytes) up down r e p = absurd p
 down_alone x h st seed c (Append bytes) up down r e p = absurd p
@@ -89,6 +91,28 @@ one_reply : (reply : Option Frame) (r : Frame) → option_to_list reply ≡ r �
 one_reply None r e = absurd cc
 one_reply (Some y) r e = ap (λ (z : Frame). Some z) (one_alike y r e)
 
+-- ---- what changed is asked for: records in a wide client, and rows in another one
+
+since_in_flight : (x : Setting) (h : History) (st : Standing) (seed : List ℕ) (c : ClientState) (since : ℕ) (wide : Bool) (up down : List Frame) →
+    Phase x h st seed c (call_since wide since) up down → InFlight x h st seed c (call_since wide since) up down
+since_in_flight x h st seed c since true up down p = p
+since_in_flight x h st seed c since false up down p = p
+
+since_from : (x : Setting) (h : History) (seed : List ℕ) (k : ℕ) (c : ClientState) (since : ℕ) (wide : Bool) (first : List Entry) →
+    IsFrom x h seed k (call_since wide since) (call_frame c (call_since wide since)) first
+since_from x h seed k c since true first = refl
+since_from x h seed k c since false first = refl
+
+since_keeps : (k : ℕ) (hint : Option (Scheme × ℕ)) (c : ClientState) (since : ℕ) (wide : Bool) →
+    hint_after k hint (Sent k (call_frame c (call_since wide since))) ≡ hint
+since_keeps k hint c since true = refl
+since_keeps k hint c since false = refl
+
+since_earlier : (x : Setting) (seeds : List (List ℕ)) (h : History) (k : ℕ) (c : ClientState) (since : ℕ) (wide : Bool) (before : List Entry) →
+    IsAskForChanges k since before → HasEarlier x seeds h before (Sent k (call_frame c (call_since wide since)))
+since_earlier x seeds h k c since true before p = p
+since_earlier x seeds h k c since false before p = p
+
 -- ---- the entries of a reaction
 
 reports_no_ask : (k : ℕ) (call : Call) (reply : Frame) (e : Event) → is_ask k (reports k call reply e) ≡ false
@@ -96,6 +120,7 @@ reports_no_ask k Idle reply e = refl
 reports_no_ask k (Hello key) reply e = refl
 reports_no_ask k (Sync scheme v q) reply e = refl
 reports_no_ask k (Delta since) reply e = refl
+reports_no_ask k (Changes since) reply e = refl
 reports_no_ask k (Ask j z v m) reply e = refl
 reports_no_ask k (Edit j bytes) reply e = refl
 reports_no_ask k (Append bytes) reply e = refl
@@ -125,9 +150,23 @@ module _ (x : Setting) (seeds : List (List ℕ)) (h : History) (k : ℕ) (log fi
         first,
         since,
         a.2.0,
+        frame.DeltaAsk since,
         ap scheme_byte a.0,
         a.1,
+        inl refl,
         subst (λ (y : Frame). IsServedLast k (frame.DeltaAsk since) y first log) a.2.1 asked,
+      ))
+  part_earlier scheme version part (Changes since) from a =
+      let asked : IsServedLast k (frame.ChangesAsk since) reply first log = subst (λ (y : Frame). IsServedLast k y reply first log) from s in
+      inr (inr (
+        first,
+        since,
+        a.2.0,
+        frame.ChangesAsk since,
+        ap scheme_byte a.0,
+        a.1,
+        inr refl,
+        subst (λ (y : Frame). IsServedLast k (frame.ChangesAsk since) y first log) a.2.1 asked,
       ))
   part_earlier scheme version part Idle from a = absurd a
   part_earlier scheme version part (Hello key) from a = absurd a
@@ -146,6 +185,7 @@ module _ (x : Setting) (seeds : List (List ℕ)) (h : History) (k : ℕ) (log fi
   reacts_earlier (Reports event) (Hello key) from asks = ((f, reply, first, s), tt)
   reacts_earlier (Reports event) (Sync scheme v q) from asks = ((f, reply, first, s), tt)
   reacts_earlier (Reports event) (Delta since) from asks = ((f, reply, first, s), tt)
+  reacts_earlier (Reports event) (Changes since) from asks = ((f, reply, first, s), tt)
   reacts_earlier (Reports event) (Edit j bytes) from asks = ((f, reply, first, s), tt)
   reacts_earlier (Reports event) (Append bytes) from asks = ((f, reply, first, s), tt)
   reacts_earlier (Reports event) Publish from asks = ((f, reply, first, s), tt)
@@ -212,7 +252,7 @@ module _ (x : Setting) (seeds : List (List ℕ)) (h : History) (k : ℕ) (l : Li
         earlier = (tt, ((log, refl), tt));
       }
 
-  -- a sync that begins by parts or by delta
+  -- a sync that begins by parts or by what changed
   begun : (base : Option ℕ) (s : Scheme) → delta_base s l.client.hint ≡ base → LinkInvariant x h (seed_of seeds k) (link_begun base s l)
       → Logged x seeds h k (link_begun base s l) log (entries_of (want_sync s) (sync_begun base s l.client))
   begun None s is n =
@@ -229,9 +269,19 @@ module _ (x : Setting) (seeds : List (List ℕ)) (h : History) (k : ℕ) (l : Li
       let b = base_is s l.client.hint since is in
       let named : hint_named k log ≡ Some (Simple, since) =
       sym g.hint ∙ ap name_of b.held ∙ rw (b.simple, b.version) refl in
+      let wide : Bool = is_wide_client l.client in
       record {
-        kept = called_log (want_sync s) d n.phase (same_number k l.client.number log es g.number (refl, (refl, tt))) (g.hint ∙ sym (hint_more k log es)) refl;
-        earlier = (tt, ((log, ap (λ (z : Scheme). log ++ Called k (want_sync z) None ∷ []) b.scheme, named), tt));
+        kept = called_log (want_sync s) d (since_in_flight x h l.standing (seed_of seeds k) d since wide _ _ n.phase)
+            (same_number k l.client.number log es g.number (refl, (refl, tt)))
+            (g.hint ∙ sym (hint_more k log es ∙ since_keeps k (hint_named k log) d since wide)) (since_from x h (seed_of seeds k) k d since wide _);
+        earlier = (
+          tt,
+          (
+            since_earlier x seeds h k d since wide _
+                (log, ap (λ (z : Scheme). log ++ Called k (want_sync z) None ∷ []) b.scheme, named),
+            tt,
+          ),
+        );
       }
 
   pub logged_sync : (s : Scheme) → LinkInvariant x h (seed_of seeds k) (link_called (want_sync s) l)

@@ -81,19 +81,23 @@ pub record IsEndOfAsk (x : Setting) (h : History) (seed : List ℕ) (k : ℕ) (r
   pub asked : IsAsked x h seed k r query first
   pub served : IsServedLast k query reply first log
 
--- A part of a hint was asked for: the first after an accepted sync, or after the rows that changed were asked for in vain, and each other after
+-- the frame that asks for what changed since a version: for rows of the hint, or in a wide store for records
+abbrev pub IsAskSince : ℕ → Frame → Type 0
+IsAskSince since f = (f ≡ frame.DeltaAsk since) ⊎ (f ≡ frame.ChangesAsk since)
+
+-- A part of a hint was asked for: the first after an accepted sync, or after what changed was asked for in vain, and each other after
 -- the one before it was served.
 abbrev pub IsAskForPart : ℕ → ℕ → ℕ → ℕ → List Entry → Type 0
 IsAskForPart k scheme version part log =
     ((first : List Entry) × (s : Scheme) × (log ≡ first ++ Called k (Sync s) None ∷ []) × (scheme ≡ scheme_byte s) × (part ≡ 0))
     ⊎ ((first : List Entry) × (p : ℕ) × (words : List ℕ) × (part ≡ p + 1) ×
     IsServedLast k (frame.HintAsk scheme version p) (frame.HintPart scheme version p words) first log)
-    ⊎ ((first : List Entry) × (since : ℕ) × (count : ℕ) × (scheme ≡ scheme_byte Simple) × (part ≡ 0) ×
-    IsServedLast k (frame.DeltaAsk since) (frame.NoDelta version count) first log)
+    ⊎ ((first : List Entry) × (since : ℕ) × (count : ℕ) × (ask : Frame) × (scheme ≡ scheme_byte Simple) × (part ≡ 0) × IsAskSince since ask ×
+    IsServedLast k ask (frame.NoDelta version count) first log)
 
--- The rows that changed since a version were asked for: after an accepted sync of SimplePIR, while that version's hint was held.
-abbrev pub IsAskForDelta : ℕ → ℕ → List Entry → Type 0
-IsAskForDelta k since log =
+-- What changed since a version was asked for: after an accepted sync of SimplePIR, while that version's hint was held.
+abbrev pub IsAskForChanges : ℕ → ℕ → List Entry → Type 0
+IsAskForChanges k since log =
     (first : List Entry) × (log ≡ first ++ Called k (Sync Simple) None ∷ []) × (hint_named k first ≡ Some (Simple, since))
 
 -- What came before an entry: each frame sent is that of a call that was accepted last, or asks for the next part of a
@@ -105,7 +109,8 @@ HasEarlier x seeds h before (Sent k (frame.Query scheme version words)) =
 HasEarlier x seeds h before (Sent k (frame.Hello profile key)) =
     (first : List Entry) × (before ≡ first ++ Called k (Hello key) None ∷ [])
 HasEarlier x seeds h before (Sent k (frame.HintAsk scheme version part)) = IsAskForPart k scheme version part before
-HasEarlier x seeds h before (Sent k (frame.DeltaAsk since)) = IsAskForDelta k since before
+HasEarlier x seeds h before (Sent k (frame.DeltaAsk since)) = IsAskForChanges k since before
+HasEarlier x seeds h before (Sent k (frame.ChangesAsk since)) = IsAskForChanges k since before
 HasEarlier x seeds h before (Sent k f) = ⊥
 HasEarlier x seeds h before (Served k f now reply) = (first : List Entry) × IsSentLast k f first before
 HasEarlier x seeds h before (Ended k r reply event) = IsEndOfAsk x h (seed_of seeds k) k r reply before

@@ -8,12 +8,15 @@ use Rattle.pir_schemes.specs.declared.scheme.Scheme.TheVariants.{Simple}
 use Rattle.pir_schemes.specs.Schemes.{scheme_byte}
 use Rattle.pir_schemes.specs.Retrievals.{hint_matrix}
 use Rattle.pir_schemes.specs.declared.plan.Plan.{Plan}
-use Rattle.pir_schemes.specs.Plans.{IsPlan, IsRecordOf, shape_at, profile_of, accepts_profile}
+use Rattle.pir_schemes.specs.Plans.{IsPlan, IsRecordOf, shape_at, slots, profile_of, accepts_profile}
 use Rattle.frame_codec.specs.declared.frame.Frame.{Frame}
 use Rattle.frame_codec.specs.declared.frame.Frame.TheVariants as frame
 use Rattle.frame_codec.specs.declared.refusal.Refusal.TheVariants as refusal
 use Rattle.frame_codec.specs.Refusals.{refused}
-use Rattle.version_store.specs.Histories.{History}
+use Rattle.hint_changes.specs.Changes.{changes_between}
+use Rattle.record_log.specs.OldRecords.{entries_bytes}
+use Rattle.version_store.specs.Histories.{AreGrowing, History}
+use Rattle.version_store.specs.OldRecords.{slots_with_blanks}
 use Rattle.server_core.specs.declared.standing.Standing.{Standing}
 use Rattle.server_core.specs.declared.standing.Standing.TheVariants.{Reader}
 use Rattle.server_core.specs.Serving.{Setting, hint_words, named_hint_rows, part_words, is_closed}
@@ -21,7 +24,8 @@ use Rattle.client_core.specs.declared.state.ClientState.{ClientState}
 use Rattle.client_core.specs.declared.state.ServerInfo.{ServerInfo}
 use Rattle.client_core.specs.declared.state.Hint.{Hint}
 use Rattle.client_core.specs.declared.state.Call.{Call}
-use Rattle.client_core.specs.declared.state.Call.TheVariants.{Idle, Hello, Sync, Delta, Ask, Edit, Append, Publish}
+use Rattle.client_core.specs.declared.state.Call.TheVariants.{Idle, Hello, Sync, Delta, Changes, Ask, Edit, Append, Publish}
+use Rattle.client_core.specs.States.{is_wide_client}
 use Rattle.client_core.specs.Calls.{call_frame}
 use Rattle.client_core.specs.Replies.{are_ascending}
 use Rattle.pir_world.specs.Runs.{State, Link, Entry, reader_key}
@@ -34,11 +38,12 @@ pub record AreRecords (p : Plan) (records : List (List ℕ)) : Type 0 where
   pub plan : IsPlan p (length records)
   pub each : (i : ℕ) → i < length records → IsRecordOf p (record_at records i)
 
--- versions of such records, numbered from 1 or later
+-- versions of such records, numbered from 1 or later, each with as many as the one before or more
 pub record GoodHistory (x : Setting) (h : History) : Type 0 where
   pub first : 1 ≤ h.first
   pub versions : (v : ℕ) (records : List (List ℕ)) → HasVersion h v records → AreRecords x.plan records
   pub draft : AreRecords x.plan h.draft
+  pub growing : AreGrowing h.draft (h.current ∷ h.past)
 
 -- what is known of a version is true
 pub record IsKnownOf (x : Setting) (h : History) (k : ServerInfo) : Type 0 where
@@ -88,6 +93,7 @@ CallIs x h c Idle = Unit {0}
 CallIs x h c (Hello key) = key ≡ reader_key
 CallIs x h c (Sync scheme v p) = SyncIs x h scheme v p c.known c.parts
 CallIs x h c (Delta since) = DeltaIs c since
+CallIs x h c (Changes since) = DeltaIs c since × (is_wide_client c ≡ true)
 CallIs x h c (Ask i scheme v number) = AskIs c i scheme v
 CallIs x h c (Edit i bytes) = ⊥
 CallIs x h c (Append bytes) = ⊥
@@ -119,6 +125,18 @@ pub record IsDeltaTo (x : Setting) (h : History) (since : ℕ) (r : Frame) : Typ
       Contains numbers i ⊎ (row (hint_matrix Simple x.plan before) i ≡ row (hint_matrix Simple x.plan records) i)
   pub reply_is : r ≡ frame.Delta since now (length records) (named_hint_rows x records numbers)
 
+-- Changes to a version from an earlier one: their entries are all that differs between the two, of the bytes that records have in the digits, where
+-- blanks stand for those that were appended between
+pub record IsChangesTo (x : Setting) (h : History) (since : ℕ) (r : Frame) : Type 0 where
+  pub now : ℕ
+  pub records : List (List ℕ)
+  pub version_is : HasVersion h now records
+  pub before : List (List ℕ)
+  pub since_is : HasVersion h since before
+  pub more : length before ≤ length records
+  pub reply_is : r ≡ frame.Changes since now (length records)
+      (entries_bytes (changes_between (slots_with_blanks x.plan (length records) before) (slots x.plan records)))
+
 -- a reply to the outstanding call
 abbrev pub IsReply : Setting → History → Standing → List ℕ → Call → Frame → Type 0
 IsReply x h st seed (Hello key) r =
@@ -129,6 +147,10 @@ IsReply x h st seed (Delta since) r =
     (r ≡ refused refusal.Memory)
     ⊎ ((now : ℕ) × (records : List (List ℕ)) × HasVersion h now records × (r ≡ frame.NoDelta now (length records)))
     ⊎ IsDeltaTo x h since r
+IsReply x h st seed (Changes since) r =
+    (r ≡ refused refusal.Memory)
+    ⊎ ((now : ℕ) × (records : List (List ℕ)) × HasVersion h now records × (r ≡ frame.NoDelta now (length records)))
+    ⊎ IsChangesTo x h since r
 IsReply x h st seed (Ask i s v n) r =
     IsReplyOf x h v r (λ records. frame.Answer (scheme_byte s) v
     (given_words x.plan records seed (record { index = i; scheme = s; version = v; number = n })))
@@ -146,6 +168,7 @@ Phase x h st seed c Idle up down = (up ≡ []) × (down ≡ [])
 Phase x h st seed c (Hello key) up down = InFlight x h st seed c (Hello key) up down
 Phase x h st seed c (Sync scheme v p) up down = InFlight x h st seed c (Sync scheme v p) up down
 Phase x h st seed c (Delta since) up down = InFlight x h st seed c (Delta since) up down
+Phase x h st seed c (Changes since) up down = InFlight x h st seed c (Changes since) up down
 Phase x h st seed c (Ask i s v n) up down = InFlight x h st seed c (Ask i s v n) up down
 Phase x h st seed c (Edit i bytes) up down = ⊥
 Phase x h st seed c (Append bytes) up down = ⊥
@@ -162,12 +185,13 @@ pub record LinkInvariant (x : Setting) (h : History) (seed : List ℕ) (l : Link
   pub call : CallIs x h l.client l.client.call
   pub phase : Phase x h l.standing seed l.client l.client.call l.up.frames l.down.frames
 
--- a sync's frame asks for its next part, or for the rows that changed; an ask's is the query of its retrieval, which was asked for last
+-- a sync's frame asks for its next part, or for what changed; an ask's is the query of its retrieval, which was asked for last
 abbrev pub IsFrom : Setting → History → List ℕ → ℕ → Call → Frame → List Entry → Type 0
 IsFrom x h seed k (Ask i s v n) f first =
     IsAsked x h seed k (record { index = i; scheme = s; version = v; number = n }) f first
 IsFrom x h seed k (Sync s v p) f first = f ≡ frame.HintAsk (scheme_byte s) v p
 IsFrom x h seed k (Delta since) f first = f ≡ frame.DeltaAsk since
+IsFrom x h seed k (Changes since) f first = f ≡ frame.ChangesAsk since
 IsFrom x h seed k _ f first = Unit {0}
 
 -- what the log says of a client: its next number, the hint that it holds, the frame on its way, or the reply

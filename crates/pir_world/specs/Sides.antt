@@ -1,9 +1,10 @@
 -- A client's end of a link, and what it has to do with the link of a run.
 use Rattle.std.specs.Prelude.{◌≡◌, ◌++◌, ℕ, List, [], length, min, take, drop, Option, Some, None, Ok, Bool, true, nat_lt, slice_get}
 use Rattle.std.specs.List.{flat_map, AllByRecursion}
-use Rattle.frame_codec.specs.Frames.{IsFrame, encoding}
+use Rattle.frame_codec.specs.Frames.{encoding}
+use Rattle.frame_codec.specs.Streams.{IsFrameOf}
 use Rattle.version_store.specs.Histories.{StoreState, History, StandsFor}
-use Rattle.server_core.specs.Serving.{Setting, setting_of}
+use Rattle.server_core.specs.Serving.{Setting, is_wide_setting, setting_of}
 use Rattle.server_core.specs.Sessions.{Session, Fed}
 use Rattle.server_core.specs.Cores.{Core, session_of}
 use Rattle.pir_schemes.specs.Plans.{client_profile}
@@ -78,32 +79,32 @@ MakesCall want old None new =
     × (new.down ≡ old.down)
 MakesCall want old (Some fault) new = (refusal want old.client.state ≡ Some fault) × (new ≡ old)
 
--- a wire by its bytes: what the reader has of the next frame, and then what waits, encode the frames on their way
-pub record Carries (reader : Option (List ℕ)) (waiting : List ℕ) (w : Wire) : Type 0 where
+-- a wire of a database, wide or not, by its bytes: what the reader has of the next frame, and then what waits, encode the frames on their way
+pub record Carries (wide : Bool) (reader : Option (List ℕ)) (waiting : List ℕ) (w : Wire) : Type 0 where
   pub unfinished : List ℕ
   pub reader_is : reader ≡ Some unfinished
   pub bytes : unfinished ++ waiting ≡ flat_map encoding w.frames
   pub got : w.got ≡ length unfinished
-  pub each : AllByRecursion IsFrame w.frames
+  pub each : AllByRecursion (IsFrameOf wide) w.frames
 
 -- a client's end and its session are those of a link
-pub record EndIs (e : Side) (session : Session) (l : Link) : Type 0 where
+pub record EndIs (wide : Bool) (e : Side) (session : Session) (l : Link) : Type 0 where
   pub client_is : e.client.state ≡ l.client
   pub standing_is : session.standing ≡ l.standing
-  pub up : Carries session.unfinished e.up l.up
-  pub down : Carries e.client.reader e.down l.down
+  pub up : Carries wide session.unfinished e.up l.up
+  pub down : Carries wide e.client.reader e.down l.down
 
 -- an end, its session and its link; or none of them
-abbrev pub Matched : Option Side → Option Session → Option Link → Type 0
-Matched (Some e) (Some session) (Some l) = EndIs e session l
-Matched (Some e) (Some session) None = ⊥
-Matched (Some e) None l = ⊥
-Matched None session None = Unit {0}
-Matched None session (Some l) = ⊥
+abbrev pub Matched : Bool → Option Side → Option Session → Option Link → Type 0
+Matched wide (Some e) (Some session) (Some l) = EndIs wide e session l
+Matched wide (Some e) (Some session) None = ⊥
+Matched wide (Some e) None l = ⊥
+Matched wide None session None = Unit {0}
+Matched wide None session (Some l) = ⊥
 
 -- the parts of a world are those of a state
 pub record IsParts (x : Setting) (core : Core) (ends : List Side) (outcomes : List Outcome) (s : State) : Type 0 where
   pub setting_is : setting_of core.store ≡ x
   pub store_is : StandsFor core.store s.history
-  pub ends_are : (k : ℕ) → Matched (slice_get ends k) (session_of core.sessions k) (slice_get s.links k)
+  pub ends_are : (k : ℕ) → Matched (is_wide_setting x) (slice_get ends k) (session_of core.sessions k) (slice_get s.links k)
   pub outcomes_are : outcomes ≡ outcomes_of s.log

@@ -130,8 +130,8 @@ fn call<K: Kernel>(
     outcomes: &mut Vec<Outcome>,
 ) -> Result<(), AllocError>
     requires { k < length ends.old.items }
-    ensures made { OnOk result ((core : Core) (x : Setting) (s : State) →
-        IsParts x core ends.old.items outcomes.old.items s →
+    ensures made { OnOk result ((core : Core) (x : Setting) (seeds : List (List ℕ)) (s : State) →
+        WorldInvariant x seeds s → IsParts x core ends.old.items outcomes.old.items s →
         IsParts x core ends.new.items outcomes.new.items (called_at s (want_of request) k
         (slice_get s.links k))) }
     ensures clients { length ends.new.items ≡ length ends.old.items }

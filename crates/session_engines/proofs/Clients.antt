@@ -12,26 +12,27 @@ use Rattle.frame_codec.specs.Rows.{RowList}
 use Rattle.frame_codec.specs.Frames.{IsFrame, encoding}
 use Rattle.frame_codec.specs.Streams.{Feeds}
 use Rattle.frame_codec.proofs.Runs.{all_append}
-use Rattle.client_core.specs.States.{shape_known}
+use Rattle.digit_pack.specs.Layout.{is_wide}
+use Rattle.client_core.specs.States.{is_wide_client, shape_known}
 use Rattle.client_core.specs.declared.state.ClientState.{ClientState}
 use Rattle.client_core.specs.declared.state.ServerInfo.{ServerInfo}
 use Rattle.client_core.specs.declared.state.Hint.{Hint}
 use Rattle.client_core.specs.declared.state.Call.{Call}
-use Rattle.client_core.specs.declared.state.Call.TheVariants.{Idle, Hello, Sync, Delta, Ask, Edit, Append, Publish}
+use Rattle.client_core.specs.declared.state.Call.TheVariants.{Idle, Hello, Sync, Delta, Changes, Ask, Edit, Append, Publish}
 use Rattle.client_core.specs.declared.state.ClientFault.{ClientFault}
 use Rattle.client_core.specs.declared.state.ClientFault.TheVariants as client
 use Rattle.client_core.specs.declared.state.Event.{Event}
 use Rattle.pir_schemes.specs.declared.scheme.Scheme.{Scheme}
 use Rattle.pir_schemes.specs.Retrievals.{hint_len}
 use Rattle.pir_schemes.specs.declared.plan.Plan.{Plan}
-use Rattle.client_core.specs.Replies.{Taken, faulty, reaction_to_reply, takes_welcome, takes_part, takes_answer, takes_stale, takes_done, takes_refused, is_accepted_welcome, is_part, more_parts, takes_asked_part, answered, reaction_to_stale, moved, takes_delta, goes_by_parts, takes_no_delta}
+use Rattle.client_core.specs.Replies.{Taken, faulty, reaction_to_reply, takes_welcome, takes_part, takes_answer, takes_stale, takes_done, takes_refused, is_accepted_welcome, is_part, more_parts, takes_asked_part, answered, reaction_to_stale, moved, takes_delta, takes_changes, changed, goes_by_parts, takes_no_delta}
 use Rattle.client_core.specs.Feeding.{Client, Course, start, course_after_reply, course_more, runs, takes_all, sends_of, fault_of, codec_fault, failing, ends_with, Gives, Follows, BreaksOff, FeedsOpen, FeedsFailed, FeedsClient}
 use Rattle.client_core.proofs.Courses.{runs_append, fault_stays}
 use Rattle.session_engines.proofs.Streams.{take_both, feeds_both}
 
--- ---- a client fails with a fault alone, and no reply changes the next number
+-- ---- a client fails with a fault alone, and no reply changes the next number or the profile
 abbrev IsSound : ClientState → Taken → Type 0
-IsSound c t = fault_of t.reaction ≡ None → (t.state.failed ≡ c.failed) × (t.state.number ≡ c.number)
+IsSound c t = fault_of t.reaction ≡ None → (t.state.failed ≡ c.failed) × (t.state.number ≡ c.number) × (t.state.profile ≡ c.profile)
 
 bad : (c : ClientState) (f : ClientFault) → IsSound c (faulty c f)
 bad c f e = let no : Some f ≡ None = e in absurd cc
@@ -43,9 +44,10 @@ either c false t u a b = b
 sound_welcome : (call : Call) (c : ClientState) (plan : Plan) (count v : ℕ) → IsSound c (takes_welcome call c plan count v)
 sound_welcome Idle c plan count v = bad c client.BadReply
 sound_welcome (Hello key) c plan count v =
-    either c (is_accepted_welcome c.profile plan count v) _ (faulty c client.BadWelcome) (λ _. (refl, refl)) (bad c client.BadWelcome)
+    either c (is_accepted_welcome c.profile plan count v) _ (faulty c client.BadWelcome) (λ _. (refl, refl, refl)) (bad c client.BadWelcome)
 sound_welcome (Sync s w p) c plan count v = bad c client.BadReply
 sound_welcome (Delta since) c plan count v = bad c client.BadReply
+sound_welcome (Changes since) c plan count v = bad c client.BadReply
 sound_welcome (Ask i s w k) c plan count v = bad c client.BadReply
 sound_welcome (Edit i b) c plan count v = bad c client.BadReply
 sound_welcome (Append b) c plan count v = bad c client.BadReply
@@ -57,13 +59,14 @@ sound_asked None s c asked next scheme version part words = bad c client.BadRepl
 sound_asked (Some k) s c asked next scheme version part words =
     either c (is_part s (hint_len s (shape_known k) k.plan.dimension) asked next scheme version part words) (more_parts s k c asked next (c.parts ++ words))
     (faulty c client.BadReply)
-    (either c _ _ _ (λ _. (refl, refl)) (λ _. (refl, refl))) (bad c client.BadReply)
+    (either c _ _ _ (λ _. (refl, refl, refl)) (λ _. (refl, refl, refl))) (bad c client.BadReply)
 
 sound_part : (call : Call) (c : ClientState) (scheme version part : ℕ) (words : List ℕ) → IsSound c (takes_part call c scheme version part words)
 sound_part Idle c scheme version part words = bad c client.BadReply
 sound_part (Hello key) c scheme version part words = bad c client.BadReply
 sound_part (Sync s v p) c scheme version part words = sound_asked c.known s c v p scheme version part words
 sound_part (Delta since) c scheme version part words = bad c client.BadReply
+sound_part (Changes since) c scheme version part words = bad c client.BadReply
 sound_part (Ask i s v k) c scheme version part words = bad c client.BadReply
 sound_part (Edit i b) c scheme version part words = bad c client.BadReply
 sound_part (Append b) c scheme version part words = bad c client.BadReply
@@ -73,19 +76,20 @@ sound_answered : (known : Option ServerInfo) (hint : Option Hint) (c : ClientSta
     IsSound c (answered known hint c i asked number scheme version words)
 sound_answered None hint c i asked number scheme version words = bad c client.BadReply
 sound_answered (Some k) None c i asked number scheme version words = bad c client.BadReply
-sound_answered (Some k) (Some h) c i asked number scheme version words = either c _ _ (faulty c client.BadReply) (λ _. (refl, refl)) (bad c client.BadReply)
+sound_answered (Some k) (Some h) c i asked number scheme version words = either c _ _ (faulty c client.BadReply) (λ _. (refl, refl, refl)) (bad c client.BadReply)
 
 sound_answer : (call : Call) (c : ClientState) (scheme version : ℕ) (words : List ℕ) → IsSound c (takes_answer call c scheme version words)
 sound_answer Idle c scheme version words = bad c client.BadReply
 sound_answer (Hello key) c scheme version words = bad c client.BadReply
 sound_answer (Sync s v p) c scheme version words = bad c client.BadReply
 sound_answer (Delta since) c scheme version words = bad c client.BadReply
+sound_answer (Changes since) c scheme version words = bad c client.BadReply
 sound_answer (Ask i s v k) c scheme version words = sound_answered c.known c.hint c i v k scheme version words
 sound_answer (Edit i b) c scheme version words = bad c client.BadReply
 sound_answer (Append b) c scheme version words = bad c client.BadReply
 sound_answer Publish c scheme version words = bad c client.BadReply
 
-sound_staled : (known : Option ServerInfo) (after c : ClientState) (asked version count : ℕ) → (after.failed ≡ c.failed) × (after.number ≡ c.number) →
+sound_staled : (known : Option ServerInfo) (after c : ClientState) (asked version count : ℕ) → (after.failed ≡ c.failed) × (after.number ≡ c.number) × (after.profile ≡ c.profile) →
     IsSound c (reaction_to_stale known after c asked version count)
 sound_staled None after c asked version count e = bad c client.BadReply
 sound_staled (Some k) after c asked version count e = either c _ _ (faulty c client.BadReply) (λ _. e) (bad c client.BadReply)
@@ -93,9 +97,10 @@ sound_staled (Some k) after c asked version count e = either c _ _ (faulty c cli
 sound_stale : (call : Call) (c : ClientState) (version count : ℕ) → IsSound c (takes_stale call c version count)
 sound_stale Idle c version count = bad c client.BadReply
 sound_stale (Hello key) c version count = bad c client.BadReply
-sound_stale (Sync s v p) c version count = sound_staled c.known (record c { parts = [] }) c v version count (refl, refl)
+sound_stale (Sync s v p) c version count = sound_staled c.known (record c { parts = [] }) c v version count (refl, refl, refl)
 sound_stale (Delta since) c version count = bad c client.BadReply
-sound_stale (Ask i s v k) c version count = sound_staled c.known c c v version count (refl, refl)
+sound_stale (Changes since) c version count = bad c client.BadReply
+sound_stale (Ask i s v k) c version count = sound_staled c.known c c v version count (refl, refl, refl)
 sound_stale (Edit i b) c version count = bad c client.BadReply
 sound_stale (Append b) c version count = bad c client.BadReply
 sound_stale Publish c version count = bad c client.BadReply
@@ -104,27 +109,46 @@ sound_moved : (known : Option ServerInfo) (hint : Option Hint) (c : ClientState)
     IsSound c (moved known hint c asked since now count rows)
 sound_moved None hint c asked since now count rows = bad c client.BadReply
 sound_moved (Some k) None c asked since now count rows = bad c client.BadReply
-sound_moved (Some k) (Some h) c asked since now count rows = either c _ _ (faulty c client.BadReply) (λ _. (refl, refl)) (bad c client.BadReply)
+sound_moved (Some k) (Some h) c asked since now count rows = either c _ _ (faulty c client.BadReply) (λ _. (refl, refl, refl)) (bad c client.BadReply)
 
 sound_delta : (call : Call) (c : ClientState) (since now count : ℕ) (rows : RowList) → IsSound c (takes_delta call c since now count rows)
 sound_delta Idle c since now count rows = bad c client.BadReply
 sound_delta (Hello key) c since now count rows = bad c client.BadReply
 sound_delta (Sync s v p) c since now count rows = bad c client.BadReply
 sound_delta (Delta asked) c since now count rows = sound_moved c.known c.hint c asked since now count rows
+sound_delta (Changes asked) c since now count rows = bad c client.BadReply
 sound_delta (Ask i s v k) c since now count rows = bad c client.BadReply
 sound_delta (Edit i b) c since now count rows = bad c client.BadReply
 sound_delta (Append b) c since now count rows = bad c client.BadReply
 sound_delta Publish c since now count rows = bad c client.BadReply
 
+sound_changed : (known : Option ServerInfo) (hint : Option Hint) (c : ClientState) (asked since now count : ℕ) (entries : List ℕ) →
+    IsSound c (changed known hint c asked since now count entries)
+sound_changed None hint c asked since now count entries = bad c client.BadReply
+sound_changed (Some k) None c asked since now count entries = bad c client.BadReply
+sound_changed (Some k) (Some h) c asked since now count entries = either c _ _ (faulty c client.BadReply) (λ _. (refl, refl, refl)) (bad c client.BadReply)
+
+sound_changes : (call : Call) (c : ClientState) (since now count : ℕ) (entries : List ℕ) → IsSound c (takes_changes call c since now count entries)
+sound_changes Idle c since now count entries = bad c client.BadReply
+sound_changes (Hello key) c since now count entries = bad c client.BadReply
+sound_changes (Sync s v p) c since now count entries = bad c client.BadReply
+sound_changes (Delta asked) c since now count entries = bad c client.BadReply
+sound_changes (Changes asked) c since now count entries = sound_changed c.known c.hint c asked since now count entries
+sound_changes (Ask i s v k) c since now count entries = bad c client.BadReply
+sound_changes (Edit i b) c since now count entries = bad c client.BadReply
+sound_changes (Append b) c since now count entries = bad c client.BadReply
+sound_changes Publish c since now count entries = bad c client.BadReply
+
 sound_by_parts : (known : Option ServerInfo) (c : ClientState) (version count : ℕ) → IsSound c (goes_by_parts known c version count)
 sound_by_parts None c version count = bad c client.BadReply
-sound_by_parts (Some k) c version count = either c _ _ (faulty c client.BadReply) (λ _. (refl, refl)) (bad c client.BadReply)
+sound_by_parts (Some k) c version count = either c _ _ (faulty c client.BadReply) (λ _. (refl, refl, refl)) (bad c client.BadReply)
 
 sound_no_delta : (call : Call) (c : ClientState) (version count : ℕ) → IsSound c (takes_no_delta call c version count)
 sound_no_delta Idle c version count = bad c client.BadReply
 sound_no_delta (Hello key) c version count = bad c client.BadReply
 sound_no_delta (Sync s v p) c version count = bad c client.BadReply
 sound_no_delta (Delta asked) c version count = sound_by_parts c.known c version count
+sound_no_delta (Changes asked) c version count = sound_by_parts c.known c version count
 sound_no_delta (Ask i s v k) c version count = bad c client.BadReply
 sound_no_delta (Edit i b) c version count = bad c client.BadReply
 sound_no_delta (Append b) c version count = bad c client.BadReply
@@ -135,20 +159,22 @@ sound_done Idle c version = bad c client.BadReply
 sound_done (Hello key) c version = bad c client.BadReply
 sound_done (Sync s v p) c version = bad c client.BadReply
 sound_done (Delta since) c version = bad c client.BadReply
+sound_done (Changes since) c version = bad c client.BadReply
 sound_done (Ask i s v k) c version = bad c client.BadReply
-sound_done (Edit i b) c version = λ _. (refl, refl)
-sound_done (Append b) c version = λ _. (refl, refl)
-sound_done Publish c version = λ _. (refl, refl)
+sound_done (Edit i b) c version = λ _. (refl, refl, refl)
+sound_done (Append b) c version = λ _. (refl, refl, refl)
+sound_done Publish c version = λ _. (refl, refl, refl)
 
 sound_refused : (call : Call) (c : ClientState) (code : ℕ) → IsSound c (takes_refused call c code)
 sound_refused Idle c code = bad c client.BadReply
-sound_refused (Hello key) c code = λ _. (refl, refl)
-sound_refused (Sync s v p) c code = λ _. (refl, refl)
-sound_refused (Delta since) c code = λ _. (refl, refl)
-sound_refused (Ask i s v k) c code = λ _. (refl, refl)
-sound_refused (Edit i b) c code = λ _. (refl, refl)
-sound_refused (Append b) c code = λ _. (refl, refl)
-sound_refused Publish c code = λ _. (refl, refl)
+sound_refused (Hello key) c code = λ _. (refl, refl, refl)
+sound_refused (Sync s v p) c code = λ _. (refl, refl, refl)
+sound_refused (Delta since) c code = λ _. (refl, refl, refl)
+sound_refused (Changes since) c code = λ _. (refl, refl, refl)
+sound_refused (Ask i s v k) c code = λ _. (refl, refl, refl)
+sound_refused (Edit i b) c code = λ _. (refl, refl, refl)
+sound_refused (Append b) c code = λ _. (refl, refl, refl)
+sound_refused Publish c code = λ _. (refl, refl, refl)
 
 sound : (c : ClientState) (f : Frame) → IsSound c (reaction_to_reply c f)
 sound c (frame.Load record_len groups width records) = bad c client.BadReply
@@ -160,6 +186,7 @@ sound c (frame.Edit index bytes) = bad c client.BadReply
 sound c frame.Publish = bad c client.BadReply
 sound c frame.Bye = bad c client.BadReply
 sound c (frame.Append bytes) = bad c client.BadReply
+sound c (frame.ChangesAsk since) = bad c client.BadReply
 sound c (frame.Welcome profile width record_len groups count version dimension seed) = sound_welcome c.call c _ count version
 sound c (frame.HintPart scheme version part words) = sound_part c.call c scheme version part words
 sound c (frame.Delta since now count rows) = sound_delta c.call c since now count rows
@@ -167,13 +194,14 @@ sound c (frame.Answer scheme version words) = sound_answer c.call c scheme versi
 sound c (frame.Stale version count) = sound_stale c.call c version count
 sound c (frame.Done version) = sound_done c.call c version
 sound c (frame.NoDelta version count) = sound_no_delta c.call c version count
+sound c (frame.Changes since now count entries) = sound_changes c.call c since now count entries
 sound c (frame.Refused code) = sound_refused c.call c code
 
 none_is_not : {P : Type 0} (o : Option ClientFault) (x : ClientFault) → o ≡ Some x → o ≡ None → P
 none_is_not o x s n = let no : Some x ≡ None = sym s ∙ n in absurd cc
 
 abbrev Lives : ClientState → ClientState → Type 0
-Lives c d = (d.failed ≡ c.failed) × (d.number ≡ c.number)
+Lives c d = (d.failed ≡ c.failed) × (d.number ≡ c.number) × (d.profile ≡ c.profile)
 
 more_lives : (k : Course) (f : Frame) (o : Option ClientFault) → k.fault ≡ o → (course_more k f).fault ≡ None → Lives k.state (course_more k f).state
 more_lives k f (Some x) e n =
@@ -185,17 +213,17 @@ more_lives k f None e n =
     λ o. (if is_some o then k else course_after_reply k (reaction_to_reply k.state f)) ≡ course_after_reply k (reaction_to_reply k.state f) in
     let same : course_more k f ≡ course_after_reply k (reaction_to_reply k.state f) = subst Q (sym e) refl in
     let s = sound k.state f (ap (λ (y : Course). y.fault) (sym same) ∙ n) in
-    (ap (λ (y : Course). y.state.failed) same ∙ s.0, ap (λ (y : Course). y.state.number) same ∙ s.1)
+    (ap (λ (y : Course). y.state.failed) same ∙ s.0, ap (λ (y : Course). y.state.number) same ∙ s.1, ap (λ (y : Course). y.state.profile) same ∙ s.2)
 
 runs_lives : (k : Course) (fs : List Frame) → (runs k fs).fault ≡ None → Lives k.state (runs k fs).state
-runs_lives k [] n = (refl, refl)
+runs_lives k [] n = (refl, refl, refl)
 runs_lives k (f ∷ fs) n = by_next (course_more k f).fault refl (runs_lives (course_more k f) fs n)
   where
     by_next : (o : Option ClientFault) → (course_more k f).fault ≡ o → Lives (course_more k f).state (runs (course_more k f) fs).state →
         Lives k.state (runs (course_more k f) fs).state
     by_next None e later =
         let one = more_lives k f k.fault refl e in
-        (later.0 ∙ one.0, later.1 ∙ one.1)
+        (later.0 ∙ one.0, later.1 ∙ one.1, later.2 ∙ one.2)
     by_next (Some x) e later = none_is_not (course_more k f).fault x e (ap (λ (y : Course). y.fault) (sym (fault_stays (course_more k f) fs x e)) ∙ n)
 
 -- ---- a course after what was sent before
@@ -239,7 +267,7 @@ well_read k (Err read_fault.Failed) n = absurd (failing_fails k.state k.sends k.
 -- what the first of them did: all its frames were taken, and nothing was told
 record First (old : Client) (read out : List ℕ) (mid : Client) : Type 0 where
   frames : List Frame
-  reads : Feeds old.reader read (Ok tt) frames mid.reader
+  reads : Feeds (is_wide_client old.state) old.reader read (Ok tt) frames mid.reader
   sends : List Frame
   out_is : out ≡ flat_map encoding sends
   each : AllByRecursion IsFrame sends
@@ -247,7 +275,7 @@ record First (old : Client) (read out : List ℕ) (mid : Client) : Type 0 where
   lives : Lives old.state mid.state
 
 first_followed : (old : Client) (read out : List ℕ) (mid : Client) (frames : List Frame) (answer : Result (Unit {0}) ReadFault) →
-    Feeds old.reader read answer frames mid.reader
+    Feeds (is_wide_client old.state) old.reader read answer frames mid.reader
     → Follows (ends_with (takes_all old.state frames) answer) out [] None mid.state → First old read out mid
 first_followed old read out mid frames answer reads f =
     let k : Course = takes_all old.state frames in
@@ -257,7 +285,7 @@ first_followed old read out mid frames answer reads f =
     let make : ClientState → List Frame → List Event → Option ClientFault → Course = course in
     record {
       frames = frames;
-      reads = subst (λ (r : Result (Unit {0}) ReadFault). Feeds old.reader read r frames mid.reader) well reads;
+      reads = subst (λ (r : Result (Unit {0}) ReadFault). Feeds (is_wide_client old.state) old.reader read r frames mid.reader) well reads;
       sends = k.sends;
       out_is = g.gives.written;
       each = g.gives.each;
@@ -321,7 +349,8 @@ open_both : (old : Client) (read out : List ℕ) (mid : Client) (piece more : Li
 open_both old read out mid piece more events fault new a b = record {
   answer = b.answer;
   frames = a.frames ++ b.frames;
-  reads = feeds_both old.reader read piece b.answer a.frames b.frames mid.reader new.reader a.reads b.reads;
+  reads = feeds_both (is_wide_client old.state) old.reader read piece b.answer a.frames b.frames mid.reader new.reader a.reads
+      (subst (λ (p : ℕ). Feeds (is_wide p) mid.reader piece b.answer b.frames new.reader) a.lives.2 b.reads);
   takes = elim b.takes [
     | inl f ↦ inl (followed_after old read out mid a b.frames b.answer more events fault new.state f)
     | inr f ↦ inr (broken_after old read out mid a b.frames more events fault new.state f)

@@ -1,5 +1,5 @@
 -- A piece, frame by frame.
-use Rattle.std.proofs.Common.{◌≡◌, ◌≢◌, ◌≤◌, ◌<◌, ◌⊎◌, not, ℕ, Bool, true, false, List, [], ◌∷◌, ◌++◌, length, take, drop, Option, Some, None, Result, Ok, Err, refl, sym, ap, subst, ◌∙◌, append_assoc, arith, inl, inr}
+use Rattle.std.proofs.Common.{◌≡◌, ◌≤◌, ◌<◌, ◌⊎◌, not, ℕ, Bool, true, false, List, [], ◌∷◌, ◌++◌, length, take, drop, Option, Some, Result, Ok, Err, refl, sym, ap, subst, ◌∙◌, append_assoc, arith, inl, inr}
 use Rattle.std.specs.Prelude.{◌==◌}
 use Rattle.std.specs.List.{flat_map}
 use Rattle.std.specs.declared.alloc.AllocError.{AllocError}
@@ -17,9 +17,8 @@ use Rattle.server_core.specs.Sessions.{Session, Fed, FedFirst}
 use Rattle.server_core.proofs.Firsts.{firsts_are_pieces, stops_are_pieces}
 use Rattle.session_engines.specs.declared.serving.ServeFault.{ServeFault}
 use Rattle.session_engines.specs.declared.serving.ServeFault.TheVariants as fault
-use Rattle.session_engines.specs.Prefixes.{IsCutOff}
 use Rattle.session_engines.specs.ServingTurns.{WritesReplies}
-use Rattle.session_engines.specs.Serving.{FedPart, FedWhole, ServesStreamPiece, ServesFirst, ServesFrameThere}
+use Rattle.session_engines.specs.Serving.{FedPart, ServesStreamPiece, ServesFirst, ServesFrameThere}
 use Rattle.session_engines.proofs.Sessions.{fed_both, fed_parts}
 use Rattle.session_engines.proofs.Streams.{cut_after}
 

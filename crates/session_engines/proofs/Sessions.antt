@@ -13,12 +13,10 @@ use Rattle.frame_codec.specs.Streams.{Feeds}
 use Rattle.frame_codec.proofs.Runs.{all_append, begins_none}
 use Rattle.frame_codec.proofs.Prefixes.{nothing_partial}
 use Rattle.version_store.specs.Histories.{StoreState, History, StandsFor}
-use Rattle.server_core.specs.Cores.{is_open, FeedsCore}
-use Rattle.server_core.specs.declared.server.FeedError.{FeedError}
-use Rattle.server_core.specs.declared.server.FeedError.TheVariants as feed_error
+use Rattle.server_core.specs.Cores.{is_open}
 use Rattle.server_core.specs.declared.standing.Standing.{Standing}
 use Rattle.server_core.specs.declared.standing.Standing.TheVariants as standing
-use Rattle.server_core.specs.Serving.{Setting, setting_of, ServesAll, is_closed}
+use Rattle.server_core.specs.Serving.{is_wide_setting, Setting, setting_of, ServesAll, is_closed}
 use Rattle.server_core.specs.Sessions.{Session, new_session, AfterReading, EndsPiece, IsStop, ServesPiece, ClosesForMemory, FeedsSession, Fed}
 use Rattle.session_engines.specs.declared.serving.Ending.{Ending}
 use Rattle.session_engines.specs.declared.serving.ServeFault.{ServeFault}
@@ -89,7 +87,7 @@ left_open answer middle after more e open_ = by_middle (is_closed middle) refl e
 -- what the first of them did
 record First (x : Setting) (h : History) (old : Session) (read : List ℕ) (h1 : History) (s1 : Session) (rs : List Frame) : Type 0 where
   frames : List Frame
-  reads : Feeds old.unfinished read (Ok tt) frames s1.unfinished
+  reads : Feeds (is_wide_setting x) old.unfinished read (Ok tt) frames s1.unfinished
   serves : ServesAll x h old.standing frames h1 s1.standing rs
 
 first_of : (x : Setting) (h : History) (old : Session) (read : List ℕ) (h1 : History) (s1 : Session) (rs : List Frame) → ServesPiece x h old read h1 s1 rs →
@@ -99,7 +97,7 @@ first_of x h old read h1 s1 rs a open_ =
     let rs_is : rs ≡ a.reported = a.all ∙ ap (λ (m : List Frame). a.reported ++ m) left.none ∙ append-nil a.reported in
     record {
       frames = a.frames;
-      reads = subst (λ (r : Result (Unit {0}) ReadFault). Feeds old.unfinished read r a.frames s1.unfinished) left.answer_is a.reads;
+      reads = subst (λ (r : Result (Unit {0}) ReadFault). Feeds (is_wide_setting x) old.unfinished read r a.frames s1.unfinished) left.answer_is a.reads;
       serves = subst (λ (r : List Frame). ServesAll x h old.standing a.frames h1 s1.standing r) (sym rs_is)
           (subst (λ (st : Standing). ServesAll x h old.standing a.frames h1 st a.reported) (sym left.after_is) a.serves);
     }
@@ -113,7 +111,7 @@ then_whole x h old read piece h1 h2 s1 s2 rs more a open_ b = record {
   middle = b.middle;
   reported = rs ++ b.reported;
   more = b.more;
-  reads = feeds_both old.unfinished read piece b.answer a.frames b.frames s1.unfinished s2.unfinished a.reads b.reads;
+  reads = feeds_both (is_wide_setting x) old.unfinished read piece b.answer a.frames b.frames s1.unfinished s2.unfinished a.reads b.reads;
   serves = serves_both x h old.standing a.frames b.frames h1 h2 s1.standing b.middle rs b.reported a.serves open_ b.serves;
   ends = b.ends;
   all = ap (λ (m : List Frame). rs ++ m) b.all ∙ sym (append_assoc rs b.reported b.more);
@@ -131,7 +129,7 @@ then_broken x h old read piece h1 h2 s1 s2 rs more a open_ b = record {
   frames = a.frames ++ b.frames;
   count = length a.frames + b.count;
   middle = b.middle;
-  reads = feeds_both old.unfinished read piece b.answer a.frames b.frames s1.unfinished s2.unfinished a.reads b.reads;
+  reads = feeds_both (is_wide_setting x) old.unfinished read piece b.answer a.frames b.frames s1.unfinished s2.unfinished a.reads b.reads;
   stop = stop_after b.answer a.frames b.frames b.count b.stop;
   serves = subst (λ (fs : List Frame). ServesAll x h old.standing fs h2 b.middle (rs ++ more)) (sym (take_both b.count a.frames b.frames))
       (serves_both x h old.standing a.frames (take b.count b.frames) h1 h2 s1.standing b.middle rs more a.serves open_ b.serves);
@@ -207,7 +205,7 @@ fed_none h store stands = record {
     middle = standing.Stranger;
     reported = [];
     more = [];
-    reads = ([], record { begins = begins_none []; partial = nothing_partial }, refl);
+    reads = ([], record { begins = begins_none (is_wide_setting (setting_of store)) []; partial = nothing_partial (is_wide_setting (setting_of store)) }, refl);
     serves = (refl, refl, refl);
     ends = (refl, refl);
     all = refl;

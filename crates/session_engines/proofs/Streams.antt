@@ -1,5 +1,5 @@
 -- Two pieces of a stream are one.
-use Rattle.std.proofs.Common.{◌≡◌, ◌<◌, ◌+◌, suc, ℕ, List, [], ◌∷◌, ◌++◌, length, take, drop, Option, Some, None, Result, Ok, Err, sym, ap, subst, ◌∙◌, append_assoc, arith}
+use Rattle.std.proofs.Common.{◌≡◌, ◌<◌, ◌+◌, suc, ℕ, Bool, List, [], ◌∷◌, ◌++◌, length, take, drop, Option, Some, None, Result, Ok, Err, sym, ap, subst, ◌∙◌, append_assoc, arith}
 use Rattle.std.proofs.lemmas.List.{take-append-drop, length-drop}
 use Rattle.frame_codec.specs.declared.frame.Frame.{Frame}
 use Rattle.frame_codec.specs.declared.reader.ReadFault.{ReadFault}
@@ -16,18 +16,18 @@ take_both n (x ∷ xs) ys =
     ap (λ k. take k (x ∷ xs ++ ys)) e ∙ ap (λ t. x ∷ t) (take_both n xs ys)
 
 -- a reader that is fed two pieces, the first without a fault, is fed both at once
-pub feeds_both : (old : Option (List ℕ)) (p q : List ℕ) (answer : Result (Unit {0}) ReadFault) (fs gs : List Frame) (mid new : Option (List ℕ)) →
-    Feeds old p (Ok tt) fs mid → Feeds mid q answer gs new → Feeds old (p ++ q) answer (fs ++ gs) new
-feeds_both None p q answer fs gs mid new a b = let no : Ok tt ≡ Err Failed = a.0 in absurd cc
-feeds_both (Some o) p q (Ok d) fs gs mid new a b =
-    let second : Feeds (Some a.0) q (Ok d) gs new = subst (λ (m : Option (List ℕ)). Feeds m q (Ok d) gs new) a.2 b in (
+pub feeds_both : (wide : Bool) (old : Option (List ℕ)) (p q : List ℕ) (answer : Result (Unit {0}) ReadFault) (fs gs : List Frame) (mid new : Option (List ℕ)) →
+    Feeds wide old p (Ok tt) fs mid → Feeds wide mid q answer gs new → Feeds wide old (p ++ q) answer (fs ++ gs) new
+feeds_both wide None p q answer fs gs mid new a b = let no : Ok tt ≡ Err Failed = a.0 in absurd cc
+feeds_both wide (Some o) p q (Ok d) fs gs mid new a b =
+    let second : Feeds wide (Some a.0) q (Ok d) gs new = subst (λ (m : Option (List ℕ)). Feeds wide m q (Ok d) gs new) a.2 b in (
       second.0,
-      rw (sym (append_assoc o p q)) (reads_on ((o ++ p) ++ q) fs gs (a.0 ++ q) second.0 (begins_ahead (o ++ p) fs a.0 q a.1.begins) second.1),
+      rw (sym (append_assoc o p q)) (reads_on wide ((o ++ p) ++ q) fs gs (a.0 ++ q) second.0 (begins_ahead wide (o ++ p) fs a.0 q a.1.begins) second.1),
       second.2,
     )
-feeds_both (Some o) p q (Err fault) fs gs mid new a b =
-    let second : Feeds (Some a.0) q (Err fault) gs new = subst (λ (m : Option (List ℕ)). Feeds m q (Err fault) gs new) a.2 b in
-    (rw (sym (append_assoc o p q)) (stops_on ((o ++ p) ++ q) fs gs (a.0 ++ q) fault (begins_ahead (o ++ p) fs a.0 q a.1.begins) second.0), second.1)
+feeds_both wide (Some o) p q (Err fault) fs gs mid new a b =
+    let second : Feeds wide (Some a.0) q (Err fault) gs new = subst (λ (m : Option (List ℕ)). Feeds wide m q (Err fault) gs new) a.2 b in
+    (rw (sym (append_assoc o p q)) (stops_on wide ((o ++ p) ++ q) fs gs (a.0 ++ q) fault (begins_ahead wide (o ++ p) fs a.0 q a.1.begins) second.0), second.1)
 
 -- what was cut off of the second part of what was owed was cut off of all
 pub cut_after : (a b c : List ℕ) → IsCutOff b c → IsCutOff (a ++ b) (a ++ c)

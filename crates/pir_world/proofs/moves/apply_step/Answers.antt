@@ -27,17 +27,17 @@ returns-in-Publish-clause-made g c = on_map c.publish.result _ _ (λ made x seed
 pub returns-in-Hello-clause-made : goal.returns-in-Hello-clause-made
 returns-in-Hello-clause-made g c = on_map c.call.result _ _ (λ made x seeds s inv p.
     made_step x false s c.args.step.now (Hello c.in-Hello.client) c.args.server.now c.call.new.ends.items c.call.new.outcomes.items c.in-Hello.is tt
-    (made c.args.server.now x s p)) c.call.ensures.made
+    (made c.args.server.now x seeds s inv p)) c.call.ensures.made
 
 pub returns-in-Sync-clause-made : goal.returns-in-Sync-clause-made
 returns-in-Sync-clause-made g c = on_map c.call-in-Sync.result _ _ (λ made x seeds s inv p.
     made_step x false s c.args.step.now (Sync c.in-Sync.client c.in-Sync.scheme) c.args.server.now c.call-in-Sync.new.ends.items
-    c.call-in-Sync.new.outcomes.items c.in-Sync.is tt (made c.args.server.now x s p)) c.call-in-Sync.ensures.made
+    c.call-in-Sync.new.outcomes.items c.in-Sync.is tt (made c.args.server.now x seeds s inv p)) c.call-in-Sync.ensures.made
 
 pub returns-in-Ask-clause-made : goal.returns-in-Ask-clause-made
 returns-in-Ask-clause-made g c = on_map c.call-in-Ask.result _ _ (λ made x seeds s inv p.
     made_step x false s c.args.step.now (Ask c.in-Ask.client c.in-Ask.index) c.args.server.now c.call-in-Ask.new.ends.items c.call-in-Ask.new.outcomes.items
-    c.in-Ask.is tt (made c.args.server.now x s p)) c.call-in-Ask.ensures.made
+    c.in-Ask.is tt (made c.args.server.now x seeds s inv p)) c.call-in-Ask.ensures.made
 
 pub returns-in-ToServer-clause-made : goal.returns-in-ToServer-clause-made
 returns-in-ToServer-clause-made g c = on_map c.serve.result _ _ (λ made x seeds s inv p.

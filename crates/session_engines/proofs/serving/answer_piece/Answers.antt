@@ -1,4 +1,4 @@
-use Rattle.std.proofs.Common.{◌≡◌, ◌++◌, ◌∙◌, ◌<◌, false, [], List, ℕ, Ok, Err, length, take, sym, ap, subst, arith}
+use Rattle.std.proofs.Common.{◌≡◌, ◌++◌, ◌∙◌, ◌<◌, false, [], List, ℕ, Err, length, take, sym, ap, subst, arith}
 use Rattle.std.proofs.lemmas.List.{length-append}
 use Rattle.connection_io.proofs.Parts.{sends_both}
 use Rattle.server_core.specs.Cores.{session_of, is_open}

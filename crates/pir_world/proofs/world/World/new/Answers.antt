@@ -1,4 +1,4 @@
-use Rattle.std.proofs.Common.{◌≡◌, ◌==◌, Bool, ◌<◌, ◌^◌, All, ℕ, List, length, map, Some, refl, sym, ap, subst, ◌∙◌}
+use Rattle.std.proofs.Common.{◌≡◌, Bool, ◌<◌, ◌^◌, All, ℕ, List, length, map, Some, refl, sym, ap, subst, ◌∙◌}
 use Rattle.std.proofs.lemmas.List.{length-map}
 use Rattle.digit_pack.specs.Layout.{is_wide}
 use Rattle.pir_schemes.specs.Plans.{records_held}
