@@ -1,0 +1,4 @@
+pub mod Bodies
+pub mod Chains
+pub mod Cuts
+pub mod Walk
