@@ -1,11 +1,10 @@
 -- Blocks at the beginning of bytes.
-use Rattle.std.proofs.Common.{◌≡◌, ◌≢◌, ℕ, zero, suc, ◌+◌, ◌-◌, ◌*◌, ◌/◌, ◌%◌, ◌^◌, ◌<◌, ◌≤◌, ◌==◌, Bool, true, false, Option, Some, None, cond, List, [], ◌∷◌, ◌++◌, length, slice_index, take, drop, refl, sym, ap, subst, ◌∙◌, append_assoc, arith}
+use Rattle.std.proofs.Common.{◌≡◌, ◌≢◌, ℕ, zero, suc, ◌+◌, ◌*◌, ◌/◌, ◌%◌, ◌^◌, ◌<◌, ◌≤◌, ◌==◌, Bool, true, false, Option, Some, None, cond, List, ◌++◌, length, slice_index, take, drop, refl, sym, ap, subst, ◌∙◌, append_assoc, arith}
 use Rattle.std.specs.Prelude.{◌&&◌}
-use Rattle.std.specs.Str.{bytes_eq}
 use Rattle.std.specs.Int.{w32, to_be_bytes}
 use Rattle.std.proofs.Math.Nat.{one-le-pow}
 use Rattle.std.proofs.Math.Seq.{take-add}
-use Rattle.std.proofs.lemmas.Bool.{and_parts, and_from, eqb-true, eq-eqb, cond-true, cond-false}
+use Rattle.std.proofs.lemmas.Bool.{and_parts, and_from, eqb-true, eq-eqb, cond-true}
 use Rattle.std.proofs.lemmas.List.{length-append, length-drop, length-take, take-take, take_at, drop_at, take-append-drop, drop-drop}
 use Rattle.std.proofs.lemmas.Slice.Eq.{bytes_eq-Decides}
 use Rattle.byteorder.specs.Endian.{little_bytes, little_number}
@@ -13,7 +12,7 @@ use Rattle.byteorder.specs.Numbers.{little_from-bytes}
 use Rattle.sha2.specs.Sha256.{sha256, digest_bytes}
 use Rattle.frame_codec.specs.Numbers.{number_bytes, number_in}
 use Rattle.frame_codec.proofs.NumberBytes.{IsBytes, IsBytes-drop, only_bytes, length-number, number_back, drop_number}
-use Rattle.change_file.specs.Files.{HintMove, IsMove, begins, block_bytes, block_len, body_bytes, first_move, move_at, next_link}
+use Rattle.change_file.specs.Files.{HintMove, IsMove, is_prefix, block_bytes, block_len, body_bytes, first_move, move_at, next_link}
 
 -- two lists are cut at the same place
 pub cut_prefix : (a b x y : List ℕ) → length a ≡ length b → a ++ x ≡ b ++ y → (a ≡ b) × (x ≡ y)
@@ -149,21 +148,21 @@ body_read m bytes body n each len is le since version count length_read entries 
 
 -- ---- bytes that begin with others
 
-pub begins_parts : (first bytes : List ℕ) → begins first bytes ≡ true → bytes ≡ first ++ drop (length first) bytes
-begins_parts first bytes it =
+pub prefix_parts : (first bytes : List ℕ) → is_prefix first bytes ≡ true → bytes ≡ first ++ drop (length first) bytes
+prefix_parts first bytes it =
     sym (take-append-drop (length first) bytes)
     ∙ ap (λ (x : List ℕ). x ++ drop (length first) bytes) ((bytes_eq-Decides (take (length first) bytes) first).0 it)
 
-pub begins_from : (first bytes rest : List ℕ) → bytes ≡ first ++ rest → begins first bytes ≡ true
-begins_from first bytes rest e =
+pub prefix_from : (first bytes rest : List ℕ) → bytes ≡ first ++ rest → is_prefix first bytes ≡ true
+prefix_from first bytes rest e =
     (bytes_eq-Decides (take (length first) bytes) first).1 (ap (take (length first)) e ∙ take_at first rest (length first) refl)
 
-pub begins_not : (first bytes : List ℕ) → ((rest : List ℕ) → bytes ≢ first ++ rest) → begins first bytes ≡ false
-begins_not first bytes none = by_case (begins first bytes) refl
+pub prefix_not : (first bytes : List ℕ) → ((rest : List ℕ) → bytes ≢ first ++ rest) → is_prefix first bytes ≡ false
+prefix_not first bytes none = by_case (is_prefix first bytes) refl
   where
-    by_case : (b : Bool) → begins first bytes ≡ b → b ≡ false
+    by_case : (b : Bool) → is_prefix first bytes ≡ b → b ≡ false
     by_case false e = refl
-    by_case true e = absurd (none (drop (length first) bytes) (begins_parts first bytes e))
+    by_case true e = absurd (none (drop (length first) bytes) (prefix_parts first bytes e))
 
 -- ---- the first move
 
@@ -173,7 +172,7 @@ unfolding first_move
 first_back link more m is =
     let bytes : List ℕ = block_bytes link m ++ more in
     let at : move_at bytes ≡ m = ap move_at (append_assoc (body_bytes m) (next_link link m) more) ∙ move_back m (next_link link m ++ more) is in
-    let begun = begins_from (block_bytes link (move_at bytes)) bytes more (ap (λ (x : HintMove). block_bytes link x ++ more) (sym at)) in
+    let begun = prefix_from (block_bytes link (move_at bytes)) bytes more (ap (λ (x : HintMove). block_bytes link x ++ more) (sym at)) in
     let same = eq-eqb (move_at bytes).since m.since (ap (λ (x : HintMove). x.since) at) in
     cond-true _ (Some (move_at bytes)) None (and_from _ _ begun same) ∙ ap Some at
 
@@ -190,11 +189,11 @@ was_some false a m e = absurd (cc)
 pub first_found : (link bytes : List ℕ) (version : ℕ) (m : HintMove) → first_move link version bytes ≡ Some m → IsFound link version bytes m
 unfolding first_move
 first_found link bytes version m e =
-    let was = was_some (begins (block_bytes link (move_at bytes)) bytes && ((move_at bytes).since == version)) (move_at bytes) m e in
-    let parts = and_parts (begins (block_bytes link (move_at bytes)) bytes) ((move_at bytes).since == version) was.0 in
+    let was = was_some (is_prefix (block_bytes link (move_at bytes)) bytes && ((move_at bytes).since == version)) (move_at bytes) m e in
+    let parts = and_parts (is_prefix (block_bytes link (move_at bytes)) bytes) ((move_at bytes).since == version) was.0 in
     let begun : bytes ≡ block_bytes link m ++ drop (length (block_bytes link m)) bytes =
     subst (λ (x : HintMove). bytes ≡ block_bytes link x ++ drop (length (block_bytes link x)) bytes) was.1
-    (begins_parts (block_bytes link (move_at bytes)) bytes parts.0) in
+    (prefix_parts (block_bytes link (move_at bytes)) bytes parts.0) in
     let whole : bytes ≡ block_bytes link m ++ drop (block_len m) bytes =
     begun ∙ ap (λ (n : ℕ). block_bytes link m ++ drop n bytes) (length-block link m) in
     let named : move_at (body_bytes m ++ (next_link link m ++ drop (block_len m) bytes)) ≡ m =

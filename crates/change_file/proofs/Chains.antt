@@ -1,7 +1,7 @@
 -- Blocks one after another, as they are read.
-use Rattle.std.proofs.Common.{◌≡◌, ℕ, zero, suc, ◌+◌, ◌<◌, ◌≤◌, Option, Some, None, List, [], ◌∷◌, ◌++◌, length, take, drop, refl, sym, ap, subst, ◌∙◌, append_assoc, append-nil, arith}
+use Rattle.std.proofs.Common.{◌≡◌, ℕ, zero, suc, ◌+◌, ◌≤◌, Option, Some, None, List, [], ◌∷◌, ◌++◌, length, drop, refl, sym, ap, subst, ◌∙◌, append_assoc, append-nil, arith}
 use Rattle.std.specs.Prelude.{MatchOption}
-use Rattle.std.proofs.lemmas.List.{length-append, length-drop, drop_at, drop-drop}
+use Rattle.std.proofs.lemmas.List.{length-append, drop_at}
 use Rattle.change_file.specs.Files.{HintMove, IsMove, AreMoves, block_bytes, block_len, chain_bytes, first_move, first_moves, last_link, last_version, moves_in, next_link, with_more}
 use Rattle.change_file.specs.Laws.{IsReading}
 use Rattle.change_file.proofs.Bodies.{IsFound, first_back, first_found, first_none, length-block}

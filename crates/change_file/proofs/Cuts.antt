@@ -1,13 +1,12 @@
 -- Files that are cut, and appended to.
-use Rattle.std.proofs.Common.{◌≡◌, ℕ, zero, suc, ◌+◌, ◌-◌, ◌<◌, ◌≤◌, Bool, true, false, Option, Some, None, List, [], ◌∷◌, ◌++◌, length, take, drop, refl, sym, ap, subst, ◌∙◌, append_assoc, append-nil, arith, inl, inr}
-use Rattle.std.specs.Prelude.{nat_le, ◌⊎◌}
+use Rattle.std.proofs.Common.{◌≡◌, ℕ, ◌+◌, ◌-◌, ◌<◌, ◌≤◌, None, List, [], ◌∷◌, ◌++◌, length, take, drop, refl, sym, ap, subst, ◌∙◌, append_assoc, arith, inl, inr}
+use Rattle.std.specs.Prelude.{nat_le}
 use Rattle.std.proofs.Math.Seq.{take-append-add}
 use Rattle.std.proofs.lemmas.Bool.{cond-true, cond-false, cond_both, le-leb, lt-leb, cases_lt}
-use Rattle.std.proofs.lemmas.List.{length-append, length-drop, length-take, length-take-le, take_at, drop_at, take-append-drop}
-use Rattle.sha2.specs.Sha256.{sha256}
-use Rattle.change_file.specs.Files.{HintMove, IsMove, AreMoves, begins, block_bytes, block_len, body_bytes, chain_bytes, change_magic, file_bytes, file_moves, first_link, first_move, head_bytes, last_link, last_version, move_at, moves_in, next_link, tied, whole_in}
+use Rattle.std.proofs.lemmas.List.{length-append, length-take, drop_at, take-append-drop}
+use Rattle.change_file.specs.Files.{HintMove, IsMove, AreMoves, is_prefix, block_bytes, block_len, body_bytes, chain_bytes, change_magic, file_bytes, file_moves, first_link, first_move, head_bytes, last_link, last_version, move_at, moves_in, next_link, tie_bytes, whole_in}
 use Rattle.change_file.specs.Laws.{AppendAddsAMove, CutFileIsRead}
-use Rattle.change_file.proofs.Bodies.{begins_from, begins_not, first_none, length-block, length-sha256, move_back}
+use Rattle.change_file.proofs.Bodies.{prefix_from, prefix_not, first_none, length-block, length-sha256, move_back}
 use Rattle.change_file.proofs.Chains.{all_written, moves_none, none_of_none, one_written, read_is_there}
 
 pub length-magic : length change_magic ≡ 8
@@ -16,7 +15,7 @@ length-magic = refl
 
 pub length-head : (digest : List ℕ) → length digest ≡ 32 → length (head_bytes digest) ≡ 72
 length-head digest len =
-    omega (arith, len, length-append (tied digest) (first_link digest), length-append change_magic digest, length-magic, length-sha256 (tied digest))
+    omega (arith, len, length-append (tie_bytes digest) (first_link digest), length-append change_magic digest, length-magic, length-sha256 (tie_bytes digest))
 
 -- bytes that begin with a head
 pub head_first : (digest bytes rest : List ℕ) → length digest ≡ 32 → bytes ≡ head_bytes digest ++ rest → bytes ≡ head_bytes digest ++ drop 72 bytes
@@ -34,12 +33,12 @@ take_after a b n le =
 pub with_head : (digest bytes rest : List ℕ) (version : ℕ) → length digest ≡ 32 → bytes ≡ head_bytes digest ++ rest →
     file_moves digest version bytes ≡ moves_in (first_link digest) version rest
 with_head digest bytes rest version len e =
-    cond-true (begins (head_bytes digest) bytes) (moves_in (first_link digest) version (drop 72 bytes)) [] (begins_from (head_bytes digest) bytes rest e)
+    cond-true (is_prefix (head_bytes digest) bytes) (moves_in (first_link digest) version (drop 72 bytes)) [] (prefix_from (head_bytes digest) bytes rest e)
     ∙ ap (moves_in (first_link digest) version) (ap (drop 72) e ∙ drop_at (head_bytes digest) rest 72 (length-head digest len))
 
 pub with_none : (digest bytes : List ℕ) (version : ℕ) → ((rest : List ℕ) → bytes ≡ head_bytes digest ++ rest → ⊥) → file_moves digest version bytes ≡ []
 with_none digest bytes version none =
-    cond-false (begins (head_bytes digest) bytes) (moves_in (first_link digest) version (drop 72 bytes)) [] (begins_not (head_bytes digest) bytes none)
+    cond-false (is_prefix (head_bytes digest) bytes) (moves_in (first_link digest) version (drop 72 bytes)) [] (prefix_not (head_bytes digest) bytes none)
 
 -- ---- cuts
 
@@ -138,7 +137,7 @@ file_parts digest more ms = append_assoc (head_bytes digest) (chain_bytes (first
 -- moves of a file lead on from the version
 pub file_leads : (digest bytes : List ℕ) (version : ℕ) → AreMoves version (file_moves digest version bytes)
 file_leads digest bytes version =
-    cond_both (begins (head_bytes digest) bytes) (moves_in (first_link digest) version (drop 72 bytes)) [] (λ ms. AreMoves version ms)
+    cond_both (is_prefix (head_bytes digest) bytes) (moves_in (first_link digest) version (drop 72 bytes)) [] (λ ms. AreMoves version ms)
     (λ it. (read_is_there (first_link digest) (drop 72 bytes) version).each) (λ it. tt)
 
 pub append_adds : AppendAddsAMove

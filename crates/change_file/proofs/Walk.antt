@@ -1,6 +1,6 @@
 -- Where blocks end.
-use Rattle.std.proofs.Common.{◌≡◌, ℕ, ◌+◌, ◌≤◌, Some, None, List, [], ◌∷◌, ◌++◌, length, take, drop, refl, sym, ap, subst, ◌∙◌, append_assoc, add_assoc, arith}
-use Rattle.std.proofs.lemmas.List.{length-append, length-drop, drop_at, drop-drop}
+use Rattle.std.proofs.Common.{◌≡◌, ℕ, ◌+◌, None, List, [], ◌∷◌, ◌++◌, length, drop, refl, sym, ap, subst, ◌∙◌, arith}
+use Rattle.std.proofs.lemmas.List.{length-append, length-drop, drop_at}
 use Rattle.change_file.specs.declared.blocks.WholeBlock.{WholeBlock}
 use Rattle.change_file.specs.declared.ends.ChangesEnd.{ChangesEnd}
 use Rattle.change_file.specs.Files.{HintMove, IsChainEnd, IsEnd, IsEndOf, IsNext, block_bytes, block_len, chain_bytes, file_bytes, file_moves, first_link, first_move, head_bytes, last_count, last_link, last_version, move_of, moves_in, next_link}
@@ -77,6 +77,7 @@ is_end digest bytes rest first version count chain end size e f ended l k v c =
     let tail : after ≡ drop end.len bytes = sym (ap (drop end.len) parts ∙ drop_at (file_bytes digest ms) after end.len (sym len)) in
     subst (λ (x : List HintMove). IsEndOf digest version count bytes x end) file (record {
       len = len;
+      within = omega (arith, len, ap length parts, length-append (file_bytes digest ms) after);
       whole = parts ∙ ap (λ (x : List ℕ). file_bytes digest ms ++ x) tail;
       link_is = ap (λ (x : _). x.bytes) k ∙ is.link_is;
       version_is = v ∙ is.version_is;

@@ -23,16 +23,16 @@ unfoldable pub change_magic : List ℕ
 change_magic = codes "PIRMOVE1"
 
 -- the magic, and the digest of the head of the hint's file, to which this ties the changes
-abbrev pub tied : List ℕ → List ℕ
-tied digest = change_magic ++ digest
+abbrev pub tie_bytes : List ℕ → List ℕ
+tie_bytes digest = change_magic ++ digest
 
 -- the link before the first block: the digest by SHA-256 (FIPS 180-4) of all that
 abbrev pub first_link : List ℕ → List ℕ
-first_link digest = sha256 (tied digest)
+first_link digest = sha256 (tie_bytes digest)
 
 -- the head, 72 bytes
 abbrev pub head_bytes : List ℕ → List ℕ
-head_bytes digest = tied digest ++ first_link digest
+head_bytes digest = tie_bytes digest ++ first_link digest
 
 -- a block without its link: both versions, the count, the length of the entries, and the entries
 unfoldable pub body_bytes : HintMove → List ℕ
@@ -87,8 +87,8 @@ AreMoves version [] = Unit {0}
 AreMoves version (m ∷ ms) = IsMove m × (m.since ≡ version) × AreMoves m.version ms
 
 -- whether bytes begin with others
-abbrev pub begins : List ℕ → List ℕ → Bool
-begins first bytes = bytes_eq (take (length first) bytes) first
+abbrev pub is_prefix : List ℕ → List ℕ → Bool
+is_prefix first bytes = bytes_eq (take (length first) bytes) first
 
 -- the move that bytes name, if they begin with a block
 unfoldable pub move_at : List ℕ → HintMove
@@ -102,7 +102,7 @@ move_at bytes = record {
 -- the move whose block bytes begin with: a whole one, with the link that follows this one, and since this version
 unfoldable pub first_move : List ℕ → ℕ → List ℕ → Option HintMove
 first_move link version bytes =
-    if begins (block_bytes link (move_at bytes)) bytes && ((move_at bytes).since == version) then Some (move_at bytes) else None
+    if is_prefix (block_bytes link (move_at bytes)) bytes && ((move_at bytes).since == version) then Some (move_at bytes) else None
 
 -- a move if there is one, and those after it
 abbrev pub with_more : Option HintMove → (HintMove → List HintMove) → List HintMove
@@ -121,7 +121,7 @@ moves_in link version bytes = first_moves (length bytes) link version bytes
 
 -- the moves of a file of changes, from the version of the hint whose file's head has this digest; none if the file has another head
 abbrev pub file_moves : List ℕ → ℕ → List ℕ → List HintMove
-file_moves digest version bytes = if begins (head_bytes digest) bytes then moves_in (first_link digest) version (drop 72 bytes) else []
+file_moves digest version bytes = if is_prefix (head_bytes digest) bytes then moves_in (first_link digest) version (drop 72 bytes) else []
 
 -- the moves whose blocks are whole in so many bytes
 abbrev pub whole_in : ℕ → List HintMove → List HintMove
@@ -145,6 +145,7 @@ pub record IsChainEnd (link : List ℕ) (version count : ℕ) (ms : List HintMov
 -- the end of the whole blocks of a file of changes, if these are its moves: it has the head of this hint's changes, then these blocks, and then what is not read
 pub record IsEndOf (digest : List ℕ) (version count : ℕ) (bytes : List ℕ) (ms : List HintMove) (end : ChangesEnd) : Type 0 where
   pub len : end.len ≡ length (file_bytes digest ms)
+  pub within : end.len ≤ length bytes
   pub whole : bytes ≡ file_bytes digest ms ++ drop end.len bytes
   pub link_is : end.link.bytes ≡ last_link (first_link digest) ms
   pub version_is : end.version ≡ last_version version ms

@@ -1,5 +1,8 @@
 -- Laws of files of changes.
 use Rattle.std.specs.Prelude.{◌≡◌, ◌-◌, ℕ, List, ◌++◌, ◌∷◌, [], Some, take, drop, length, MatchOption}
+use Rattle.matrix_u32.specs.Matrix.{WordMatrix}
+use Rattle.digit_pack.specs.Layout.{Shape}
+use Rattle.change_file.specs.Moves.{moved_by_all}
 use Rattle.change_file.specs.Files.{HintMove, IsMove, AreMoves, block_bytes, block_len, chain_bytes, file_bytes, file_moves, first_link, first_move, last_link, last_version, moves_in, next_link, whole_in}
 
 -- a block that was written is read, whatever is after it
@@ -43,3 +46,13 @@ AppendAddsAMove = (digest bytes more : List ℕ) (version : ℕ) (ms : List Hint
     ms ≡ file_moves digest version bytes → IsMove m → m.since ≡ last_version version ms →
     file_moves digest version (file_bytes digest ms ++ (block_bytes (last_link (first_link digest) ms) m ++ more))
     ≡ ms ++ (m ∷ moves_in (next_link (last_link (first_link digest) ms) m) m.version more)
+
+-- a hint is moved by the moves of two lists as by those of the first and then by those of the second, and has as many rows and columns as before
+pub record MovesInTurn (l : Shape) (seed : List ℕ) (dimension : ℕ) (hint : WordMatrix) (ms others : List HintMove) : Type 0 where
+  pub in_turn : moved_by_all l seed dimension (ms ++ others) hint ≡ moved_by_all l seed dimension others (moved_by_all l seed dimension ms hint)
+  pub rows : (moved_by_all l seed dimension ms hint).rows ≡ hint.rows
+  pub cols : (moved_by_all l seed dimension ms hint).cols ≡ hint.cols
+
+-- so it is with every hint
+abbrev pub MovesAreMadeInTurn : Type 0
+MovesAreMadeInTurn = (l : Shape) (seed : List ℕ) (dimension : ℕ) (hint : WordMatrix) (ms others : List HintMove) → MovesInTurn l seed dimension hint ms others

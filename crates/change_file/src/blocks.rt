@@ -1,6 +1,6 @@
 //! Blocks: the entries of one move of a hint, and a link.
 
-ghost use Rattle.std.specs.Prelude.{◌≡◌, ◌≢◌, ◌<◌, ◌^◌, ◌++◌, List, ℕ, length, drop, None, IfOk, IfSome, IfNone};
+ghost use Rattle.std.specs.Prelude.{◌≡◌, ◌≢◌, ◌<◌, ◌^◌, ◌++◌, List, ℕ, length, None, IfOk, IfSome, IfNone};
 ghost use Rattle.sha2.specs.Sha256.{sha256};
 ghost use Rattle.change_file.specs.Files.{HintMove, IsMove, IsNext, body_bytes, block_bytes, first_move, move_of, next_link};
 
@@ -20,7 +20,7 @@ pub struct Link {
     pub bytes: [u8; LINK_LEN],
 }
 
-/// The changes from one version to a later one.
+/// The changes of a hint from one version to another.
 #[derive(Clone, Copy, Debug)]
 pub struct Block<'a> {
     /// The version that a hint has before these changes.
@@ -83,7 +83,8 @@ fn body_bytes(alloc: Global, block: &Block<'_>) -> Result<Vec<u8>, AllocError>
 /// `AllocError` when memory was refused.
 pub fn block_bytes(alloc: Global, link: &Link, block: &Block<'_>) -> Result<BlockBytes, AllocError>
     requires { length block.now.entries.now < 2 ^ 32 }
-    ensures bytes { IfOk result (λ it. it.bytes.items ≡ block_bytes link.now.bytes (move_of block.now)) }
+    ensures bytes { IfOk result (λ it. it.bytes.items ≡
+        block_bytes link.now.bytes (move_of block.now)) }
     ensures link { IfOk result (λ it. it.link.bytes ≡ next_link link.now.bytes (move_of block.now)) }
 {
     let mut bytes = body_bytes(alloc, block)?;
@@ -100,7 +101,7 @@ struct CutBlock<'a> {
     link: &'a [u8],
 }
 
-// The block at the beginning. Its length is that of what is there, and no other is trusted.
+// The block at the beginning, if the bytes have room for its entries and a link.
 fn cut_block(bytes: &[u8]) -> Option<CutBlock<'_>>
     ensures some { IfSome result (λ it. IsMove (move_of it.block) × (length it.link.now ≡ 32) ×
         (it.body.now ≡ body_bytes (move_of it.block)) ×
@@ -127,7 +128,8 @@ fn cut_block(bytes: &[u8]) -> Option<CutBlock<'_>>
     Some(CutBlock { block, body, link })
 }
 
-/// The block at the beginning of some bytes: a whole one, with the link that follows this one, from this version on. No memory is taken.
+/// The block at the beginning of some bytes: a whole one, with the link that follows this one, since this version. No memory is taken,
+/// and no length is trusted that the bytes have no room for.
 pub fn next_block<'a>(bytes: &'a [u8], link: &Link, since: u64) -> Option<WholeBlock<'a>>
     ensures some { IfSome result (λ it. IsNext link.now.bytes since bytes.now it) }
     ensures none { IfNone result (first_move link.now.bytes since bytes.now ≡ None) }

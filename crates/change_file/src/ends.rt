@@ -1,10 +1,10 @@
 //! Where the whole blocks of a file end.
 
 ghost use Rattle.std.specs.Prelude.{◌≡◌, ◌≢◌, ◌≤◌, ◌++◌, List, ℕ, length, IfSome, IfNone};
-ghost use Rattle.change_file.specs.Files.{IsChainEnd, IsEnd, head_bytes, moves_in};
+ghost use Rattle.change_file.specs.Files.{IsChainEnd, IsEnd, first_link, head_bytes, moves_in};
 
 use crate::blocks::{Link, next_block};
-use crate::heads::{HEAD_LEN, read_head};
+use crate::heads::{HEAD_LEN, first_link, read_head};
 
 /// The end of the whole blocks of a file of changes.
 #[derive(Clone, Copy, Debug)]
@@ -17,6 +17,20 @@ pub struct ChangesEnd {
     pub version: u64,
     /// The number of records of that version.
     pub count: u32,
+}
+
+/// The end of a file of changes that has no block yet, by the digest of the head of the hint's file, and the version and the number of
+/// records of that hint. It takes no memory.
+pub fn empty_end(hint_digest: &[u8; 32], version: u64, count: u32) -> ChangesEnd
+    ensures place { (result.len ≡ 72) × (result.link.bytes ≡ first_link hint_digest.now) }
+    ensures moved { (result.version ≡ version) × (result.count ≡ count) }
+{
+    ChangesEnd {
+        len: HEAD_LEN,
+        link: first_link(hint_digest),
+        version,
+        count,
+    }
 }
 
 // The end of the blocks that bytes begin with, after a link, a version and a count.
@@ -50,7 +64,8 @@ fn chain_end(bytes: &[u8], link: Link, version: u64, count: u32) -> ChangesEnd
 /// records of that hint; none if the file has another head and is to be written anew. No memory is taken.
 pub fn end_in(bytes: &[u8], hint_digest: &[u8; 32], version: u64, count: u32) -> Option<ChangesEnd>
     ensures some { IfSome result (λ end. IsEnd hint_digest.now version count bytes.now end) }
-    ensures none { IfNone result ((rest : List ℕ) → bytes.now ≢ head_bytes hint_digest.now ++ rest) }
+    ensures none { IfNone result ((rest : List ℕ) →
+        bytes.now ≢ head_bytes hint_digest.now ++ rest) }
 {
     let first = read_head(bytes, hint_digest)?;
     let (_head, rest) = bytes.split_at(HEAD_LEN);

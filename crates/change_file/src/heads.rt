@@ -1,6 +1,6 @@
 //! The head of a file of changes, which ties it to the file of a hint.
 
-ghost use Rattle.std.specs.Prelude.{◌≡◌, ◌≢◌, ◌++◌, List, ℕ, drop, IfSome, IfNone, MatchOption};
+ghost use Rattle.std.specs.Prelude.{◌≡◌, ◌≢◌, ◌≤◌, ◌++◌, List, ℕ, length, drop, IfSome, IfNone, MatchOption};
 ghost use Rattle.change_file.specs.Files.{change_magic, first_link, head_bytes};
 
 use crate::blocks::{LINK_LEN, Link};
@@ -21,7 +21,7 @@ fn magic() -> [u8; MAGIC_LEN]
 }
 
 // The link before the first block.
-fn first_link(hint_digest: &[u8; 32]) -> Link
+pub(crate) fn first_link(hint_digest: &[u8; 32]) -> Link
     ensures { result.bytes ≡ first_link hint_digest.now }
 {
     let mut hasher = Sha256::new();
@@ -57,7 +57,9 @@ fn after<'a>(bytes: &'a [u8], first: &[u8]) -> Option<&'a [u8]>
 pub fn read_head(bytes: &[u8], hint_digest: &[u8; 32]) -> Option<Link>
     ensures some { IfSome result (λ link. (link.bytes ≡ first_link hint_digest.now) ×
         (bytes.now ≡ head_bytes hint_digest.now ++ drop 72 bytes.now)) }
-    ensures none { IfNone result ((rest : List ℕ) → bytes.now ≢ head_bytes hint_digest.now ++ rest) }
+    ensures room { IfSome result (λ link. 72 ≤ length bytes.now) }
+    ensures none { IfNone result ((rest : List ℕ) →
+        bytes.now ≢ head_bytes hint_digest.now ++ rest) }
 {
     let head = head_bytes(hint_digest);
     let Some(_rest) = after(bytes, &head) else {

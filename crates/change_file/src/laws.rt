@@ -1,7 +1,7 @@
 //! Laws of files of changes, over the definitions alone. A caller that calls one of these functions has its law at hand in its
 //! proof; the call costs nothing.
 
-ghost use Rattle.change_file.specs.Laws.{AppendAddsAMove, CutFileIsRead, MovesAreReadOneByOne, OneReading, ReadMovesAreThere, WrittenBlockIsRead, WrittenMovesAreReadFirst};
+ghost use Rattle.change_file.specs.Laws.{AppendAddsAMove, CutFileIsRead, MovesAreMadeInTurn, MovesAreReadOneByOne, OneReading, ReadMovesAreThere, WrittenBlockIsRead, WrittenMovesAreReadFirst};
 
 /// A block that was written is read, whatever is after it.
 pub fn written_block_is_read()
@@ -36,4 +36,9 @@ pub fn moves_are_read_one_by_one()
 /// A block that is written at the end of the whole blocks of a file adds its move.
 pub fn append_adds_a_move()
     ensures { AppendAddsAMove }
+{}
+
+/// A hint is moved by the moves of two lists as by those of the first and then by those of the second.
+pub fn moves_are_made_in_turn()
+    ensures { MovesAreMadeInTurn }
 {}

@@ -1,7 +1,7 @@
 //! The example of a file with one block, whose bytes were computed by Python's hashlib and struct. The longer tests are in
 //! tests/long/frame_tests.
 
-use crate::{Block, BlockBytes, ChangesEnd, Link, WholeBlock};
+use crate::{Block, BlockBytes, Link};
 use std::alloc::{AllocError, Global};
 use std::test::Fail;
 
@@ -30,11 +30,10 @@ const FIRST: [u8; 68] = [
 
 const ENTRIES: [u8; 12] = [1, 0, 0, 0, 0xc8, 0xff, 2, 0, 0, 0, 0, 7];
 
-// The calls below have no clause, so that a test doesn't carry theirs.
+// The functions below have no clause, so that a test doesn't carry those of the calls.
 
 fn head() -> Link {
-    let link = [0; 32];
-    crate::read_head(&crate::head_bytes(&DIGEST), &DIGEST).unwrap_or(Link { bytes: link })
+    crate::read_head(&HEAD, &DIGEST).unwrap_or(Link { bytes: [0; 32] })
 }
 
 fn first_bytes(alloc: Global, link: &Link) -> Result<BlockBytes, AllocError> {
@@ -47,46 +46,42 @@ fn first_bytes(alloc: Global, link: &Link) -> Result<BlockBytes, AllocError> {
     crate::block_bytes(alloc, link, &block)
 }
 
-fn next<'a>(bytes: &'a [u8], link: &Link, since: u64) -> Option<WholeBlock<'a>> {
-    crate::next_block(bytes, link, since)
+// Whether the bytes of the first block are read as it.
+fn is_read(bytes: &[u8], link: &Link) -> bool {
+    let Some(found) = crate::next_block(bytes, link, 1) else {
+        return false;
+    };
+    let block = found.block;
+    block.since == 1
+        && block.version == 2
+        && block.count == 3
+        && block.entries == ENTRIES.as_slice()
+        && found.link.bytes.as_slice() == &FIRST[36..]
+        && found.len == 68
 }
 
-fn end(bytes: &[u8]) -> Option<ChangesEnd> {
-    crate::end_in(bytes, &DIGEST, 1, 2)
+// Whether a file ends with the first block.
+fn ends(file: &[u8]) -> bool {
+    let Some(end) = crate::end_in(file, &DIGEST, 1, 2) else {
+        return false;
+    };
+    end.len == 140
+        && end.link.bytes.as_slice() == &FIRST[36..]
+        && end.version == 2
+        && end.count == 3
 }
 
 #[test]
-fn the_example_is_written(rt: HostRuntime) -> Result<(), Fail> {
+fn the_example_is_written_and_read(rt: HostRuntime) -> Result<(), Fail> {
     assert_eq!(rt; crate::head_bytes(&DIGEST).as_slice(), HEAD.as_slice());
-    let first = first_bytes(rt.alloc(), &head())?;
-    assert_eq!(rt; first.bytes.as_slice(), FIRST.as_slice());
-    assert_eq!(rt; first.link.bytes.as_slice(), &FIRST[36..]);
-    Ok(())
-}
-
-#[test]
-fn the_example_is_read(rt: HostRuntime) -> Result<(), Fail> {
     let link = head();
     assert_eq!(rt; link.bytes.as_slice(), &HEAD[40..]);
-    let Some(found) = next(&FIRST, &link, 1) else {
-        assert!(rt; false, "no block is read");
-        return Ok(());
-    };
-    assert_eq!(rt; found.block.since, 1);
-    assert_eq!(rt; found.block.version, 2);
-    assert_eq!(rt; found.block.count, 3);
-    assert_eq!(rt; found.block.entries, ENTRIES.as_slice());
-    assert_eq!(rt; found.link.bytes.as_slice(), &FIRST[36..]);
-    assert_eq!(rt; found.len, 68);
+    let first = first_bytes(rt.alloc(), &link)?;
+    assert_eq!(rt; first.bytes.as_slice(), FIRST.as_slice());
+    assert_eq!(rt; first.link.bytes.as_slice(), &FIRST[36..]);
+    assert!(rt; is_read(&FIRST, &link));
     let mut file = HEAD.to_vec(rt.alloc())?;
     file.extend_from_slice(&FIRST)?;
-    let Some(last) = end(&file) else {
-        assert!(rt; false, "no head is read");
-        return Ok(());
-    };
-    assert_eq!(rt; last.len, 140);
-    assert_eq!(rt; last.link, found.link);
-    assert_eq!(rt; last.version, 2);
-    assert_eq!(rt; last.count, 3);
+    assert!(rt; ends(&file));
     Ok(())
 }

@@ -1,7 +1,7 @@
-use Rattle.std.proofs.Common.{◌≡◌, ◌<◌, ◌^◌, ◌+◌, ◌-◌, ◌++◌, ℕ, List, slice_index, length, take, drop, refl, sym, ap, ◌∙◌, arith}
+use Rattle.std.proofs.Common.{◌≡◌, ◌<◌, ◌+◌, ◌-◌, ◌++◌, ℕ, List, slice_index, length, take, drop, sym, ap, ◌∙◌, arith}
 use Rattle.std.proofs.lemmas.List.{length-append, length-drop, take_rest, take-append-drop}
 use Rattle.byteorder.specs.Endian.{little_number}
-use Rattle.change_file.specs.Files.{HintMove, IsMove, body_bytes, move_of}
+use Rattle.change_file.specs.Files.{HintMove, body_bytes}
 use Rattle.change_file.proofs.Bodies.{body_read, entries_len, length-body}
 use Rattle.change_file.proofs.blocks.cut_block.Goals.{then-rest-len-via-then-rest-len, then-rest-len-via-else-rest-len+then-rest-len-lt-LINK_LEN}
 use Rattle.change_file.proofs.blocks.cut_block.Goals as goal

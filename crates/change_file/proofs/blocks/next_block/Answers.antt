@@ -1,10 +1,10 @@
-use Rattle.std.proofs.Common.{◌≡◌, ◌+◌, ◌++◌, true, false, not, Some, ℕ, List, length, take, drop, refl, sym, ap, subst, ◌∙◌, append_assoc, arith}
+use Rattle.std.proofs.Common.{◌≡◌, ◌++◌, true, false, not, Some, ℕ, List, length, sym, ap, subst, ◌∙◌, append_assoc, arith}
 use Rattle.std.specs.Str.{bytes_eq}
 use Rattle.std.proofs.lemmas.Bool.{not-false}
 use Rattle.std.proofs.lemmas.List.{length-append}
 use Rattle.std.proofs.lemmas.Slice.Eq.{bytes_eq-Decides}
 use Rattle.sha2.specs.Sha256.{sha256}
-use Rattle.change_file.specs.Files.{HintMove, IsMove, block_bytes, body_bytes, first_move, move_of, next_link}
+use Rattle.change_file.specs.Files.{HintMove, block_bytes, body_bytes, first_move, move_of, next_link}
 use Rattle.change_file.proofs.Bodies.{block_joined, first_back, first_none, length-body, length-sha256, one_block}
 use Rattle.change_file.proofs.blocks.next_block.Goals.{then-ne-via-then-ne, then-ne-via-else-ne+then-cut-since}
 use Rattle.change_file.proofs.blocks.next_block.Goals as goal

@@ -1,5 +1,5 @@
 use Rattle.std.proofs.Common.{refl}
-use Rattle.change_file.proofs.Walk.{begins_way, ends_way, goes_on}
+use Rattle.change_file.proofs.Walk.{ends_way, goes_on}
 use Rattle.change_file.proofs.ends.chain_end.Goals as goal
 
 pub whole-preserved : goal.whole-preserved

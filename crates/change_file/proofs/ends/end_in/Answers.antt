@@ -1,14 +1,7 @@
-use Rattle.std.proofs.Common.{◌++◌, List, ℕ, length, drop, refl, ap, sym, ◌∙◌, arith}
-use Rattle.std.proofs.lemmas.List.{length-append}
+use Rattle.std.proofs.Common.{◌++◌, List, ℕ, refl, ap, sym, ◌∙◌}
 use Rattle.change_file.specs.Files.{head_bytes}
-use Rattle.change_file.proofs.Cuts.{length-head}
 use Rattle.change_file.proofs.Walk.{is_end}
 use Rattle.change_file.proofs.ends.end_in.Goals as goal
-
-pub split_at-requires : goal.split_at-requires
-split_at-requires c =
-    let digest = c.args.hint_digest.now in
-    omega (arith, ap length c.in_ok-first.ensures.some.1, length-append (head_bytes digest) (drop 72 c.args.bytes.now), length-head digest c.told-hint_digest)
 
 pub returns-clause-some : goal.returns-clause-some
 returns-clause-some c = is_end c.args.hint_digest.now c.args.bytes.now c.split_at.result.1.now c.in_ok-first.first.bytes c.args.version c.args.count c.chain_end-end.result _
