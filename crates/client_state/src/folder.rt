@@ -102,22 +102,24 @@ impl<'a> Folder<'a> {
         }
         let content = HintContent(hint_file(alloc, known, hint)?);
         replace(alloc, &mut place, &content)?;
-        // One that stays is judged by its version when it is wanted.
+        // One that stays is judged by its version, or by the hint that it names, when it is wanted.
         let _ = self.drop_partial(known, hint.scheme);
+        let _ = self.drop_changes(hint.scheme, &known.plan);
         Ok(())
     }
 
-    /// Drops the hint of a scheme and a store, when there is one.
+    /// Drops the hint of a scheme and a store, when there is one, and the changes beside it.
     ///
     /// # Errors
     ///
-    /// `State` when its file can't be removed, `Memory` when memory was refused.
+    /// `State` when their files can't be removed, `Memory` when memory was refused.
     pub fn discard(&self, scheme: Scheme, plan: &Plan) -> Result<(), FolderFault> {
         let name = file_name(self.rt.alloc(), scheme, plan)?;
-        remove_file(self.rt, self.path, name.as_str())
+        remove_file(self.rt, self.path, name.as_str())?;
+        self.drop_changes(scheme, plan)
     }
 
-    /// The heads of all hints that are kept.
+    /// The heads of all hints that are kept, with the versions to which their changes have moved them.
     ///
     /// # Errors
     ///
@@ -182,7 +184,10 @@ impl<'a> Folder<'a> {
         if named.as_str() != name {
             return Err(HintError::Damaged);
         }
-        Ok(Some(kept.into_head()))
+        let changes = self.changes(&kept)?;
+        let fields = changes.moved_fields(kept.head());
+        let KeptHead { digests, .. } = kept.into_head();
+        Ok(Some(KeptHead { fields, digests }))
     }
 
     /// Whether a hint of a version may take the place of the one that is kept: of one that is damaged or can't be read, too.
@@ -193,9 +198,21 @@ impl<'a> Folder<'a> {
         version: u64,
     ) -> Result<bool, FolderFault> {
         match self.kept(scheme, &known.plan) {
-            Ok(Some(kept)) => Ok(is_no_newer(kept.head(), known, version)),
+            Ok(Some(kept)) if is_no_newer(kept.head(), known, version) => {
+                self.may_drop_changes(&kept, version)
+            }
+            Ok(Some(_)) => Ok(false),
             Ok(None) | Err(HintError::Damaged | HintError::Read) => Ok(true),
             Err(HintError::Memory) => Err(FolderFault::Memory),
+        }
+    }
+
+    // Whether the changes beside a hint move it no further than a version. Those that can't be read move it nowhere.
+    fn may_drop_changes(&self, kept: &KeptFile<'_>, version: u64) -> Result<bool, FolderFault> {
+        match self.changes(kept) {
+            Ok(changes) => Ok(changes.version() <= version),
+            Err(HintError::Memory) => Err(FolderFault::Memory),
+            Err(_) => Ok(true),
         }
     }
 }

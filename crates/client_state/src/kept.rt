@@ -9,12 +9,19 @@ use std::io;
 use std::io::Read;
 use std::os::unix::fs::FileExt;
 
+/// How many bytes stand before the digests of the parts.
+const FRONT_LEN: usize = 86;
+
+/// How many bytes a digest has.
+const DIGEST_LEN: usize = 32;
+
 /// The file of a hint that was kept, open: what another run puts in its place changes nothing of it.
 #[derive(Drop)]
 pub struct KeptFile<'a> {
     rt: &'a HostRuntime,
     file: File,
     head: KeptHead,
+    digest: [u8; DIGEST_LEN],
 }
 
 // A file as it is read from its start.
@@ -52,12 +59,23 @@ impl<'a> KeptFile<'a> {
         if found.len() != head.file_len() {
             return Err(HintError::Damaged);
         }
-        Ok(KeptFile { rt, file, head })
+        let digest = head_digest(&head, &bytes)?;
+        Ok(KeptFile {
+            rt,
+            file,
+            head,
+            digest,
+        })
     }
 
     /// The head: which hint the file has, and the digests of its parts.
     pub fn head(&self) -> &KeptHead {
         &self.head
+    }
+
+    /// The digest of the head, with which it ends: no other file's is the same.
+    pub fn digest(&self) -> &[u8; DIGEST_LEN] {
+        &self.digest
     }
 
     /// The head alone.
@@ -96,4 +114,15 @@ impl<'a> KeptFile<'a> {
         };
         read_hint(self.rt.alloc(), &mut reader)
     }
+}
+
+// The digest at the end of a head, which stands at the beginning of these bytes.
+fn head_digest(head: &KeptHead, bytes: &[u8]) -> Result<[u8; DIGEST_LEN], HintError> {
+    let start = FRONT_LEN.saturating_add(head.digests.len());
+    if start > bytes.len() || bytes.len() - start < DIGEST_LEN {
+        return Err(HintError::Damaged);
+    }
+    let mut digest = [0u8; DIGEST_LEN];
+    digest.copy_from_slice(&bytes[start..start + DIGEST_LEN]);
+    Ok(digest)
 }

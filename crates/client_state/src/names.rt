@@ -13,10 +13,11 @@ pub fn is_hint_name(name: &str) -> bool {
     }
 }
 
-/// Whether this is the name of a hint's file, of its lock, of what a replacement of it left, or of its partial file or the lock of that.
+/// Whether this is the name of a hint's file, of its lock, of what a replacement of it left, or of its partial file or its changes or the lock of either.
 pub fn is_name_of_ours(name: &str) -> bool {
     match after_hint_name(name) {
         Some("" | ".lock" | ".new" | ".part" | ".part.lock") => true,
+        Some(".changes" | ".changes.lock") => true,
         Some(rest) => match rest.strip_prefix(".new-") {
             Some(digits) => are_hex_digits(digits, MARKED_DIGITS),
             None => false,

@@ -304,6 +304,8 @@ impl<'a> PartialFile<'a> {
             return Ok(false);
         }
         fs::rename(rt, self.partial.as_str(), self.name.as_str())?;
+        // Those that stay name the hint before.
+        let _ = self.folder.drop_changes(fields.scheme, &fields.known.plan);
         match place.sync_folder() {
             Ok(()) => Ok(true),
             Err(_) => Err(FolderFault::State),
