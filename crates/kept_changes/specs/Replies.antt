@@ -1,0 +1,28 @@
+-- What a reply to an ask for changed records says.
+use Rattle.std.specs.Prelude.{◌≡◌, ◌≢◌, ℕ}
+use Rattle.frame_codec.specs.declared.frame.Frame.{Frame}
+use Rattle.frame_codec.specs.declared.frame.Frame.TheVariants as frame
+use Rattle.pir_schemes.specs.declared.plan.Plan.{Plan}
+use Rattle.change_file.specs.Files.{HintMove, move_of}
+use Rattle.kept_changes.specs.declared.replies.ChangesReply.{ChangesReply}
+use Rattle.kept_changes.specs.declared.replies.ChangesReply.TheVariants.{Moves, NoChanges, Other}
+use Rattle.kept_changes.specs.Moves.{IsMoveOf}
+
+-- a move that was asked for: since the version asked, to one that can be
+pub record IsMoveAsked (p : Plan) (asked : ℕ) (m : HintMove) : Type 0 where
+  pub since : m.since ≡ asked
+  pub version : m.version ≢ 0
+  pub can_be : IsMoveOf p m
+
+-- Changes are a move if it is one that was asked for
+abbrev pub IsJudgedMove : Plan → ℕ → HintMove → ChangesReply → Type 0
+IsJudgedMove p asked m (Moves block) = (move_of block ≡ m) × IsMoveAsked p asked m
+IsJudgedMove p asked m NoChanges = ⊥
+IsJudgedMove p asked m Other = ¬ IsMoveAsked p asked m
+
+-- what a frame says as a reply; of all kinds two are replies to this ask
+abbrev pub IsJudged : Plan → ℕ → Frame → ChangesReply → Type 0
+IsJudged p asked (frame.Changes since now count entries) reply =
+    IsJudgedMove p asked (record { since = since; version = now; count = count; entries = entries }) reply
+IsJudged p asked (frame.NoDelta version count) reply = reply ≡ NoChanges
+IsJudged p asked _ reply = reply ≡ Other

@@ -1,0 +1,20 @@
+//! The rows of one record in a SimplePIR hint that is kept in one file, and the changes since in another.
+//!
+//! A client that keeps the hint of a wide store reads of its file only the rows with which an answer for one record is read
+//! (`hint_file::parts_for`), and moves these by the changes in the file beside it (`change_file`): so it reads and writes nothing
+//! of the other 128 MiB. Entries of records in other places of their columns don't touch these rows, and are passed over. What the
+//! rows are then is what they would be in the whole hint, moved block after block (`laws::rows_move_alike`).
+//!
+//! Its longer tests are in tests/long/session_tests.
+#![tactic(auto)]
+
+mod files;
+pub mod laws;
+mod moving;
+mod replies;
+#[cfg(test)]
+mod tests;
+
+pub use files::rows_after;
+pub use replies::{ChangesReply, changes_ask, judged};
+

@@ -1,0 +1,74 @@
+//! An ask for the records that have changed, and what its reply says.
+
+ghost use Rattle.std.specs.Prelude.{◌≡◌, ◌↔◌, IfOk, IsTrue};
+ghost use Rattle.frame_codec.specs.declared.frame.Frame.{Frame};
+ghost use Rattle.frame_codec.specs.Frames.{encoding};
+ghost use Rattle.change_file.specs.Files.{move_of};
+ghost use Rattle.kept_changes.specs.Replies.{IsJudged, IsMoveAsked};
+
+use crate::files::layout_for;
+use change_file::Block;
+use client_core::{Plan, ServerInfo};
+use frame_codec::{Frame, write_frame};
+use std::alloc::{AllocError, Global};
+
+/// The frame that asks for the records that have changed since a version.
+///
+/// # Errors
+///
+/// `AllocError` when memory was refused.
+pub fn changes_ask(alloc: Global, since: u64) -> Result<Vec<u8>, AllocError>
+    ensures { IfOk result (λ bytes. bytes.items ≡ encoding (Frame.ChangesAsk since)) }
+{
+    let mut bytes = Vec::new(alloc);
+    write_frame(&Frame::ChangesAsk { since }, &mut bytes)?;
+    Ok(bytes)
+}
+
+/// What a reply to an ask for changed records says.
+#[derive(Clone, Copy, Debug)]
+pub enum ChangesReply<'a> {
+    /// The changes since the version asked: a block for the file.
+    Moves(Block<'a>),
+    /// The server doesn't have them, or they are too many: the hint is to be fetched again.
+    NoChanges,
+    /// It is no reply to this ask, or none that can be trusted.
+    Other,
+}
+
+// Whether a block's changes are since the version asked, and lead to one that can be.
+fn is_asked(plan: &Plan, asked: u64, block: &Block<'_>) -> bool
+    ensures { IsTrue result ↔ IsMoveAsked plan.now asked (move_of block.now) }
+{
+    block.since == asked && block.version != 0 && layout_for(plan, block).is_some()
+}
+
+/// What a reply says to an ask for the records that have changed since a version. The changes are those of the frame, in which its
+/// entries stay; they go from the version asked to one that is not 0, whose records have a layout with the plan known, and are of
+/// these records, ascending.
+pub fn judged<'a>(known: &ServerInfo, since: u64, reply: &'a Frame) -> ChangesReply<'a>
+    ensures { IsJudged known.now.plan since reply.now result }
+{
+    match reply {
+        Frame::Changes {
+            since: base,
+            now,
+            count,
+            entries,
+        } => {
+            let block = Block {
+                since: *base,
+                version: *now,
+                count: *count,
+                entries: entries.as_slice(),
+            };
+            if is_asked(&known.plan, since, &block) {
+                ChangesReply::Moves(block)
+            } else {
+                ChangesReply::Other
+            }
+        }
+        Frame::NoDelta { .. } => ChangesReply::NoChanges,
+        _ => ChangesReply::Other,
+    }
+}
