@@ -1,6 +1,6 @@
 //! The file of changes beside the file of a hint: what moves the hint on, so that it needn't be written anew.
 
-use crate::fault::{FolderFault, read_fault};
+use crate::fault::FolderFault;
 use crate::files::{is_free, open_file, remove_file};
 use crate::folder::Folder;
 use crate::kept::KeptFile;
@@ -93,23 +93,23 @@ pub fn most_changes(fields: &HintFields) -> usize {
 }
 
 impl<'a> Folder<'a> {
-    /// The changes that are kept beside an open hint's file. A file of another hint, or of more bytes than there may be, is read as
-    /// none.
+    /// The changes that are kept beside an open hint's file. A file of another hint, one of more bytes than there may be, and one that
+    /// can't be read are none: the hint is sound without them.
     ///
     /// # Errors
     ///
-    /// `Read` when the file can't be read, `Memory` when memory was refused.
-    pub fn changes(&self, kept: &KeptFile<'_>) -> Result<KeptChanges, HintError> {
+    /// `AllocError` when memory was refused.
+    pub fn changes(&self, kept: &KeptFile<'_>) -> Result<KeptChanges, AllocError> {
         let alloc = self.rt().alloc();
         let fields = &kept.head().fields;
         let name = changes_name(alloc, fields.scheme, &fields.known.plan)?;
-        let opened = open_file(self.rt(), self.path(), name.as_str()).map_err(read_fault)?;
-        let Some(file) = opened else {
-            return Ok(KeptChanges::none(alloc, kept)?);
-        };
-        match bytes_of(alloc, &file, most_bytes(fields))? {
-            Some(bytes) => Ok(KeptChanges::of(alloc, kept, bytes)?),
-            None => Ok(KeptChanges::none(alloc, kept)?),
+        match open_file(self.rt(), self.path(), name.as_str()) {
+            Ok(Some(file)) => match bytes_of(alloc, &file, most_bytes(fields))? {
+                Some(bytes) => KeptChanges::of(alloc, kept, bytes),
+                None => KeptChanges::none(alloc, kept),
+            },
+            Ok(None) | Err(FolderFault::State) => KeptChanges::none(alloc, kept),
+            Err(FolderFault::Memory) => Err(AllocError),
         }
     }
 
@@ -194,11 +194,7 @@ impl<'a> Folder<'a> {
             Err(HintError::Memory) => return Err(FolderFault::Memory),
             _ => return Ok(false),
         }
-        match self.changes(kept) {
-            Ok(now) => Ok(now.end.link == changes.end.link),
-            Err(HintError::Memory) => Err(FolderFault::Memory),
-            Err(_) => Err(FolderFault::State),
-        }
+        Ok(self.changes(kept)?.end.link == changes.end.link)
     }
 
     /// Removes the changes that are kept beside the hint of a scheme and a store, when there are any.
@@ -223,17 +219,15 @@ fn most_bytes(fields: &HintFields) -> usize {
     most_changes(fields).saturating_add(HEAD_LEN)
 }
 
-// The bytes of a file, if they are so many at most.
-fn bytes_of(alloc: Global, file: &File, most: usize) -> Result<Option<Vec<u8>>, HintError> {
-    let Ok(found) = file.metadata() else {
-        return Err(HintError::Read);
+// The bytes of a file, if they are so many at most and can be read.
+fn bytes_of(alloc: Global, file: &File, most: usize) -> Result<Option<Vec<u8>>, AllocError> {
+    let len = match file.metadata() {
+        Ok(found) if found.len() <= most as u64 => found.len() as usize,
+        _ => return Ok(None),
     };
-    if found.len() > most as u64 {
-        return Ok(None);
-    }
-    let mut bytes = vec![in alloc; 0u8; found.len() as usize]?;
+    let mut bytes = vec![in alloc; 0u8; len]?;
     match file.read_exact_at(&mut bytes, 0) {
         Ok(()) => Ok(Some(bytes)),
-        Err(_) => Err(HintError::Read),
+        Err(_) => Ok(None),
     }
 }

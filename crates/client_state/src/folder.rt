@@ -199,20 +199,11 @@ impl<'a> Folder<'a> {
     ) -> Result<bool, FolderFault> {
         match self.kept(scheme, &known.plan) {
             Ok(Some(kept)) if is_no_newer(kept.head(), known, version) => {
-                self.may_drop_changes(&kept, version)
+                Ok(self.changes(&kept)?.version() <= version)
             }
             Ok(Some(_)) => Ok(false),
             Ok(None) | Err(HintError::Damaged | HintError::Read) => Ok(true),
             Err(HintError::Memory) => Err(FolderFault::Memory),
-        }
-    }
-
-    // Whether the changes beside a hint move it no further than a version. Those that can't be read move it nowhere.
-    fn may_drop_changes(&self, kept: &KeptFile<'_>, version: u64) -> Result<bool, FolderFault> {
-        match self.changes(kept) {
-            Ok(changes) => Ok(changes.version() <= version),
-            Err(HintError::Memory) => Err(FolderFault::Memory),
-            Err(_) => Ok(true),
         }
     }
 }
