@@ -1,27 +1,26 @@
 -- Rows of a record, and the whole hint.
-use Rattle.std.proofs.Common.{◌≡◌, ℕ, ◌+◌, ◌*◌, ◌%◌, ◌<◌, List, [], ◌∷◌, refl, sym, ap, ◌∙◌, arith}
+use Rattle.std.proofs.Common.{◌≡◌, ℕ, ◌+◌, ◌*◌, ◌%◌, List, [], ◌∷◌, refl, sym, ap, ◌∙◌, arith}
 use Rattle.std.specs.Prelude.{slice_index}
 use Rattle.std.proofs.lemmas.Nat.{mod_below}
 use Rattle.matrix_u32.specs.Sum.{list_of}
-use Rattle.matrix_u32.specs.Matrix.{WordMatrix, entry, matrix_of, row}
+use Rattle.matrix_u32.specs.Matrix.{WordMatrix, entry, matrix_of}
 use Rattle.matrix_u32.proofs.Products.{same-list_of}
 use Rattle.matrix_u32.proofs.Changes.{same-matrix_of}
 use Rattle.matrix_u32.proofs.Rows.{row_index}
-use Rattle.digit_pack.specs.Layout.{Shape, digit_rows, digits_per_record, first_row}
+use Rattle.digit_pack.specs.Layout.{Shape, digit_rows, digits_per_record}
 use Rattle.digit_pack.proofs.RecordLemmas.{shape_of_layout}
 use Rattle.hint_changes.specs.Entries.{changes_in}
 use Rattle.hint_changes.proofs.NetChanges.{changes_lead}
 use Rattle.pir_schemes.specs.declared.plan.Plan.{Plan}
 use Rattle.pir_schemes.specs.Plans.{shape_at, first_public}
-use Rattle.client_core.specs.declared.state.ServerInfo.{ServerInfo}
 use Rattle.client_core.specs.declared.state.Hint.{Hint}
 use Rattle.client_core.specs.States.{shape_known}
 use Rattle.client_core.specs.Replies.{hint_with_entries}
-use Rattle.client_core.specs.Resuming.{HasRowsOf}
 use Rattle.change_file.specs.Files.{HintMove, last_version}
-use Rattle.kept_changes.specs.Moves.{AreMovesOf, IsMoveOf, IsMovedOn, moved_by, moved_through, record_rows}
-use Rattle.kept_changes.specs.Laws.{AreTrueMoves, MovedRowsAreTheHints, RowsMoveAlike, TrueMovesMakeTheHint, hint_through}
+use Rattle.kept_changes.specs.Moves.{IsMoveOf, IsMovedWhole, moved_by, moved_through, record_rows}
+use Rattle.kept_changes.specs.Laws.{MovedRowsAreOfTheWhole, MovedRowsAreTheHints, RowsMoveAlike, TrueMovesMakeTheHint, hint_through}
 use Rattle.kept_changes.proofs.Alike.{moved_alike, same_words}
+use Rattle.kept_changes.proofs.Steps.{no_move_of_whole}
 
 -- ---- what rows depend on
 
@@ -39,24 +38,19 @@ all_alike p i (m ∷ ms) one other are high tall same =
 
 -- ---- rows of the whole hint
 
--- what a whole hint is after moves
-record IsThrough (p : Plan) (ms : List HintMove) (before after : Hint) : Type 0 where
-  scheme : after.scheme ≡ before.scheme
-  version : after.version ≡ last_version before.version ms
-  matrix : after.matrix ≡ moved_through p ms before.matrix
-
-goes_through : (p : Plan) (ms : List HintMove) (whole : Hint) → IsThrough p ms whole (hint_through p ms whole)
-goes_through p [] whole = record { scheme = refl; version = refl; matrix = refl }
+-- the hint that a client holds is moved as a whole
+goes_through : (p : Plan) (ms : List HintMove) (whole : Hint) → IsMovedWhole p ms whole (hint_through p ms whole)
+goes_through p [] whole = no_move_of_whole p whole
 goes_through p (m ∷ ms) whole =
     let more = goes_through p ms (hint_with_entries p whole m.version m.count m.entries) in
-    record { scheme = more.scheme; version = more.version; matrix = more.matrix }
+    record { scheme = more.scheme; version = more.version; rows = more.rows; cols = more.cols; matrix = more.matrix }
 
 pub rows_stay_the_hints : MovedRowsAreTheHints
 rows_stay_the_hints k i ms whole before after has tall is =
     let p : Plan = k.plan in
     let n : ℕ = digits_per_record (shape_known k) in
     let g : ℕ = i % p.groups in
-    let through : IsThrough p ms whole (hint_through p ms whole) = goes_through p ms whole in
+    let through : IsMovedWhole p ms whole (hint_through p ms whole) = goes_through p ms whole in
     let later : WordMatrix = (hint_through p ms whole).matrix in
     let same : record_rows p i before.matrix ≡ record_rows p i whole.matrix =
     same-matrix_of n before.matrix.cols (λ d j. entry before.matrix (g * n + d) j) (λ d j. entry whole.matrix (g * n + d) j) (λ d j low in_row.
@@ -77,6 +71,10 @@ rows_stay_the_hints k i ms whole before after has tall is =
           (λ j in_row. same_words (shape_at p (i + 1)) g after.matrix later moved d j low in_row)
           ∙ ap (λ c. list_of c (λ j. entry later (g * n + d) j)) cols;
     }
+
+-- the same rows as beside it
+pub rows_of_whole : MovedRowsAreOfTheWhole
+rows_of_whole p i ms before rows whole is all = is.moved before.matrix refl refl refl ∙ ap (record_rows p i) (sym all.matrix)
 
 -- ---- true changes
 

@@ -12,7 +12,7 @@ use Rattle.client_core.specs.Laws.{hint_of_slots}
 use Rattle.client_core.specs.Replies.{hint_with_entries}
 use Rattle.client_core.specs.Resuming.{HasRowsOf}
 use Rattle.change_file.specs.Files.{HintMove}
-use Rattle.kept_changes.specs.Moves.{AreMovesOf, IsMovedOn, moved_through, record_rows}
+use Rattle.kept_changes.specs.Moves.{AreMovesOf, IsMovedOn, IsMovedWhole, moved_through, record_rows}
 
 -- what the rows of a record are after moves depends on those rows before alone
 abbrev pub RowsMoveAlike : Type 0
@@ -29,6 +29,11 @@ hint_through p (m ∷ ms) whole = hint_through p ms (hint_with_entries p whole m
 abbrev pub MovedRowsAreTheHints : Type 0
 MovedRowsAreTheHints = (k : ServerInfo) (i : ℕ) (ms : List HintMove) (whole before after : Hint) → HasRowsOf k whole i before →
     before.matrix.rows ≡ whole.matrix.rows → IsMovedOn k.plan i ms before after → HasRowsOf k (hint_through k.plan ms whole) i after
+
+-- rows of a record that were moved on are those of the hint that was moved as a whole
+abbrev pub MovedRowsAreOfTheWhole : Type 0
+MovedRowsAreOfTheWhole = (p : Plan) (i : ℕ) (ms : List HintMove) (before rows whole : Hint) → IsMovedOn p i ms before rows →
+    IsMovedWhole p ms before whole → record_rows p i rows.matrix ≡ record_rows p i whole.matrix
 
 -- a move from one hint to another, each of which is made from scratch of records, by entries that lead from those to these; blanks stand for
 -- records that were appended

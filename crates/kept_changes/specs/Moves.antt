@@ -46,3 +46,11 @@ pub record IsMovedOn (p : Plan) (i : ℕ) (ms : List HintMove) (before after : H
   pub cols : after.matrix.cols ≡ before.matrix.cols
   pub moved : (whole : WordMatrix) → whole.rows ≡ before.matrix.rows → whole.cols ≡ before.matrix.cols →
       record_rows p i before.matrix ≡ record_rows p i whole → record_rows p i after.matrix ≡ record_rows p i (moved_through p ms whole)
+
+-- a whole hint after moves
+pub record IsMovedWhole (p : Plan) (ms : List HintMove) (before after : Hint) : Type 0 where
+  pub scheme : after.scheme ≡ before.scheme
+  pub version : after.version ≡ last_version before.version ms
+  pub rows : after.matrix.rows ≡ before.matrix.rows
+  pub cols : after.matrix.cols ≡ before.matrix.cols
+  pub matrix : after.matrix ≡ moved_through p ms before.matrix

@@ -89,14 +89,7 @@ fn rows_through<K: Kernel>(
     let mut link = link;
     let mut rest = bytes;
     'whole: while let Some(next) = next_block(rest, &link, hint.version) {
-        if !move_by_block(
-            kernel,
-            plan,
-            &mut public,
-            &mut hint,
-            index,
-            &next.block,
-        ) {
+        if !move_by_block(kernel, plan, &mut public, &mut hint, index, &next.block) {
             return None;
         }
         link = next.link;
@@ -139,7 +132,5 @@ pub fn rows_after<K: Kernel>(
     };
     let (_head, rest) = bytes.split_at(HEAD_LEN);
     let public = PublicRow::new(alloc, &plan.seed, usize::from(plan.dimension))?;
-    Ok(rows_through(
-        kernel, plan, public, hint, index, first, rest,
-    ))
+    Ok(rows_through(kernel, plan, public, hint, index, first, rest))
 }

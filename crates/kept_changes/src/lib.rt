@@ -14,7 +14,8 @@ mod moving;
 mod replies;
 #[cfg(test)]
 mod tests;
+mod whole_hint;
 
 pub use files::rows_after;
 pub use replies::{ChangesReply, changes_ask, judged};
-
+pub use whole_hint::hint_after;

@@ -1,8 +1,8 @@
-//! The rows of records beside the whole hint, an ask and its replies. The longer tests are in tests/long/session_tests.
+//! The rows of records beside the whole hint, that hint moved, an ask and its replies. The longer tests are in tests/long/session_tests.
 
 ghost use Rattle.std.specs.Prelude.{◌≡◌, IfOk};
 
-use crate::{ChangesReply, changes_ask, judged, rows_after};
+use crate::{ChangesReply, changes_ask, hint_after, judged, rows_after};
 use change_file::{Block, Link, block_bytes, head_bytes, read_head};
 use client_core::{Hint, Plan, Scheme, ServerInfo};
 use frame_codec::{Bytes, Frame};
@@ -66,13 +66,7 @@ fn row_of_the_whole(alloc: Global, index: usize) -> Result<u32, Fail> {
     let mut public = PublicRow::new(alloc, &[9; 32], 1)?;
     let layout = PLAN.layout(3)?;
     if are_entries(&layout, &ENTRIES) {
-        move_by_entries(
-            Plain,
-            &layout,
-            &mut public,
-            &mut hint.matrix,
-            &ENTRIES,
-        );
+        move_by_entries(Plain, &layout, &mut public, &mut hint.matrix, &ENTRIES);
     }
     Ok(hint.matrix.get(index % 2, 0))
 }
@@ -102,6 +96,34 @@ fn a_records_row_is_moved_as_in_the_whole_hint(rt: HostRuntime) -> Result<(), Fa
     Ok(())
 }
 
+// The whole hint and its version after the changes in bytes; none if they are of no use.
+fn whole_after(alloc: Global, bytes: &[u8]) -> Result<Option<([u32; 2], u64)>, Fail> {
+    let hint = hint(alloc)?;
+    let after = hint_after(alloc, Plain, &PLAN, &DIGEST, bytes, hint)?;
+    Ok(match after {
+        None => None,
+        Some(after) => {
+            let words = [after.matrix.get(0, 0), after.matrix.get(1, 0)];
+            Some((words, after.version))
+        }
+    })
+}
+
+#[test]
+fn the_whole_hint_is_moved_by_the_file(rt: HostRuntime) -> Result<(), Fail> {
+    let file = file(rt.alloc())?;
+    let words = [
+        row_of_the_whole(rt.alloc(), 0)?,
+        row_of_the_whole(rt.alloc(), 1)?,
+    ];
+    assert_eq!(rt; whole_after(rt.alloc(), &file)?, Some((words, 2)));
+    assert_eq!(rt;
+        whole_after(rt.alloc(), &head_bytes(&DIGEST))?,
+        Some(([1000, 2000], 1))
+    );
+    Ok(())
+}
+
 #[test]
 fn an_ask_is_written(rt: HostRuntime) -> Result<(), Fail> {
     assert_eq!(rt;
@@ -126,7 +148,8 @@ fn says(alloc: Global, asked: u64) -> Result<Option<(u64, u32)>, AllocError> {
     };
     Ok(match judged(&known, asked, &reply) {
         ChangesReply::Moves(block) if block.entries == ENTRIES.as_slice() => Some((
-            block.version, block.count,
+            block.version,
+            block.count,
         )),
         _ => None,
     })

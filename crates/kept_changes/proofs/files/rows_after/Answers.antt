@@ -1,9 +1,7 @@
-use Rattle.std.proofs.Common.{◌≡◌, ◌++◌, List, ℕ, length, drop, refl, ap, sym, subst, ◌∙◌, arith, Option}
+use Rattle.std.proofs.Common.{◌≡◌, ◌++◌, List, ℕ, length, drop, ap, sym, subst, ◌∙◌, arith}
 use Rattle.std.specs.Prelude.{MatchOption}
 use Rattle.std.proofs.lemmas.List.{length-append}
-use Rattle.pir_schemes.specs.declared.plan.Plan.{Plan}
-use Rattle.client_core.specs.declared.state.Hint.{Hint}
-use Rattle.change_file.specs.Files.{HintMove, file_moves, first_link, head_bytes, moves_in}
+use Rattle.change_file.specs.Files.{HintMove, file_moves, head_bytes, moves_in}
 use Rattle.change_file.proofs.Cuts.{length-head, with_head, with_none}
 use Rattle.kept_changes.specs.Moves.{AreMovesOf, IsMovedOn}
 use Rattle.kept_changes.proofs.Steps.{no_move}

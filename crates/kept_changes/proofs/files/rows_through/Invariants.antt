@@ -2,6 +2,7 @@ use Rattle.std.proofs.Common.{◌≡◌, ◌+◌, length}
 use Rattle.digit_pack.specs.Layout.{digit_rows}
 use Rattle.pir_schemes.specs.Plans.{shape_at}
 use Rattle.change_file.specs.Files.{moves_in}
+use Rattle.kept_changes.specs.Moves.{IsMovedOn}
 use Rattle.kept_changes.proofs.Steps.{IsUnderWay}
 use Rattle.kept_changes.proofs.files.rows_through.Given as goal
 
@@ -11,7 +12,7 @@ invariant-whole g l = record {
   dimension : l.public.dimension ≡ l.plan.dimension;
   rows : l.hint.matrix.rows ≡ digit_rows (shape_at l.plan (l.index + 1));
   cols : l.hint.matrix.cols ≡ l.plan.dimension;
-  way : IsUnderWay l.plan l.index (moves_in l.fn.link.bytes l.fn.hint.version l.bytes) (moves_in l.link.bytes l.hint.version l.rest) l.fn.hint l.hint;
+  way : IsUnderWay l.plan (IsMovedOn l.plan l.index) (moves_in l.fn.link.bytes l.fn.hint.version l.bytes) (moves_in l.link.bytes l.hint.version l.rest) l.fn.hint l.hint;
 }
 
 abbrev pub decreases-whole : goal.decreases-whole

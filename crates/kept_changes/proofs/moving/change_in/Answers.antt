@@ -1,6 +1,5 @@
-use Rattle.std.proofs.Common.{arith, refl, ap, ◌∙◌, ◌≡◌, ℕ, ◌+◌, ◌-◌, ◌*◌, ◌/◌, ◌<◌, ◌≤◌, List, length, take, drop}
+use Rattle.std.proofs.Common.{arith, ap, ◌∙◌, ◌≡◌, ℕ, ◌+◌, ◌-◌, ◌*◌, List, take, drop}
 use Rattle.std.proofs.lemmas.Nat.{mul-add-lt}
-use Rattle.hint_changes.specs.Changes.{ChangedRecord}
 use Rattle.hint_changes.specs.Entries.{change_in, entry_count, entry_len, number_in}
 use Rattle.kept_changes.proofs.moving.change_in.Goals as goal
 

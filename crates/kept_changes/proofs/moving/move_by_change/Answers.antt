@@ -1,4 +1,4 @@
-use Rattle.std.proofs.Common.{ap, sym, ◌∙◌, ◌≡◌, ℕ, ◌%◌}
+use Rattle.std.proofs.Common.{ap, sym, ◌∙◌, ℕ, ◌%◌}
 use Rattle.matrix_u32.specs.Matrix.{WordMatrix}
 use Rattle.seed_expand.specs.Words.{public_rows}
 use Rattle.digit_pack.specs.Layout.{Shape, digit_cols}

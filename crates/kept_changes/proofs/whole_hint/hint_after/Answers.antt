@@ -1,0 +1,30 @@
+use Rattle.std.proofs.Common.{◌≡◌, ◌++◌, List, ℕ, length, drop, ap, sym, subst, ◌∙◌, arith}
+use Rattle.std.specs.Prelude.{MatchOption}
+use Rattle.std.proofs.lemmas.List.{length-append}
+use Rattle.change_file.specs.Files.{HintMove, file_moves, head_bytes, moves_in}
+use Rattle.change_file.proofs.Cuts.{length-head, with_head, with_none}
+use Rattle.kept_changes.specs.Moves.{AreMovesOf, IsMovedWhole}
+use Rattle.kept_changes.proofs.Steps.{no_move_of_whole}
+use Rattle.kept_changes.proofs.whole_hint.hint_after.Goals as goal
+
+pub returns-in_default : goal.returns-in_default
+returns-in_default g c =
+    subst (λ (ms : List HintMove). AreMovesOf c.args.plan.now ms × IsMovedWhole c.args.plan.now ms c.args.hint c.args.hint)
+    (sym (with_none c.args.head_digest.now c.args.bytes.now c.args.hint.version c.in_default.ensures.none)) (tt, no_move_of_whole c.args.plan.now c.args.hint)
+
+pub split_at-requires : goal.split_at-requires
+split_at-requires g c =
+    let digest : List ℕ = c.args.head_digest.now in
+    omega (arith, ap length c.in-Some.ensures.some.1, length-append (head_bytes digest) (drop 72 c.args.bytes.now), length-head digest c.told-head_digest)
+
+pub returns : goal.returns
+returns g c =
+    let digest : List ℕ = c.args.head_digest.now in
+    let bytes : List ℕ = c.args.bytes.now in
+    let version : ℕ = c.args.hint.version in
+    let all : moves_in c.in-Some.first.bytes version c.split_at.result.1.now ≡ file_moves digest version bytes =
+    ap (λ (x : List ℕ). moves_in x version c.split_at.result.1.now) c.in-Some.ensures.some.0
+    ∙ sym (with_head digest bytes c.split_at.result.1.now version c.told-head_digest
+    (c.in-Some.ensures.some.1 ∙ ap (λ (x : List ℕ). head_bytes digest ++ x) (sym c.split_at.ensures.back))) in
+    subst (λ (ms : List HintMove). MatchOption c.whole_through.result (¬ AreMovesOf c.args.plan.now ms)
+    (λ after. AreMovesOf c.args.plan.now ms × IsMovedWhole c.args.plan.now ms c.args.hint after)) all c.whole_through.ensures

@@ -1,0 +1,110 @@
+//! A whole hint, moved by a file of changes.
+
+ghost use Rattle.std.specs.Prelude.{◌≡◌, ℕ, ◌≤◌, ◌∷◌, [], IsTrue, IsFalse, IfOk, MatchOption};
+ghost use Rattle.digit_pack.specs.Layout.{digit_rows};
+ghost use Rattle.pir_schemes.specs.Plans.{shape_at};
+ghost use Rattle.change_file.specs.Files.{file_moves, move_of, moves_in};
+ghost use Rattle.kept_changes.specs.Moves.{AreMovesOf, IsMoveOf, IsMovedWhole};
+
+use crate::files::layout_for;
+use change_file::{Block, HEAD_LEN, Link, next_block, read_head};
+use client_core::{Hint, Plan};
+use hint_changes::{PublicRow, move_by_entries};
+use matrix_u32::Kernel;
+use std::alloc::{AllocError, Global};
+
+// Moves a hint by a block. Whether the block is one by which it can be moved.
+fn move_whole<K: Kernel>(
+    kernel: K,
+    plan: &Plan,
+    public: &mut PublicRow,
+    hint: &mut Hint,
+    block: &Block<'_>,
+) -> bool
+    requires seed { public.old.seed ≡ plan.now.seed }
+    requires dimension { public.old.dimension ≡ plan.now.dimension }
+    requires rows { hint.old.matrix.rows ≡ digit_rows (shape_at plan.now 1) }
+    requires cols { hint.old.matrix.cols ≡ plan.now.dimension }
+    ensures good { IsTrue result → IsMoveOf plan.now (move_of block.now) }
+    ensures moved { IsTrue result →
+        IsMovedWhole plan.now (move_of block.now ∷ []) hint.old hint.new }
+    ensures bad { IsFalse result → ¬ IsMoveOf plan.now (move_of block.now) }
+    ensures public { (public.new.seed ≡ public.old.seed) ×
+        (public.new.dimension ≡ public.old.dimension) }
+{
+    let Some(layout) = layout_for(plan, block) else {
+        return false;
+    };
+    move_by_entries(kernel, &layout, public, &mut hint.matrix, block.entries);
+    hint.version = block.version;
+    true
+}
+
+// A hint, moved by all blocks that bytes begin with, after a link.
+fn whole_through<K: Kernel>(
+    kernel: K,
+    plan: &Plan,
+    public: PublicRow,
+    hint: Hint,
+    link: Link,
+    bytes: &[u8],
+) -> Option<Hint>
+    requires seed { public.seed ≡ plan.now.seed }
+    requires dimension { public.dimension ≡ plan.now.dimension }
+    requires rows { hint.matrix.rows ≡ digit_rows (shape_at plan.now 1) }
+    requires cols { hint.matrix.cols ≡ plan.now.dimension }
+    ensures { MatchOption result
+        (¬ AreMovesOf plan.now (moves_in link.bytes hint.version bytes.now))
+        (λ after. AreMovesOf plan.now (moves_in link.bytes hint.version bytes.now)
+        × IsMovedWhole plan.now (moves_in link.bytes hint.version bytes.now) hint after) }
+{
+    let mut public = public;
+    let mut hint = hint;
+    let mut link = link;
+    let mut rest = bytes;
+    'whole: while let Some(next) = next_block(rest, &link, hint.version) {
+        if !move_whole(kernel, plan, &mut public, &mut hint, &next.block) {
+            return None;
+        }
+        link = next.link;
+        let (_block, others) = rest.split_at(next.len);
+        rest = others;
+    }
+    Some(hint)
+}
+
+/// The hint, moved by all whole blocks of its file of changes to the version after them: with this a client folds the file into the
+/// hint when it has grown long. A file with another head moves nothing. None exactly if some block's records have no layout, or its
+/// entries are not of these records: then the file is of no use, and the hint is to be read again.
+///
+/// The plan's dimension is within the limits for whoever has been let in (`IsKnown`), and the hint has the rows and columns of the
+/// plan, however many records there are, if it serves (`hint_file::Serves`). Its rows of one record are then those of `rows_after`
+/// (`laws::rows_are_of_the_whole`). A row of the public matrix is all the memory that is taken.
+///
+/// # Errors
+///
+/// `AllocError` when memory was refused.
+pub fn hint_after<K: Kernel>(
+    alloc: Global,
+    kernel: K,
+    plan: &Plan,
+    head_digest: &[u8; 32],
+    bytes: &[u8],
+    hint: Hint,
+) -> Result<Option<Hint>, AllocError>
+    requires dimension { (1 ≤ plan.now.dimension) × (plan.now.dimension ≤ 1024) }
+    requires rows { hint.matrix.rows ≡ digit_rows (shape_at plan.now 1) }
+    requires cols { hint.matrix.cols ≡ plan.now.dimension }
+    ensures { IfOk result (λ found. MatchOption found
+        (¬ AreMovesOf plan.now (file_moves head_digest.now hint.version bytes.now))
+        (λ after. AreMovesOf plan.now (file_moves head_digest.now hint.version bytes.now)
+        × IsMovedWhole plan.now (file_moves head_digest.now hint.version bytes.now) hint
+        after)) }
+{
+    let Some(first) = read_head(bytes, head_digest) else {
+        return Ok(Some(hint));
+    };
+    let (_head, rest) = bytes.split_at(HEAD_LEN);
+    let public = PublicRow::new(alloc, &plan.seed, usize::from(plan.dimension))?;
+    Ok(whole_through(kernel, plan, public, hint, first, rest))
+}
