@@ -8,7 +8,7 @@ use Rattle.client_core.specs.declared.state.Hint.{Hint}
 use Rattle.change_file.specs.declared.blocks.WholeBlock.{WholeBlock}
 use Rattle.change_file.specs.Files.{HintMove, IsNext, block_len, last_version, move_of, moves_in, next_link}
 use Rattle.change_file.proofs.Chains.{moves_more}
-use Rattle.kept_changes.specs.Moves.{AreMovesOf, IsMoveOf, IsMovedOn, IsMovedWhole, moved_by, moved_through, record_rows}
+use Rattle.kept_changes.specs.Moves.{AreMovesOf, IsMoveOf, IsMovedOn, IsMovedWhole, moved_once, moved_through, record_rows}
 use Rattle.kept_changes.proofs.Alike.{moved_alike}
 
 -- no move
@@ -24,7 +24,7 @@ one_and_more p i m ms before now after one more = record {
   rows = more.rows ∙ one.rows;
   cols = more.cols ∙ one.cols;
   moved = λ whole high wide same.
-      more.moved (moved_by p m whole) (high ∙ sym one.rows) (wide ∙ sym one.cols) (one.moved whole high wide same);
+      more.moved (moved_once p m whole) (high ∙ sym one.rows) (wide ∙ sym one.cols) (one.moved whole high wide same);
 }
 
 -- the same of a whole hint
@@ -87,7 +87,7 @@ fails p Moves all left more m first now is e bad =
 pub one_block : (p : Plan) (i : ℕ) (m : HintMove) (before after : Hint) → before.matrix.rows ≡ digit_rows (shape_at p (i + 1)) →
     i % p.groups < p.groups → after.scheme ≡ before.scheme → after.version ≡ m.version →
     after.matrix.rows ≡ before.matrix.rows → after.matrix.cols ≡ before.matrix.cols →
-    record_rows p i after.matrix ≡ record_rows p i (moved_by p m before.matrix) → IsMovedOn p i (m ∷ []) before after
+    record_rows p i after.matrix ≡ record_rows p i (moved_once p m before.matrix) → IsMovedOn p i (m ∷ []) before after
 one_block p i m before after high inside scheme version rows cols moved = record {
   scheme = scheme;
   version = version;

@@ -49,7 +49,7 @@ abbrev pub AreTrueMoves : Plan → List HintMove → WordMatrix → WordMatrix �
 AreTrueMoves p [] hint last = hint ≡ last
 AreTrueMoves p (m ∷ ms) hint last = (next : WordMatrix) × IsTrueMove p m hint next × AreTrueMoves p ms next last
 
--- they make of the first hint the last one
+-- true moves make of the first hint the last one
 abbrev pub TrueMovesMakeTheHint : Type 0
 TrueMovesMakeTheHint = (p : Plan) (ms : List HintMove) (hint last : WordMatrix) → AreMovesOf p ms → AreTrueMoves p ms hint last →
     moved_through p ms hint ≡ last

@@ -11,8 +11,8 @@ use Rattle.change_file.specs.Files.{HintMove, last_version}
 use Rattle.kept_changes.specs.declared.moving.Change.{Change}
 
 -- a change that is lent
-abbrev pub change_of : Change → ChangedRecord
-change_of c = record { index = c.index; old = c.old.now; new = c.new.now }
+abbrev pub changed_record : Change → ChangedRecord
+changed_record c = record { index = c.index; old = c.old.now; new = c.new.now }
 
 -- a move that a hint of this plan can be moved by: there is a layout of so many records, and its entries are of these
 pub record IsMoveOf (p : Plan) (m : HintMove) : Type 0 where
@@ -25,13 +25,13 @@ AreMovesOf p [] = Unit {0}
 AreMovesOf p (m ∷ ms) = IsMoveOf p m × AreMovesOf p ms
 
 -- a hint after one move
-abbrev pub moved_by : Plan → HintMove → WordMatrix → WordMatrix
-moved_by p m hint = moved (shape_at p m.count) (first_public (shape_at p m.count) p.dimension p.seed) (changes_in p.record_len m.entries) hint
+abbrev pub moved_once : Plan → HintMove → WordMatrix → WordMatrix
+moved_once p m hint = moved (shape_at p m.count) (first_public (shape_at p m.count) p.dimension p.seed) (changes_in p.record_len m.entries) hint
 
 -- a hint after moves, one after another
 abbrev pub moved_through : Plan → List HintMove → WordMatrix → WordMatrix
 moved_through p [] hint = hint
-moved_through p (m ∷ ms) hint = moved_through p ms (moved_by p m hint)
+moved_through p (m ∷ ms) hint = moved_through p ms (moved_once p m hint)
 
 -- the rows of a hint in which record i has its digits; how many records there are has no part in it
 abbrev pub record_rows : Plan → ℕ → WordMatrix → WordMatrix

@@ -1,6 +1,6 @@
 //! The rows of a record, moved by a file of changes.
 
-ghost use Rattle.std.specs.Prelude.{◌≡◌, ℕ, List, ◌+◌, ◌≤◌, ◌∷◌, [], IsTrue, IsFalse, IfOk, MatchOption};
+ghost use Rattle.std.specs.Prelude.{◌≡◌, ◌+◌, ◌≤◌, ◌∷◌, [], IsTrue, IsFalse, IfOk, MatchOption};
 ghost use Rattle.digit_pack.specs.Layout.{digit_rows};
 ghost use Rattle.pir_schemes.specs.Plans.{shape_at};
 ghost use Rattle.change_file.specs.Files.{file_moves, move_of, moves_in};

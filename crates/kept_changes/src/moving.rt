@@ -1,11 +1,11 @@
 //! Rows of one place that are moved by entries.
 
-ghost use Rattle.std.specs.Prelude.{◌≡◌, ℕ, ◌+◌, ◌*◌, ◌/◌, ◌%◌, ◌<◌, ◌≤◌, ◌∷◌, [], length};
+ghost use Rattle.std.specs.Prelude.{◌≡◌, ◌<◌, ◌≤◌, ◌∷◌, [], length};
 ghost use Rattle.seed_expand.specs.Words.{public_rows};
 ghost use Rattle.digit_pack.specs.Layout.{digit_cols, digit_rows};
 ghost use Rattle.hint_changes.specs.Changes.{moved, rows_in_place};
 ghost use Rattle.hint_changes.specs.Entries.{AreEntries, change_in, changes_in, entry_count, number_in};
-ghost use Rattle.kept_changes.specs.Moves.{change_of};
+ghost use Rattle.kept_changes.specs.Moves.{changed_record};
 
 use byteorder::{ByteOrder, LittleEndian};
 use digit_pack::Layout;
@@ -34,7 +34,7 @@ fn number_in(entries: &[u8], len: usize, k: usize) -> usize
 fn change_in(entries: &[u8], len: usize, k: usize) -> Change<'_>
     requires len { len ≤ 256 }
     requires inside { k < entry_count len entries.now }
-    ensures { change_of result ≡ change_in len entries.now k }
+    ensures { changed_record result ≡ change_in len entries.now k }
 {
     let at = k * entry_len(len);
     Change {
@@ -61,7 +61,7 @@ fn move_by_change<K: Kernel>(
     requires place { place < layout.now.groups }
     ensures moved { rows_in_place layout.now place hint.new ≡ rows_in_place layout.now place
         (moved layout.now (public_rows public.old.seed 0 0 (digit_cols layout.now)
-        public.old.dimension) (change_of change.now ∷ []) hint.old) }
+        public.old.dimension) (changed_record change.now ∷ []) hint.old) }
     ensures size { (hint.new.rows ≡ hint.old.rows) × (hint.new.cols ≡ hint.old.cols) }
     ensures public { (public.new.seed ≡ public.old.seed) ×
         (public.new.dimension ≡ public.old.dimension) }

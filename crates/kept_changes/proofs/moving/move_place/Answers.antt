@@ -6,7 +6,7 @@ use Rattle.seed_expand.specs.Words.{public_rows}
 use Rattle.digit_pack.specs.Layout.{Shape, digit_cols}
 use Rattle.hint_changes.specs.Changes.{ChangedRecord, moved, rows_in_place}
 use Rattle.hint_changes.specs.Entries.{change_in, changes_in, entry_count}
-use Rattle.kept_changes.specs.Moves.{change_of}
+use Rattle.kept_changes.specs.Moves.{changed_record}
 use Rattle.kept_changes.proofs.Alike.{none_moves, one_more_alike}
 use Rattle.kept_changes.proofs.moving.move_place.Goals as goal
 
@@ -32,9 +32,9 @@ loop-k-preserved g c =
     let now : WordMatrix = c.loop-k.hint in
     let one : rows_in_place l place c.move_by_change.new.hint ≡ rows_in_place l place (moved l a1 (change k ∷ []) now) =
     c.move_by_change.ensures.moved
-    ∙ ap (λ (s : List ℕ). rows_in_place l place (moved l (public_rows s 0 0 cols c.loop-k.public.dimension) (change_of c.change_in-change.result ∷ []) now))
+    ∙ ap (λ (s : List ℕ). rows_in_place l place (moved l (public_rows s 0 0 cols c.loop-k.public.dimension) (changed_record c.change_in-change.result ∷ []) now))
     c.loop-k.invariant.seed
-    ∙ ap (λ n. rows_in_place l place (moved l (public_rows c.args.public.now.seed 0 0 cols n) (change_of c.change_in-change.result ∷ []) now))
+    ∙ ap (λ n. rows_in_place l place (moved l (public_rows c.args.public.now.seed 0 0 cols n) (changed_record c.change_in-change.result ∷ []) now))
     c.loop-k.invariant.dimension
     ∙ ap (λ (x : ChangedRecord). rows_in_place l place (moved l a1 (x ∷ []) now)) c.change_in-change.ensures in
     record {
