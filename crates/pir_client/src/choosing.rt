@@ -52,7 +52,7 @@ fn is_kept(
     most: u64,
 ) -> Result<bool, AllocError> {
     match folder.kept(scheme, &now.plan) {
-        Ok(Some(kept)) => match now.version.checked_sub(kept.head().fields.version) {
+        Ok(Some(kept)) => match now.version.checked_sub(folder.changes(&kept)?.version()) {
             Some(before) => Ok(before <= most),
             None => Ok(false),
         },

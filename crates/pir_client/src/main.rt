@@ -16,6 +16,7 @@ mod failures;
 mod fetching;
 mod folder_tasks;
 mod folders;
+mod kept_hints;
 mod progress;
 mod server;
 mod sessions;

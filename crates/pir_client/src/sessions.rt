@@ -1,7 +1,7 @@
 //! A client with a folder of hints, over one connection.
 //!
-//! Which frames are sent depends on the head of the hint kept, on the scheme and on what the server says, and not on the records: if the
-//! parts with a record's rows are damaged, its query and all later ones are sent all the same.
+//! Which frames are sent depends on the head of the hint kept and the changes beside it, on the scheme and on what the server says, and
+//! not on the records: if the parts with a record's rows are damaged, its query and all later ones are sent all the same.
 
 ghost use Rattle.client_commands.specs.Transcripts.{IsRecordAsked};
 
@@ -9,14 +9,15 @@ use crate::choosing::SchemeChoice;
 use crate::delta_only::{DeltaOnly, DeltaReader, DeltaWriter};
 use crate::failures::failure_of;
 use crate::fetching::fetch;
+use crate::kept_hints::{Moved, MovedHint};
 use crate::server::{Address, Server};
 use crate::warnings::{Older, Warnings};
 use client_commands::{
     CommandError, Retrieved, ask, ask_with_rows, check_dimension, greet_either, sync,
 };
-use client_state::{Folder, KeptFile};
+use client_state::Folder;
 use command_words::{Failed, Failure};
-use hint_file::{HintError, PartSpan, parts_for};
+use hint_file::{HintError, KeptHint};
 use session_core::{CallFault, ClientCore, Event, Hint, Lanes, SavedClient, Scheme, ServerInfo};
 use std::alloc::AllocError;
 
@@ -55,7 +56,7 @@ pub struct Session<'a> {
     server: Server,
     scheme: Scheme,
     // The hint kept, which the client doesn't hold: of SimplePIR's the rows of a record are read when it is asked for.
-    kept: Option<KeptFile<'a>>,
+    kept: Option<MovedHint<'a>>,
     warnings: Warnings,
     // Whether it is said how much of a hint has come.
     says: bool,
@@ -136,8 +137,8 @@ impl<'a> Session<'a> {
         &mut self,
         scheme: Scheme,
         now: &ServerInfo,
-    ) -> Result<Option<KeptFile<'a>>, AllocError> {
-        match self.folder.kept(scheme, &now.plan) {
+    ) -> Result<Option<MovedHint<'a>>, AllocError> {
+        match MovedHint::of(self.rt, &self.folder, scheme, &now.plan) {
             Ok(kept) => Ok(kept),
             Err(HintError::Memory) => Err(AllocError),
             Err(HintError::Damaged | HintError::Read) => {
@@ -176,6 +177,7 @@ impl<'a> Session<'a> {
 
     // Asks for a record: over its rows of the hint kept, or once the hint of the version known is held.
     fn attempt(&mut self, index: u32) -> Result<Retrieved, RetrieveError> {
+        self.move_kept()?;
         if let Some(rows) = self.rows_kept(index)? {
             if let Some(record) = self.ask_over(rows, index)? {
                 return Ok(record);
@@ -194,22 +196,32 @@ impl<'a> Session<'a> {
         }
     }
 
+    // Moves the hint kept to the version known, if the server says which records have changed. One that it can't move is of no more use.
+    fn move_kept(&mut self) -> Result<(), CommandError> {
+        let (Some(kept), Some(now)) = (&mut self.kept, self.client.known()) else {
+            return Ok(());
+        };
+        match kept.move_on(&self.folder, &self.server, &now)? {
+            Moved::On => {}
+            Moved::NotKept => self.warnings.is_not_kept = true,
+            Moved::Nowhere => self.kept = None,
+        }
+        Ok(())
+    }
+
     // The rows of a record in the hint kept, if that is one of SimplePIR and of the version known. Damaged rows are zeros.
     fn rows_kept(&self, index: u32) -> Result<Option<Rows>, CommandError> {
         let (Some(kept), Some(now)) = (&self.kept, self.client.known()) else {
             return Ok(None);
         };
-        let Some(span) = parts_for(kept.head(), &now, index) else {
+        let Some(span) = kept.parts_for(&now, index) else {
             return Ok(None);
         };
-        match kept.parts(span) {
-            Ok(hint) => Ok(Some(rows_of(&self.client, kept, hint, true))),
+        match kept.rows(&now, span, index) {
+            Ok(hint) => Ok(Some(rows_of(&self.client, now, hint, true))),
             Err(HintError::Memory) => Err(CommandError::Call(CallFault::Memory)),
-            Err(HintError::Damaged | HintError::Read) => match kept.parts(PartSpan {
-                first: 0,
-                end: 0,
-            }) {
-                Ok(zeros) => Ok(Some(rows_of(&self.client, kept, zeros, false))),
+            Err(HintError::Damaged | HintError::Read) => match kept.zeros(&now) {
+                Ok(zeros) => Ok(Some(rows_of(&self.client, now, zeros, false))),
                 Err(_) => Err(CommandError::Call(CallFault::Memory)),
             },
         }
@@ -245,7 +257,7 @@ impl<'a> Session<'a> {
     // brought it.
     fn hold_hint(&mut self) -> Result<(), CommandError> {
         if let Some(kept) = self.kept.take() {
-            self.take_up(&kept)?;
+            self.take_up(kept.whole())?;
         }
         match (self.client.known(), self.client.hint()) {
             (Some(known), Some(hint))
@@ -254,9 +266,9 @@ impl<'a> Session<'a> {
         }
     }
 
-    // Takes up the hint kept, read as a whole.
-    fn take_up(&mut self, kept: &KeptFile<'_>) -> Result<(), CommandError> {
-        match kept.whole() {
+    // Takes up the hint kept, which was read as a whole.
+    fn take_up(&mut self, kept: Result<KeptHint, HintError>) -> Result<(), CommandError> {
+        match kept {
             Ok(whole) => {
                 let saved = saved(&self.client, whole.known, whole.hint);
                 let is_held = self.client.resume(saved).map_err(CommandError::Call)?;
@@ -330,7 +342,7 @@ impl<'a> Session<'a> {
         if !fetched.could_keep {
             self.warnings.is_not_kept = true;
         }
-        self.take_up(&fetched.file)?;
+        self.take_up(fetched.file.whole())?;
         Ok(
             matches!(self.client.hint(), Some(hint) if hint.scheme == self.scheme && hint.version == known.version),
         )
@@ -360,9 +372,9 @@ fn let_in(
 }
 
 // The version that a server had reported last beside a hint kept; 0 where there is none.
-fn version_seen(kept: &Option<KeptFile<'_>>) -> u64 {
+fn version_seen(kept: &Option<MovedHint<'_>>) -> u64 {
     match kept {
-        Some(kept) => kept.head().fields.known.version,
+        Some(kept) => kept.fields().known.version,
         None => 0,
     }
 }
@@ -382,9 +394,9 @@ fn retrieved(index: u32, event: Event) -> Retrieved
 }
 
 // The rows of a record, as a client takes them up.
-fn rows_of(client: &ClientCore<Lanes>, kept: &KeptFile<'_>, hint: Hint, are_sound: bool) -> Rows {
+fn rows_of(client: &ClientCore<Lanes>, known: ServerInfo, hint: Hint, are_sound: bool) -> Rows {
     Rows {
-        saved: saved(client, kept.head().fields.known, hint),
+        saved: saved(client, known, hint),
         are_sound,
     }
 }

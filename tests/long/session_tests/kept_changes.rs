@@ -65,8 +65,8 @@ const MOVED: [u32; 12] = [
 
 // Records 1, 2 and 5 are again what they were.
 const BACK: [u8; 24] = [
-    1, 0, 0, 0, 0x00, 0x10, 0xff, 0xff, 2, 0, 0, 0, 0x31, 0x41, 0x30, 0x41, 5, 0, 0, 0, 0x77, 0xaa, 0,
-    0,
+    1, 0, 0, 0, 0x00, 0x10, 0xff, 0xff, 2, 0, 0, 0, 0x31, 0x41, 0x30, 0x41, 5, 0, 0, 0, 0x77, 0xaa,
+    0, 0,
 ];
 
 const HEAD_LEN: usize = 72;
@@ -269,7 +269,10 @@ fn is_of_no_use(rt: &(impl Abort + AllocGlobal), count: u32, entries: &[u8]) -> 
         append(rt.alloc(), &mut file, 1, count, entries)?;
         append(rt.alloc(), &mut file, 1, 6, &BACK)?;
         for index in 0..6 {
-            assert!(rt; moved_by(rt.alloc(), Lanes, &DIGEST, &file, index)?.is_none(), "{count} {index}");
+            assert!(rt;
+                moved_by(rt.alloc(), Lanes, &DIGEST, &file, index)?.is_none(),
+                "{count} {index}"
+            );
         }
     }
     Ok(())
@@ -323,7 +326,10 @@ fn publish<K: Kernel>(store: &mut Store<K>, turn: usize) -> Result<(), Fail> {
 
 // The words of a store's hint.
 fn hint_of<K: Kernel>(alloc: Global, store: &Store<K>) -> Result<Vec<u32>, AllocError> {
-    store.hint_words(Scheme::Simple, 0).unwrap_or(&[]).to_vec(alloc)
+    store
+        .hint_words(Scheme::Simple, 0)
+        .unwrap_or(&[])
+        .to_vec(alloc)
 }
 
 // A folder's file of changes is appended to at each version, or now and then: the rows of each record are those of the store's hint.
@@ -463,7 +469,16 @@ fn changes_that_cannot_be_are_none(rt: HostRuntime) -> Result<(), Fail> {
             is_other(&rt, 1, changes(rt.alloc(), 2, 6, &CHANGED[..len])?);
         }
     }
-    is_other(&rt, 1, changes(rt.alloc(), 2, 6, &[1, 0, 0, 0, 1, 1, 1, 1, 1, 0, 0, 0, 1, 1, 1, 1])?);
+    is_other(
+        &rt,
+        1,
+        changes(
+            rt.alloc(),
+            2,
+            6,
+            &[1, 0, 0, 0, 1, 1, 1, 1, 1, 0, 0, 0, 1, 1, 1, 1],
+        )?,
+    );
     Ok(())
 }
 
@@ -476,11 +491,26 @@ fn other_frames_are_no_changes(rt: HostRuntime) -> Result<(), Fail> {
         }
     }
     is_other(&rt, 1, Frame::ChangesAsk { since: 1 });
-    is_other(&rt, 1, Frame::Stale { version: 2, count: 6 });
+    is_other(
+        &rt,
+        1,
+        Frame::Stale {
+            version: 2,
+            count: 6,
+        },
+    );
     is_other(&rt, 1, Frame::Done { version: 2 });
     is_other(&rt, 1, Frame::Refused { code: 7 });
     is_other(&rt, 1, Frame::Bye);
     let words = Words::new(Vec::new(rt.alloc()));
-    is_other(&rt, 1, Frame::Answer { scheme: 0, version: 2, words });
+    is_other(
+        &rt,
+        1,
+        Frame::Answer {
+            scheme: 0,
+            version: 2,
+            words,
+        },
+    );
     Ok(())
 }
