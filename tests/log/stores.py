@@ -17,6 +17,7 @@ ROOT = os.path.dirname(os.path.dirname(os.path.dirname(os.path.abspath(__file__)
 sys.path[:0] = [f"{ROOT}/tests/service", f"{ROOT}/tests/model"]
 import formats
 import logs
+import server
 import wire
 from wire import Connection, Server
 
@@ -72,15 +73,15 @@ def folder():
     return os.path.join(tempfile.mkdtemp(dir=programs.room), "store.pir")
 
 
-def snapshot_of(records, form, size, version=1):
+def snapshot_of(records, form, size, version=1, n=N):
     layout = formats.Layout(8, size, 2, len(records), form)
-    return formats.snapshot_bytes(layout, N, version, SEED, hashlib.sha256(wire.KEY).digest(), records)
+    return formats.snapshot_bytes(layout, n, version, SEED, hashlib.sha256(wire.KEY).digest(), records)
 
 
-def store(form=1, records=RECORDS, size=None):
+def store(form=1, records=RECORDS, size=None, n=N):
     """A new file of a small store."""
     name = folder()
-    put_bytes(name, snapshot_of(records, form, size or len(records[0])))
+    put_bytes(name, snapshot_of(records, form, size or len(records[0]), n=n))
     return name
 
 
@@ -220,6 +221,27 @@ def deltas(name, port, known, back=REACH):
             same(f"{name}: no Delta since {last - back - 1}", wire.NO_DELTA, it.ask(wire.delta_ask(last - back - 1))[0])
 
 
+def changes_known(name, publications):
+    """What the model has as the entries of the records that changed since each version of a wide store, None where they aren't given, by its number."""
+    form, width, size, groups, count, n, first, _ = formats.header_of(bytes_in(name))
+    records = logs.records_in(bytes_in(name))
+    known = server.Store(formats.Layout(width, size, groups, count, form), n, first, SEED, bytes(32), records)
+    for changes in publications:
+        for place, data in sorted(changes.items()):
+            known.edit(place, data) if place < len(known.draft) else known.append(data)
+        known.publish()
+    return {since: known.changes_since(since) for since in range(known.version() + 2)}
+
+
+def changes_given(port, profile):
+    """What a server gives as them."""
+    with Connection(port) as it:
+        kind, welcome = it.ask(wire.hello(wire.READER, profile))
+        last = struct.unpack("<Q", welcome[11:19])[0]
+        replies = {since: it.ask(wire.changes_ask(since)) for since in range(last + 2)}
+    return {since: payload[20:] if kind == wire.CHANGES else None for since, (kind, payload) in replies.items()}
+
+
 def got(port, index, state=None):
     """A retrieval by a new hint, or by a folder's."""
     own = ["--state", state] if state else ["--seed", SEED.hex(), "--number", str(next(numbers))]
@@ -324,7 +346,7 @@ class Proxy:
         self.listener.close()
 
     def copy(self, source, sink):
-        reader = formats.Reader()
+        reader = formats.Reader(True)
         while piece := source.recv(1 << 16):
             self.kinds += [kind for kind, _ in reader.feed(piece)]
             sink.sendall(piece)

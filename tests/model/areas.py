@@ -10,12 +10,13 @@ import tempfile
 
 from client import CallRefused, Client
 from formats import (
-    APPEND, BYE, DOUBLE, EDIT, HELLO, LOAD, PUBLISH, QUERY, SIMPLE, WELCOME, Layout, answer_count, client_profile, fields_at, frame,
-    header_of, hint_count, is_layout, is_slotted, is_wide, magic_of, query_count, snapshot_bytes, snapshot_fault,
+    APPEND, BYE, CHANGES, CHANGES_ASK, DELTA, DONE, DOUBLE, EDIT, HELLO, HINT_PART, LOAD, NO_DELTA, PUBLISH, QUERY, REFUSED, SIMPLE, STALE,
+    WELCOME, Layout, Reader, answer_count, bytes_of, client_profile, entry_of, fields_at, fields_of, frame, header_of, hint_count, is_layout,
+    is_slotted, is_wide, magic_of, query_count, snapshot_bytes, snapshot_fault,
 )  # fmt: skip
 from script import WORLDS, rehearse
 from server import Session, Store, once
-from streams import KEY, damaged, near, pieces, random_ask, random_edit, random_frame, random_store
+from streams import KEY, U32, U64, damaged, near, pieces, random_ask, random_edit, random_frame, random_record, random_store
 
 SECONDS = 60
 READER = bytes(32)
@@ -107,11 +108,83 @@ class Orders(Streams):
             frame(3, SIMPLE, 1, 0), frame(3, DOUBLE, 2, 0), frame(4, 1), frame(4, 9), frame(QUERY, SIMPLE, 1, rest=[1, 2]),
             frame(QUERY, DOUBLE, 2, rest=asked), frame(QUERY, SIMPLE, 1, rest=[1]), frame(EDIT, 0, rest=b"\5"), frame(EDIT, 2, rest=b"\5"),
             frame(PUBLISH), frame(BYE), frame(APPEND, rest=b"\5"), frame(LOAD, 1, 1, 8, rest=b"ab"), frame(0x87, 1),
-            b"\0\0\0\0\x7f", b"\1\0\0\0\x8f",
+            frame(CHANGES_ASK, 1), frame(CHANGES, 1, 1, 2), b"\0\0\0\0\x7f", b"\1\0\0\0\x8f",
         ]  # fmt: skip
         streams = [[a + b + c] for a in frames for b in frames for c in frames]
         for at in range(0, len(streams), 500):
             yield {"opening": file_of(store), "parts": streams[at : at + 500]}
+
+
+def blank(layout):
+    """The record that stands for the zeros after the last one."""
+    return b"" if is_slotted(layout.form) else bytes(layout.record_len)
+
+
+class Changes(Streams):
+    """Streams of the publisher of a wide store: publications, and asks for the records that changed since a version."""
+
+    name = "changes"
+    count = 20
+
+    def case(self, chance):
+        store = random_store(chance, hashlib.sha256(KEY).digest(), forms=(129, 130))
+        store.n = chance.choice((1, 4, 16, 64, 64))
+        opening = file_of(store)
+        return {"opening": opening, "parts": [self.stream(chance, store) for _ in range(self.count)]}
+
+    def stream(self, chance, store):
+        session, data = Session(store), frame(HELLO, client_profile(True), KEY)
+        session.feed(data)
+        for _ in range(chance.randint(1, 10)):
+            for more in self.turn(chance, store):
+                session.feed(more)
+                data += more
+        return pieces(chance, data)
+
+    def turn(self, chance, store):
+        if chance.random() < 0.6:
+            yield frame(CHANGES_ASK, max(0, store.version() - chance.choice((-1, 0, 1, 1, 2, 3, 4, 6, 9, 15, 16, 17))))
+            return
+        for _ in range(chance.choice((0, 1, 1, 2, 4))):
+            yield self.change(chance, store)
+        yield frame(PUBLISH)
+
+    def change(self, chance, store):
+        """A record appended or edited: to any bytes, or back to those of a version, which may be the current one."""
+        if chance.random() < 0.15:
+            return frame(APPEND, rest=blank(store.layout) if chance.random() < 0.4 else random_record(chance, store.layout))
+        index = chance.randrange(len(store.draft))
+        earlier = [records[index] for records in store.versions if index < len(records)]
+        return frame(EDIT, index, rest=chance.choice(earlier) if earlier and chance.random() < 0.5 else random_record(chance, store.layout))
+
+
+class Limits(Streams):
+    """The same publications in wide stores that keep more and more of what changed, and after each an ask since every version."""
+
+    name = "limits"
+    dimensions = (*range(1, 25), 64)
+
+    def all_cases(self):
+        for layout in (Layout(9, 2, 2, 3, 129), Layout(8, 4, 1, 3, 130)):
+            for n in self.dimensions:
+                store = Store(layout, n, 1, bytes(32), hashlib.sha256(KEY).digest(), [self.record(layout, i) for i in range(3)])
+                opening = file_of(store)
+                yield {"opening": opening, "parts": [[stream] for stream in self.streams(layout)]}
+
+    def record(self, layout, value):
+        return blank(layout) if value is None else bytes([value]) * (layout.record_len - 2 * is_slotted(layout.form))
+
+    def streams(self, layout):
+        first = [(0, 0)]
+        # One record, another, both back, bytes that stay, appends, a blank one and its edit, all, and one again and again.
+        turns = [[(0, 9)], [(0, 8), (1, 8)], [(0, 0), (1, 1)], first, [(None, 7)], [(None, None)], [(4, 6)], [(4, None)], [(i, 5) for i in range(5)]]
+        turns += [[(2, 10 + turn)] for turn in range(18)] + [first, [(0, 4), (None, 3)], [(5, 2), (0, 0)]]
+        for version, turn in enumerate(turns, 2):
+            stream = frame(HELLO, 130, KEY)
+            for index, value in turn:
+                record = self.record(layout, value)
+                stream += frame(APPEND, rest=record) if index is None else frame(EDIT, index, rest=record)
+            yield stream + frame(PUBLISH) + b"".join(frame(CHANGES_ASK, since) for since in range(version + 2))
 
 
 def store_of(data):
@@ -216,6 +289,7 @@ class Replies:
         return chance.choice((
             frame(0x86, near(chance, version + 1, 9) if version < 9 else version, near(chance, layout.count, 9000)), frame(0x87, version),
             frame(0x88, version, layout.count), frame(0x8F, chance.randrange(256)), frame(0x84, version, version, layout.count, store.n),
+            frame(CHANGES, version, version, layout.count),
             frame(0x83, SIMPLE, version, 0, rest=[0] * near(chance, hint_count(SIMPLE, layout, store.n), 99)),
             frame(0x85, SIMPLE, version, rest=[0] * near(chance, answer_count(SIMPLE, layout, store.n), 99)), random_ask(chance, store),
         ))  # fmt: skip
@@ -340,6 +414,176 @@ class Conversation:
             raise Failure(self.event.removeprefix("server "), 1)
         if self.event.startswith(("stale", "unreadable")):
             raise Failure(self.event, 1)
+
+
+def answered(stream, session, reply, goes_on):
+    """Serves a stream by a session, but an ask for changed records by a given reply, after which it may be over. Answers the frames that came."""
+    reader, frames, is_over = Reader(True), [], False
+    stream.settimeout(SECONDS)
+    stream.setsockopt(socket.IPPROTO_TCP, socket.TCP_NODELAY, 1)
+    try:
+        while piece := stream.recv(65_536):
+            for kind, fields in reader.feed(piece):
+                frames.append((kind, fields))
+                if is_over:
+                    continue
+                stream.sendall(reply if kind == CHANGES_ASK else session.reply(kind, fields))
+                if kind == CHANGES_ASK and not goes_on:
+                    is_over = True
+                    stream.shutdown(socket.SHUT_WR)
+    except OSError:
+        pass
+    return frames
+
+
+class Moves:
+    """The hint that a folder keeps of a wide store, and right and wrong replies to the client's ask for the records that changed since: what
+    the next retrieval prints, and which hint is kept then."""
+
+    name = "moves"
+
+    def case(self, chance):
+        store = random_store(chance, hashlib.sha256(KEY).digest(), forms=(129, 130))
+        opening, count, turns = file_of(store), store.layout.count, []
+        for _ in range(chance.randint(1, 3)):
+            turns.append([(chance.randrange(count + 1), random_record(chance, store.layout)) for _ in range(chance.choice((1, 1, 2, 4)))])
+            published(store, turns[-1])
+        index = chance.randrange(count)
+        right = reply_of(store)
+        kind, fields = right[4], fields_of(right[4], right[5:])
+        wrong = self.wrong(chance, store, fields) if kind == CHANGES and chance.random() < 0.75 else None
+        reply = wrong or (right if chance.random() < 0.6 else self.other(chance, store, right))
+        return {"opening": opening, "turns": turns, "index": index, "parts": [reply]}
+
+    def wrong(self, chance, store, fields):
+        """Changes with something wrong, or other ones."""
+        since, now, count, data = fields
+        size = 4 + 2 * store.layout.record_len
+        entries = [data[at : at + size] for at in range(0, len(data), size)]
+        kind = chance.randrange(8)
+        if kind == 0:
+            since = near(chance, since + 1, U64)
+        elif kind == 1:
+            now = chance.choice((0, since - 1, since, now + 1, U64))
+        elif kind == 2:
+            count = chance.choice((0, 1, count - 1, count + 1, 32_768 * store.layout.groups, 32_768 * store.layout.groups + 1, U32))
+        elif kind == 3:
+            entries.append(chance.randbytes(chance.randrange(1, size)))
+        elif kind == 4 and entries:
+            entries[-1] = entries[-1][: chance.randrange(size)]
+        elif kind == 5:
+            entries += [chance.choice(entries)] if entries and chance.random() < 0.5 else []
+            chance.shuffle(entries)
+        elif kind == 6 and entries:
+            at = chance.randrange(len(entries))
+            index = chance.choice((0, count - 1, count, count + 1, U32))
+            entries[at] = index.to_bytes(4, "little") + entries[at][4:]
+        else:
+            entries = self.other_entries(chance, store)
+        return frame(CHANGES, since, now, count, rest=b"".join(entries))
+
+    def other_entries(self, chance, store):
+        """Whole entries of any records, of which some may have bytes that are none of a record."""
+        layout = store.layout
+        draw = lambda: chance.randbytes(layout.record_len) if chance.random() < 0.1 else layout.stored(random_record(chance, layout))  # noqa: E731
+        return [entry_of(index, draw(), draw()) for index in range(layout.count) if chance.random() < 0.5]
+
+    def other(self, chance, store, right):
+        """A reply of another kind, or one that is damaged."""
+        version, count = store.version(), store.layout.count
+        return chance.choice((
+            frame(NO_DELTA, version, count), frame(NO_DELTA, 0, count), frame(NO_DELTA, version, 0), frame(NO_DELTA, version + 1, count),
+            frame(STALE, version, count), frame(DONE, version), frame(REFUSED, chance.choice((2, 12, 1))),
+            frame(DELTA, store.first, version, count, store.n), frame(HINT_PART, SIMPLE, version, 0, rest=store.hints(version).words(SIMPLE)),
+            damaged(chance, right), right[:-1], right[: chance.randrange(len(right))],
+        ))  # fmt: skip
+
+    def difference(self, case, programs):
+        store, reply = store_of(case["opening"]), b"".join(case["parts"])
+        index, first = case["index"], store.version()
+        with tempfile.TemporaryDirectory() as room, socket.create_server(("127.0.0.1", 0)) as listener:
+            listener.settimeout(SECONDS)
+            got = self.gotten(programs[1], listener, room, index, Session(store), b"", True)[0]
+            if fault := compared((0, self.line(store, index), ""), got):
+                return fault
+            before = self.kept(room, store)
+            for turn in case["turns"]:
+                published(store, turn)
+            goes_on, wanted, hint = self.comes_of(store, reply, index)
+            got, frames = self.gotten(programs[1], listener, room, index, Session(store), reply, goes_on)
+            asked = [(HELLO, [2, READER]), (HELLO, [130, READER]), (CHANGES_ASK, [first])]
+            return compared((wanted, hint or before, asked), (got, self.kept(room, store), frames[:3]))
+
+    def line(self, store, index):
+        return f"retrieved {index} {store.version()} {store.versions[-1][index].hex() or '-'}\n"
+
+    def gotten(self, program, listener, room, index, session, reply, goes_on):
+        """What a retrieval with the folder ends with and prints, and the frames that it sends."""
+        words = ["get", "--state", f"{room}/state", "--port", str(listener.getsockname()[1]), "--scheme", "simple", "--least-dimension", "1", str(index)]
+        asking = subprocess.Popen([program, *words], stdout=subprocess.PIPE, stderr=subprocess.PIPE, text=True)
+        try:
+            stream, _ = listener.accept()
+            with stream:
+                frames = answered(stream, session, reply, goes_on)
+            said, told = asking.communicate(timeout=SECONDS)
+        finally:
+            asking.kill()
+        return (asking.returncode, said, told), frames
+
+    def kept(self, room, store):
+        """The hint that is kept: the count and the version reported last, its version, and its words."""
+        name = next(it for it in os.listdir(f"{room}/state") if it.endswith(".hint"))
+        with open(f"{room}/state/{name}", "rb") as file:
+            data = file.read()
+        return data[49:61], data[62:70], data[-4 * store.layout.rows * store.n :]
+
+    def comes_of(self, store, reply, index):
+        """Whether the server has more to say after a reply; what the command ends with and prints; and the hint kept then, or None if it
+        is the one before."""
+        client = holding(store)
+        sent, events, fault = client.feed(reply)
+        version, count = store.version(), store.layout.count
+        bad = lambda name: (False, (3, "", f"fault: {name}\n"), None)  # noqa: E731
+        if fault:
+            return bad("Failed" if events else fault)
+        if sent and (client.version, client.layout.count) == (version, count):
+            return True, (0, self.line(store, index), ""), self.as_kept(store.hints(version).words(SIMPLE), version, count)
+        if sent or not events:
+            return bad("Ended")
+        if events[0].startswith("server"):
+            return False, (1, "", events[0].removeprefix("server ") + "\n"), None
+        hint = self.as_kept(client.hint, client.version, client.layout.count) if client.version >= store.first else None
+        if reply == reply_of(store):
+            return True, (0, self.line(store, index), ""), hint
+        return False, (3, "", f"fault: {'Ended' if index < client.layout.count else 'BadIndex'}\n"), hint
+
+    def as_kept(self, words, version, count):
+        number = version.to_bytes(8, "little")
+        return count.to_bytes(4, "little") + number, number, bytes_of(words)
+
+
+def published(store, turn):
+    """Publishes edits, and appends in the place after the last record."""
+    for index, record in turn:
+        store.edit(index, record) if index < len(store.draft) else store.append(record)
+    store.publish()
+
+
+def reply_of(store):
+    """The right reply to who holds the first version's hint."""
+    session = Session(store)
+    session.standing = "reader"
+    return session.changes_ask(store.first)
+
+
+def holding(store):
+    """A client that was let in, holds the first version's hint, and asked what changed since."""
+    client = Client(bytes(32), wide=True)
+    client.hello()
+    client.feed(Session(store).feed(frame(HELLO, 130, READER)))
+    client.scheme, client.hint_version, client.hint = SIMPLE, store.first, store.hints(store.first).words(SIMPLE)
+    client.sync(SIMPLE)
+    return client
 
 
 class Scripts:

@@ -1,8 +1,8 @@
 """A client's side of a session by docs/FORMATS.md: its calls, what it takes as a reply, and what comes of it."""
 from formats import (
-    ANSWER, APPEND, DELTA, DELTA_ASK, DONE, EDIT, HELLO, HINT_ASK, HINT_PART, MOST_DELTA_ROWS, NO_DELTA, PUBLISH, QUERY, REFUSED,
-    SIMPLE, STALE, WELCOME, Layout, Reader, accepts, answer_count, client_profile, frame, is_form, is_layout, part_count, query_of,
-    read_answer,
+    ANSWER, APPEND, CHANGES, CHANGES_ASK, DELTA, DELTA_ASK, DONE, EDIT, HELLO, HINT_ASK, HINT_PART, MOST_DELTA_ROWS, NO_DELTA, PUBLISH,
+    QUERY, REFUSED, SIMPLE, STALE, WELCOME, Layout, Reader, accepts, answer_count, client_profile, entries_in, frame, is_form, is_layout,
+    moved_hint, part_count, query_of, read_answer,
 )  # fmt: skip
 
 NUMBERS = 1 << 62
@@ -26,8 +26,8 @@ class Client:
     as lines, and a fault's name or None."""
 
     def __init__(self, seed, number=0, wide=False):
-        self.seed, self.number, self.reader = seed, number, Reader()
-        self.profile = client_profile(wide)
+        self.seed, self.number, self.reader = seed, number, Reader(wide)
+        self.profile, self.wide = client_profile(wide), wide
         self.failed, self.layout, self.call = False, None, None
         self.scheme, self.hint, self.hint_version, self.parts = None, None, None, []
 
@@ -55,8 +55,9 @@ class Client:
         self.begin(True)
         self.free()
         if scheme == SIMPLE and self.hint is not None and self.scheme == SIMPLE:
-            self.call = ("delta", self.hint_version)
-            return frame(DELTA_ASK, self.hint_version)
+            name, kind = ("changes", CHANGES_ASK) if self.wide else ("delta", DELTA_ASK)
+            self.call = (name, self.hint_version)
+            return frame(kind, self.hint_version)
         return self.parts_from_start(scheme)
 
     def parts_from_start(self, scheme):
@@ -118,7 +119,7 @@ class Client:
         if kind == REFUSED:
             self.parts = []
             return self.ended(f"server refused {fields[0]}")
-        takes = {"hello": self.in_hello, "parts": self.in_parts, "delta": self.in_delta, "ask": self.in_ask}
+        takes = {"hello": self.in_hello, "parts": self.in_parts, "delta": self.in_delta, "changes": self.in_changes, "ask": self.in_ask}
         return takes.get(self.call[0], self.in_change)(kind, fields)
 
     def ended(self, *event):
@@ -183,6 +184,26 @@ class Client:
         self.renewed(now, count)
         for row in rows:
             self.hint[row[0] * n : (row[0] + 1) * n] = row[1:]
+        self.hint_version = now
+        return self.ended("synced", SCHEMES[SIMPLE], now)
+
+    def in_changes(self, kind, fields):
+        if kind == NO_DELTA:
+            self.renewed(*fields)
+            return self.parts_from_start(SIMPLE), []
+        if kind != CHANGES or fields[0] != self.call[1]:
+            raise BadReply
+        now, count, data = fields[1:]
+        self.renewed(now, count)
+        changes = entries_in(data, self.layout.record_len)
+        if changes is None:
+            raise BadReply
+        least = 0
+        for index, old, new in changes:
+            if not least <= index < count or self.layout.content(old) is None or self.layout.content(new) is None:
+                raise BadReply
+            least = index + 1
+        self.hint = moved_hint(self.layout, self.n, self.public_seed, self.hint, changes)
         self.hint_version = now
         return self.ended("synced", SCHEMES[SIMPLE], now)
 

@@ -12,6 +12,8 @@ PART_WORDS = 65_536
 MOST_PART_WORDS = 4_128_768
 MOST_PAYLOAD = 16_777_216
 MOST_DELTA_ROWS = 1024
+# The most bytes that the entries of Changes have: the payload has 20 before them.
+MOST_ENTRIES = MOST_PAYLOAD - 20
 SIMPLE, DOUBLE = 0, 1
 # The highest forms that there are, which are the profiles of a client that knows all ordinary ones, or all wide ones.
 LAST_FORM, LAST_WIDE_FORM = 2, 130
@@ -153,13 +155,15 @@ class Layout:
         """The record that bytes stand for; None where they stand for none."""
         return content_of(stored) if is_slotted(self.form) else stored
 
+    def digits_of(self, stored):
+        number = int.from_bytes(stored, "little")
+        return [number >> (self.width * digit) & (1 << self.width) - 1 for digit in range(self.digits)]
+
     def matrix(self, records):
         matrix = [[0] * self.cols for _ in range(self.rows)]
         for index, record in enumerate(records):
-            number = int.from_bytes(self.stored(record), "little")
-            for digit in range(self.digits):
-                row = self.digits * (index % self.groups) + digit
-                matrix[row][index // self.groups] = number >> (self.width * digit) & (1 << self.width) - 1
+            for digit, value in enumerate(self.digits_of(self.stored(record))):
+                matrix[self.first_row(index) + digit][index // self.groups] = value
         return matrix
 
     def record(self, digits):
@@ -302,17 +306,56 @@ def delta_rows(old, new):
     return [row for row, (left, right) in enumerate(zip(old.digits, new.digits)) if left + more != right]
 
 
+# ---- changed records
+
+
+def differences(before, after):
+    """Where two lists of stored bytes differ, and the bytes of both, ascending; what the first lacks at its end are zeros there."""
+    for index, new in enumerate(after):
+        old = before[index] if index < len(before) else bytes(len(new))
+        if old != new:
+            yield index, old, new
+
+
+def entry_of(index, old, new):
+    return struct.pack("<I", index) + old + new
+
+
+def entries_in(data, record_len):
+    """The changes that some bytes have; None if they are not whole entries."""
+    size = 4 + 2 * record_len
+    if len(data) % size:
+        return None
+    split = [(data[at : at + 4], data[at + 4 : at + 4 + record_len], data[at + 4 + record_len : at + size]) for at in range(0, len(data), size)]
+    return [(int.from_bytes(index, "little"), old, new) for index, old, new in split]
+
+
+def moved_hint(layout, n, public_seed, hint, changes):
+    """The words of a SimplePIR hint after changes of records: the change of each digit times the record's row of the public matrix."""
+    hint = list(hint)
+    for index, old, new in changes:
+        column = index // layout.groups
+        row_of_public = words_of(public_seed, 0, column * n, n)
+        for d, (before, after) in enumerate(zip(layout.digits_of(old), layout.digits_of(new))):
+            at = (layout.first_row(index) + d) * n
+            for k in range(n):
+                hint[at + k] = (hint[at + k] + (after - before) * row_of_public[k]) % WORD
+    return hint
+
+
 # ---- frames
 
-LOAD, HELLO, HINT_ASK, DELTA_ASK, QUERY, EDIT, PUBLISH, BYE, APPEND = 1, 2, 3, 4, 5, 6, 7, 8, 9
-WELCOME, HINT_PART, DELTA, ANSWER, STALE, DONE, NO_DELTA, REFUSED = 0x82, 0x83, 0x84, 0x85, 0x86, 0x87, 0x88, 0x8F
+LOAD, HELLO, HINT_ASK, DELTA_ASK, QUERY, EDIT, PUBLISH, BYE, APPEND, CHANGES_ASK = 1, 2, 3, 4, 5, 6, 7, 8, 9, 10
+WELCOME, HINT_PART, DELTA, ANSWER, STALE, DONE, NO_DELTA, CHANGES, REFUSED = 0x82, 0x83, 0x84, 0x85, 0x86, 0x87, 0x88, 0x8A, 0x8F
 # The fixed part of each kind's payload, and what follows it: nothing, bytes, words or rows.
 KINDS = {
     LOAD: ("<HHB", "bytes"), HELLO: ("<H32s", ""), HINT_ASK: ("<BQI", ""), DELTA_ASK: ("<Q", ""), QUERY: ("<BQ", "words"),
     EDIT: ("<I", "bytes"), PUBLISH: ("<", ""), BYE: ("<", ""), APPEND: ("<", "bytes"), WELCOME: ("<HBHHIQH32s", ""),
     HINT_PART: ("<BQI", "words"), DELTA: ("<QQIH", "rows"), ANSWER: ("<BQ", "words"), STALE: ("<QI", ""), DONE: ("<Q", ""), NO_DELTA: ("<QI", ""),
-    REFUSED: ("<B", ""),
+    REFUSED: ("<B", ""), CHANGES_ASK: ("<Q", ""), CHANGES: ("<QQI", "bytes"),
 }  # fmt: skip
+# Those that the streams of wide stores alone have.
+WIDE_KINDS = (CHANGES_ASK, CHANGES)
 
 
 def bytes_of(words):
@@ -344,11 +387,17 @@ def fields_of(kind, payload):
     return fields
 
 
-class Reader:
-    """Cuts a stream into frames: (kind, fields), and at the end "fault" where it can't be read on."""
+def is_kind(kind, wide):
+    """Whether the streams of a wide store, or of an ordinary one, have frames of a kind."""
+    return kind in KINDS and (wide or kind not in WIDE_KINDS)
 
-    def __init__(self):
-        self.data, self.failed = b"", False
+
+class Reader:
+    """Cuts a stream of a wide store, or of an ordinary one, into frames: (kind, fields), and at the end "fault" where it can't be
+    read on."""
+
+    def __init__(self, wide=False):
+        self.wide, self.data, self.failed = wide, b"", False
 
     def feed(self, piece):
         self.data += piece
@@ -356,7 +405,7 @@ class Reader:
             if len(self.data) < 4:
                 return
             length = struct.unpack("<I", self.data[:4])[0]
-            if length > MOST_PAYLOAD or len(self.data) > 4 and self.data[4] not in KINDS:
+            if length > MOST_PAYLOAD or len(self.data) > 4 and not is_kind(self.data[4], self.wide):
                 self.failed = True
                 yield "fault", None
                 return

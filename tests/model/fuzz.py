@@ -3,9 +3,9 @@
 
 usage: fuzz.py [--seconds N] [--seed S] [--jobs J] [--streams N] [--area NAME] [SERVER CLIENT]
 
-Areas: streams to the sessions of a served store, every order of three frames of every kind there, one database over one
-stream, replies to the client's commands, scripts of a world, and snapshot files as they are shown, migrated and made wide; stores and
-worlds are of all four forms. All follows from the seed. It runs for N seconds (60 if not given), or until N streams were sent. A
+Areas: streams to the sessions of a served store, every order of three frames of every kind there, what changed in a wide one, and the limits of
+what it keeps of that; one database over one stream, replies to the client's commands, the hint that a folder keeps and what moves it, scripts of a world, and
+snapshot files as they are shown, migrated and made wide; stores and worlds are of all four forms. All follows from the seed. It runs for N seconds (60 if not given), or until N streams were sent. A
 case that differs is made smaller, and printed with its seed. It ends with 'N passed, M failed'; a stream counts as one case.
 """
 import argparse
@@ -15,11 +15,13 @@ import random
 import sys
 import time
 
-from areas import Once, Orders, Replies, Scripts, Snapshots, Streams
+from areas import Changes, Limits, Moves, Once, Orders, Replies, Scripts, Snapshots, Streams
 
 HERE = os.path.dirname(os.path.abspath(__file__))
+# Areas of which all cases are run once, before the others.
+WHOLE = (Orders(), Limits())
 # Each area, and how many of its cases are run in one round.
-ROUND = ((Streams(), 4), (Once(), 25), (Replies(), 25), (Scripts(), 15), (Snapshots(), 10))
+ROUND = ((Streams(), 4), (Changes(), 2), (Once(), 25), (Replies(), 25), (Moves(), 15), (Scripts(), 15), (Snapshots(), 10))
 MOST_SHRINKING = 60
 
 
@@ -90,9 +92,9 @@ def main():
     built = [f"{HERE}/../../crates/{name}/out/{name}" for name in ("pir_server", "pir_client")]
     programs = [os.path.realpath(program) for program in words.programs or built]
     passed = failed = streams = 0
-    if words.area in (None, Orders.name):
-        for at, case in enumerate(Orders().all_cases()):
-            more = tried(Orders(), case, f"orders {at}", programs)
+    for area in WHOLE:
+        for at, case in enumerate(area.all_cases() if words.area in (None, area.name) else ()):
+            more = tried(area, case, f"{area.name} {at}", programs)
             passed, failed = passed + more[0], failed + more[1]
     with multiprocessing.Pool(words.jobs) as pool:
         for more in pool.starmap(rounds, [(words, job, programs) for job in range(words.jobs)]):

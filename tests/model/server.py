@@ -2,9 +2,9 @@
 import hashlib
 
 from formats import (
-    ANSWER, APPEND, BYE, DELTA, DELTA_ASK, DONE, DOUBLE, EDIT, HELLO, HINT_ASK, HINT_PART, LOAD, MOST_DELTA_ROWS, NO_DELTA,
-    PART_WORDS, PUBLISH, QUERY, REFUSED, SIMPLE, STALE, WELCOME, Hints, Layout, Reader, accepts, delta_rows, frame, is_layout,
-    part_count, query_count,
+    ANSWER, APPEND, BYE, CHANGES, CHANGES_ASK, DELTA, DELTA_ASK, DONE, DOUBLE, EDIT, HELLO, HINT_ASK, HINT_PART, LOAD, MOST_DELTA_ROWS,
+    MOST_ENTRIES, NO_DELTA, PART_WORDS, PUBLISH, QUERY, REFUSED, SIMPLE, STALE, WELCOME, Hints, Layout, Reader, accepts, delta_rows,
+    differences, entry_of, frame, is_layout, is_wide, part_count, query_count,
 )  # fmt: skip
 
 LAST_VERSION = (1 << 64) - 1
@@ -69,11 +69,37 @@ class Store:
         return sorted(rows)
 
 
+    def stored(self, version):
+        return [self.layout.stored(record) for record in self.versions[version - self.first]]
+
+    def most_old_bytes(self):
+        """How many bytes a wide store keeps of records that changed: an eighth of those of its SimplePIR hint."""
+        return self.layout.rows * self.n // 2
+
+    def reach(self):
+        """The earliest version of which all old bytes since are kept."""
+        since, left = self.version(), self.most_old_bytes()
+        while since > max(self.first, self.version() - MOST_LISTS):
+            left -= self.layout.record_len * sum(1 for _ in differences(self.stored(since - 1), self.stored(since)))
+            if left < 0:
+                break
+            since -= 1
+        return since
+
+    def changes_since(self, since):
+        """The entries of the records that changed since a version; None where they are not given."""
+        if not self.reach() <= since <= self.version():
+            return None
+        entries = b"".join(entry_of(*it) for it in differences(self.stored(since), self.stored(self.version())))
+        return entries if len(entries) <= min(MOST_ENTRIES, self.most_old_bytes()) else None
+
+
 class Session:
     """What a server says to one stream."""
 
     def __init__(self, store):
-        self.store, self.reader, self.standing, self.closed = store, Reader(), None, False
+        self.store, self.standing, self.closed = store, None, False
+        self.reader = Reader(is_wide(store.layout.form))
 
     def feed(self, piece):
         said = b""
@@ -92,6 +118,7 @@ class Session:
     def reply(self, kind, fields):
         serve = {
             HELLO: self.hello, HINT_ASK: self.hint_ask, DELTA_ASK: self.delta_ask, QUERY: self.query, EDIT: self.edit, APPEND: self.append,
+            CHANGES_ASK: self.changes_ask,
         }  # fmt: skip
         if kind == BYE:
             self.closed = True
@@ -142,6 +169,14 @@ class Session:
         hint = self.store.hints(version).simple
         words = [word for row in rows for word in (row, *hint[row])]
         return frame(DELTA, since, version, self.store.layout.count, self.store.n, rest=words)
+
+    def changes_ask(self, since):
+        if not self.standing:
+            return self.refused(2)
+        entries = self.store.changes_since(since)
+        if entries is None:
+            return self.stale(NO_DELTA)
+        return frame(CHANGES, since, self.store.version(), self.store.layout.count, rest=entries)
 
     def query(self, scheme, version, words):
         if said := self.not_current(scheme, version):

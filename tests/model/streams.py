@@ -1,21 +1,22 @@
 """Random frames, and damage done to them."""
 from formats import (
-    ANSWER, APPEND, BYE, DELTA, DELTA_ASK, DONE, DOUBLE, EDIT, HELLO, HINT_ASK, HINT_PART, KINDS, LOAD, NO_DELTA, PUBLISH, QUERY,
-    REFUSED, SIMPLE, STALE, WELCOME, Layout, client_profile, frame, is_slotted, is_wide, query_count,
+    ANSWER, APPEND, BYE, CHANGES, CHANGES_ASK, DELTA, DELTA_ASK, DONE, DOUBLE, EDIT, HELLO, HINT_ASK, HINT_PART, KINDS, LOAD, NO_DELTA,
+    PUBLISH, QUERY, REFUSED, SIMPLE, STALE, WELCOME, Layout, client_profile, frame, is_slotted, is_wide, query_count,
 )  # fmt: skip
 from server import Store
 
 KEY = bytes([1]) * 32
-KINDS_OF_REPLIES = (WELCOME, HINT_PART, DELTA, ANSWER, STALE, DONE, NO_DELTA, REFUSED)
+KINDS_OF_REPLIES = (WELCOME, HINT_PART, DELTA, ANSWER, STALE, DONE, NO_DELTA, CHANGES, REFUSED)
 U32, U64 = (1 << 32) - 1, (1 << 64) - 1
 
 
-def random_store(chance, publisher, last=False):
-    """A small store. With `last` its version may be one of the last."""
-    form = chance.choice((1, 1, 2, 2, 129, 130))
+def random_store(chance, publisher, last=False, forms=(1, 1, 2, 2, 129, 130)):
+    """A small store of one of these forms. With `last` its version may be one of the last."""
+    form = chance.choice(forms)
     width = chance.choice((6, 7, 8, 8, 9, 9 if is_wide(form) else 10))
     record_len = chance.choice((2, 3, 3, 4, 5) if is_slotted(form) else (1, 1, 2, 3))
-    groups, count, n = chance.randint(1, 3), chance.randint(1, 7), chance.choice((1, 1, 2, 3))
+    # With longer secrets a wide store keeps more of what changed.
+    groups, count, n = chance.randint(1, 3), chance.randint(1, 7), chance.choice((1, 3, 8, 16) if is_wide(form) else (1, 1, 2, 3))
     layout = Layout(width, record_len, groups, count, form)
     records = [random_record(chance, layout) for _ in range(count)]
     version = chance.choice((U64, U64 - 1)) if last and chance.random() < 0.1 else chance.choice((1, 1, 7))
@@ -50,14 +51,15 @@ def random_ask(chance, store):
     layout, version = store.layout, near(chance, store.version(), U64)
     scheme = near(chance, chance.choice((SIMPLE, DOUBLE)), 255)
     changes = (EDIT, EDIT, EDIT, APPEND, APPEND, PUBLISH, PUBLISH, PUBLISH)
-    kind = chance.choice((HELLO, HINT_ASK, HINT_ASK, DELTA_ASK, DELTA_ASK, QUERY, QUERY, QUERY, *changes, BYE))
+    since = (DELTA_ASK, CHANGES_ASK) if is_wide(layout.form) else (DELTA_ASK, DELTA_ASK)
+    kind = chance.choice((HELLO, HINT_ASK, HINT_ASK, *since, QUERY, QUERY, QUERY, *changes, BYE))
     if kind == HELLO:
         key = chance.choice((bytes(32), bytes(32), KEY, bytes([2]) * 32))
         profile = client_profile(is_wide(layout.form)) if chance.random() < 0.5 else chance.choice((1, 2, 129, 130))
         return frame(HELLO, near(chance, profile, 65_535), key)
     if kind == HINT_ASK:
         return frame(kind, scheme, version, near(chance, 0, U32))
-    if kind == DELTA_ASK:
+    if kind in since:
         return frame(kind, max(0, store.version() - chance.choice((0, 0, 1, 2, 3, 16, 17))) if chance.random() < 0.9 else version)
     if kind == QUERY:
         return frame(kind, scheme, version, rest=words(chance, query_count(scheme & 1, layout)))
@@ -74,8 +76,8 @@ def random_frame(chance, store):
     """A frame of any kind."""
     if chance.random() < 0.93:
         return random_ask(chance, store)
-    kind = chance.choice((LOAD, *KINDS_OF_REPLIES))
-    payload = chance.randbytes(chance.choice((0, 1, 5, 8, 9, 12, 13, 22, 26, 53)))
+    kind = chance.choice((LOAD, CHANGES_ASK, *KINDS_OF_REPLIES))
+    payload = chance.randbytes(chance.choice((0, 1, 5, 8, 9, 12, 13, 20, 22, 26, 53)))
     return len(payload).to_bytes(4, "little") + bytes([kind]) + payload
 
 
@@ -94,7 +96,7 @@ def damaged(chance, data):
     elif kind == 4 and len(data) > 4:
         data[:4] = chance.choice((0, 1, len(data) - 6 & U32, len(data) - 4, 16_777_216, 16_777_217, U32)).to_bytes(4, "little")
     elif kind == 5 and len(data) > 4:
-        data[4] = chance.choice((*KINDS, 0, 10, 0x7F, 0x80, 0x81, 0x89, 0x8E, 0x90, 0xFF))
+        data[4] = chance.choice((*KINDS, 0, 11, 0x7F, 0x80, 0x81, 0x89, 0x8B, 0x8E, 0x90, 0xFF))
     elif kind == 6:
         del data[at : at + chance.choice((1, 2, 4))]
     else:

@@ -3,6 +3,7 @@ import json
 import re
 import shutil
 import socket
+import struct
 import subprocess
 import threading
 import time
@@ -179,6 +180,47 @@ def counts_what_happens(t):
             t.same("of an unfinished frame", 9.0, metrics(t, port)[0]["vulandrai_unfinished_bytes"])
 
 
+def counts_changed_records(t):
+    """Only a wide store is asked which records changed since a version. To an ordinary one the fifth byte of such a frame is that of no kind."""
+    words = ["--wide", "--width", "8", "--record", "1", "--groups", "1", "--seed", t.ZEROS, "--key", t.KEY]
+    t.same("make a wide store", (0, "made 2 1", ""), t.run(t.SERVER, "make", "--out", "wide.pir", *words, data=b"\x0a\xc8"))
+    with t.running("wide.pir", *STATUS) as it:
+        port = status_port(it)
+        with Connection(it.port) as other:
+            t.same("before a greeting", (wire.REFUSED, b"\x02"), other.ask(wire.changes_ask(1)))
+            t.same("a publisher's greeting", wire.WELCOME, other.ask(wire.hello(wire.KEY, 129))[0])
+            t.same("nothing since", (wire.CHANGES, changed(1, 1, 2)), other.ask(wire.changes_ask(1)))
+            for version, record in ((2, b"\x07"), (3, b"\x09")):
+                t.same("an edit", wire.DONE, other.ask(wire.edit(1, record))[0])
+                t.same("a publication", (wire.DONE, version.to_bytes(8, "little")), other.ask(wire.PUBLISH))
+            t.same("since the first version", (wire.CHANGES, changed(1, 3, 2) + b"\1\0\0\0\xc8\x09"), other.ask(wire.changes_ask(1)))
+            t.same("since the second", (wire.CHANGES, changed(2, 3, 2) + b"\1\0\0\0\x07\x09"), other.ask(wire.changes_ask(2)))
+            t.same("since none that there is", (wire.NO_DELTA, struct.pack("<QI", 3, 2)), other.ask(wire.changes_ask(4)))
+            t.same("rows are given, too", wire.DELTA, other.ask(wire.delta_ask(2))[0])
+            time.sleep(0.2)
+            now, _ = metrics(t, port)
+        wanted = {
+            'frames_total{kind="changes_ask"}': 5, 'replies_total{kind="changes"}': 3, 'replies_total{kind="no_delta"}': 1,
+            'frames_total{kind="delta_ask"}': 1, 'replies_total{kind="delta"}': 1, 'refused_total{code="2"}': 1, 'frames_total{kind="other"}': 0,
+        }  # fmt: skip
+        t.same("what was counted", wanted, {name: now["vulandrai_" + name] for name in wanted})
+    with t.running("status.pir", *STATUS) as it:
+        port = status_port(it)
+        with Connection(it.port, wire.READER) as other:
+            other.send(wire.changes_ask(1)[:4])
+            time.sleep(0.2)
+            t.same("four bytes of such a frame", True, wire.is_connected(it.port, other.socket))
+            other.send(wire.changes_ask(1)[4:5])
+            t.same("an ordinary store", ((wire.REFUSED, b"\x01"), None), (other.reply(), other.reply()))
+        now, _ = metrics(t, port)
+        t.same("and no frame", (0.0, 0.0), tuple(now[f"vulandrai_{it}"] for it in ('frames_total{kind="changes_ask"}', 'replies_total{kind="changes"}')))
+
+
+def changed(since, now, count):
+    """What Changes have before their entries."""
+    return struct.pack("<QQI", since, now, count)
+
+
 def bounds_visitors(t):
     """A visitor is cut off after five seconds, also one that sends a byte now and then; a ninth waits for a place."""
     with t.running("status.pir", *STATUS) as it:
@@ -277,6 +319,7 @@ def tests(t):
     says_health(t)
     t.make("status.pir")
     counts_what_happens(t)
+    counts_changed_records(t)
     bounds_visitors(t)
     holds_nobody_up(t)
     says_that_it_stops(t)

@@ -10,7 +10,7 @@ import time
 
 KEY, OTHER_KEY, READER = bytes([1]) * 32, bytes([2]) * 32, bytes(32)
 PUBLISH, BYE = struct.pack("<IB", 0, 0x07), struct.pack("<IB", 0, 0x08)
-WELCOME, HINT_PART, DELTA, ANSWER, STALE, DONE, NO_DELTA, REFUSED = 0x82, 0x83, 0x84, 0x85, 0x86, 0x87, 0x88, 0x8F
+WELCOME, HINT_PART, DELTA, ANSWER, STALE, DONE, NO_DELTA, CHANGES, REFUSED = 0x82, 0x83, 0x84, 0x85, 0x86, 0x87, 0x88, 0x8A, 0x8F
 
 
 def frame(kind, payload):
@@ -27,6 +27,10 @@ def hint_ask(scheme, version, part):
 
 def delta_ask(since):
     return frame(0x04, struct.pack("<Q", since))
+
+
+def changes_ask(since):
+    return frame(0x0A, struct.pack("<Q", since))
 
 
 def query(scheme, version, words):
