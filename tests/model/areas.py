@@ -165,7 +165,7 @@ class Limits(Streams):
     dimensions = (*range(1, 25), 64)
 
     def all_cases(self):
-        for layout in (Layout(9, 2, 2, 3, 129), Layout(8, 4, 1, 3, 130)):
+        for layout in (Layout(8, 1, 3, 3, 129), Layout(7, 4, 1, 3, 130)):
             for n in self.dimensions:
                 store = Store(layout, n, 1, bytes(32), hashlib.sha256(KEY).digest(), [self.record(layout, i) for i in range(3)])
                 opening = file_of(store)
