@@ -113,38 +113,39 @@ impl<'a> Folder<'a> {
         }
     }
 
-    /// Adds a block to the changes that are kept beside a hint's file, and to those read. Whether there was room for it: if not, the
-    /// hint is to be written anew. Nothing is written when another run writes the hint's file or its changes, or has written them
+    /// Adds a block to the changes that were read, and to those that are kept beside a hint's file if there is room. Whether there was: if
+    /// not, the hint is to be written anew. Nothing is written when another run writes the hint's file or its changes, or has written them
     /// since these were read.
     ///
     /// # Errors
     ///
-    /// `State` when the file can't be written, `Memory` when memory was refused: then nothing was added to those read.
+    /// `State` when the file can't be written, or there is no block of so many entries, which alone is not added to those read; `Memory`
+    /// when memory was refused: then nothing was.
     pub fn add_changes(
         &self,
         kept: &KeptFile<'_>,
         changes: &mut KeptChanges,
         block: &Block<'_>,
     ) -> Result<bool, FolderFault> {
-        let most = most_bytes(&kept.head().fields);
-        if block.entries.len() > most.min(u32::MAX as usize) {
-            return Ok(false);
+        if block.entries.len() > u32::MAX as usize {
+            return Err(FolderFault::State);
         }
         let added = block_bytes(self.rt().alloc(), &changes.end.link, block)?;
-        let len = changes.bytes.len().saturating_add(added.bytes.len());
-        if len > most {
-            return Ok(false);
-        }
         let end = ChangesEnd {
-            len,
+            len: changes.bytes.len().saturating_add(added.bytes.len()),
             link: added.link,
             version: block.version,
             count: block.count,
         };
-        let written = self.write_changes(kept, changes, &added.bytes);
+        let has_room = end.len <= most_bytes(&kept.head().fields);
+        let written = if has_room {
+            self.write_changes(kept, changes, &added.bytes)
+        } else {
+            Ok(())
+        };
         changes.add(&added.bytes, end)?;
         written?;
-        Ok(true)
+        Ok(has_room)
     }
 
     // Writes a block after those read, or, if the file has none of this hint's, the head and these before it.

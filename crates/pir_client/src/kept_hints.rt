@@ -39,6 +39,8 @@ pub enum Moved {
     On,
     /// Likewise, but what was added isn't kept for the next run.
     NotKept,
+    /// Likewise, but there was no room for what was added: the hint is to be written anew.
+    Full,
     /// Nowhere: the server doesn't have the changes since its version, which are too many, or too long ago.
     Nowhere,
 }
@@ -165,7 +167,7 @@ impl<'a> MovedHint<'a> {
         }
     }
 
-    // Adds a block to the changes, if it leads to the version known and there is room: else the whole hint is moved, and written anew.
+    // Adds a block to the changes, if it leads to the version known. If another was published meanwhile, the next sync says so.
     fn add(
         &mut self,
         folder: &Folder<'a>,
@@ -176,7 +178,8 @@ impl<'a> MovedHint<'a> {
             return Ok(Moved::On);
         }
         match folder.add_changes(&self.file, &mut self.changes, block) {
-            Ok(_) => Ok(Moved::On),
+            Ok(true) => Ok(Moved::On),
+            Ok(false) => Ok(Moved::Full),
             Err(FolderFault::State) => Ok(Moved::NotKept),
             Err(FolderFault::Memory) => Err(MEMORY),
         }

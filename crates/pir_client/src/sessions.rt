@@ -204,9 +204,31 @@ impl<'a> Session<'a> {
         match kept.move_on(&self.folder, &self.server, &now)? {
             Moved::On => {}
             Moved::NotKept => self.warnings.is_not_kept = true,
+            Moved::Full => self.fold()?,
             Moved::Nowhere => self.kept = None,
         }
         Ok(())
+    }
+
+    // Writes the hint kept anew, as its changes have moved it. One that is damaged is of no more use.
+    fn fold(&mut self) -> Result<(), CommandError> {
+        let Some(kept) = &self.kept else {
+            return Ok(());
+        };
+        match kept.whole() {
+            Ok(whole) => {
+                if self.folder.keep(&whole.known, &whole.hint).is_err() {
+                    self.warnings.is_not_kept = true;
+                }
+                Ok(())
+            }
+            Err(HintError::Memory) => Err(CommandError::Call(CallFault::Memory)),
+            Err(HintError::Damaged | HintError::Read) => {
+                self.warnings.is_damaged = true;
+                self.kept = None;
+                Ok(())
+            }
+        }
     }
 
     // The rows of a record in the hint kept, if that is one of SimplePIR and of the version known. Damaged rows are zeros.
