@@ -239,11 +239,12 @@ impl<'a> Session<'a> {
         let Some(span) = kept.parts_for(&now, index) else {
             return Ok(None);
         };
+        let known = kept.fields().known;
         match kept.rows(&now, span, index) {
-            Ok(hint) => Ok(Some(rows_of(&self.client, now, hint, true))),
+            Ok(hint) => Ok(Some(rows_of(&self.client, known, hint, true))),
             Err(HintError::Memory) => Err(CommandError::Call(CallFault::Memory)),
             Err(HintError::Damaged | HintError::Read) => match kept.zeros(&now) {
-                Ok(zeros) => Ok(Some(rows_of(&self.client, now, zeros, false))),
+                Ok(zeros) => Ok(Some(rows_of(&self.client, known, zeros, false))),
                 Err(_) => Err(CommandError::Call(CallFault::Memory)),
             },
         }
