@@ -11,8 +11,8 @@ import tempfile
 from client import CallRefused, Client
 from formats import (
     APPEND, BYE, CHANGES, CHANGES_ASK, DELTA, DONE, DOUBLE, EDIT, HELLO, HINT_PART, LOAD, NO_DELTA, PUBLISH, QUERY, REFUSED, SIMPLE, STALE,
-    WELCOME, Layout, Reader, answer_count, bytes_of, client_profile, entry_of, fields_at, fields_of, frame, header_of, hint_count, is_layout,
-    is_slotted, is_wide, magic_of, query_count, snapshot_bytes, snapshot_fault,
+    WELCOME, Layout, Reader, answer_count, bytes_of, client_profile, entries_in, entry_of, fields_at, fields_of, frame, header_of, hint_count, is_layout,
+    is_slotted, is_wide, magic_of, moved_hint, query_count, snapshot_bytes, snapshot_fault,
 )  # fmt: skip
 from script import WORLDS, rehearse
 from server import Session, Store, once
@@ -531,35 +531,75 @@ class Moves:
         return (asking.returncode, said, told), frames
 
     def kept(self, room, store):
-        """The hint that is kept: the count and the version reported last, its version, and its words."""
+        """The hint that is kept: the count and the version reported last, its version, and its words, all as the changes beside it have moved it."""
         name = next(it for it in os.listdir(f"{room}/state") if it.endswith(".hint"))
         with open(f"{room}/state/{name}", "rb") as file:
             data = file.read()
-        return data[49:61], data[62:70], data[-4 * store.layout.rows * store.n :]
+        words, version, reported = data[-4 * store.layout.rows * store.n :], data[62:70], data[49:61]
+        if not os.path.exists(f"{room}/state/{name}.changes"):
+            return reported, version, words
+        with open(f"{room}/state/{name}.changes", "rb") as file:
+            moves = file.read()
+        ended = len(data) - len(words)
+        if moves[:40] != b"PIRMOVE1" + data[ended - 32 : ended]:
+            return reported, version, words
+        return moved_by_file(store, reported, version, words, moves)
 
     def comes_of(self, store, reply, index):
         """Whether the server has more to say after a reply; what the command ends with and prints; and the hint kept then, or None if it
-        is the one before."""
-        client = holding(store)
-        sent, events, fault = client.feed(reply)
+        is the one before. Changes to another version than that of the Welcome are not taken, but asked for once more."""
         version, count = store.version(), store.layout.count
-        bad = lambda name: (False, (3, "", f"fault: {name}\n"), None)  # noqa: E731
-        if fault:
-            return bad("Failed" if events else fault)
-        if sent and (client.version, client.layout.count) == (version, count):
-            return True, (0, self.line(store, index), ""), self.as_kept(store.hints(version).words(SIMPLE), version, count)
-        if sent or not events:
-            return bad("Ended")
-        if events[0].startswith("server"):
-            return False, (1, "", events[0].removeprefix("server ") + "\n"), None
-        hint = self.as_kept(client.hint, client.version, client.layout.count) if client.version >= store.first else None
-        if reply == reply_of(store):
-            return True, (0, self.line(store, index), ""), hint
-        return False, (3, "", f"fault: {'Ended' if index < client.layout.count else 'BadIndex'}\n"), hint
+        reader = Reader(True)
+        found = list(reader.feed(reply))
+        bad, ended = (False, (3, "", "fault: BadReply\n"), None), (False, (3, "", "fault: Ended\n"), None)
+        if not found:
+            return ended
+        kind, fields = found[0]
+        if len(found) > 1 or not reader.is_between_frames():
+            return bad
+        if kind == REFUSED:
+            return False, (1, "", f"refused {fields[0]}\n"), None
+        line = (0, self.line(store, index), "")
+        if kind == NO_DELTA:
+            return True, line, self.as_kept(store.hints(version).words(SIMPLE), version, count)
+        if kind != CHANGES or not self.is_move(store, *fields):
+            return bad
+        if fields[1:3] != [version, count]:
+            return ended
+        first = store.hints(store.first).words(SIMPLE)
+        words = moved_hint(store.layout, store.n, store.seed, first, entries_in(fields[3], store.layout.record_len))
+        is_right = reply == reply_of(store)
+        return is_right, line if is_right else ended[1], self.as_kept(words, version, count)
+
+    def is_move(self, store, since, now, count, data):
+        """Whether changes are since the version asked, to one that can be, and of its records, each once and ascending."""
+        layout = store.layout
+        changes = entries_in(data, layout.record_len)
+        if since != store.first or now == 0 or changes is None or not is_layout(layout.width, layout.record_len, layout.groups, count, layout.form):
+            return False
+        numbers = [index for index, _, _ in changes]
+        return numbers == sorted(set(numbers)) and all(number < count for number in numbers)
 
     def as_kept(self, words, version, count):
         number = version.to_bytes(8, "little")
         return count.to_bytes(4, "little") + number, number, bytes_of(words)
+
+
+def moved_by_file(store, reported, version, words, moves):
+    """What a hint's file has, after the whole blocks of the file of changes beside it."""
+    link = hashlib.sha256(moves[:40]).digest()
+    numbers = [int.from_bytes(words[at : at + 4], "little") for at in range(0, len(words), 4)]
+    assert moves[40:72] == link
+    at = 72
+    while at < len(moves):
+        body = moves[at : at + 24 + int.from_bytes(moves[at + 20 : at + 24], "little")]
+        link = hashlib.sha256(link + body).digest()
+        at += len(body) + 32
+        if moves[at - 32 : at] != link or body[:8] != version:
+            break
+        version, reported = body[8:16], body[16:20] + body[8:16]
+        numbers = moved_hint(store.layout, store.n, store.seed, numbers, entries_in(body[24:], store.layout.record_len))
+    return reported, version, bytes_of(numbers)
 
 
 def published(store, turn):
@@ -574,16 +614,6 @@ def reply_of(store):
     session = Session(store)
     session.standing = "reader"
     return session.changes_ask(store.first)
-
-
-def holding(store):
-    """A client that was let in, holds the first version's hint, and asked what changed since."""
-    client = Client(bytes(32), wide=True)
-    client.hello()
-    client.feed(Session(store).feed(frame(HELLO, 130, READER)))
-    client.scheme, client.hint_version, client.hint = SIMPLE, store.first, store.hints(store.first).words(SIMPLE)
-    client.sync(SIMPLE)
-    return client
 
 
 class Scripts:

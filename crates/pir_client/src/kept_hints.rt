@@ -70,10 +70,6 @@ impl<'a> MovedHint<'a> {
     }
 
     /// The parts with the rows of a record, if the hint is one of SimplePIR and, moved, of the version known.
-    ///
-    /// # Errors
-    ///
-    /// `AllocError` when memory was refused.
     pub fn parts_for(&self, now: &ServerInfo, index: u32) -> Option<PartSpan> {
         let head = KeptHead {
             fields: self.fields(),
@@ -107,10 +103,7 @@ impl<'a> MovedHint<'a> {
     ///
     /// As those of [`KeptFile::parts`].
     pub fn zeros(&self, now: &ServerInfo) -> Result<Hint, HintError> {
-        let zeros = self.file.parts(PartSpan {
-            first: 0,
-            end: 0,
-        })?;
+        let zeros = self.file.parts(PartSpan { first: 0, end: 0 })?;
         Ok(Hint {
             version: now.version,
             ..zeros
@@ -254,7 +247,12 @@ fn reply_to(alloc: Global, server: &Server, ask: &[u8]) -> Result<Frame, Command
             Err(_) => return Err(CommandError::Conversation(ConverseFault::Read)),
         };
         match reader.feed_frame(true, &buffer[..n]) {
-            Ok(Taken { count, frame: Some(frame) }) if count == n => return Ok(frame),
+            Ok(
+                Taken {
+                    count,
+                    frame: Some(frame),
+                },
+            ) if count == n => return Ok(frame),
             Ok(Taken { frame: None, .. }) => {}
             Err(ReadFault::Memory) => return Err(MEMORY),
             _ => return Err(BAD_REPLY),
