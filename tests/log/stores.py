@@ -222,7 +222,7 @@ def deltas(name, port, known, back=REACH):
 
 
 def changes_known(name, publications):
-    """What the model has as the entries of the records that changed since each version of a wide store, None where they aren't given, by its number."""
+    """What the model has as the entries of the records that changed since each version of a wide store, None if they aren't given, by its number."""
     form, width, size, groups, count, n, first, _ = formats.header_of(bytes_in(name))
     records = logs.records_in(bytes_in(name))
     known = server.Store(formats.Layout(width, size, groups, count, form), n, first, SEED, bytes(32), records)
