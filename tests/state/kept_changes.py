@@ -238,6 +238,44 @@ def killed_runs_leave_a_hint(t):
             t.same(f"after kill {turn}", (0, wanted(server, index), ""), t.get(folder, server.port, index))
 
 
+def stale_answers_move_the_kept_hint(t):
+    """A publication between the greeting and a query: the kept hint is moved once more in the same run, by an edit or an appended record."""
+    due = []
+
+    def before(store, kind):
+        if kind == t.QUERY and due:
+            due.pop()(store)
+            store.publish()
+
+    server, folder = t.Server(records_of(300), n=4, groups=GROUPS, form=129, before=before), "stale kept"
+    t.get(folder, server.port, 5)
+    versions = []
+    for label, act in (("edited", lambda store: store.edit(5, b"one")), ("appended", lambda store: store.append(b"new"))):
+        due.append(act)
+        done = t.get(folder, server.port, 5, 7)
+        versions.append(server.store.version())
+        t.same(f"{label} meanwhile", (0, wanted(server, 5, 7), ""), done)
+        t.same(f"{label}: frames", [t.HELLO, t.HELLO, t.QUERY, t.CHANGES_ASK, t.QUERY, t.QUERY], server.last())
+        t.same(f"{label}: the changes", changes_file(t, server, 1, versions), t.read(folder, name_of(t, server)))
+    t.same("the appended record", (0, wanted(server, 300), ""), t.get(folder, server.port, 300))
+
+
+def other_schemes_and_stores_have_no_changes(t):
+    """DoublePIR's hint, and those of ordinary stores, are replaced whole."""
+    server = wide_server(t)
+    t.get("double", server.port, 5, scheme="double")
+    change(server, {5: b"two"})
+    t.same("by DoublePIR", (0, wanted(server, 5), ""), t.get("double", server.port, 5, scheme="double"))
+    t.same("its frames", [t.HELLO, t.HELLO, t.HINT_ASK, t.QUERY], server.last())
+    ordinary = t.Server(records_of(300), n=4, groups=GROUPS)
+    t.get("ordinary", ordinary.port, 5)
+    change(ordinary, {5: b"two"})
+    t.same("of an ordinary store", (0, wanted(ordinary, 5), ""), t.get("ordinary", ordinary.port, 5))
+    t.same("its frames", [t.HELLO, t.DELTA_ASK, t.QUERY], ordinary.last())
+    for folder in ("double", "ordinary"):
+        t.same(f"{folder}: no changes", [], [name for name in os.listdir(folder) if "changes" in name])
+
+
 def runs_side_by_side_keep_one_chain(t):
     server, folder = wide_server(t), "side by side"
     t.get(folder, server.port, 5)
@@ -255,5 +293,5 @@ def runs_side_by_side_keep_one_chain(t):
 TESTS = (
     changes_are_added_beside_the_hint, long_changes_are_folded, old_hints_are_fetched_anew, damaged_changes_are_asked_for_again,
     changes_of_another_hint_move_nothing, changes_that_cannot_be_kept, damaged_rows_are_asked_over, killed_runs_leave_a_hint,
-    runs_side_by_side_keep_one_chain,
+    stale_answers_move_the_kept_hint, other_schemes_and_stores_have_no_changes, runs_side_by_side_keep_one_chain,
 )  # fmt: skip
