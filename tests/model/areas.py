@@ -577,6 +577,8 @@ class Moves:
         changes = entries_in(data, layout.record_len)
         if since != store.first or now == 0 or changes is None or not is_layout(layout.width, layout.record_len, layout.groups, count, layout.form):
             return False
+        if any(layout.content(data) is None for _, old, new in changes for data in (old, new)):
+            return False
         numbers = [index for index, _, _ in changes]
         return numbers == sorted(set(numbers)) and all(number < count for number in numbers)
 

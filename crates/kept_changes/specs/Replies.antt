@@ -1,18 +1,20 @@
 -- What a reply to an ask for changed records says.
-use Rattle.std.specs.Prelude.{◌≡◌, ◌≢◌, ℕ}
+use Rattle.std.specs.Prelude.{◌≡◌, ◌≢◌, ℕ, true}
 use Rattle.frame_codec.specs.declared.frame.Frame.{Frame}
 use Rattle.frame_codec.specs.declared.frame.Frame.TheVariants as frame
 use Rattle.pir_schemes.specs.declared.plan.Plan.{Plan}
 use Rattle.change_file.specs.Files.{HintMove, move_of}
+use Rattle.client_core.specs.Replies.{have_slots}
 use Rattle.kept_changes.specs.declared.replies.ChangesReply.{ChangesReply}
 use Rattle.kept_changes.specs.declared.replies.ChangesReply.TheVariants.{Moves, NoChanges, Other}
 use Rattle.kept_changes.specs.Moves.{IsMoveOf}
 
--- a move that was asked for: since the version asked, to one that can be
+-- a move that was asked for: since the version asked, to one that can be, with the bytes of records
 pub record IsMoveAsked (p : Plan) (asked : ℕ) (m : HintMove) : Type 0 where
   pub since : m.since ≡ asked
   pub version : m.version ≢ 0
   pub can_be : IsMoveOf p m
+  pub slots : have_slots p m.entries ≡ true
 
 -- Changes are a move if it is one that was asked for
 abbrev pub IsJudgedMove : Plan → ℕ → HintMove → ChangesReply → Type 0

@@ -31,7 +31,7 @@ fn number_in(entries: &[u8], len: usize, k: usize) -> usize
 }
 
 // The change in entry k.
-fn change_in(entries: &[u8], len: usize, k: usize) -> Change<'_>
+pub(crate) fn change_in(entries: &[u8], len: usize, k: usize) -> Change<'_>
     requires len { len ≤ 256 }
     requires inside { k < entry_count len entries.now }
     ensures { changed_record result ≡ change_in len entries.now k }
