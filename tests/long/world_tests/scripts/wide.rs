@@ -12,7 +12,7 @@ fn the_stored_run_in_a_wide_world(rt: HostRuntime) -> Result<(), Fail> {
     let Some(run) = RUN.strip_prefix("world 8 1 1 2\n") else {
         panic!(rt; "the run has another header");
     };
-    for header in ["wide 8 1 1 2", "wide2 8 3 1 2", "wide 9 1 1 2", "wide2 6 3 2 1"] {
+    for header in ["wide 8 1 1 64", "wide2 8 3 1 64", "wide 9 1 1 64", "wide2 6 3 2 64"] {
         let script = format!(in rt.alloc(); "{header}\n{run}")?;
         check(&rt, rt.alloc(), &script, REPORTED, 0)?;
     }

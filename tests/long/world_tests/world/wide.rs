@@ -100,7 +100,7 @@ fn has_come<K: Kernel>(
 }
 
 // Edits the last record, appends one, and publishes: `count` records become one more. A client of the version before gets
-// Stale, catches up, by one Delta in SimplePIR, and gets both.
+// Stale, catches up, by what changed in SimplePIR, and gets both.
 fn changes_and_grows<K: Kernel>(
     rt: &(impl Abort + AllocGlobal),
     kernel: K,
@@ -135,10 +135,15 @@ fn changes_and_grows<K: Kernel>(
     gets(rt, &mut world, 0, 0, 2, byte(0))
 }
 
-// One row of 5,000 columns, and then a column more; in slots three rows.
+// One row of 5,000 columns, and then a column more; in slots three rows. The old bytes of two records have room in an eighth of a hint
+// of 64 words.
 #[test]
 fn five_thousand_columns_and_one_more(rt: HostRuntime) -> Result<(), Fail> {
-    changes_and_grows(&rt, Lanes, Scheme::Simple, wide_header(129, 1, 5000))?;
+    let header = Header {
+        dimension: 64,
+        ..wide_header(129, 1, 5000)
+    };
+    changes_and_grows(&rt, Lanes, Scheme::Simple, header)?;
     changes_and_grows(&rt, Lanes, Scheme::Double, wide_header(130, 1, 5000))
 }
 
