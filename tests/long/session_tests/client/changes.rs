@@ -15,7 +15,7 @@ const FIVE_RECORDS: Store = Store {
 };
 
 /// The hint of these.
-const HINT: [u32; 12] = [
+pub const HINT: [u32; 12] = [
     1_246_974_503,
     3_127_567_696,
     1_192_950_376,
@@ -31,13 +31,13 @@ const HINT: [u32; 12] = [
 ];
 
 /// What changed: record 1 is 1000 now, record 2 is 4131, and record 5, aa77, was appended.
-const CHANGED: [u8; 24] = [
+pub const CHANGED: [u8; 24] = [
     1, 0, 0, 0, 0xff, 0xff, 0x00, 0x10, 2, 0, 0, 0, 0x30, 0x41, 0x31, 0x41, 5, 0, 0, 0, 0, 0, 0x77,
     0xaa,
 ];
 
 /// The hint of the six records after.
-const MOVED: [u32; 12] = [
+pub const MOVED: [u32; 12] = [
     800_960_359,
     3_811_077_027,
     1_192_950_376,

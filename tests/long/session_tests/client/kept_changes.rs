@@ -1,6 +1,7 @@
 //! Rows of single records that are moved by a file of changes: beside hints that a model in another language makes from scratch, and
 //! beside those of a store; files that are cut or damaged at each byte, or of no use; and replies of all kinds to an ask.
 
+use super::changes::{CHANGED, HINT, MOVED};
 use change_file::{Block, block_bytes, end_in, head_bytes};
 use client_core::{Hint, Plan, Scheme, ServerInfo};
 use frame_codec::{Bytes, Frame, Words};
@@ -15,7 +16,7 @@ use version_store::{Header, Store};
 
 const DIGEST: [u8; 32] = [3; 32];
 
-// The plan of five records of two bytes in digits of six bits: 0201, ffff, 4130, 8000 and 0605.
+// The plan of the five records whose hint is HINT.
 const PLAN: Plan = Plan {
     form: 129,
     width: 6,
@@ -24,44 +25,6 @@ const PLAN: Plan = Plan {
     dimension: 2,
     seed: [0; 32],
 };
-
-// The hint of these, by the model.
-const HINT: [u32; 12] = [
-    1_246_974_503,
-    3_127_567_696,
-    1_192_950_376,
-    2_871_717_196,
-    2_510_910_720,
-    2_734_037_324,
-    3_394_069_770,
-    2_134_799_968,
-    3_394_069_770,
-    2_134_799_968,
-    1_534_965_994,
-    3_113_048_824,
-];
-
-// What changed: record 1 is 1000 now, record 2 is 4131, and record 5, aa77, was appended.
-const CHANGED: [u8; 24] = [
-    1, 0, 0, 0, 0xff, 0xff, 0x00, 0x10, 2, 0, 0, 0, 0x30, 0x41, 0x31, 0x41, 5, 0, 0, 0, 0, 0, 0x77,
-    0xaa,
-];
-
-// The hint of the six records after.
-const MOVED: [u32; 12] = [
-    800_960_359,
-    3_811_077_027,
-    1_192_950_376,
-    2_871_717_196,
-    2_510_910_720,
-    2_734_037_324,
-    2_374_780_571,
-    3_372_838_240,
-    2_082_652_229,
-    1_342_942_880,
-    171_302_360,
-    3_815_877_752,
-];
 
 // Records 1, 2 and 5 are again what they were.
 const BACK: [u8; 24] = [
