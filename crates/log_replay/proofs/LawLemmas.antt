@@ -8,13 +8,13 @@ use Rattle.pir_schemes.specs.declared.plan.Plan.{Plan}
 use Rattle.record_log.specs.OldRecords.{OldRecord}
 use Rattle.publication_log.specs.Publications.{Placed, Published}
 use Rattle.snapshot_file.specs.declared.snapshot.Header.{Header}
-use Rattle.version_store.specs.Histories.{StoreState, held_edited, held_appended, held_published, held_after, draft_rows}
+use Rattle.version_store.specs.Histories.{StoreState, held_edited, held_appended, held_published, held_after, draft_rows, without_draft}
 use Rattle.version_store.specs.OldRecords.{olds_replaced, with_olds}
 use Rattle.version_store.proofs.OldsKept.{ordinary_keeps}
 use Rattle.version_store.specs.Openings.{held_of, plan_held, records_for}
 use Rattle.log_replay.specs.Replays.{record_changed, records_after, edits_and_appends, replayed, replayed_all}
 use Rattle.log_replay.specs.Records.{AreRecordsReplayed}
-use Rattle.log_replay.specs.Laws.{ReplayedIsPublished, DraftIsReplayed, RecordsReplayAlike, LastSixteenSuffice, without_draft, with_logs}
+use Rattle.log_replay.specs.Laws.{ReplayedIsPublished, DraftIsReplayed, RecordsReplayAlike, LastSixteenSuffice, with_logs}
 use Rattle.log_replay.proofs.OldsMeet.{MeetAfter, few_kept, met, one_more_kept}
 use Rattle.log_replay.proofs.ChangeLemmas.{held_change, held_first}
 

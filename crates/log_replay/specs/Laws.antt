@@ -1,16 +1,12 @@
 -- Laws of what logs make of stores and of snapshots.
-use Rattle.std.specs.Prelude.{◌≡◌, ◌≤◌, ℕ, List, [], ◌∷◌, ◌++◌, length, false}
+use Rattle.std.specs.Prelude.{◌≡◌, ◌≤◌, ℕ, List, [], ◌∷◌, ◌++◌, length}
 use Rattle.publication_log.specs.Publications.{Published}
 use Rattle.record_log.specs.OldRecords.{OldRecord}
 use Rattle.snapshot_file.specs.declared.snapshot.Header.{Header}
-use Rattle.version_store.specs.Histories.{StoreState, held_published}
+use Rattle.version_store.specs.Histories.{StoreState, held_published, without_draft}
 use Rattle.version_store.specs.Openings.{held_of}
 use Rattle.log_replay.specs.Replays.{records_after, replayed, replayed_all, IsDraftOf}
 use Rattle.log_replay.specs.Records.{AreRecordsReplayed}
-
--- a store without its draft
-abbrev pub without_draft : StoreState → StoreState
-without_draft s = record s { draft = s.edition.records; marked = false }
 
 -- what a store keeps after a publication is its own publication of a draft with the changes
 abbrev pub ReplayedIsPublished : Type 0

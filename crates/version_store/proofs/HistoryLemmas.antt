@@ -8,7 +8,7 @@ use Rattle.pir_schemes.specs.declared.plan.Plan.{Plan}
 use Rattle.pir_schemes.specs.Plans.{shape_at, digits_at, records_held}
 use Rattle.version_store.specs.Deltas.{changed_rows, changes_of}
 use Rattle.version_store.specs.Openings.{held_of, plan_held}
-use Rattle.version_store.specs.Histories.{StoreState, History, StandsFor, current_version, delta_rows, opened, after_edit, after_append, published, held_edited, held_appended, held_published, Change, Edited, Appended, Published, history_after, held_after}
+use Rattle.version_store.specs.Histories.{StoreState, History, StandsFor, current_version, delta_rows, opened, after_edit, after_append, published, held_edited, held_appended, held_published, Change, Edited, Appended, Published, history_after, held_after, undrafted, without_draft}
 use Rattle.record_log.specs.OldRecords.{OldRecord}
 use Rattle.version_store.specs.OldRecords.{kept_olds, olds_replaced, with_olds}
 use Rattle.version_store.proofs.OldsKept.{one_more}
@@ -36,6 +36,17 @@ append_stands old new bytes e h s = record {
   log = ap (λ t. take 16 (changes_of t.edition.plan h.current h.past)) e ∙ s.log ∙ sym (ap (λ t. t.log) e);
   olds = ap (λ t. kept_olds t.edition.plan h.current h.past) e ∙ s.olds ∙ sym (ap (λ t. t.olds) e);
   growing = (omega (arith, s.growing.0, length_push h.draft bytes), s.growing.1);
+}
+
+pub undraft_stands : (old new : StoreState) → new ≡ without_draft old → (h : History) → StandsFor old h → StandsFor new (undrafted h)
+undraft_stands old new e h s = record {
+  version = s.version ∙ sym (ap (λ t. t.version) e);
+  current = s.current ∙ sym (ap (λ t. t.edition.records) e);
+  draft = s.current ∙ sym (ap (λ t. t.draft) e);
+  marked = sym (ap (λ t. t.marked) e);
+  log = ap (λ t. take 16 (changes_of t.edition.plan h.current h.past)) e ∙ s.log ∙ sym (ap (λ t. t.log) e);
+  olds = ap (λ t. kept_olds t.edition.plan h.current h.past) e ∙ s.olds ∙ sym (ap (λ t. t.olds) e);
+  growing = (omega arith, s.growing.1);
 }
 
 -- a list before others, of which so many are kept

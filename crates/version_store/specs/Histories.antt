@@ -57,6 +57,10 @@ after_append bytes h = record h { draft = h.draft ++ bytes ∷ []; marked = true
 abbrev pub published : History → History
 published h = record h { past = h.current ∷ h.past; current = h.draft; marked = false }
 
+-- without its draft a history has the current version in that place, and no mark
+abbrev pub undrafted : History → History
+undrafted h = record h { draft = h.current; marked = false }
+
 -- what is kept after an edit
 abbrev pub held_edited : ℕ → List ℕ → StoreState → StoreState
 held_edited i bytes s = record s { draft = slice_set s.draft i bytes; marked = true }
@@ -82,6 +86,10 @@ held_published s = record s {
   log = take 16 (draft_rows s ∷ s.log);
   olds = olds_after_draft s;
 }
+
+-- what is kept once the draft is dropped
+abbrev pub without_draft : StoreState → StoreState
+without_draft s = record s { draft = s.edition.records; marked = false }
 
 -- an accepted edit of a record, an accepted append, or a publication
 pub data Change : Type 0 where

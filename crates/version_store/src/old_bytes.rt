@@ -1,16 +1,17 @@
 //! The bytes that records had before a publication changed them.
 
-ghost use Rattle.std.specs.Prelude.{◌≡◌, ◌≤◌, ◌<◌, ◌^◌, ◌++◌, ℕ, All, true, length, IfOk, OnOk};
-ghost use Rattle.digit_pack.specs.Layout.{record_at};
+ghost use Rattle.std.specs.Prelude.{◌≡◌, ◌≤◌, ◌<◌, ◌*◌, ◌/◌, ◌^◌, ◌++◌, ℕ, [], All, true, length, IfOk, IfSome, OnOk};
+ghost use Rattle.digit_pack.specs.Layout.{digit_rows, record_at};
 ghost use Rattle.pir_schemes.specs.Plans.{fits, slot, slots};
 ghost use Rattle.record_log.specs.OldRecords.{OldBytes, OldRecord};
 ghost use Rattle.version_store.specs.Drafts.{draft_of, grown_to, FitRecords};
 ghost use Rattle.version_store.specs.Editions.{Records, grown};
-ghost use Rattle.version_store.specs.OldRecords.{AddsOld, olds_between, slots_with_blanks};
+ghost use Rattle.version_store.specs.OldRecords.{AddsOld, olds_between, slots_with_blanks, with_newest};
 
 use crate::drafts::{Changes, first_change};
 use crate::first_layer::{FirstLayer, slot_room};
-use record_log::OldRecords;
+use digit_pack::Layout;
+use record_log::{OldRecords, RecordLog};
 use std::alloc::{AllocError, Global};
 
 /// The records that changes replace by others, with the bytes that they have in the digits before that: those that are appended are
@@ -80,5 +81,28 @@ fn copy_old(layer: &FirstLayer, i: usize, out: &mut [u8])
         layer.copy_slot(i, out);
     } else {
         out.fill(0);
+    }
+}
+
+/// A log of the old bytes of records, which keeps an eighth of the bytes of the hint at most.
+pub fn olds_log(alloc: Global, layout: &Layout, dimension: u16) -> Result<RecordLog, AllocError>
+    requires { dimension ≤ 1024 }
+    ensures { IfOk result (λ log. log ≡ record {
+      record_len = layout.now.record_len;
+      most = digit_rows layout.now * dimension / 2;
+      lists = [];
+    }) }
+{
+    let most = layout.rows() * usize::from(dimension) / 2;
+    RecordLog::new(alloc, layout.record_len(), most)
+}
+
+/// Keeps the old bytes of a publication, if there are any to keep. It takes no memory.
+pub fn keep_olds(log: &mut RecordLog, olds: Option<OldRecords>)
+    requires { IfSome olds (λ newest. newest.record_len ≡ log.old.record_len) }
+    ensures { log.new ≡ with_newest log.old olds }
+{
+    if let Some(newest) = olds {
+        log.push(newest);
     }
 }

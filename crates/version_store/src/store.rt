@@ -1,6 +1,6 @@
 //! The store: the current version, a draft, and their publication.
 
-ghost use Rattle.std.specs.Prelude.{All, ℕ, List, ◌≡◌, ◌≢◌, ◌+◌, ◌*◌, ◌/◌, ◌^◌, ◌<◌, ◌≤◌, ◌↔◌, length, true, false, OnOk, OnErr, IfErr, IfOk, IfSome, IfNone, IsNone, IsSome, option_map, take, slice_set, IsErrOf, IsTrue, vec_capacity, []};
+ghost use Rattle.std.specs.Prelude.{All, ℕ, List, ◌≡◌, ◌≢◌, ◌+◌, ◌*◌, ◌^◌, ◌<◌, ◌≤◌, ◌↔◌, length, true, false, OnOk, OnErr, IfErr, IfOk, IfSome, IfNone, IsNone, IsSome, option_map, take, slice_set, IsErrOf, IsTrue};
 ghost use Rattle.matrix_u32.specs.Matrix.{row};
 ghost use Rattle.digit_pack.specs.Layout.{is_wide, digits_per_record, digit_rows, is_layout, record_at, records_in};
 ghost use Rattle.digit_pack.specs.Packed.{packed};
@@ -18,8 +18,8 @@ ghost use Rattle.version_store.specs.Rooms.{scheme_answered, IsAnswerRoom};
 ghost use Rattle.std.specs.Io.KnownBytes.{Appends, Consumes, IsAtEnd};
 ghost use Rattle.snapshot_file.specs.declared.snapshot.Header.{Header};
 ghost use Rattle.snapshot_file.specs.Verdicts.{MayRefuse, StopsReadingAt};
-ghost use Rattle.version_store.specs.Histories.{StoreState, History, StandsFor, opened, after_edit, after_append, published, held_edited, held_appended, held_published, delta_rows, kept_log, changes_since, reaches_olds};
-ghost use Rattle.version_store.specs.OldRecords.{draft_olds, with_newest};
+ghost use Rattle.version_store.specs.Histories.{StoreState, History, StandsFor, opened, after_edit, after_append, published, undrafted, held_edited, held_appended, held_published, without_draft, delta_rows, kept_log, changes_since, reaches_olds};
+ghost use Rattle.version_store.specs.OldRecords.{draft_olds};
 ghost use Rattle.version_store.specs.DraftChanges.{IsNextChange, HasNoChange};
 ghost use Rattle.version_store.specs.Names.{append_fault_name, edit_fault_name, publish_fault_name};
 
@@ -27,7 +27,7 @@ use crate::answer_room::AnswerRoom;
 use crate::drafts::{Changes, first_change};
 use crate::edition::Edition;
 use crate::held_records::HeldRecords;
-use crate::old_bytes::old_bytes;
+use crate::old_bytes::{keep_olds, old_bytes, olds_log};
 use crate::opening::{OpenError, plan_of, sizes_of};
 use crate::row_marks::{marks_for, push_marked};
 use crate::rows::FollowRoom;
@@ -693,6 +693,16 @@ impl<K: Kernel> Store<K> {
         !self.changes.is_empty()
     }
 
+    /// Drops the draft: no edit and no append that was accepted since the last publication is left of it.
+    pub fn drop_draft(&mut self)
+        ensures dropped { self.new ≡ without_draft self.old }
+        ensures history { (h : History) → StandsFor self.old h →
+            StandsFor self.new (undrafted h) }
+    {
+        self.changes = Changes::new(self.alloc);
+        self.count = self.edition.layout().count();
+    }
+
     /// Makes the draft the current version, and answers its number.
     ///
     /// `NothingToPublish` exactly when no edit and no append was accepted since the last publication; else
@@ -768,29 +778,6 @@ pub fn write_snapshot<K: Kernel, W: Write>(
     // Called for what it says of the bytes.
     layer.bytes_len();
     write_snapshot_from(alloc, &header, layer, writer)
-}
-
-// A log of the old bytes of records, which keeps an eighth of the bytes of the hint at most.
-fn olds_log(alloc: Global, layout: &Layout, dimension: u16) -> Result<RecordLog, AllocError>
-    requires { dimension ≤ 1024 }
-    ensures { IfOk result (λ log. log ≡ record {
-      record_len = layout.now.record_len;
-      most = digit_rows layout.now * dimension / 2;
-      lists = [];
-    }) }
-{
-    let most = layout.rows() * usize::from(dimension) / 2;
-    RecordLog::new(alloc, layout.record_len(), most)
-}
-
-// Keeps the old bytes of a publication, if there are any to keep. It takes no memory.
-fn keep_olds(log: &mut RecordLog, olds: Option<OldRecords>)
-    requires { IfSome olds (λ newest. newest.record_len ≡ log.old.record_len) }
-    ensures { log.new ≡ with_newest log.old olds }
-{
-    if let Some(newest) = olds {
-        log.push(newest);
-    }
 }
 
 // Room for the digits of a record.
