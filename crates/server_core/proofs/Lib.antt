@@ -11,3 +11,4 @@ pub mod Alike
 pub mod Deltas
 pub mod Memories
 pub mod ReplyKinds
+pub mod Replicas

@@ -66,6 +66,25 @@ SessionsNeverMeet = (x : Setting) (pieces : List (History × List ℕ)) (old old
     (new new2 : Session)
     → IsAlike old old2 → FeedsInTurn x old pieces outcomes new → FeedsInTurn x old2 pieces outcomes2 new2 → (outcomes ≡ outcomes2) × IsAlike new new2
 
+-- Pieces of the streams of several sessions, each with its session's number, one after another: each is served on the history that those
+-- before it left. Given are the sessions before and after them all by their numbers, the history after them, and the replies to each. Memory
+-- is never refused.
+abbrev pub ServesStreams : Setting → History → (ℕ → Session) → List (ℕ × List ℕ) → History → (ℕ → Session) → List (List Frame) → Type 0
+ServesStreams x h before [] end after replies = (end ≡ h) × (after ≡ before) × (replies ≡ [])
+ServesStreams x h before (fed ∷ later) end after replies =
+    (done : Unit {0}) × (next : History) × (between : ℕ → Session) × (first : List Frame) × (others : List (List Frame))
+    × FeedsSession x h (before fed.0) fed.1 (Ok done) next (between fed.0) first × (lacks_memory first ≡ false)
+    × ((other : ℕ) → other ≢ fed.0 → between other ≡ before other) × (replies ≡ first ∷ others) × ServesStreams x next between later end after others
+
+-- Two servers whose histories are equal reply alike to every stream of frames, of however many sessions, and their histories are equal
+-- after it: so equal publications keep replicas equal.
+abbrev pub ReplicasReplyAlike : Type 0
+ReplicasReplyAlike = (x : Setting) (h : History) (pieces : List (ℕ × List ℕ)) (before before2 : ℕ → Session) (end end2 : History)
+    (after after2 : ℕ → Session) (replies replies2 : List (List Frame))
+    → ((id : ℕ) → IsAlike (before id) (before2 id)) → ServesStreams x h before pieces end after replies →
+    ServesStreams x h before2 pieces end2 after2 replies2
+    → (replies ≡ replies2) × (end ≡ end2) × ((id : ℕ) → IsAlike (after id) (after2 id))
+
 -- What two feeds have in common: what they wrote, the session then with its unfinished bytes, and the history after them.
 pub record SameFeed (before after before2 after2 : List ℕ) (new new2 : Session) (end end2 : History) : Type 0 where
   pub written : List ℕ

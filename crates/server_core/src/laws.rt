@@ -13,6 +13,7 @@ ghost use Rattle.server_core.specs.Laws.{
   SessionsNeverMeet,
   FeedsAreAlike,
   FeedsHadMemory,
+  ReplicasReplyAlike,
   RepliesHaveKnownKinds,
   RepliesHoldNoIndex,
   RepliesHoldNoLength,
@@ -54,6 +55,15 @@ pub fn foreseen_are_published()
 /// whatever other sessions send between them.
 pub fn sessions_never_meet()
     ensures { SessionsNeverMeet }
+{
+    pieces_decide();
+}
+
+/// Replicas reply alike: two servers whose histories are equal, in one setting, give the same replies to the same pieces of streams, of
+/// however many sessions, and have equal histories after them, if memory isn't refused. (A server that was started from a later snapshot has
+/// a shorter history, and may reply NoDelta or name no changes if another still knows them.)
+pub fn replicas_reply_alike()
+    ensures { ReplicasReplyAlike }
 {
     pieces_decide();
 }

@@ -3,7 +3,7 @@
 ghost use Rattle.std.specs.Prelude.{◌≡◌, ◌≢◌, ◌⊎◌, ◌≤◌, ◌<◌, ◌^◌, ◌+◌, ◌↔◌, ℕ, length, IsTrue, OnOk, OnErr, IfOk, IsSome, Some, None, IsErrOf, is_some, slice_set, true, false};
 ghost use Rattle.digit_pack.specs.Layout.{is_layout};
 ghost use Rattle.pir_schemes.specs.Plans.{fits, shape_at};
-ghost use Rattle.version_store.specs.Histories.{History, StandsFor, after_edit, after_append, published, held_appended, held_published};
+ghost use Rattle.version_store.specs.Histories.{History, StandsFor, after_edit, after_append, published, undrafted, held_appended, held_published, without_draft};
 ghost use Rattle.server_core.specs.Cores.{session_of, is_open, IsComingIn, MayWait, PublishesNext, FeedsCore, FeedsCoreFirst, IsFirstUnreadBy, OnMemory, OnNoSession, unfinished_in};
 ghost use Rattle.server_core.specs.Serving.{setting_of, IsFull, PublishesIf};
 ghost use Rattle.server_core.specs.Sessions as sessions;
@@ -333,6 +333,16 @@ impl<K: Kernel> ServerCore<K> {
         ensures sessions { self.new.sessions ≡ self.old.sessions }
     {
         self.store.append(bytes)
+    }
+
+    /// Drops the draft, as [`Store::drop_draft`] does. No session changes.
+    pub fn drop_draft(&mut self)
+        ensures dropped { self.new.store ≡ without_draft self.old.store }
+        ensures history { (h : History) → StandsFor self.old.store h →
+            StandsFor self.new.store (undrafted h) }
+        ensures sessions { self.new.sessions ≡ self.old.sessions }
+    {
+        self.store.drop_draft();
     }
 
     /// Makes the draft the current version and answers its number, as [`Store::publish`] does. No session
