@@ -1,0 +1,8 @@
+use Rattle.publication_push.proofs.Afterwards.{pushed_is_replayed, dones_name_the_log}
+use Rattle.publication_push.proofs.laws.pushed_is_replayed.Goals as goal
+
+pub returns-clause-replayed : goal.returns-clause-replayed
+returns-clause-replayed c = pushed_is_replayed
+
+pub returns-clause-named : goal.returns-clause-named
+returns-clause-named c = dones_name_the_log
