@@ -152,7 +152,7 @@ pushed_is_replayed x h ps versions new standing is =
     record {
       history = history;
       version = ap current_version history ∙ version_after ps h;
-      standing = served.standing_is;
+      goes_on = served.standing_is;
     }
 
 pub dones_name_the_log : DonesNameTheLog

@@ -33,7 +33,7 @@ pub record IsPushed (x : Setting) (h : History) (ps : List Published) (versions 
 pub record IsAtTheLog (h : History) (ps : List Published) (new : History) (standing : Standing) : Type 0 where
   pub history : new ≡ history_replayed_all ps h
   pub version : current_version new ≡ current_version h + length ps
-  pub standing : standing ≡ Publisher
+  pub goes_on : standing ≡ Publisher
 
 -- a push of which each reply was a Done leaves the server's history that of the log
 abbrev pub PushedIsReplayed : Type 0

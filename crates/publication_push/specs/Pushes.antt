@@ -1,18 +1,20 @@
 -- What a push does with the bytes that a server sends.
-use Rattle.std.specs.Prelude.{◌≡◌, ◌==◌, ◌<◌, ℕ, List, [], ◌∷◌, Option, Some, None, Result, Ok, Err, if◌then◌else◌}
+use Rattle.std.specs.Prelude.{◌≡◌, ◌==◌, ◌<◌, ◌≤◌, ℕ, List, [], ◌∷◌, length, Option, Some, None, Result, Ok, Err, OnOk, if◌then◌else◌}
+use Rattle.publication_log.specs.Publications.{Published}
+use Rattle.client_core.specs.declared.state.CallFault.{CallFault}
+use Rattle.client_core.specs.declared.state.CallFault.TheVariants.{NotReady}
 use Rattle.client_core.specs.declared.state.ClientFault.{ClientFault}
 use Rattle.client_core.specs.declared.state.Event.{Event}
 use Rattle.client_core.specs.declared.state.Event.TheVariants.{Welcomed, Done, Refused}
 use Rattle.client_core.specs.declared.state.ServerInfo.{ServerInfo}
-use Rattle.client_core.specs.Calls.{Want, Accepts, Refuses}
-use Rattle.client_core.specs.Calls as want
+use Rattle.client_core.specs.Calls.{Want, Edit, Append, Publish, Accepts, Refuses}
 use Rattle.client_core.specs.Feeding.{Client, FeedsClient}
 use Rattle.publication_push.specs.declared.fault.PushFault.{PushFault}
 use Rattle.publication_push.specs.declared.fault.PushFault.TheVariants as fault
 use Rattle.publication_push.specs.declared.orders.Orders.{Orders}
 use Rattle.publication_push.specs.declared.push.PushStep.{PushStep}
 use Rattle.publication_push.specs.declared.push.PushStep.TheVariants.{Waits, Sends, Greeted, Pushed}
-use Rattle.publication_push.specs.Orders.{Ordered, Edits, Appends, Publishes, done_version, HasOrders}
+use Rattle.publication_push.specs.Orders.{Ordered, Edits, Appends, Publishes, done_version, orders_of, HasOrders}
 
 -- a push as contracts see it: the client, the orders that are left, and the version that the next Done is to name
 pub record Pushing : Type 0 where
@@ -22,51 +24,71 @@ pub record Pushing : Type 0 where
 
 -- the call that asks a server for this
 abbrev pub want_of : Ordered → Want
-want_of (Edits place bytes) = want.Edit place bytes
-want_of (Appends bytes) = want.Append bytes
-want_of (Publishes version) = want.Publish
+want_of (Edits place bytes) = Edit place bytes
+want_of (Appends bytes) = Append bytes
+want_of (Publishes version) = Publish
 
--- a call that the client accepted, and its bytes; or the client's refusal
-abbrev pub Calls : Client → Ordered → Result PushStep PushFault → Pushing → Type 0
-Calls client o (Ok (Sends bytes)) new = Accepts client.state (want_of o) new.client.state bytes.items
-Calls client o (Err (fault.Call refused)) new = Refuses client.state (want_of o) refused new.client.state
-Calls client o _ new = ⊥
+-- the bytes of an order's record
+abbrev pub order_bytes : Ordered → List ℕ
+order_bytes (Edits place bytes) = bytes
+order_bytes (Appends bytes) = bytes
+order_bytes (Publishes version) = []
 
--- The next of the orders that were left is sent, and the version of its Done is awaited; or none was left, and all is pushed.
-abbrev pub GoesOn : Client → ℕ → List Ordered → Result PushStep PushFault → Pushing → Type 0
-GoesOn client before [] result new = (result ≡ Ok (Pushed before)) × (new.client ≡ client)
-GoesOn client before (o ∷ others) (Ok step) new =
-    Calls client o (Ok step) new × (new.client.reader ≡ client.reader) × HasOrders new.orders others × (new.awaited ≡ done_version before o)
-GoesOn client before (o ∷ others) (Err why) new = Calls client o (Err why) new × (new.client.reader ≡ client.reader)
+-- why an order was not sent: the client refused the call, or its record is none of a log
+abbrev pub IsUnsent : Client → Ordered → PushFault → Client → Type 0
+IsUnsent client o (fault.Call why) new = Refuses client.state (want_of o) why new.state
+IsUnsent client o fault.BadLog new = (new ≡ client) × (65535 < length (order_bytes o))
+IsUnsent client o _ new = ⊥
+
+-- what came of sending the next order: its bytes are given, and the version of its Done is awaited; or the client refused the call
+abbrev pub IsNextSent : Pushing → Ordered → List Ordered → Result PushStep PushFault → Pushing → Type 0
+IsNextSent old o others (Ok (Sends bytes)) new =
+    Accepts old.client.state (want_of o) new.client.state bytes.items × HasOrders new.orders others × (new.awaited ≡ done_version old.awaited o)
+IsNextSent old o others (Err (fault.Call why)) new = Refuses old.client.state (want_of o) why new.client.state
+IsNextSent old o others _ new = ⊥
+
+-- the first of the orders that were left is sent; or none was left, and all is pushed
+abbrev pub GoesOn : Pushing → List Ordered → Result PushStep PushFault → Pushing → Type 0
+GoesOn old [] result new = (result ≡ Ok (Pushed old.awaited)) × (new.client ≡ old.client)
+GoesOn old (o ∷ others) result new = IsNextSent old o others result new × (new.client.reader ≡ old.client.reader)
+
+-- what begins a push of these publications: their first order, by the count and the version that the server reported
+abbrev pub Begins : Pushing → Option ServerInfo → List Published → Result PushStep PushFault → Pushing → Type 0
+Begins old None ps result new = result ≡ Err (fault.Call NotReady)
+Begins old (Some known) ps result new = GoesOn (record old { awaited = known.version }) (orders_of known.count ps) result new
 
 -- what the server reported when it took the greeting
 abbrev pub greeted : Option ServerInfo → Result PushStep PushFault
 greeted None = Err fault.NotDone
 greeted (Some known) = Ok (Greeted known)
 
--- What comes of what a reply says: the awaited Done is followed by what is next, and any other ends the push.
-abbrev pub Takes : Client → ℕ → List Ordered → Event → Result PushStep PushFault → Pushing → Type 0
-Takes client awaited left (Welcomed version) result new = result ≡ greeted client.state.known
-Takes client awaited left (Done named) result new =
-    if named == awaited then GoesOn client awaited left result new else result ≡ Err (fault.WrongVersion awaited named)
-Takes client awaited left (Refused code) result new = result ≡ Err (fault.Refused code)
-Takes client awaited left _ result new = result ≡ Err fault.NotDone
+-- an answer after which nothing else has changed
+abbrev pub Answers : Pushing → Result PushStep PushFault → Result PushStep PushFault → Pushing → Type 0
+Answers old answer result new = (result ≡ answer) × (new ≡ old)
 
--- what comes of the first of the events
-abbrev pub TakesFirst : Client → ℕ → List Ordered → List Event → Result PushStep PushFault → Pushing → Type 0
-TakesFirst client awaited left [] result new = result ≡ Ok Waits
-TakesFirst client awaited left (event ∷ later) result new = Takes client awaited left event result new
+-- what comes of a reply's event: the awaited Done is followed by what is next, and each other one but the Welcome ends the push
+abbrev pub Takes : Pushing → List Ordered → Event → Result PushStep PushFault → Pushing → Type 0
+Takes old left (Welcomed version) result new = Answers old (greeted old.client.state.known) result new
+Takes old left (Done named) result new =
+    if named == old.awaited then GoesOn old left result new else Answers old (Err (fault.WrongVersion old.awaited named)) result new
+Takes old left (Refused code) result new = Answers old (Err (fault.Refused code)) result new
+Takes old left _ result new = Answers old (Err fault.NotDone) result new
 
--- what comes of the client's fault, or of the events if it has none
-abbrev pub ComesOf : Client → ℕ → List Ordered → List Event → Option ClientFault → Result PushStep PushFault → Pushing → Type 0
-ComesOf client awaited left events (Some why) result new = result ≡ Err (fault.Client why)
-ComesOf client awaited left events None result new = TakesFirst client awaited left events result new
+-- what comes of the first event
+abbrev pub TakesFirst : Pushing → List Ordered → List Event → Result PushStep PushFault → Pushing → Type 0
+TakesFirst old left [] result new = Answers old (Ok Waits) result new
+TakesFirst old left (event ∷ later) result new = Takes old left event result new
 
--- A piece of the server's stream, fed to a push of which these orders are left.
+-- what comes of the client's fault, or of the first event if there is no fault
+abbrev pub ComesOf : Pushing → List Ordered → List Event → Option ClientFault → Result PushStep PushFault → Pushing → Type 0
+ComesOf old left events (Some why) result new = Answers old (Err (fault.Client why)) result new
+ComesOf old left events None result new = TakesFirst old left events result new
+
+-- a piece of the server's stream, fed to a push of which these orders are left
 pub record IsFed (old : Pushing) (left : List Ordered) (piece : List ℕ) (result : Result PushStep PushFault) (new : Pushing) : Type 0 where
   pub out : List ℕ
   pub events : List Event
   pub why : Option ClientFault
   pub client : Client
   pub fed : FeedsClient old.client piece out events why client
-  pub comes : ComesOf client old.awaited left events why result new
+  pub comes : ComesOf (record old { client = client }) left events why result new
