@@ -7,7 +7,7 @@ use Rattle.publication_log.specs.Logs.{AreNext}
 use Rattle.version_store.specs.Histories.{History, Change, Edited, Appended, current_version, after_edit, after_append, history_after, published}
 use Rattle.log_replay.specs.Replays.{count_after, edit_or_append, edits_and_appends, history_replayed, history_replayed_all}
 use Rattle.publication_push.specs.Orders.{Ordered, Edits, Appends, Publishes, done_version, change_order, change_orders, count_after_all, orders_of}
-use Rattle.publication_push.specs.Laws.{done_versions, IsPushed, IsAtTheLog, PushedIsReplayed, DonesNameTheLog}
+use Rattle.publication_push.specs.Laws.{done_versions, IsPushed, IsAtTheLog, PushedIsReplayed, DonesNameTheLog, PushesAddUp}
 use Rattle.publication_push.proofs.Served.{after_order, after_orders, named_version, named_versions, all_served}
 
 -- ---- a change
@@ -158,3 +158,11 @@ pushed_is_replayed x h ps versions new standing is =
 pub dones_name_the_log : DonesNameTheLog
 dones_name_the_log x h ps versions new standing each is =
     (all_served x (orders_of (length h.current) ps) h new standing versions is.served).named ∙ named_all ps (length h.current) h each
+
+replayed_on : (earlier later : List Published) (h : History) → history_replayed_all later (history_replayed_all earlier h) ≡ history_replayed_all (earlier ++ later) h
+replayed_on [] later h = refl
+replayed_on (p ∷ earlier) later h = replayed_on earlier later (history_replayed p h)
+
+pub pushes_add_up : PushesAddUp
+pushes_add_up x h earlier later versions new standing is =
+    (pushed_is_replayed x (history_replayed_all earlier h) later versions new standing is).history ∙ replayed_on earlier later h

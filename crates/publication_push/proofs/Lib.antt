@@ -1,3 +1,4 @@
 pub mod OrderLemmas
 pub mod Served
 pub mod Afterwards
+pub mod PushLemmas

@@ -1,5 +1,5 @@
 -- Laws of pushes.
-use Rattle.std.specs.Prelude.{◌≡◌, ◌+◌, ℕ, List, [], ◌∷◌, length, map}
+use Rattle.std.specs.Prelude.{◌≡◌, ◌+◌, ℕ, List, [], ◌∷◌, ◌++◌, length, map}
 use Rattle.frame_codec.specs.declared.frame.Frame.{Frame}
 use Rattle.frame_codec.specs.declared.frame.Frame.TheVariants.{Done}
 use Rattle.publication_log.specs.Publications.{Published}
@@ -44,3 +44,9 @@ PushedIsReplayed = (x : Setting) (h : History) (ps : List Published) (versions :
 abbrev pub DonesNameTheLog : Type 0
 DonesNameTheLog = (x : Setting) (h : History) (ps : List Published) (versions : List ℕ) (new : History) (standing : Standing) →
     AreNext (current_version h) ps → IsPushed x h ps versions new standing → versions ≡ done_versions (current_version h) (orders_of (length h.current) ps)
+
+-- A server that has the history of a log's earlier publications, and of which each reply to the orders of the later ones was a Done,
+-- has the history of the whole log.
+abbrev pub PushesAddUp : Type 0
+PushesAddUp = (x : Setting) (h : History) (earlier later : List Published) (versions : List ℕ) (new : History) (standing : Standing) →
+    IsPushed x (history_replayed_all earlier h) later versions new standing → new ≡ history_replayed_all (earlier ++ later) h

@@ -1,5 +1,5 @@
 -- What a push does with the bytes that a server sends.
-use Rattle.std.specs.Prelude.{◌≡◌, ◌==◌, ◌<◌, ◌≤◌, ℕ, List, [], ◌∷◌, length, Option, Some, None, Result, Ok, Err, OnOk, if◌then◌else◌}
+use Rattle.std.specs.Prelude.{◌≡◌, ◌==◌, ◌<◌, ◌≤◌, ℕ, List, [], ◌∷◌, length, Option, Some, None, Result, Ok, Err, MatchBool}
 use Rattle.publication_log.specs.Publications.{Published}
 use Rattle.client_core.specs.declared.state.CallFault.{CallFault}
 use Rattle.client_core.specs.declared.state.CallFault.TheVariants.{NotReady}
@@ -41,21 +41,21 @@ IsUnsent client o fault.BadLog new = (new ≡ client) × (65535 < length (order_
 IsUnsent client o _ new = ⊥
 
 -- what came of sending the next order: its bytes are given, and the version of its Done is awaited; or the client refused the call
-abbrev pub IsNextSent : Pushing → Ordered → List Ordered → Result PushStep PushFault → Pushing → Type 0
-IsNextSent old o others (Ok (Sends bytes)) new =
-    Accepts old.client.state (want_of o) new.client.state bytes.items × HasOrders new.orders others × (new.awaited ≡ done_version old.awaited o)
-IsNextSent old o others (Err (fault.Call why)) new = Refuses old.client.state (want_of o) why new.client.state
-IsNextSent old o others _ new = ⊥
+abbrev pub IsNextSent : Client → ℕ → Ordered → List Ordered → Result PushStep PushFault → Pushing → Type 0
+IsNextSent client awaited o others (Ok (Sends bytes)) new =
+    Accepts client.state (want_of o) new.client.state bytes.items × HasOrders new.orders others × (new.awaited ≡ done_version awaited o)
+IsNextSent client awaited o others (Err (fault.Call why)) new = Refuses client.state (want_of o) why new.client.state
+IsNextSent client awaited o others _ new = ⊥
 
--- the first of the orders that were left is sent; or none was left, and all is pushed
-abbrev pub GoesOn : Pushing → List Ordered → Result PushStep PushFault → Pushing → Type 0
-GoesOn old [] result new = (result ≡ Ok (Pushed old.awaited)) × (new.client ≡ old.client)
-GoesOn old (o ∷ others) result new = IsNextSent old o others result new × (new.client.reader ≡ old.client.reader)
+-- the first of the orders that were left is sent by a client, after this version; or none was left, and all is pushed
+abbrev pub GoesOn : Client → ℕ → List Ordered → Result PushStep PushFault → Pushing → Type 0
+GoesOn client awaited [] result new = (result ≡ Ok (Pushed awaited)) × (new.client ≡ client)
+GoesOn client awaited (o ∷ others) result new = IsNextSent client awaited o others result new × (new.client.reader ≡ client.reader)
 
 -- what begins a push of these publications: their first order, by the count and the version that the server reported
-abbrev pub Begins : Pushing → Option ServerInfo → List Published → Result PushStep PushFault → Pushing → Type 0
-Begins old None ps result new = result ≡ Err (fault.Call NotReady)
-Begins old (Some known) ps result new = GoesOn (record old { awaited = known.version }) (orders_of known.count ps) result new
+abbrev pub Begins : Client → Option ServerInfo → List Published → Result PushStep PushFault → Pushing → Type 0
+Begins client None ps result new = result ≡ Err (fault.Call NotReady)
+Begins client (Some known) ps result new = GoesOn client known.version (orders_of known.count ps) result new
 
 -- what the server reported when it took the greeting
 abbrev pub greeted : Option ServerInfo → Result PushStep PushFault
@@ -70,7 +70,7 @@ Answers old answer result new = (result ≡ answer) × (new ≡ old)
 abbrev pub Takes : Pushing → List Ordered → Event → Result PushStep PushFault → Pushing → Type 0
 Takes old left (Welcomed version) result new = Answers old (greeted old.client.state.known) result new
 Takes old left (Done named) result new =
-    if named == old.awaited then GoesOn old left result new else Answers old (Err (fault.WrongVersion old.awaited named)) result new
+    MatchBool (named == old.awaited) (GoesOn old.client old.awaited left result new) (Answers old (Err (fault.WrongVersion old.awaited named)) result new)
 Takes old left (Refused code) result new = Answers old (Err (fault.Refused code)) result new
 Takes old left _ result new = Answers old (Err fault.NotDone) result new
 

@@ -1,5 +1,7 @@
 //! Why a push came to nothing.
 
+ghost use Rattle.std.specs.Prelude.{◌≡◌};
+
 use client_core::{CallFault, ClientFault};
 use thiserror::Error;
 

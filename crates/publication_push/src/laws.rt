@@ -1,11 +1,13 @@
 //! Laws of pushes, over the definitions alone. Each function does nothing: its clause is the law.
 
-ghost use Rattle.publication_push.specs.Laws.{PushedIsReplayed, DonesNameTheLog};
+ghost use Rattle.publication_push.specs.Laws.{PushedIsReplayed, DonesNameTheLog, PushesAddUp};
 
 /// A server that has no draft, and of which each reply to the orders of some publications was a Done, has the history
-/// that these publications make of its own (`replayed`), and is at the version of the last of them. The versions that these
-/// Dones name are the ones that were awaited (`named`).
+/// that these publications make of its own, and is at the version of the last of them (`replayed`). So a server that had
+/// the history of a log's earlier publications, and was sent the later ones, has that of the log (`whole`). The versions that these
+/// Dones name are the ones that are awaited (`named`).
 pub fn pushed_is_replayed()
     ensures replayed { PushedIsReplayed }
+    ensures whole { PushesAddUp }
     ensures named { DonesNameTheLog }
 {}

@@ -97,7 +97,7 @@ impl<'a, K: Kernel> Push<'a, K> {
     pub fn begin(&mut self, publications: Publications<'a>) -> Result<PushStep, PushFault>
         ensures { (link : List ℕ) (version : ℕ) (ps : List Published) → AreNext version ps →
             publications.entry.rest.now ≡ chain_bytes link (bodies_of ps) →
-            Begins self.old self.old.client.state.known ps result self.new }
+            Begins self.old.client self.old.client.state.known ps result self.new }
     {
         let Some(known) = self.client.known() else {
             return Err(PushFault::Call(CallFault::NotReady));
@@ -168,20 +168,24 @@ impl<'a, K: Kernel> Push<'a, K> {
     // Asks for what is next, or all is done.
     fn go_on(&mut self) -> Result<PushStep, PushFault>
         ensures { (left : List Ordered) → HasOrders self.old.orders left →
-            GoesOn self.old left result self.new }
+            GoesOn self.old.client self.old.awaited left result self.new }
     {
         let Some(order) = self.orders.next() else {
             return Ok(PushStep::Pushed(self.awaited));
         };
-        let bytes = ask(&mut self.client, order)?;
-        self.awaited = done_version(self.awaited, order);
-        Ok(PushStep::Sends(bytes))
+        match ask(&mut self.client, order) {
+            Ok(bytes) => {
+                self.awaited = done_version(self.awaited, order);
+                Ok(PushStep::Sends(bytes))
+            }
+            Err(fault) => Err(fault),
+        }
     }
 
     /// The client, which may go on in the same session: by a sync and by asks for some records the version that the server has
     /// can be compared with that of the log.
     pub fn into_client(self) -> ClientCore<K>
-        ensures { result ≡ self.client }
+        ensures { result ≡ self.entry.client }
     {
         self.client
     }
