@@ -7,8 +7,8 @@ use Rattle.publication_log.specs.Logs.{AreNext}
 use Rattle.version_store.specs.Histories.{History, Change, Edited, Appended, current_version, after_edit, after_append, history_after, published}
 use Rattle.log_replay.specs.Replays.{count_after, edit_or_append, edits_and_appends, history_replayed, history_replayed_all}
 use Rattle.publication_push.specs.Orders.{Ordered, Edits, Appends, Publishes, done_version, change_order, change_orders, count_after_all, orders_of}
-use Rattle.publication_push.specs.Laws.{done_versions, IsPushed, IsAtTheLog, PushedIsReplayed, DonesNameTheLog, PushesAddUp}
-use Rattle.publication_push.proofs.Served.{after_order, after_orders, named_version, named_versions, all_served}
+use Rattle.publication_push.specs.Laws.{done_versions, IsPushed, IsAtTheLog, PushedIsReplayed, DonesNameTheLog, PushesAddUp, SessionIsReplayed}
+use Rattle.publication_push.proofs.Served.{after_order, after_orders, named_version, named_versions, all_served, session_served}
 
 -- ---- a change
 
@@ -166,3 +166,9 @@ replayed_on (p ∷ earlier) later h = replayed_on earlier later (history_replaye
 pub pushes_add_up : PushesAddUp
 pushes_add_up x h earlier later versions new standing is =
     (pushed_is_replayed x (history_replayed_all earlier h) later versions new standing is).history ∙ replayed_on earlier later h
+
+pub session_is_replayed : SessionIsReplayed
+session_is_replayed x h ps versions new standing is =
+    session_served x (orders_of (length h.current) ps) h new standing versions is.profile is.key is.answer is.served
+    ∙ ap (λ (n : ℕ). after_orders (orders_of n ps) h) (drafted h is.undrafted)
+    ∙ after_all ps h

@@ -1,17 +1,17 @@
 -- Orders that are served, and of which each reply is a Done.
-use Rattle.std.proofs.Common.{◌≡◌, ℕ, ◌+◌, ◌^◌, ap, ◌∙◌, sym, refl, subst, inl, inr, List, [], ◌∷◌, ◌++◌, length, map, Bool, true, false, cond}
+use Rattle.std.proofs.Common.{◌≡◌, ℕ, ◌+◌, ◌^◌, ap, ◌∙◌, sym, refl, subst, inl, inr, List, [], ◌∷◌, ◌++◌, length, map, Bool, true, false, cond, Option}
 use Rattle.std.specs.Prelude.{nat_lt, ◌==◌, Some, option_to_list}
 use Rattle.digit_pack.specs.Layout.{is_layout}
-use Rattle.pir_schemes.specs.Plans.{fits, shape_at}
+use Rattle.pir_schemes.specs.Plans.{fits, shape_at, accepts_profile}
 use Rattle.frame_codec.specs.declared.frame.Frame.{Frame}
-use Rattle.frame_codec.specs.declared.frame.Frame.TheVariants.{Done, Refused}
+use Rattle.frame_codec.specs.declared.frame.Frame.TheVariants.{Hello, Done, Refused}
 use Rattle.frame_codec.specs.declared.refusal.Refusal.{Refusal}
-use Rattle.frame_codec.specs.declared.refusal.Refusal.TheVariants.{BadIndex, BadLength, Full, NothingToPublish, VersionsUsedUp, Memory}
+use Rattle.frame_codec.specs.declared.refusal.Refusal.TheVariants.{BadIndex, BadLength, Full, NothingToPublish, VersionsUsedUp, Memory, NotWelcome, NotPublisher, BadKey, BadProfile}
 use Rattle.frame_codec.specs.Refusals.{code_of}
 use Rattle.version_store.specs.Histories.{History, current_version, after_edit, after_append, published}
 use Rattle.server_core.specs.declared.standing.Standing.{Standing}
-use Rattle.server_core.specs.declared.standing.Standing.TheVariants.{Publisher}
-use Rattle.server_core.specs.Serving.{Setting, Outcome, refuses, IsOutcome, ServesAll}
+use Rattle.server_core.specs.declared.standing.Standing.TheVariants.{Stranger, Reader, Publisher, Closed}
+use Rattle.server_core.specs.Serving.{Setting, Outcome, refuses, welcomes, is_closed, is_reader_key, is_publisher_key, IsOutcome, ServesAll}
 use Rattle.publication_push.specs.Orders.{Ordered, Edits, Appends, Publishes, frame_of}
 use Rattle.publication_push.specs.Laws.{dones}
 
@@ -121,3 +121,64 @@ all_served x (order ∷ os) h new standing versions (o, others, is, replies, res
       standing_is = later.standing_is;
       named = first.all ∙ ap (λ (vs : List ℕ). n ∷ vs) later.named;
     }
+
+-- ---- a whole session
+
+-- no order is done for a stranger
+strange : (x : Setting) (h : History) (order : Ordered) (o : Outcome) → IsOutcome x h Stranger (frame_of order) o → o ≡ refuses NotWelcome Stranger h
+strange x h (Edits place bytes) o (inl e) = e
+strange x h (Appends bytes) o (inl e) = e
+strange x h (Publishes version) o (inl e) = e
+strange x h (Edits place bytes) o (inr (takes, e)) = absurd (let no : ⊥ = cc in no)
+strange x h (Appends bytes) o (inr (takes, e)) = absurd (let no : ⊥ = cc in no)
+strange x h (Publishes version) o (inr (takes, e)) = absurd (let no : ⊥ = cc in no)
+
+-- nor for a reader
+read_only : (x : Setting) (h : History) (order : Ordered) (o : Outcome) → IsOutcome x h Reader (frame_of order) o → o ≡ refuses NotPublisher Reader h
+read_only x h (Edits place bytes) o (inl e) = e
+read_only x h (Appends bytes) o (inl e) = e
+read_only x h (Publishes version) o (inl e) = e
+read_only x h (Edits place bytes) o (inr (takes, e)) = absurd (let no : ⊥ = cc in no)
+read_only x h (Appends bytes) o (inr (takes, e)) = absurd (let no : ⊥ = cc in no)
+read_only x h (Publishes version) o (inr (takes, e)) = absurd (let no : ⊥ = cc in no)
+
+-- orders that are served in a session of any standing, and of which each reply is a Done, are done
+served_in : (x : Setting) (os : List Ordered) (h new : History) (old standing : Standing) (versions : List ℕ) → is_closed old ≡ false →
+    ServesAll x h old (map frame_of os) new standing (dones versions) → new ≡ after_orders os h
+served_in x os h new Closed standing versions open_is served = absurd (let no : ⊥ = cc in no)
+served_in x os h new Publisher standing versions open_is served = (all_served x os h new standing versions served).history
+served_in x [] h new Stranger standing versions open_is (same, still, none) = same
+served_in x [] h new Reader standing versions open_is (same, still, none) = same
+served_in x (order ∷ os) h new Stranger standing versions open_is (o, others, is, replies, rest) =
+    absurd (no_refusal (code_of NotWelcome) versions others (replies ∙ ap (λ (p : Outcome). option_to_list p.reply ++ others) (strange x h order o is)))
+served_in x (order ∷ os) h new Reader standing versions open_is (o, others, is, replies, rest) =
+    absurd (no_refusal (code_of NotPublisher) versions others (replies ∙ ap (λ (p : Outcome). option_to_list p.reply ++ others) (read_only x h order o is)))
+
+-- a greeting is answered by one frame, and neither closes the session nor changes the history
+record IsGreeted (h : History) (o : Outcome) : Type 0 where
+  answer : Frame
+  reply : o.reply ≡ Some answer
+  still_open : is_closed o.standing ≡ false
+  history : o.history ≡ h
+
+greeted : (x : Setting) (h : History) (profile : ℕ) (key : List ℕ) (o : Outcome) → IsOutcome x h Stranger (Hello profile key) o → IsGreeted h o
+greeted x h profile key o (inr (takes, e)) = absurd (let no : ⊥ = cc in no)
+greeted x h profile key o (inl e) =
+    subst (IsGreeted h) (sym e) (by_checks (accepts_profile x.plan profile) (is_reader_key key) (is_publisher_key x key))
+  where
+    by_checks : (a b c : Bool) → IsGreeted h (cond a (cond b (welcomes x Reader h) (cond c (welcomes x Publisher h) (refuses BadKey Stranger h))) (refuses BadProfile Stranger h))
+    by_checks false b c = record { answer = Refused (code_of BadProfile); reply = refl; still_open = refl; history = refl }
+    by_checks true true c = record { answer = _; reply = refl; still_open = refl; history = refl }
+    by_checks true false true = record { answer = _; reply = refl; still_open = refl; history = refl }
+    by_checks true false false = record { answer = Refused (code_of BadKey); reply = refl; still_open = refl; history = refl }
+
+pub session_served : (x : Setting) (os : List Ordered) (h new : History) (standing : Standing) (versions : List ℕ) (profile : ℕ) (key : List ℕ) (answer : Frame) →
+    ServesAll x h Stranger (Hello profile key ∷ map frame_of os) new standing (answer ∷ dones versions) → new ≡ after_orders os h
+session_served x os h new standing versions profile key answer (o, others, is, replies, rest) =
+    let it = greeted x h profile key o is in
+    let later : dones versions ≡ others = tail_of (replies ∙ ap (λ (r : Option Frame). option_to_list r ++ others) it.reply) in
+    let P : List Frame → Type 0 = λ fs. ServesAll x o.history o.standing (map frame_of os) new standing fs in
+    served_in x os o.history new o.standing standing versions it.still_open (subst P (sym later) rest) ∙ ap (after_orders os) it.history
+  where
+    tail_of : {f g : Frame} {fs gs : List Frame} → f ∷ fs ≡ g ∷ gs → fs ≡ gs
+    tail_of e = cc

@@ -1,13 +1,13 @@
 -- Laws of pushes.
 use Rattle.std.specs.Prelude.{◌≡◌, ◌+◌, ℕ, List, [], ◌∷◌, ◌++◌, length, map}
 use Rattle.frame_codec.specs.declared.frame.Frame.{Frame}
-use Rattle.frame_codec.specs.declared.frame.Frame.TheVariants.{Done}
+use Rattle.frame_codec.specs.declared.frame.Frame.TheVariants.{Hello, Done}
 use Rattle.publication_log.specs.Publications.{Published}
 use Rattle.publication_log.specs.Logs.{AreNext}
 use Rattle.version_store.specs.Histories.{History, current_version}
 use Rattle.log_replay.specs.Replays.{history_replayed_all}
 use Rattle.server_core.specs.declared.standing.Standing.{Standing}
-use Rattle.server_core.specs.declared.standing.Standing.TheVariants.{Publisher}
+use Rattle.server_core.specs.declared.standing.Standing.TheVariants.{Stranger, Publisher}
 use Rattle.server_core.specs.Serving.{Setting, ServesAll}
 use Rattle.publication_push.specs.Orders.{Ordered, frame_of, done_version, orders_of}
 
@@ -50,3 +50,17 @@ DonesNameTheLog = (x : Setting) (h : History) (ps : List Published) (versions : 
 abbrev pub PushesAddUp : Type 0
 PushesAddUp = (x : Setting) (h : History) (earlier later : List Published) (versions : List ℕ) (new : History) (standing : Standing) →
     IsPushed x (history_replayed_all earlier h) later versions new standing → new ≡ history_replayed_all (earlier ++ later) h
+
+-- A server that has no draft was sent a greeting and then the orders of some publications, as a session's first frames. Whatever the
+-- greeting was answered, each reply after that was a Done.
+pub record IsGreetedAndPushed (x : Setting) (h : History) (ps : List Published) (versions : List ℕ) (new : History) (standing : Standing) : Type 0 where
+  pub profile : ℕ
+  pub key : List ℕ
+  pub answer : Frame
+  pub undrafted : h.draft ≡ h.current
+  pub served : ServesAll x h Stranger (Hello profile key ∷ push_frames (length h.current) ps) new standing (answer ∷ dones versions)
+
+-- so it is in a whole session: no other key than the publisher's gets these Dones
+abbrev pub SessionIsReplayed : Type 0
+SessionIsReplayed = (x : Setting) (h : History) (ps : List Published) (versions : List ℕ) (new : History) (standing : Standing) →
+    IsGreetedAndPushed x h ps versions new standing → new ≡ history_replayed_all ps h

@@ -1,7 +1,7 @@
 use Rattle.std.proofs.Common.{◌∙◌, ap, subst, ℕ, List, Option}
 use Rattle.publication_log.specs.declared.changes.Publication.{Publication}
 use Rattle.publication_push.specs.Orders.{orders_of, AreOrders}
-use Rattle.publication_push.proofs.OrderLemmas.{publication_first, no_publication}
+use Rattle.publication_push.proofs.OrderLemmas.{publication_first, publication_given, no_publication}
 use Rattle.publication_push.proofs.orders.Orders.next.Goals as goal
 
 pub returns-in-Some-clause-some : goal.returns-in-Some-clause-some
@@ -23,5 +23,5 @@ returns-clause-some c = λ left has.
     let it = subst P c.in_default.is has in
     let first = publication_first c.args.self.now.count c.args.self.now.rest.rest.now it.0 c.in-Some-split_first.publication c.in-Some-split_first.rest.rest.now it.1
     c.in-Some-split_first.ensures.some (λ none. absurd (let bad = c.in-Some-split_first.ensures.none none in cc)) in
-    let found = c.next_of-2.ensures first.changes first.others first.changes_left first.others_left in
-    (found.0, it.2 ∙ first.orders ∙ found.2, found.1)
+    publication_given c.args.self.now.count c.in-Some-split_first.publication c.in-Some-split_first.rest.rest.now it.0 left _ c.next_of-2.new.self it.2 first
+    c.next_of-2.ensures
