@@ -2,3 +2,4 @@ pub mod OrderLemmas
 pub mod Served
 pub mod Afterwards
 pub mod PushLemmas
+pub mod Calls

@@ -1,5 +1,11 @@
 -- Laws of pushes.
 use Rattle.std.specs.Prelude.{◌≡◌, ◌+◌, ℕ, List, [], ◌∷◌, ◌++◌, length, map}
+use Rattle.client_core.specs.declared.state.ClientState.{ClientState}
+use Rattle.client_core.specs.declared.state.Event.TheVariants as event
+use Rattle.client_core.specs.declared.state.Reaction.TheVariants.{Reports}
+use Rattle.client_core.specs.Calls.{Accepts, state_after_call}
+use Rattle.client_core.specs.Replies.{reaction_to_reply}
+use Rattle.frame_codec.specs.Frames.{encoding}
 use Rattle.frame_codec.specs.declared.frame.Frame.{Frame}
 use Rattle.frame_codec.specs.declared.frame.Frame.TheVariants.{Hello, Done}
 use Rattle.publication_log.specs.Publications.{Published}
@@ -10,6 +16,7 @@ use Rattle.server_core.specs.declared.standing.Standing.{Standing}
 use Rattle.server_core.specs.declared.standing.Standing.TheVariants.{Stranger, Publisher}
 use Rattle.server_core.specs.Serving.{Setting, ServesAll}
 use Rattle.publication_push.specs.Orders.{Ordered, frame_of, done_version, orders_of}
+use Rattle.publication_push.specs.Pushes.{want_of}
 
 -- the frames of a push
 abbrev pub push_frames : ℕ → List Published → List Frame
@@ -64,3 +71,12 @@ pub record IsGreetedAndPushed (x : Setting) (h : History) (ps : List Published) 
 abbrev pub SessionIsReplayed : Type 0
 SessionIsReplayed = (x : Setting) (h : History) (ps : List Published) (versions : List ℕ) (new : History) (standing : Standing) →
     IsGreetedAndPushed x h ps versions new standing → new ≡ history_replayed_all ps h
+
+-- the bytes of the call that an order is are those of the order's frame
+abbrev pub CallsSendTheirFrames : Type 0
+CallsSendTheirFrames = (old new : ClientState) (o : Ordered) (bytes : List ℕ) → Accepts old (want_of o) new bytes → bytes ≡ encoding (frame_of o)
+
+-- a client that made the call of an order reports nothing but a Done as a Done, and its version
+abbrev pub DonesAreReplies : Type 0
+DonesAreReplies = (c : ClientState) (o : Ordered) (reply : Frame) (version : ℕ) →
+    (reaction_to_reply (state_after_call (want_of o) c) reply).reaction ≡ Reports (event.Done version) → reply ≡ Done version

@@ -1,6 +1,6 @@
 //! Laws of pushes, over the definitions alone. Each function does nothing: its clause is the law.
 
-ghost use Rattle.publication_push.specs.Laws.{PushedIsReplayed, DonesNameTheLog, PushesAddUp, SessionIsReplayed};
+ghost use Rattle.publication_push.specs.Laws.{PushedIsReplayed, DonesNameTheLog, PushesAddUp, SessionIsReplayed, CallsSendTheirFrames, DonesAreReplies};
 
 /// A server that has no draft, and of which each reply to the orders of some publications was a Done, has the history
 /// that these publications make of its own, and is at the version of the last of them (`replayed`). So a server that had
@@ -12,4 +12,11 @@ pub fn pushed_is_replayed()
     ensures whole { PushesAddUp }
     ensures session { SessionIsReplayed }
     ensures named { DonesNameTheLog }
+{}
+
+/// What a [`Push`](crate::Push) sends for an order is the order's frame (`sent`), and what it takes as a Done is a Done frame, which
+/// names that version (`replied`).
+pub fn orders_are_sent()
+    ensures sent { CallsSendTheirFrames }
+    ensures replied { DonesAreReplies }
 {}
