@@ -1,13 +1,13 @@
 -- What orders that are done make of a history: what the publications of a log make of it.
 use Rattle.std.proofs.Common.{◌≡◌, ℕ, ◌+◌, ap, ◌∙◌, sym, refl, subst, arith, List, [], ◌∷◌, ◌++◌, length, Bool, true, false, cond}
-use Rattle.std.specs.Prelude.{nat_lt, slice_set}
+use Rattle.std.specs.Prelude.{nat_lt}
 use Rattle.std.proofs.lemmas.List.{length-set, length-append}
 use Rattle.publication_log.specs.Publications.{Placed, Published}
 use Rattle.publication_log.specs.Logs.{AreNext}
-use Rattle.version_store.specs.Histories.{History, Change, Edited, Appended, current_version, after_edit, after_append, history_after, published}
+use Rattle.version_store.specs.Histories.{History, Change, Edited, Appended, current_version, history_after, published}
 use Rattle.log_replay.specs.Replays.{count_after, edit_or_append, edits_and_appends, history_replayed, history_replayed_all}
 use Rattle.publication_push.specs.Orders.{Ordered, Edits, Appends, Publishes, done_version, change_order, change_orders, count_after_all, orders_of}
-use Rattle.publication_push.specs.Laws.{done_versions, IsPushed, IsAtTheLog, PushedIsReplayed, DonesNameTheLog, PushesAddUp, SessionIsReplayed}
+use Rattle.publication_push.specs.Laws.{done_versions, PushedIsReplayed, DonesNameTheLog, PushesAddUp, SessionIsReplayed}
 use Rattle.publication_push.proofs.Served.{after_order, after_orders, named_version, named_versions, all_served, session_served}
 
 -- ---- a change

@@ -1,15 +1,11 @@
 -- What a client sends for an order, and what it takes as done.
-use Rattle.std.proofs.Common.{◌≡◌, ℕ, ◌∙◌, ap, refl, List}
+use Rattle.std.proofs.Common.{◌∙◌, ap}
 use Rattle.client_core.specs.declared.state.ClientState.{ClientState}
 use Rattle.client_core.specs.declared.state.Event.TheVariants as event
-use Rattle.client_core.specs.declared.state.Reaction.TheVariants.{Reports}
-use Rattle.client_core.specs.Calls.{Accepts, call_frame, state_after_call}
-use Rattle.client_core.specs.Replies.{reaction_to_reply}
+use Rattle.client_core.specs.Calls.{call_frame}
 use Rattle.frame_codec.specs.Frames.{encoding}
-use Rattle.frame_codec.specs.declared.frame.Frame.{Frame}
 use Rattle.frame_codec.specs.declared.frame.Frame.TheVariants as frame
-use Rattle.publication_push.specs.Orders.{Ordered, Edits, Appends, Publishes}
-use Rattle.publication_push.specs.Pushes.{want_of}
+use Rattle.publication_push.specs.Orders.{Edits, Appends, Publishes}
 use Rattle.publication_push.specs.Laws.{CallsSendTheirFrames, DonesAreReplies}
 
 pub calls_send_their_frames : CallsSendTheirFrames

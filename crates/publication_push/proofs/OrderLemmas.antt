@@ -1,5 +1,5 @@
 -- Orders that are handed out one after another.
-use Rattle.std.proofs.Common.{◌≡◌, ℕ, ◌+◌, ap, ◌∙◌, sym, refl, subst, Some, List, [], ◌∷◌, ◌++◌}
+use Rattle.std.proofs.Common.{◌≡◌, ℕ, ◌+◌, ap, ◌∙◌, sym, refl, subst, Some, List, [], ◌∷◌}
 use Rattle.publication_log.specs.declared.changes.Changes.{Changes}
 use Rattle.publication_log.specs.declared.changes.Publication.{Publication}
 use Rattle.publication_log.specs.declared.reading.Publications.{Publications}

@@ -1,9 +1,9 @@
 -- Pushes: orders that can be sent, and what comes of replies.
-use Rattle.std.proofs.Common.{◌≡◌, ◌<◌, ◌≤◌, ◌+◌, ◌^◌, ◌∙◌, ap, sym, subst, refl, arith, ℕ, List, [], ◌∷◌, ◌++◌, length, Bool, true, false, cond, Option, Some, None, Result, Ok, Err}
-use Rattle.std.specs.Prelude.{nat_lt, ◌==◌, slice_get, MatchBool}
+use Rattle.std.proofs.Common.{◌≡◌, ◌≤◌, ◌∙◌, ap, sym, subst, refl, arith, ℕ, List, [], ◌∷◌, ◌++◌, length, Bool, true, false, cond, Option, Some, None, Result, Ok, Err}
+use Rattle.std.specs.Prelude.{nat_lt, slice_get, MatchBool}
 use Rattle.std.proofs.lemmas.Bool.{eq-eqb, ne_eqb}
 use Rattle.publication_log.specs.declared.changes.Publication.{Publication}
-use Rattle.publication_log.specs.Publications.{Placed, Published, AreChanges}
+use Rattle.publication_log.specs.Publications.{Placed, AreChanges}
 use Rattle.client_core.specs.declared.state.Event.{Event}
 use Rattle.client_core.specs.declared.state.Event.TheVariants as event
 use Rattle.client_core.specs.declared.state.ClientFault.{ClientFault}
@@ -13,7 +13,7 @@ use Rattle.publication_push.specs.declared.fault.PushFault.TheVariants as fault
 use Rattle.publication_push.specs.declared.orders.Orders.{Orders}
 use Rattle.publication_push.specs.declared.push.PushStep.{PushStep}
 use Rattle.publication_push.specs.declared.push.PushStep.TheVariants.{Waits}
-use Rattle.publication_push.specs.Orders.{Ordered, Edits, Appends, Publishes, change_order, change_orders, orders_of, AreOrders, HasOrders}
+use Rattle.publication_push.specs.Orders.{Ordered, Edits, Appends, Publishes, change_order, change_orders, AreOrders, HasOrders}
 use Rattle.publication_push.specs.Pushes.{Pushing, order_bytes, IsUnsent, IsNextSent, GoesOn, Takes, TakesFirst, ComesOf, Answers}
 
 -- ---- the bytes of an order are those of a record

@@ -1,5 +1,5 @@
 -- What a server is asked for, that it comes to have the publications that it lacks.
-use Rattle.std.specs.Prelude.{◌≡◌, ◌<◌, ◌+◌, nat_lt, if◌then◌else◌, ℕ, List, [], ◌∷◌, ◌++◌, Option, Some, None}
+use Rattle.std.specs.Prelude.{◌≡◌, nat_lt, if◌then◌else◌, ℕ, List, [], ◌∷◌, ◌++◌, Option, Some, None}
 use Rattle.frame_codec.specs.declared.frame.Frame.{Frame}
 use Rattle.frame_codec.specs.declared.frame.Frame.TheVariants as frame
 use Rattle.publication_log.specs.declared.changes.Change.{Change}
@@ -19,10 +19,10 @@ pub data Ordered : Type 0 where
   Publishes : (version : ℕ) → Ordered
 
 -- an order, by the bytes that it lends
-abbrev pub ordered : Order → Ordered
-ordered (order.Edit place bytes) = Edits place bytes.now
-ordered (order.Append bytes) = Appends bytes.now
-ordered (order.Publish version) = Publishes version
+abbrev pub ordered_of : Order → Ordered
+ordered_of (order.Edit place bytes) = Edits place bytes.now
+ordered_of (order.Append bytes) = Appends bytes.now
+ordered_of (order.Publish version) = Publishes version
 
 -- its frame
 abbrev pub frame_of : Ordered → Frame

@@ -5,7 +5,7 @@ ghost use Rattle.publication_log.specs.Publications.{Placed, Published, changes_
 ghost use Rattle.publication_log.specs.Entries.{chain_bytes};
 ghost use Rattle.publication_log.specs.Logs.{bodies_of, AreNext};
 ghost use Rattle.log_replay.specs.Replays.{count_after};
-ghost use Rattle.publication_push.specs.Orders.{Ordered, ordered, orders_of, placed_of, HasOrders, AreLeft, AreEntries, begun_orders, change_order};
+ghost use Rattle.publication_push.specs.Orders.{Ordered, ordered_of, orders_of, placed_of, HasOrders, AreLeft, AreEntries, begun_orders, change_order};
 
 use publication_log::{Change, Publication, Publications};
 
@@ -59,7 +59,7 @@ impl<'a> Orders<'a> {
     /// The next order; `None` when there are no more.
     pub fn next(&mut self) -> Option<Order<'a>>
         ensures some { (left : List Ordered) → HasOrders self.old left → IfSome result (λ order.
-            (others : List Ordered) × (left ≡ ordered order ∷ others) × HasOrders self.new others) }
+            (others : List Ordered) × (left ≡ ordered_of order ∷ others) × HasOrders self.new others) }
         ensures none { (left : List Ordered) → HasOrders self.old left → IfNone result (left ≡ []) }
     {
         if let Some(publication) = self.begun {
@@ -77,7 +77,7 @@ impl<'a> Orders<'a> {
         ensures { (cs : List Placed) (ps : List Published) →
             AreLeft publication.entry.changes.rest.now cs → AreEntries self.old.rest.rest.now ps →
             (others : List Ordered) × HasOrders self.new others ×
-            (begun_orders self.old.count publication.entry.version cs ps ≡ ordered result ∷ others) }
+            (begun_orders self.old.count publication.entry.version cs ps ≡ ordered_of result ∷ others) }
     {
         let Some((change, changes)) = publication.changes.split_first() else {
             self.begun = None;
@@ -94,7 +94,7 @@ impl<'a> Orders<'a> {
 
     // The edit or the append that a change is.
     fn order_of(&mut self, change: Change<'a>) -> Order<'a>
-        ensures order { ordered result ≡ change_order self.old.count (placed_of change.entry) }
+        ensures order { ordered_of result ≡ change_order self.old.count (placed_of change.entry) }
         ensures count { self.new ≡
             record self.old { count = count_after self.old.count (placed_of change.entry) } }
     {

@@ -5,7 +5,7 @@ ghost use Rattle.publication_log.specs.Publications.{Published};
 ghost use Rattle.publication_log.specs.Entries.{chain_bytes};
 ghost use Rattle.publication_log.specs.Logs.{bodies_of, AreNext};
 ghost use Rattle.client_core.specs.Calls.{Want, Accepts, Refuses};
-ghost use Rattle.publication_push.specs.Orders.{Ordered, ordered, done_version, HasOrders};
+ghost use Rattle.publication_push.specs.Orders.{Ordered, ordered_of, done_version, HasOrders};
 ghost use Rattle.publication_push.specs.Pushes.{
   want_of,
   greeted,
@@ -193,7 +193,7 @@ impl<'a, K: Kernel> Push<'a, K> {
 
 // The version that the Done to an order is to name, if the server is at this one before.
 fn done_version(before: u64, order: Order<'_>) -> u64
-    ensures { result ≡ done_version before (ordered order.entry) }
+    ensures { result ≡ done_version before (ordered_of order.entry) }
 {
     match order {
         Order::Publish { version } => version,
@@ -203,9 +203,9 @@ fn done_version(before: u64, order: Order<'_>) -> u64
 
 // Asks a server for this. Gives the bytes to send.
 fn ask<K: Kernel>(client: &mut ClientCore<K>, order: Order<'_>) -> Result<Vec<u8>, PushFault>
-    ensures sent { IfOk result (λ bytes. Accepts client.old.state (want_of (ordered order.entry))
+    ensures sent { IfOk result (λ bytes. Accepts client.old.state (want_of (ordered_of order.entry))
         client.new.state bytes.items) }
-    ensures unsent { IfErr result (λ why. IsUnsent client.old (ordered order.entry) why client.new) }
+    ensures unsent { IfErr result (λ why. IsUnsent client.old (ordered_of order.entry) why client.new) }
     ensures reader { client.new.reader ≡ client.old.reader }
 {
     match order {

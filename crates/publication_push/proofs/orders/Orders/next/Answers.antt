@@ -1,4 +1,4 @@
-use Rattle.std.proofs.Common.{◌∙◌, ap, subst, ℕ, List, Option}
+use Rattle.std.proofs.Common.{◌∙◌, ap, subst, Option}
 use Rattle.publication_log.specs.declared.changes.Publication.{Publication}
 use Rattle.publication_push.specs.Orders.{orders_of, AreOrders}
 use Rattle.publication_push.proofs.OrderLemmas.{publication_first, publication_given, no_publication}

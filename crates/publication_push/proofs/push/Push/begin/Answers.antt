@@ -1,4 +1,4 @@
-use Rattle.std.proofs.Common.{◌∙◌, sym, subst, ap, Option, Some}
+use Rattle.std.proofs.Common.{◌∙◌, sym, subst, Option}
 use Rattle.client_core.specs.declared.state.ServerInfo.{ServerInfo}
 use Rattle.client_core.specs.Feeding.{Client}
 use Rattle.publication_push.specs.Orders.{orders_of}
