@@ -59,7 +59,8 @@ impl<'a> Orders<'a> {
     /// The next order; `None` when there are no more.
     pub fn next(&mut self) -> Option<Order<'a>>
         ensures some { (left : List Ordered) → HasOrders self.old left → IfSome result (λ order.
-            (others : List Ordered) × (left ≡ ordered_of order ∷ others) × HasOrders self.new others) }
+            (others : List Ordered) × (left ≡ ordered_of order ∷ others) ×
+            HasOrders self.new others) }
         ensures none { (left : List Ordered) → HasOrders self.old left → IfNone result (left ≡ []) }
     {
         if let Some(publication) = self.begun {
@@ -77,7 +78,8 @@ impl<'a> Orders<'a> {
         ensures { (cs : List Placed) (ps : List Published) →
             AreLeft publication.entry.changes.rest.now cs → AreEntries self.old.rest.rest.now ps →
             (others : List Ordered) × HasOrders self.new others ×
-            (begun_orders self.old.count publication.entry.version cs ps ≡ ordered_of result ∷ others) }
+            (begun_orders self.old.count publication.entry.version cs ps ≡
+            ordered_of result ∷ others) }
     {
         let Some((change, changes)) = publication.changes.split_first() else {
             self.begun = None;

@@ -205,7 +205,8 @@ fn done_version(before: u64, order: Order<'_>) -> u64
 fn ask<K: Kernel>(client: &mut ClientCore<K>, order: Order<'_>) -> Result<Vec<u8>, PushFault>
     ensures sent { IfOk result (λ bytes. Accepts client.old.state (want_of (ordered_of order.entry))
         client.new.state bytes.items) }
-    ensures unsent { IfErr result (λ why. IsUnsent client.old (ordered_of order.entry) why client.new) }
+    ensures unsent { IfErr result
+        (λ why. IsUnsent client.old (ordered_of order.entry) why client.new) }
     ensures reader { client.new.reader ≡ client.old.reader }
 {
     match order {

@@ -1,11 +1,14 @@
 //! Pushes to a server in memory, of one record of a byte and secrets of one word.
 
+ghost use Rattle.std.specs.Prelude.{IfOk};
+ghost use Rattle.log_replay.specs.Replays.{HasNoDraft};
+
 use crate::{Push, PushFault, PushStep};
 use client_core::ClientCore;
-use log_replay::replay_all;
+use log_replay::{ReplayFault, replay_all};
 use matrix_u32::Plain;
 use publication_log::{PublicationBuilder, Publications};
-use server_core::ServerCore;
+use server_core::{FeedError, ServerCore, SessionError};
 use std::alloc::Global;
 use std::process::Abort;
 use std::test::Fail;
@@ -20,7 +23,9 @@ const PUBLISHER: [u8; 32] = [
 ];
 
 // A store of one record, 0a.
-fn store(alloc: Global) -> Result<Store<Plain>, Fail> {
+fn store(alloc: Global) -> Result<Store<Plain>, Fail>
+    ensures { IfOk result (λ s. HasNoDraft s) }
+{
     let header = Header {
         form: 1,
         width: 8,
@@ -33,7 +38,8 @@ fn store(alloc: Global) -> Result<Store<Plain>, Fail> {
         publisher: PUBLISHER,
     };
     let snapshot = header.with_records(Vec::from_slice(alloc, &[0x0a])?);
-    Ok(Store::open(alloc, Plain, snapshot)?)
+    let store = Store::open(alloc, Plain, snapshot)?;
+    Ok(store)
 }
 
 // Adds the entry of a publication. No digest is looked at when publications are read one after another.
@@ -47,7 +53,7 @@ fn push_entry(
     for (place, byte) in changes {
         builder.push(*place, &[*byte])?;
     }
-    let len = builder.body.len() as u32;
+    let len = u32::try_from(builder.body.len()).unwrap_or(0);
     log.extend_from_slice(&len.to_le_bytes())?;
     log.extend_from_slice(&(u32::MAX - len).to_le_bytes())?;
     log.extend_from_slice(&builder.body)?;
@@ -66,8 +72,18 @@ fn entries(alloc: Global) -> Result<Vec<u8>, Fail> {
 // A server with a session 0.
 fn server(alloc: Global) -> Result<ServerCore<Plain>, Fail> {
     let mut server = ServerCore::new(alloc, store(alloc)?);
-    server.open_session(0)?;
+    open_session(&mut server)?;
     Ok(server)
+}
+
+// The calls below have no clause, so that a test doesn't carry theirs.
+
+fn open_session(server: &mut ServerCore<Plain>) -> Result<(), SessionError> {
+    server.open_session(0)
+}
+
+fn feed(server: &mut ServerCore<Plain>, sent: &[u8], out: &mut Vec<u8>) -> Result<(), FeedError> {
+    server.feed(0, sent, out)
 }
 
 // What comes of what a server replies to these bytes.
@@ -78,8 +94,14 @@ fn exchange(
     sent: &[u8],
 ) -> Result<Result<PushStep, PushFault>, Fail> {
     let mut out = Vec::new(alloc);
-    server.feed(0, sent, &mut out)?;
+    feed(server, sent, &mut out)?;
     Ok(push.feed(&out))
+}
+
+fn replay_entries(store: &mut Store<Plain>, entries: &[u8]) -> Result<(), ReplayFault>
+    requires { HasNoDraft store.old }
+{
+    replay_all(store, Publications { rest: entries })
 }
 
 // The end of a push of some entries to a server.
@@ -113,7 +135,7 @@ fn a_push_makes_the_server_that_of_the_log(rt: HostRuntime) -> Result<(), Fail> 
     let mut server = server(alloc)?;
     assert_eq!(rt; end_of(alloc, &mut server, &entries)?, Ok(3));
     let mut replayed = store(alloc)?;
-    replay_all(&mut replayed, Publications { rest: &entries })?;
+    replay_entries(&mut replayed, &entries)?;
     assert_eq!(rt; server.store().version(), replayed.version());
     assert_eq!(rt; server.store().bytes(), replayed.bytes());
     assert_eq!(rt; server.store().bytes(), [0x0b, 0x0d].as_slice());
