@@ -1,8 +1,6 @@
 -- Orders that are served, and of which each reply is a Done.
 use Rattle.std.proofs.Common.{◌≡◌, ℕ, ◌+◌, ◌^◌, ap, ◌∙◌, sym, refl, subst, inl, inr, List, [], ◌∷◌, ◌++◌, length, map, Bool, true, false, cond, Option}
 use Rattle.std.specs.Prelude.{nat_lt, ◌==◌, Some, option_to_list}
-use Rattle.digit_pack.specs.Layout.{is_layout}
-use Rattle.pir_schemes.specs.Plans.{fits, shape_at, accepts_profile}
 use Rattle.frame_codec.specs.declared.frame.Frame.{Frame}
 use Rattle.frame_codec.specs.declared.frame.Frame.TheVariants.{Hello, Done, Refused}
 use Rattle.frame_codec.specs.declared.refusal.Refusal.{Refusal}
@@ -80,19 +78,15 @@ done_for x h order o versions others (inr (takes, e)) replies =
     absurd (no_refusal (code_of Memory) versions others (replies ∙ ap (λ (p : Outcome). option_to_list p.reply ++ others) e))
 done_for x h (Edits place bytes) o versions others (inl e) replies =
     let good : Outcome = done (after_edit place bytes h) (current_version h) in
-    let inside : Outcome = cond (fits x.plan bytes) good (refuses BadLength Publisher h) in
-    passed (fits x.plan bytes) good BadLength h o versions others
-    (passed (nat_lt place (length h.draft)) inside BadIndex h o versions others e replies) replies
+    passed _ good BadLength h o versions others
+    (passed (nat_lt place (length h.draft)) (cond _ good (refuses BadLength Publisher h)) BadIndex h o versions others e replies) replies
 done_for x h (Appends bytes) o versions others (inl e) replies =
     let good : Outcome = done (after_append bytes h) (current_version h) in
-    let room : Bool = is_layout (shape_at x.plan (length h.draft + 1)) in
-    passed room good Full h o versions others
-    (passed (fits x.plan bytes) (cond room good (refuses Full Publisher h)) BadLength h o versions others e replies) replies
+    passed _ good Full h o versions others (passed _ (cond _ good (refuses Full Publisher h)) BadLength h o versions others e replies) replies
 done_for x h (Publishes version) o versions others (inl e) replies =
     let good : Outcome = done (published h) (current_version h + 1) in
-    let last : Bool = (current_version h + 1) == 2 ^ 64 in
-    not_stopped last good VersionsUsedUp h o versions others
-    (passed h.marked (cond last (refuses VersionsUsedUp Publisher h) good) NothingToPublish h o versions others e replies) replies
+    not_stopped _ good VersionsUsedUp h o versions others
+    (passed h.marked (cond _ (refuses VersionsUsedUp Publisher h) good) NothingToPublish h o versions others e replies) replies
 
 -- ---- orders
 
@@ -164,7 +158,7 @@ record IsGreeted (h : History) (o : Outcome) : Type 0 where
 greeted : (x : Setting) (h : History) (profile : ℕ) (key : List ℕ) (o : Outcome) → IsOutcome x h Stranger (Hello profile key) o → IsGreeted h o
 greeted x h profile key o (inr (takes, e)) = absurd (let no : ⊥ = cc in no)
 greeted x h profile key o (inl e) =
-    subst (IsGreeted h) (sym e) (by_checks (accepts_profile x.plan profile) (is_reader_key key) (is_publisher_key x key))
+    subst (IsGreeted h) (sym e) (by_checks _ (is_reader_key key) (is_publisher_key x key))
   where
     by_checks : (a b c : Bool) → IsGreeted h (cond a (cond b (welcomes x Reader h) (cond c (welcomes x Publisher h) (refuses BadKey Stranger h))) (refuses BadProfile Stranger h))
     by_checks false b c = record { answer = Refused (code_of BadProfile); reply = refl; still_open = refl; history = refl }
