@@ -1,7 +1,6 @@
 -- What a client sends for an order, and what it takes as done.
 use Rattle.std.proofs.Common.{◌∙◌, ap}
 use Rattle.client_core.specs.declared.state.ClientState.{ClientState}
-use Rattle.client_core.specs.declared.state.Event.TheVariants as event
 use Rattle.client_core.specs.Calls.{call_frame}
 use Rattle.frame_codec.specs.Frames.{encoding}
 use Rattle.frame_codec.specs.declared.frame.Frame.TheVariants as frame

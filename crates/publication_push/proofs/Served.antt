@@ -1,6 +1,6 @@
 -- Orders that are served, and of which each reply is a Done.
-use Rattle.std.proofs.Common.{◌≡◌, ℕ, ◌+◌, ◌^◌, ap, ◌∙◌, sym, refl, subst, inl, inr, List, [], ◌∷◌, ◌++◌, length, map, Bool, true, false, cond, Option}
-use Rattle.std.specs.Prelude.{nat_lt, ◌==◌, Some, option_to_list}
+use Rattle.std.proofs.Common.{◌≡◌, ℕ, ◌+◌, ap, ◌∙◌, sym, refl, subst, inl, inr, List, [], ◌∷◌, ◌++◌, length, map, Bool, true, false, cond, Option}
+use Rattle.std.specs.Prelude.{nat_lt, Some, option_to_list}
 use Rattle.frame_codec.specs.declared.frame.Frame.{Frame}
 use Rattle.frame_codec.specs.declared.frame.Frame.TheVariants.{Hello, Done, Refused}
 use Rattle.frame_codec.specs.declared.refusal.Refusal.{Refusal}
