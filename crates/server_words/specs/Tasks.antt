@@ -1,10 +1,12 @@
 -- What a command line asks for.
-use Rattle.std.specs.Prelude.{◌≡◌, ◌+◌, ℕ, List, codes, Bool, true, false, Option, None, Some, IsSomeAnd, MatchBool, MatchOption}
+use Rattle.std.specs.Prelude.{◌≡◌, ◌+◌, ◌⊎◌, ℕ, List, codes, Bool, true, false, Option, None, Some, IsSomeAnd, MatchBool, MatchOption}
 use Rattle.std.specs.Str.Parse.{IsNumeral, digits_value}
 use Rattle.clap.specs.declared.parser.matches.Found.{Found}
 use Rattle.clap.specs.Matches.{first_value, one_text}
 use Rattle.command_words.specs.declared.secrets.Secret.{Secret}
 use Rattle.command_words.specs.Secrets.{IsSecretOf}
+use Rattle.service_watch.specs.declared.draft_life.DraftLife.{DraftLife}
+use Rattle.service_watch.specs.declared.draft_life.DraftLife.TheVariants.{Publication, Session}
 use Rattle.service_watch.specs.declared.entries.LogFormat.{LogFormat}
 use Rattle.service_watch.specs.declared.entries.LogFormat.TheVariants.{Text, Json}
 use Rattle.server_words.specs.declared.make_line.Making.{Making}
@@ -76,6 +78,11 @@ ReadsFormat found None = first_value found (codes "log") ≡ None
 ReadsFormat found (Some Text) = first_value found (codes "log") ≡ Some (codes "text")
 ReadsFormat found (Some Json) = first_value found (codes "log") ≡ Some (codes "json")
 
+-- with what a draft ends: as the word given says, or with its publication alone
+abbrev pub ReadsDraft : Found → DraftLife → Type 0
+ReadsDraft found Publication = (first_value found (codes "draft") ≡ None) ⊎ (first_value found (codes "draft") ≡ Some (codes "publication"))
+ReadsDraft found Session = first_value found (codes "draft") ≡ Some (codes "session")
+
 -- How many seconds what was begun has after the end of standard input: the number given, or 10. If the flag is not given, there is
 -- none, and none was given.
 abbrev pub ReadsGrace : Found → Option ℕ → Type 0
@@ -89,6 +96,7 @@ ReadsRun found running =
     (first_value found (codes "file") ≡ Some running.file.now) × IsNumberOr 256 found (codes "most") running.most
     × IsNumberOr 60 found (codes "idle") running.idle × IsNumberOr 256 found (codes "memory") running.memory × IsNumberOr 64 found (codes "log-limit") running.log_limit
     × ReadsGrace found running.grace × IsNumberIf found (codes "most-per-peer") running.most_per_peer × ReadsFormat found running.log
+    × ReadsDraft found running.draft
 
 -- a copy of a file's last version, as those of `backup` do
 abbrev pub ReadsBackup : Found → BackingUp → Type 0

@@ -2,11 +2,11 @@
 
 ghost use Rattle.std.specs.Prelude.{◌≤◌, IfOk, IfSome};
 ghost use Rattle.clap.specs.Matches.{found_of};
-ghost use Rattle.server_words.specs.Tasks.{IsNumberIf, IsNumberOr, ReadsFormat, ReadsGrace, ReadsRun};
+ghost use Rattle.server_words.specs.Tasks.{IsNumberIf, IsNumberOr, ReadsDraft, ReadsFormat, ReadsGrace, ReadsRun};
 
 use clap::ArgMatches;
 use command_words::{Argument, BadLine, CommandText, number_at, text_at};
-use service_watch::LogFormat;
+use service_watch::{DraftLife, LogFormat};
 use std::net::SocketAddr;
 
 const FILE_TAKES: &str = "--file takes a file's name";
@@ -24,6 +24,8 @@ const MEMORY_TAKES: &str = "--memory takes a number of MiB from 1 to 1048576";
 const LOG_LIMIT_TAKES: &str = "--log-limit takes a number of MiB from 1 to 1048576";
 
 const MOST_PER_PEER_TAKES: &str = "--most-per-peer takes a number from 1 to 65535";
+
+const DRAFT_TAKES: &str = "--draft takes publication or session";
 
 const LOG_TAKES: &str = "--log takes text or json";
 
@@ -70,6 +72,8 @@ pub struct Running<'a> {
     pub status: Option<SocketAddr>,
     /// How the lines of the log are written, if it is not only the faults of connections.
     pub log: Option<LogFormat>,
+    /// With what a draft ends.
+    pub draft: DraftLife,
     /// Whether the faults of connections are left out on standard error.
     pub quiet: bool,
     /// Whether it is said there how much of the file has been read, and how many rows of the hints are made.
@@ -137,6 +141,11 @@ pub const RUN: CommandText = CommandText {
             value: "SECONDS",
             help: "How many seconds at most what was begun is served after the end of standard input, 1 to 3600 (10 if not given)",
         },
+        Argument::Optional {
+            name: "draft",
+            value: "END",
+            help: "With what a draft ends: its publication alone, or session: also the last session that edited it, so that what a publication cut short left is not published with the next one (publication if not given)",
+        },
         Argument::Flag {
             name: "quiet",
             help: "Leaves out the lines on standard error about faults of connections",
@@ -170,6 +179,7 @@ pub fn running_of<'a>(found: &ArgMatches<'a>) -> Result<Running<'a>, BadLine<'a>
         most_per_peer: number_if(found, "most-per-peer", 65_535, MOST_PER_PEER_TAKES)?,
         status: status_at(found)?,
         log: format_at(found)?,
+        draft: draft_at(found)?,
         quiet: found.get_flag("quiet"),
         progress: found.get_flag("progress"),
     })
@@ -184,6 +194,17 @@ fn format_at<'a>(found: &ArgMatches<'a>) -> Result<Option<LogFormat>, BadLine<'a
         Some("text") => Ok(Some(LogFormat::Text)),
         Some("json") => Ok(Some(LogFormat::Json)),
         Some(text) => Err(BadLine::Given(LOG_TAKES, text)),
+    }
+}
+
+// With what a draft ends: with its publication alone, unless another word is given.
+fn draft_at<'a>(found: &ArgMatches<'a>) -> Result<DraftLife, BadLine<'a>>
+    ensures read { IfOk result (ReadsDraft (found_of found.now)) }
+{
+    match found.get_str("draft") {
+        None | Some("publication") => Ok(DraftLife::Publication),
+        Some("session") => Ok(DraftLife::Session),
+        Some(text) => Err(BadLine::Given(DRAFT_TAKES, text)),
     }
 }
 

@@ -6,13 +6,14 @@ use Rattle.std.specs.declared.alloc.AllocError.{AllocError}
 use Rattle.std.proofs.lemmas.List.{length-drop, length-take-le, take-append-drop}
 use Rattle.std.proofs.Math.Seq.{drop-append_seam}
 use Rattle.frame_codec.specs.Frames.{encoding}
-use Rattle.version_store.specs.Histories.{StoreState, History, StandsFor}
+use Rattle.version_store.specs.Histories.{StoreState, History, StandsFor, undrafted}
+use Rattle.version_store.proofs.HistoryLemmas.{undraft_stands}
 use Rattle.server_core.specs.Cores.{Core, session_of}
 use Rattle.server_core.specs.Serving.{Setting, setting_of, is_closed}
 use Rattle.server_core.specs.Sessions.{Session, FeedsSession, Fed}
 use Rattle.server_core.specs.Laws.{FirstsArePieces}
 use Rattle.service_core.specs.Links.{LinkState, after_frame}
-use Rattle.service_core.specs.Runs.{Deed, Opens, Serves, Stops, Closes, DoesToCore, FeedsLink, Moment, ServesOn, RunStep, DeedsAreOneRun}
+use Rattle.service_core.specs.Runs.{Deed, Opens, Serves, Stops, Closes, Undrafts, DoesToCore, FeedsLink, Moment, ServesOn, RunStep, DeedsAreOneRun}
 use Rattle.service_core.specs.Turns.{served_between, replied_between, ServedFramesAreMoves, ServedFramesAreDeeds}
 
 there_is : (o : Option Session) → o ≢ None → (s : Session) × (o ≡ Some s)
@@ -80,6 +81,15 @@ run_one x first h (Closes id) mid set stands does = (
   record {
     setting_is = ap setting_of does.1 ∙ set;
     store_is = subst (λ (y : StoreState). StandsFor y h) (sym does.1) stands;
+    core_does = does;
+    history_does = refl;
+  },
+)
+run_one x first h Undrafts mid set stands does = (
+  undrafted h,
+  record {
+    setting_is = ap setting_of does.1 ∙ set;
+    store_is = undraft_stands first.store mid.store does.1 h stands;
     core_does = does;
     history_does = refl;
   },

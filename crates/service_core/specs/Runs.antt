@@ -4,7 +4,7 @@ use Rattle.std.specs.List.{FoldsTo, flat_map, AllByRecursion}
 use Rattle.std.specs.declared.alloc.AllocError.{AllocError}
 use Rattle.frame_codec.specs.declared.frame.Frame.{Frame}
 use Rattle.frame_codec.specs.Frames.{IsFrame, encoding}
-use Rattle.version_store.specs.Histories.{History, StandsFor}
+use Rattle.version_store.specs.Histories.{History, StandsFor, undrafted, without_draft}
 use Rattle.server_core.specs.Cores.{Core, session_of}
 use Rattle.server_core.specs.Serving.{Setting, setting_of}
 use Rattle.server_core.specs.Sessions.{Session, new_session, FeedsSession, Fed}
@@ -19,6 +19,8 @@ pub data Deed : Type 0 where
   Stops : (id : ℕ) (piece : List ℕ) → Deed
   -- it is over
   Closes : (id : ℕ) → Deed
+  -- the draft is dropped, since those who edited it are gone
+  Undrafts : Deed
 
 -- no other connection's session changes
 abbrev pub OthersStay : ℕ → Core → Core → Type 0
@@ -38,6 +40,7 @@ DoesToCore before (Serves id piece reply) after =
 DoesToCore before (Stops id piece) after =
     (session_of before.sessions id ≢ None) × ((e : AllocError) × FeedsLink id before piece (Err e) [] after) × OthersStay id before after
 DoesToCore before (Closes id) after = (session_of after.sessions id ≡ None) × (after.store ≡ before.store) × OthersStay id before after
+DoesToCore before Undrafts after = (after.sessions ≡ before.sessions) × (after.store ≡ without_draft before.store)
 
 -- a server and the history that its store stands for
 pub record Moment : Type 0 where
@@ -62,6 +65,7 @@ DoesToHistory x a (Opens id) b = b.history ≡ a.history
 DoesToHistory x a (Serves id piece reply) b = ServesOn x a id piece (Ok tt) reply b
 DoesToHistory x a (Stops id piece) b = (e : AllocError) × ServesOn x a id piece (Err e) [] b
 DoesToHistory x a (Closes id) b = b.history ≡ a.history
+DoesToHistory x a Undrafts b = b.history ≡ undrafted a.history
 
 -- one deed of a run
 pub record RunStep (x : Setting) (a : Moment) (deed : Deed) (b : Moment) : Type 0 where

@@ -1,5 +1,7 @@
 -- The requests of those who ask how a service does, and what they get.
 use Rattle.std.specs.Prelude.{ℕ, List, [], ◌++◌, Bool, cond, codes, decimal, length, bytes_eq}
+use Rattle.service_watch.specs.declared.draft_life.DraftLife.{DraftLife}
+use Rattle.service_watch.specs.declared.draft_life.DraftLife.TheVariants.{Publication, Session}
 use Rattle.service_watch.specs.declared.requests.Page.{Page}
 use Rattle.service_watch.specs.declared.requests.Page.TheVariants.{Health, Stopping, Metrics, NotFound, BadMethod, BadRequest}
 
@@ -44,6 +46,13 @@ response_text page content =
     codes "HTTP/1.1 " ++ (status_line page ++ (codes "\r\nContent-Type: " ++ (content_type page ++ (codes "\r\n" ++ (allow_field page
     ++ (codes "Content-Length: " ++ (decimal (length content) ++ (codes "\r\nConnection: close\r\n\r\n" ++ content))))))))
 
+-- with what a draft ends, by the word that names it: the publication alone, or the last session that edited it, too
+unfoldable pub draft_life_name : DraftLife → List ℕ
+draft_life_name Publication = codes "publication"
+draft_life_name Session = codes "session"
+
 -- the content of `/health`
-abbrev pub health_text : ℕ → ℕ → List ℕ
-health_text version records = codes "{\"version\":" ++ (decimal version ++ (codes ",\"records\":" ++ (decimal records ++ codes "}\n")))
+abbrev pub health_text : ℕ → ℕ → DraftLife → List ℕ
+health_text version records draft =
+    codes "{\"version\":" ++ (decimal version ++ (codes ",\"records\":" ++ (decimal records
+    ++ (codes ",\"draft\":\"" ++ (draft_life_name draft ++ codes "\"}\n")))))

@@ -1,6 +1,7 @@
 //! The content of `/metrics`.
 
 use crate::counters::{Cause, Counted, Counters};
+use crate::draft_life::DraftLife;
 use crate::histograms::{BOUND_COUNT, Histogram};
 use crate::metrics::{Kind, Sample, push_family};
 use std::alloc::{AllocError, Global};
@@ -20,6 +21,8 @@ pub struct Figures {
     pub version: u64,
     /// How many records it has.
     pub records: u64,
+    /// With what a draft ends.
+    pub draft: DraftLife,
     /// Whether the service stops.
     pub stopping: bool,
     /// When the last publication was made, in seconds since 1970 began in UTC; 0 if none was.

@@ -2,6 +2,7 @@
 #![tactic(auto)]
 
 mod counters;
+mod draft_life;
 mod entries;
 mod figures;
 mod histograms;
@@ -12,6 +13,7 @@ mod requests;
 mod scans;
 
 pub use counters::{Cause, Counted, Counters};
+pub use draft_life::DraftLife;
 pub use entries::{Entry, Event, LogFormat, entry_line};
 pub use figures::{Figures, metrics_text};
 pub use histograms::{BOUND_COUNT, Histogram};

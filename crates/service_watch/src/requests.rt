@@ -4,6 +4,7 @@ ghost use Rattle.std.specs.Prelude.{◌≡◌, ◌≤◌, ℕ, List, length, IfO
 ghost use Rattle.httparse.specs.Grammar.{HasNoRequest, MayBecomeRequest, ReadsRequest, RequestHead};
 ghost use Rattle.service_watch.specs.Requests.{allow_field, content_type, health_text, if_got, page_for, page_when, response_text, status_line};
 
+use crate::draft_life::DraftLife;
 use httparse::Status;
 use httparse::spans::{EMPTY_HEADER_SPAN, parse_request};
 use std::alloc::{AllocError, Global};
@@ -128,13 +129,20 @@ pub fn response(alloc: Global, page: Page, content: &str) -> Result<String, Allo
     )
 }
 
-/// The content of `/health`: the version that is served, and how many records it has. That of a service which stops is the same.
+/// The content of `/health`: the version that is served, how many records it has, and with what a draft ends. That of a service
+/// which stops is the same.
 ///
 /// # Errors
 ///
 /// `AllocError` where memory was refused.
-pub fn health(alloc: Global, version: u64, records: u64) -> Result<String, AllocError>
-    ensures { IfOk result (λ text. string_bytes text ≡ health_text version records) }
+pub fn health(
+    alloc: Global,
+    version: u64,
+    records: u64,
+    draft: DraftLife,
+) -> Result<String, AllocError>
+    ensures { IfOk result (λ text. string_bytes text ≡ health_text version records draft) }
 {
-    format!(in alloc; "{{\"version\":{version},\"records\":{records}}}\n")
+    let draft = draft.name();
+    format!(in alloc; "{{\"version\":{version},\"records\":{records},\"draft\":\"{draft}\"}}\n")
 }
