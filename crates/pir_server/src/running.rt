@@ -53,6 +53,7 @@ pub fn run_file(rt: &HostRuntime, running: &Running<'_>) -> Result<(), Failed> {
         quiet: running.quiet,
         format: running.log,
         grace: grace_of(running),
+        draft: running.draft,
     };
     match run_service(rt, core, running.listen, limits, running.status, saver) {
         Ok(()) => Ok(()),

@@ -135,3 +135,11 @@ none_noted places n core is = record {
 } where
   empty : (i : ℕ) (c : Connection) → connection_at places i ≡ Some c → ⊥
   empty i c there = let no : None ≡ Some c = sym (ap (λ k. connection_at k i) is ∙ none_at n i) ∙ there in cc
+
+-- what is noted stays right while no session changes
+pub same_noted : (places : List (Option Connection)) (old new : Core) (next : ℕ) → new.sessions ≡ old.sessions → AreNoted places old next → AreNoted places new next
+same_noted places old new next same n = record {
+  noted = λ i c there. n.noted i c there ∙ ap (λ sessions. held_by (session_of sessions c.id) c.link) (sym same);
+  below = n.below;
+  apart = n.apart;
+}

@@ -1,3 +1,4 @@
+pub mod Drafting
 pub mod Holding
 pub mod Judging
 pub mod Lines

@@ -19,8 +19,8 @@ leaving_until now until = min until (min (now + 500) (2 ^ 64 - 1))
 
 -- a whole response of a page: of those that are there with this content, of the others with none
 abbrev pub IsResponse : Page → Figures → List ℕ → Type 0
-IsResponse Health f text = text ≡ response_text (page_when f.stopping Health) (health_text f.version f.records)
-IsResponse Stopping f text = text ≡ response_text Stopping (health_text f.version f.records)
+IsResponse Health f text = text ≡ response_text (page_when f.stopping Health) (health_text f.version f.records f.draft)
+IsResponse Stopping f text = text ≡ response_text Stopping (health_text f.version f.records f.draft)
 IsResponse Metrics f text = (content : List ℕ) × (text ≡ response_text Metrics content)
 IsResponse NotFound f text = text ≡ response_text NotFound []
 IsResponse BadMethod f text = text ≡ response_text BadMethod []

@@ -1,5 +1,5 @@
 -- What is seen of the streams of connections, and whether a peer may have one more.
-use Rattle.std.specs.Prelude.{◌≤◌, ℕ, List, Bool, true, false, Option, None, Some, IsSomeAnd, cond, drop, length, bytes_eq, nat_eq, nat_lt}
+use Rattle.std.specs.Prelude.{◌≤◌, ℕ, List, Bool, false, Option, None, Some, IsSomeAnd, cond, drop, length, bytes_eq, nat_eq, nat_lt}
 use Rattle.std.specs.List.{count_by}
 use Rattle.service_watch.specs.declared.replies.ReplyHead.{ReplyHead}
 use Rattle.service_watch.specs.Replies.{reply_head}

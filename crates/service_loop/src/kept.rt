@@ -2,7 +2,7 @@
 
 ghost use Rattle.std.specs.Prelude.{◌≡◌, ◌↔◌, IsErrOf, IsSome, OnOk, OnErr};
 ghost use Rattle.server_core.specs.Cores.{session_of};
-ghost use Rattle.service_core.specs.Runs.{DoesToCore, Opens, Closes};
+ghost use Rattle.service_core.specs.Runs.{DoesToCore, Opens, Closes, Undrafts};
 
 use crate::device::Saver;
 use crate::tallies::Tallies;
@@ -49,6 +49,23 @@ impl<S: Saver> Kept<S> {
         ensures refused { OnErr result (self.new.core ≡ self.old.core) }
     {
         self.core.open_session(id)
+    }
+
+    /// The same server without its draft.
+    pub fn without_draft(self) -> Kept<S>
+        ensures { DoesToCore self.core Undrafts result.core }
+    {
+        let Kept {
+            mut core,
+            saver,
+            counters,
+        } = self;
+        core.drop_draft();
+        Kept {
+            core,
+            saver,
+            counters,
+        }
     }
 
     /// Takes the session of a connection away, where it has one, and no other.

@@ -2,6 +2,7 @@
 
 ghost use Rattle.std.specs.Prelude.{◌≡◌, ◌≢◌, ◌≤◌, ◌<◌, ◌↔◌, ℕ, None, Some, IsTrue, IsSome, IsSomeAnd, IfSome, IfNone, IfOk, option_map, false, length, replicate, slice_set};
 ghost use Rattle.std.specs.List.{IsFirstMaxByKey};
+ghost use Rattle.service_loop.specs.Drafting.{editor_count, edits};
 ghost use Rattle.service_loop.specs.Judging.{due_of};
 ghost use Rattle.service_loop.specs.Places.{connection_at, held_bytes, owed_bytes, all_held, all_owed, noted, LosesLargest};
 ghost use Rattle.service_loop.specs.Stopping.{open_count};
@@ -93,6 +94,19 @@ impl Places {
             }
         }
         open
+    }
+
+    /// How many connections there are whose session has edited the draft of a version, and goes on.
+    pub fn editors(&self, version: u64) -> usize
+        ensures { result ≡ editor_count version self.now.connections.items }
+    {
+        let mut editors = 0;
+        for connection in &self.connections {
+            if edits(connection, version) {
+                editors += 1;
+            }
+        }
+        editors
     }
 
     /// Whether there is a place, and it is free.
@@ -214,6 +228,18 @@ fn is_of(place: &Option<Connection>, peer: &[u8; 16]) -> bool
 {
     match place {
         Some(connection) => connection.peer.as_slice() == peer.as_slice(),
+        None => false,
+    }
+}
+
+// Whether a connection's session has edited the draft of a version, and goes on.
+fn edits(place: &Option<Connection>, version: u64) -> bool
+    ensures { result ≡ edits version place.now }
+{
+    match place {
+        Some(connection) => {
+            connection.lingers.is_none() && connection.watch.edited == Some(version)
+        }
         None => false,
     }
 }

@@ -4,6 +4,7 @@ ghost use Rattle.std.specs.Prelude.{◌≡◌, ◌↔◌, ◌⊎◌, ℕ, None, 
 
 mod accepting;
 mod attending;
+mod drafting;
 mod queueing;
 mod turns;
 
@@ -19,7 +20,7 @@ use mio::net::TcpListener;
 use mio::{Events, Interest, Poll, Token};
 use server_core::ServerCore;
 use service_core::PIECE_LEN;
-use service_watch::{Entry, Event, LogFormat};
+use service_watch::{DraftLife, Entry, Event, LogFormat};
 use std::io;
 use std::net::SocketAddr;
 use std::time::{Duration, Instant};
@@ -49,6 +50,8 @@ pub struct Limits {
     pub format: Option<LogFormat>,
     /// How many milliseconds what was begun has after the end of standard input. If there is no number, standard input is not watched.
     pub grace: Option<u64>,
+    /// With what a draft ends.
+    pub draft: DraftLife,
 }
 
 #[derive(Drop)]

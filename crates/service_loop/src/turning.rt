@@ -44,6 +44,7 @@ impl Connection {
         let ended = micros_since(rt, Some(start));
         let turn = self.watch.times(kept.counters.polled, began, ended);
         self.watch.published = published_between(before, kept.core.store().version());
+        self.watch.note_edit(before);
         count_turn(rt, &mut kept.counters, &self.watch, turn);
         self.watch.note_end(turn, outcome);
         Ok((kept, outcome))

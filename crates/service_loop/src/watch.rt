@@ -1,6 +1,7 @@
 //! What is seen of the streams of connections.
 
 ghost use Rattle.std.specs.Prelude.{◌≡◌, ◌-◌, None, Some, length, unwrap_or};
+ghost use Rattle.service_loop.specs.Drafting.{edited_after, is_done};
 ghost use Rattle.service_loop.specs.Judging.{HasMore};
 ghost use Rattle.service_loop.specs.Timing.{time_of};
 ghost use Rattle.service_loop.specs.Watching.{seen_reply};
@@ -8,6 +9,9 @@ ghost use Rattle.service_loop.specs.Watching.{seen_reply};
 use crate::connection::Outcome;
 use crate::tallies::TurnTimes;
 use service_watch::{FrameScan, ReplyHead, head_of_reply};
+
+/// The kind of the reply that says that what was asked for is done.
+const DONE: u8 = 0x87;
 
 /// What was seen of a connection's streams.
 #[derive(Clone, Copy)]
@@ -22,6 +26,8 @@ pub struct Watch {
     pub saved: u64,
     /// The version that was published in this turn.
     pub published: Option<u64>,
+    /// The version whose draft its session has edited last, if it has edited any.
+    pub edited: Option<u64>,
     /// When its last turn ended, in microseconds since the start, if that left more to do. If the frame of that turn was put off, this is
     /// when that frame began to wait.
     pub left_more: Option<u64>,
@@ -38,6 +44,7 @@ impl Watch {
             scan: FrameScan::new(),
             saved: 0,
             published: None,
+            edited: None,
             left_more: None,
             spent: 0,
         }
@@ -90,6 +97,17 @@ impl Watch {
         }
     }
 
+    /// Notes after a turn on the draft of a version whether its session has edited that: the turn replied Done, and published nothing.
+    pub fn note_edit(&mut self, version: u64)
+        ensures { self.new ≡ record self.old {
+          edited = edited_after self.old.edited self.old.reply self.old.published version;
+        } }
+    {
+        if is_done(self.reply) && self.published.is_none() {
+            self.edited = Some(version);
+        }
+    }
+
     /// Looks at what is owed: what was not there before is a reply.
     pub fn look(&mut self, owed: &[u8])
         ensures reply { self.new.reply ≡ seen_reply self.old.seen owed.now self.old.reply }
@@ -107,5 +125,15 @@ impl Watch {
         ensures { self.new ≡ record self.old { seen = self.old.seen - count } }
     {
         self.seen = self.seen.saturating_sub(count);
+    }
+}
+
+// Whether a reply says that what was asked for is done.
+fn is_done(reply: Option<ReplyHead>) -> bool
+    ensures { result ≡ is_done reply }
+{
+    match reply {
+        Some(reply) => reply.kind == DONE,
+        None => false,
     }
 }

@@ -60,6 +60,7 @@ impl Service {
             open: self.places.open() as u64,
             version: store.version(),
             records: store.layout().count() as u64,
+            draft: self.limits.draft,
             stopping: self.phase.is_stopping(),
             published_at: tallies.published_at,
             prepared: tallies.prepared,

@@ -125,6 +125,7 @@ impl Service {
             → HasTurnIfMarked self.new.places.connections.items
             self.new.visits_all self.new.ready.items i) }
     {
+        let kept = self.end_draft(kept);
         let (kept, more) = self.take_turn_at(rt, place, kept)?;
         self.note_next_at(place);
         self.queue_again(place, more);

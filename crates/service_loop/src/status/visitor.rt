@@ -254,7 +254,7 @@ fn response_for(alloc: Global, page: Page, figures: &Figures) -> Result<String, 
 {
     match page {
         Page::Health | Page::Stopping => {
-            let content = health(alloc, figures.version, figures.records)?;
+            let content = health(alloc, figures.version, figures.records, figures.draft)?;
             response(alloc, page_when(figures.stopping, page), content.as_str())
         }
         Page::Metrics => {

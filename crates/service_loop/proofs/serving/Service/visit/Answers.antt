@@ -4,6 +4,7 @@ use Rattle.service_loop.specs.Places.{HasTurnIfMarked, OnlyFlagsChange}
 use Rattle.service_loop.specs.Sessions.{AreNoted}
 use Rattle.service_loop.proofs.Flags.{flags_noted}
 use Rattle.service_loop.proofs.Idle.{flags_active, visit_stays}
+use Rattle.service_loop.proofs.Noted.{same_noted}
 use Rattle.service_loop.proofs.Marks.{marked_moved, turn_marked, turn_marks_stay}
 use Rattle.service_loop.proofs.serving.Service.visit.Goals as goal
 
@@ -44,4 +45,10 @@ returns g c = record {
       c.note_next_at.new.self.ready.items i (ap (λ (p : Places). p.connections.items) c.note_next_at.ensures.places)
       (c.note_next_at.ensures.all ∙ c.in_ok-kept.ensures.all) (ap (λ v. v.items) c.note_next_at.ensures.ready ∙ ap (λ v. v.items) c.in_ok-kept.ensures.ready)
       (turn_marks_stay before mid c.args.place all ready c.in_ok-kept.ensures.unmarked c.in_ok-kept.ensures.others i h));
+}
+
+pub take_turn_at-requires : goal.take_turn_at-requires
+take_turn_at-requires g c = record {
+  noted = same_noted c.args.self.now.places.connections.items c.args.kept.core c.end_draft-kept.result.core c.args.self.now.next_id
+      c.end_draft-kept.ensures.sessions c.requires.noted;
 }
