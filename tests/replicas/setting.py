@@ -76,9 +76,13 @@ def backup_of(file):
 
 
 def content_of(file):
-    """The version of a file with its log, and the records; else what was said."""
-    data = backup_of(file)
-    return (formats.header_of(data)[6], logs.records_in(data)) if isinstance(data, bytes) else data
+    """The version of a file with its log, and the records, as the model reads them; else the name of the fault."""
+    snapshot = bytes_in(file)
+    version, records, log = formats.header_of(snapshot)[6], logs.records_in(snapshot), logs.log_name(file, snapshot)
+    fault, publications, _ = logs.read_log(snapshot, bytes_in(log)) if os.path.exists(log) else (None, [], 0)
+    for changes in publications:
+        records = logs.after(records, changes)
+    return fault or (version + len(publications), records)
 
 
 class Publisher:
@@ -89,7 +93,7 @@ class Publisher:
         self.file, self.key_file = f"{self.dir}/records.pir", f"{self.dir}.key"
         with open(self.key_file, "w", encoding="ascii") as file:
             file.write(KEY + "\n")
-        self.known, self.last = {1: list(records)}, 1
+        self.known, self.last, self.took = {1: list(records)}, 1, 0.02
         # As `init` makes it, but that secrets have fewer words, so that servers start and clients ask in little time.
         layout = formats.Layout(8, SIZE, GROUPS, len(records))
         os.mkdir(self.dir, 0o700)
@@ -102,9 +106,13 @@ class Publisher:
     def publish(self, changes):
         """Makes a version of changes by their places: those past the last record are appended."""
         now = self.known[self.last]
-        for place, data in sorted(changes.items()):
-            words = ["add", data.hex()] if place >= len(now) else ["set", str(place), data.hex()]
-            same(f"{words[0]}: status", 0, self.done(*words)[0])
+        if len(changes) == 1 and min(changes) < len(now):
+            ((place, data),) = changes.items()
+            done = self.done("set", str(place), data.hex())
+        else:
+            lines = "".join(f"{place if place < len(now) else '+'} {data.hex()}\n" for place, data in sorted(changes.items()))
+            done = self.done("import", data=lines.encode())
+        same("draft", (0, f"drafted {len(changes)}", ""), done)
         self.known[self.last + 1] = logs.after(now, changes)
         self.last += 1
         same("publish", (0, f"published {self.last}", ""), self.done("publish"))
@@ -121,8 +129,14 @@ class Publisher:
 
     def push(self, *servers, key=None, more=()):
         """The status, which servers it says have the last version, and what it says on standard error."""
+        begun = time.monotonic()
         status, out, errors = run(*self.words_of_push(servers, key, more))
+        self.took = time.monotonic() - begun
         return status, sorted(out.splitlines()), errors
+
+    def some_time(self, chance):
+        """How long to wait so that a push is at any moment, or has just ended: by how long the last whole one took."""
+        return 1.1 * self.took * chance.random()
 
     def lines(self, *servers):
         """What push prints of servers that have the last version."""
@@ -281,5 +295,5 @@ def balancer_before(replicas):
 
 
 def some_chance(name):
-    """A source of chance that is the same in each run."""
+    """A source of chance, with the same numbers in each run."""
     return random.Random(name)
