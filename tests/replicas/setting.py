@@ -156,8 +156,17 @@ class Publisher:
         same(f"{name}: those stay as they were", before, [it.content() for it in servers])
         return errors
 
-    def copy(self):
-        """A file for a server: a copy of the snapshot and its log."""
+    def copy(self, logged=True):
+        """A file for a server: a copy of the snapshot, with that of its log, or alone."""
+        name = f"{tempfile.mkdtemp(dir=programs.room)}/store.pir"
+        shutil.copy(self.file, name)
+        log = logs.log_name(self.file, bytes_in(self.file))
+        if logged and os.path.exists(log):
+            shutil.copy(log, logs.log_name(name, bytes_in(name)))
+        return name
+
+    def backup(self):
+        """A file for a server: a copy of all that there is, in one file."""
         name = f"{tempfile.mkdtemp(dir=programs.room)}/store.pir"
         same("backup", 0, run(programs.server, "backup", "--file", self.file, "--out", name)[0])
         return name
@@ -275,6 +284,7 @@ class Haproxy:
             return f"{line[1]} {it.address} port {it.status_port}" if it else ""
 
         with open(f"{name}.cfg", "w", encoding="utf-8") as file:
+            text = re.sub(r"(?m)^    (user|group) .*\n", "", text)
             file.write(re.sub(r"(?m)^(    server s\d+) 127.0.0.1:\d+ port \d+$", put, text))
         self.process = subprocess.Popen([program, "-db", "-f", f"{name}.cfg"], stdout=subprocess.DEVNULL, stderr=subprocess.DEVNULL)
         for _ in range(200):
