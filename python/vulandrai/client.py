@@ -10,8 +10,8 @@ from ._buffers import Bytes
 from ._session import READER, Folder, Known, Record, Scheme, Session, Step, Steps, T
 
 PIECE = 1 << 16
-# How many connections are tried where each leads to a server of an older version.
-CONNECTIONS = 3
+# How many connections are tried where each leads to a server of an older version: a balancer may lead to another one.
+CONNECTIONS = 4
 
 # Told how many bytes of a hint have come, and of how many, or None where only the rows that changed are sent.
 Progress = Callable[[int, Optional[int]], object]
@@ -38,7 +38,7 @@ class Client:
     below `least_dimension` raises `LowDimension`. Connecting, and each piece that is waited for, may take `timeout` seconds.
 
     A server whose version is lower than one that was seen before of its store, by what is kept in `hints`, is warned of
-    (`faults.OlderVersion`); with `no_older` it raises `Older`, after three connections. `progress` is called with two numbers while
+    (`faults.OlderVersion`); with `no_older` it raises `Older`, after four connections. `progress` is called with two numbers while
     a hint is fetched: how many bytes have come, and of how many, or None where only the rows that changed are sent.
 
     Threads may share a client: each call has the connection to itself until it ends. A client that is used in another process than the

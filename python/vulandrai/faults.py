@@ -278,7 +278,7 @@ class LowDimension(VulandraiError):
 class Older(VulandraiError):
     """The server's version is lower than one that was seen before of this store."""
 
-    advice = "Its file may have been put back: ask its owner, or accept it without `no_older`."
+    advice = "Behind a balancer ask again in a while. Else its file may have been put back: ask its owner, or accept it without `no_older`."
 
 
 class Forked(VulandraiError):

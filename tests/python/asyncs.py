@@ -120,7 +120,7 @@ async def keeps_hints(vulandrai, room, port, before):
         proxy = Proxy(other)
         client = vulandrai.AsyncClient("127.0.0.1", proxy.port, hints=folder, no_older=True)
         await raises("an older server", vulandrai.faults.Older, client._connected())
-        same("after three connections", 3, len(proxy.frames))
+        same("after four connections", 4, len(proxy.frames))
 
 
 def all_of_them(vulandrai, room):

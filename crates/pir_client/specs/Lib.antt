@@ -1,3 +1,4 @@
 pub mod Failures
 pub mod Tasks
 pub mod FolderTasks
+pub mod Older

@@ -3,9 +3,9 @@
 use crate::choosing::SchemeChoice;
 use crate::failures::{folder_failure, retrieve_failure};
 use crate::folder_tasks::FolderTask;
+use crate::older::Older;
 use crate::server::Address;
 use crate::sessions::{RetrieveError, Session};
-use crate::warnings::Older;
 use client_commands::Retrieved;
 use client_state::{Folder, FolderFault, OldFolder};
 use command_words::{Failed, Failure, printed};
@@ -14,8 +14,8 @@ use rehearsal::shown_bytes;
 use std::alloc::AllocError;
 use std::random::RandomSource;
 
-/// How many connections are tried where each leads to a server of an older version.
-const CONNECTIONS: u32 = 3;
+/// How many more connections are tried when the first leads to a server of an older version: a balancer may lead to another one.
+const MORE_CONNECTIONS: u32 = 3;
 
 /// Does what is asked of a folder, and prints what came of it.
 pub fn done_in_folder(rt: &HostRuntime, task: FolderTask<'_>) -> Result<(), Failed> {
@@ -78,7 +78,8 @@ fn warn_of_old(rt: &HostRuntime, old: Option<OldFolder>) {
     }
 }
 
-// A session with a server of no older version than was seen before.
+// A session with a server of no older version than was seen before. Nothing is asked of an older one, and nothing of the folder changes
+// for it.
 fn session_of_no_older<'a>(
     rt: &'a HostRuntime,
     folder: Folder<'a>,
@@ -87,22 +88,27 @@ fn session_of_no_older<'a>(
     least: usize,
     choice: SchemeChoice,
 ) -> Result<Session<'a>, Failed> {
-    let mut older = Older {
-        version: 0,
-        seen: 0,
-    };
-    for _ in 0..CONNECTIONS {
+    for _ in 0..MORE_CONNECTIONS {
         let session = Session::begin(rt, folder, address, seed, least, choice)?;
-        match session.warnings().older {
-            None => return Ok(session),
-            Some(found) => older = found,
+        if session.warnings().older.is_none() {
+            return Ok(session);
         }
     }
+    let session = Session::begin(rt, folder, address, seed, least, choice)?;
+    match session.warnings().older {
+        None => Ok(session),
+        Some(older) => Err(older_failed(rt, older)),
+    }
+}
+
+// How a command failed that came upon servers of older versions alone, with the version of the last one.
+fn older_failed(rt: &HostRuntime, older: Older) -> Failed {
+    let connections = MORE_CONNECTIONS + 1;
     let Older { version, seen } = older;
-    Err(Failed::by(
+    Failed::by(
         Failure::Fault("Older"),
-        format!(in rt.alloc(); "{CONNECTIONS} connections: version {version} after {seen}"),
-    ))
+        format!(in rt.alloc(); "{connections} connections: version {version} after {seen}"),
+    )
 }
 
 // Retrieves records over one connection, and prints each. A damaged hint is dropped at the end alone: all records are asked for in

@@ -17,6 +17,7 @@ mod fetching;
 mod folder_tasks;
 mod folders;
 mod kept_hints;
+mod older;
 mod progress;
 mod server;
 mod sessions;

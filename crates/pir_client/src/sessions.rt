@@ -10,8 +10,9 @@ use crate::delta_only::{DeltaOnly, DeltaReader, DeltaWriter};
 use crate::failures::failure_of;
 use crate::fetching::fetch;
 use crate::kept_hints::{Moved, MovedHint};
+use crate::older::older_than;
 use crate::server::{Address, Server};
-use crate::warnings::{Older, Warnings};
+use crate::warnings::Warnings;
 use client_commands::{
     CommandError, Retrieved, ask, ask_with_rows, check_dimension, greet_either, sync,
 };
@@ -123,12 +124,7 @@ impl<'a> Session<'a> {
         };
         let beside = self.kept_hint(other, &now)?;
         let seen = version_seen(&self.kept).max(version_seen(&beside));
-        if now.version < seen {
-            self.warnings.older = Some(Older {
-                version: now.version,
-                seen,
-            });
-        }
+        self.warnings.older = older_than(seen, now.version);
         Ok(())
     }
 

@@ -1,13 +1,6 @@
 //! What is said beside a result, on standard error.
 
-/// A server of an older version than one that was seen before.
-#[derive(Clone, Copy, Debug, PartialEq, Eq)]
-pub struct Older {
-    /// The server's version.
-    pub version: u64,
-    /// The latest version that was seen of the store.
-    pub seen: u64,
-}
+use crate::older::Older;
 
 /// What is to be said once the records are printed. A command that fails says so alone.
 #[derive(Clone, Copy, Debug, Default)]
