@@ -103,10 +103,10 @@ def says_health(t):
         port = status_port(it)
         t.holds("it says where", port)
         status, fields, content = page(port, "/health")
-        t.same("health", ("200 OK", "application/json", "close", {"version": 1, "records": 2}),
+        t.same("health", ("200 OK", "application/json", "close", {"version": 1, "records": 2, "draft": "publication"}),
                (status, fields.get("Content-Type"), fields.get("Connection"), json.loads(content)))
         t.same("published", 2, t.publish(it.port, b"\x07"))
-        t.same("health after a publication", {"version": 2, "records": 2}, json.loads(page(port, "/health")[2]))
+        t.same("health after a publication", {"version": 2, "records": 2, "draft": "publication"}, json.loads(page(port, "/health")[2]))
         for target in ("/", "/healthz", "/metrics/", "/metrics?x=1", "*"):
             t.same(f"no page {target}", "404 Not Found", page(port, target)[0])
         for method in ("POST", "HEAD", "PUT", "DELETE", "get"):
@@ -299,7 +299,7 @@ def says_that_it_stops(t):
         operators.close_input(it)
         time.sleep(0.3)
         status, _, content = page(port, "/health")
-        t.same("while it stops", ("503 Service Unavailable", {"version": 1, "records": 2}), (status, json.loads(content)))
+        t.same("while it stops", ("503 Service Unavailable", {"version": 1, "records": 2, "draft": "publication"}), (status, json.loads(content)))
         now, _ = metrics(t, port)
         t.same("and is counted", (1.0, 1.0), (now["vulandrai_stopping"], now["vulandrai_connections_open"]))
         operators.ended_within(t, "it ends", it, 1, 4)
