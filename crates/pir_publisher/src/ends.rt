@@ -1,0 +1,67 @@
+//! How a server's part of a round ends.
+
+use client_core::ServerInfo;
+use publication_push::PushFault;
+use thiserror::Error;
+
+/// Why a server was left as it is.
+#[derive(Clone, Copy, Debug, PartialEq, Eq, Error)]
+pub enum Cause {
+    /// No address of it takes a connection.
+    #[error("Connect: it takes no connection")]
+    Connect,
+    /// It said nothing for too long.
+    #[error("Timeout: it said nothing for too long")]
+    Timeout,
+    /// It ended the connection.
+    #[error("Ended: it ended the connection")]
+    Ended,
+    /// Memory was refused.
+    #[error("Memory: out of memory")]
+    Memory,
+    /// Its store is another one.
+    #[error("OtherStore: its seed or sizes are others: start it from a copy of the snapshot")]
+    OtherStore,
+    /// Its version is later than the folder's.
+    #[error("Ahead: it is at version {0}, which the folder does not have")]
+    Ahead(u64),
+    /// The log does not reach back to its version.
+    #[error("BeforeLog: it is at version {0}, before the log: start it from a copy of the snapshot")]
+    BeforeLog(u64),
+    /// The push came to nothing.
+    #[error("Push: {0}")]
+    Push(PushFault),
+    /// A record that was retrieved of it is another one than the folder's.
+    #[error("Differs: its record {0} is another: start it from a copy of the snapshot")]
+    Differs(u32),
+    /// A record could not be retrieved of it.
+    #[error("Unverified: a record could not be retrieved")]
+    Unverified,
+}
+
+impl Cause {
+    /// Whether the server may be well a moment later.
+    pub fn may_pass(self) -> bool {
+        matches!(
+            self,
+            Cause::Connect | Cause::Timeout | Cause::Ended | Cause::Memory
+        )
+    }
+}
+
+impl From<PushFault> for Cause {
+    fn from(fault: PushFault) -> Self {
+        Cause::Push(fault)
+    }
+}
+
+/// How a server's part of a round ended.
+#[derive(Clone, Copy, Debug, PartialEq, Eq)]
+pub enum End {
+    /// It is at the folder's version.
+    Pushed(u64),
+    /// It told what it has.
+    Told(ServerInfo),
+    /// It was left as it is.
+    Left(Cause),
+}

@@ -1,0 +1,190 @@
+//! The commands `push` and `status`.
+
+use crate::ends::{Cause, End};
+use crate::folder_view::FolderView;
+use crate::rounds::{Rounds, SILENCE};
+use crate::talk::{Aim, Round};
+use crate::watching::watch;
+use command_words::{Failed, Failure, printed};
+use publisher_files::records_name;
+use publisher_words::{Asking, KEY_TAKES, Peer, Pushing};
+use server_files::failed_at;
+use std::alloc::{AllocError, Global};
+
+/// How often a server is tried that may be well a moment later.
+const TRIES: u32 = 4;
+
+/// How many milliseconds it is left alone after the first try; twice as many after each other one.
+const FIRST_REST: u64 = 500;
+
+/// The failure if a server was left as it is.
+const LEFT: Failure = Failure::Fault("Left");
+
+/// The failure if a server did not tell its version.
+const NO_REPLY: Failure = Failure::Fault("Connect");
+
+/// What greets a server as a reader.
+const READER_KEY: [u8; 32] = [0; 32];
+
+/// Brings servers to a folder's version, and prints a line for each. With `watch` this goes on, also after versions to come.
+///
+/// # Errors
+///
+/// Those of the key and of the folder; `Left` if a server was left as it is, after a line for each. `Write` if a line can't be printed, `Memory`.
+pub fn push(rt: &HostRuntime, pushing: &Pushing<'_>) -> Result<(), Failed> {
+    let key = pushing
+        .key
+        .key(rt, KEY_TAKES)
+        .map_err(|failure| pushing.key.failed(rt, failure))?;
+    let aim = if pushing.verify {
+        Aim::PushAndVerify
+    } else {
+        Aim::Push
+    };
+    let folder = read_folder(rt, pushing.dir)?;
+    let mut rounds = Rounds::new(rt)?;
+    if pushing.watch {
+        let records = records_name(rt.alloc(), pushing.dir)?;
+        return watch(
+            rt,
+            &mut rounds,
+            folder,
+            records.as_str(),
+            aim,
+            key,
+            &pushing.to,
+        );
+    }
+    let round = Round {
+        folder: &folder,
+        aim,
+        key,
+    };
+    push_all(rt, &mut rounds, &round, &pushing.to)
+}
+
+// Tries servers until each is at the folder's version, or is left as it is.
+fn push_all(
+    rt: &HostRuntime,
+    rounds: &mut Rounds,
+    round: &Round<'_>,
+    to: &[Peer<'_>],
+) -> Result<(), Failed> {
+    let mut away = copied(rt.alloc(), to)?;
+    let mut left = 0u64;
+    let mut rest = FIRST_REST;
+    for tried in 1..=TRIES {
+        let ends = rounds.run(rt, round, &away, SILENCE)?;
+        let mut again = Vec::new(rt.alloc());
+        for (peer, end) in away.iter().zip(ends.iter()) {
+            match end {
+                End::Left(cause) if cause.may_pass() && tried < TRIES => add(&mut again, *peer)?,
+                End::Left(_) => {
+                    left = left.saturating_add(1);
+                    say_end(rt, peer, *end)?;
+                }
+                _ => say_end(rt, peer, *end)?,
+            }
+        }
+        if again.is_empty() {
+            break;
+        }
+        away = again;
+        rounds.rest(rest);
+        rest = rest.saturating_mul(2);
+    }
+    all_well(rt.alloc(), left, LEFT, "left as they are")
+}
+
+// What came of it all, if so many servers were not well.
+fn all_well(alloc: Global, count: u64, failure: Failure, what: &str) -> Result<(), Failed> {
+    if count == 0 {
+        return Ok(());
+    }
+    Err(Failed::by(failure, format!(in alloc; "servers {what}: {count}")))
+}
+
+/// Prints how a server's part ended.
+///
+/// # Errors
+///
+/// `Write` if it can't be printed.
+pub fn say_end(rt: &HostRuntime, peer: &Peer<'_>, end: End) -> Result<(), Failed> {
+    match end {
+        End::Pushed(version) => printed(rt, println!(rt; "pushed {peer} {version}")),
+        End::Told(known) => {
+            let version = known.version;
+            printed(rt, println!(rt; "told {peer} {version}"))
+        }
+        End::Left(cause) => printed(rt, println!(rt; "left {peer} {cause}")),
+    }
+}
+
+/// Prints a line for each server: its address, its version, how many versions it lacks, and how many records it has.
+///
+/// # Errors
+///
+/// Those of the folder; `Connect` if a server did not tell, after a line for each. `Write` if a line can't be printed, `Memory`.
+pub fn status(rt: &HostRuntime, asking: &Asking<'_>) -> Result<(), Failed> {
+    let folder = read_folder(rt, asking.dir)?;
+    let mut rounds = Rounds::new(rt)?;
+    let round = Round {
+        folder: &folder,
+        aim: Aim::Ask,
+        key: READER_KEY,
+    };
+    let ends = rounds.run(rt, &round, &asking.to, SILENCE)?;
+    printed(rt, println!(rt; "ADDRESS VERSION LAG RECORDS"))?;
+    let mut silent = 0u64;
+    for (peer, end) in asking.to.iter().zip(ends.iter()) {
+        if let End::Left(_) = end {
+            silent = silent.saturating_add(1);
+        }
+        say_status(rt, folder.version.number(), peer, *end)?;
+    }
+    all_well(rt.alloc(), silent, NO_REPLY, "that did not tell")
+}
+
+// Prints a server's line of the table.
+fn say_status(rt: &HostRuntime, current: u64, peer: &Peer<'_>, end: End) -> Result<(), Failed> {
+    match end {
+        End::Told(known) => {
+            let version = known.version;
+            let count = known.count;
+            let lag = current.saturating_sub(version);
+            printed(rt, println!(rt; "{peer} {version} {lag} {count}"))
+        }
+        End::Pushed(version) => printed(rt, println!(rt; "{peer} {version} 0 -")),
+        End::Left(cause) => printed(rt, println!(rt; "{peer} - - - {cause}")),
+    }
+}
+
+// The version of a folder.
+fn read_folder(rt: &HostRuntime, dir: &str) -> Result<FolderView, Failed> {
+    let records = records_name(rt.alloc(), dir)?;
+    match FolderView::read(rt, records.as_str()) {
+        Ok(folder) => Ok(folder),
+        Err(failure) => Err(failed_at(rt, records.as_str(), failure)),
+    }
+}
+
+// The same servers.
+fn copied<'a>(alloc: Global, peers: &[Peer<'a>]) -> Result<Vec<Peer<'a>>, AllocError> {
+    let mut all = Vec::new(alloc);
+    for peer in peers {
+        add(&mut all, *peer)?;
+    }
+    Ok(all)
+}
+
+/// Adds an item.
+///
+/// # Errors
+///
+/// `AllocError` when memory was refused.
+pub fn add<T: Drop>(items: &mut Vec<T>, item: T) -> Result<(), AllocError> {
+    match items.push(item) {
+        Ok(()) => Ok(()),
+        Err(_) => Err(AllocError),
+    }
+}

@@ -1,0 +1,303 @@
+//! The connection to one server, in a round.
+
+use crate::ends::{Cause, End};
+use crate::folder_view::FolderView;
+use crate::lacking::{Lack, lack_of};
+use crate::verifying::{Verified, Verifying};
+use client_core::{ClientCore, ServerInfo};
+use mio::net::TcpStream;
+use publication_log::Publications;
+use publication_push::{Push, PushFault, PushStep};
+use session_core::Lanes;
+use std::alloc::{AllocError, Global};
+use std::io::{ErrorKind, Read, Write};
+use std::mem;
+
+/// How many reads a turn makes at most.
+const READS: u32 = 16;
+
+/// What a round is for.
+#[derive(Clone, Copy, Debug, PartialEq, Eq)]
+pub enum Aim {
+    /// Servers are brought to the folder's version.
+    Push,
+    /// The same, and what was changed is retrieved of each and compared.
+    PushAndVerify,
+    /// Servers tell what they have.
+    Ask,
+}
+
+/// What all servers of a round have in common.
+#[derive(Clone, Copy)]
+pub struct Round<'a> {
+    /// The folder's version.
+    pub folder: &'a FolderView,
+    /// What the round is for.
+    pub aim: Aim,
+    /// The key to greet with: the publisher's, or a reader's of zeros.
+    pub key: [u8; 32],
+}
+
+impl<'a> Round<'a> {
+    // The publications that a server lacks that has the first so many.
+    fn publications_after(&self, count: usize) -> Publications<'a> {
+        self.folder.version.publications().without_first(count)
+    }
+
+    // What a server lacks.
+    fn lack(&self, known: &ServerInfo) -> Lack {
+        let version = &self.folder.version;
+        lack_of(
+            &version.plan(),
+            version.snapshot_version(),
+            version.number(),
+            known,
+        )
+    }
+}
+
+// How far the conversation is.
+#[derive(Drop)]
+enum Stage<'a> {
+    // It is greeted, or pushed to.
+    Pushing(Push<'a, Lanes>),
+    // What was pushed is retrieved.
+    Verifying(Verifying),
+    // Nothing more is said.
+    Over,
+}
+
+/// The connection to one server.
+#[derive(Drop)]
+pub struct Talk<'a> {
+    alloc: Global,
+    stream: TcpStream,
+    stage: Stage<'a>,
+    // How many of the log's publications the server had when it was greeted.
+    had: usize,
+    // What is to be sent, of which so many bytes were taken.
+    out: Vec<u8>,
+    sent: usize,
+    readable: bool,
+    writable: bool,
+    /// When something came or was sent the last time, in milliseconds since the start.
+    pub moment: u64,
+}
+
+impl<'a> Talk<'a> {
+    /// A connection that is being made, and the greeting.
+    ///
+    /// # Errors
+    ///
+    /// `Memory` when memory was refused.
+    pub fn begin(
+        alloc: Global,
+        stream: TcpStream,
+        client: ClientCore<Lanes>,
+        key: [u8; 32],
+        now: u64,
+    ) -> Result<Talk<'a>, Cause> {
+        let mut push = Push::new(client);
+        let out = push.greet(key)?;
+        Ok(Talk {
+            alloc,
+            stream,
+            stage: Stage::Pushing(push),
+            had: 0,
+            out,
+            sent: 0,
+            readable: false,
+            writable: false,
+            moment: now,
+        })
+    }
+
+    /// Notes what the socket is ready for.
+    pub fn note(&mut self, readable: bool, writable: bool) {
+        self.readable = self.readable || readable;
+        self.writable = self.writable || writable;
+    }
+
+    /// Sends and takes what there is, at a moment. Answers how the server's part ended, if it did.
+    pub fn turn(&mut self, round: &Round<'a>, now: u64, buffer: &mut [u8]) -> Option<End> {
+        if let Err(cause) = self.send(now) {
+            return Some(End::Left(cause));
+        }
+        for _ in 0..READS {
+            if !self.readable {
+                break;
+            }
+            match self.receive(round, now, buffer) {
+                Ok(None) => {}
+                Ok(Some(end)) => return Some(end),
+                Err(cause) => return Some(End::Left(cause)),
+            }
+        }
+        match self.send(now) {
+            Ok(()) => None,
+            Err(cause) => Some(End::Left(cause)),
+        }
+    }
+
+    /// Whether there is more to be done without waiting.
+    pub fn has_more(&self) -> bool {
+        self.readable || self.writable && self.sent < self.out.len()
+    }
+
+    // Sends what the socket takes.
+    fn send(&mut self, now: u64) -> Result<(), Cause> {
+        if !self.writable || self.sent >= self.out.len() {
+            return Ok(());
+        }
+        let mut stream = &self.stream;
+        match stream.write(&self.out[self.sent..]) {
+            Ok(0) => Err(Cause::Ended),
+            Ok(count) => {
+                self.sent = self.sent.saturating_add(count);
+                self.moment = now;
+                Ok(())
+            }
+            Err(fault) if fault.kind() == ErrorKind::WouldBlock => {
+                self.writable = false;
+                Ok(())
+            }
+            Err(fault) if fault.kind() == ErrorKind::Interrupted => Ok(()),
+            Err(fault) if is_refusal(fault.kind()) => Err(Cause::Connect),
+            Err(_) => Err(Cause::Ended),
+        }
+    }
+
+    // Reads once, and does what comes of it.
+    fn receive(
+        &mut self,
+        round: &Round<'a>,
+        now: u64,
+        buffer: &mut [u8],
+    ) -> Result<Option<End>, Cause> {
+        let mut stream = &self.stream;
+        match stream.read(buffer) {
+            Ok(0) => Err(Cause::Ended),
+            Ok(count) => {
+                self.moment = now;
+                self.take(round, &buffer[..count])
+            }
+            Err(fault) if fault.kind() == ErrorKind::WouldBlock => {
+                self.readable = false;
+                Ok(None)
+            }
+            Err(fault) if fault.kind() == ErrorKind::Interrupted => Ok(None),
+            Err(fault) if is_refusal(fault.kind()) => Err(Cause::Connect),
+            Err(_) => Err(Cause::Ended),
+        }
+    }
+
+    // Takes what came.
+    fn take(&mut self, round: &Round<'a>, piece: &[u8]) -> Result<Option<End>, Cause> {
+        match &mut self.stage {
+            Stage::Pushing(push) => {
+                let step = push.feed(piece)?;
+                self.pushed(round, step)
+            }
+            Stage::Verifying(verifying) => {
+                let verified = verifying.feed(round.folder, piece)?;
+                self.verified(verified)
+            }
+            Stage::Over => Ok(None),
+        }
+    }
+
+    // Does what comes next of a push.
+    fn pushed(&mut self, round: &Round<'a>, step: PushStep) -> Result<Option<End>, Cause> {
+        let step = match step {
+            PushStep::Greeted(known) if round.aim == Aim::Ask => {
+                self.stage = Stage::Over;
+                return Ok(Some(End::Told(known)));
+            }
+            PushStep::Greeted(known) => self.begin_push(round, &known)?,
+            step => step,
+        };
+        match step {
+            PushStep::Waits => Ok(None),
+            PushStep::Sends(bytes) => {
+                self.give(&bytes)?;
+                Ok(None)
+            }
+            PushStep::Greeted(_) => Err(Cause::Push(PushFault::NotDone)),
+            PushStep::Pushed(version) => self.end_push(round, version),
+        }
+    }
+
+    // Begins with what a server lacks, if the log has it.
+    fn begin_push(&mut self, round: &Round<'a>, known: &ServerInfo) -> Result<PushStep, Cause> {
+        let Stage::Pushing(push) = &mut self.stage else {
+            return Err(Cause::Push(PushFault::NotDone));
+        };
+        match round.lack(known) {
+            Lack::OtherStore => Err(Cause::OtherStore),
+            Lack::Ahead => Err(Cause::Ahead(known.version)),
+            Lack::BeforeLog => Err(Cause::BeforeLog(known.version)),
+            Lack::After(count) => {
+                self.had = count;
+                Ok(push.begin(round.publications_after(count))?)
+            }
+        }
+    }
+
+    // The server is at a version. What was pushed is verified, if that is wanted.
+    fn end_push(&mut self, round: &Round<'a>, version: u64) -> Result<Option<End>, Cause> {
+        let stage = mem::replace(&mut self.stage, Stage::Over);
+        let Stage::Pushing(push) = stage else {
+            return Ok(Some(End::Pushed(version)));
+        };
+        if round.aim != Aim::PushAndVerify {
+            return Ok(Some(End::Pushed(version)));
+        }
+        let pushed = round.publications_after(self.had);
+        let client = push.into_client();
+        match Verifying::begin(self.alloc, client, pushed, version)? {
+            None => Ok(Some(End::Pushed(version))),
+            Some((verifying, bytes)) => {
+                self.stage = Stage::Verifying(verifying);
+                self.give(&bytes)?;
+                Ok(None)
+            }
+        }
+    }
+
+    // Does what comes next of verifying.
+    fn verified(&mut self, verified: Verified) -> Result<Option<End>, Cause> {
+        match verified {
+            Verified::Sends(bytes) => {
+                self.give(&bytes)?;
+                Ok(None)
+            }
+            Verified::All(version) => {
+                self.stage = Stage::Over;
+                Ok(Some(End::Pushed(version)))
+            }
+        }
+    }
+
+    // Bytes are to be sent after those that are.
+    fn give(&mut self, bytes: &[u8]) -> Result<(), Cause> {
+        if self.sent >= self.out.len() {
+            self.out.clear();
+            self.sent = 0;
+        }
+        match self.out.extend_from_slice(bytes) {
+            Ok(()) => Ok(()),
+            Err(AllocError) => Err(Cause::Memory),
+        }
+    }
+}
+
+// Whether a call failed since no connection was made.
+fn is_refusal(kind: ErrorKind) -> bool {
+    matches!(
+        kind,
+        ErrorKind::ConnectionRefused
+            | ErrorKind::HostUnreachable
+            | ErrorKind::NetworkUnreachable
+            | ErrorKind::TimedOut
+    )
+}

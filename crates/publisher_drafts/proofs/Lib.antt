@@ -1,0 +1,4 @@
+pub mod Ascending
+pub mod Merges
+pub mod Maps
+pub mod Verdicts

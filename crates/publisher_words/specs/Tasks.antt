@@ -1,0 +1,48 @@
+-- What a command line asks for.
+use Rattle.std.specs.Prelude.{◌≡◌, ◌≤◌, ℕ, List, length, codes, Some, MatchOption}
+use Rattle.clap.specs.declared.parser.matches.Found.{Found}
+use Rattle.clap.specs.Matches.{first_value}
+use Rattle.command_words.specs.Values.{bytes_in}
+use Rattle.server_words.specs.Tasks.{IsNumberGiven, IsNumberOr, IsNumberIf, IsSecretGiven, IsFlagGiven}
+use Rattle.publisher_words.specs.declared.command_line.Adding.{Adding}
+use Rattle.publisher_words.specs.declared.command_line.Pushing.{Pushing}
+use Rattle.publisher_words.specs.declared.command_line.Setting.{Setting}
+use Rattle.publisher_words.specs.declared.command_line.Showing.{Showing}
+use Rattle.publisher_words.specs.declared.init_line.Beginning.{Beginning}
+
+-- what was given for a name is a record of these bytes
+abbrev pub IsRecordGiven : Found → List ℕ → List ℕ → Type 0
+IsRecordGiven found name bytes =
+    MatchOption (first_value found name) ⊥ (λ text. (bytes_in text ≡ Some bytes) × (length bytes ≤ 65535))
+
+-- the beginning of a folder, as the options of `init` ask for it, but whether is said how much was read
+abbrev pub ReadsInit : Found → Beginning → Type 0
+ReadsInit found beginning =
+    (first_value found (codes "dir") ≡ Some beginning.dir.now) × IsNumberOr 1 found (codes "form") beginning.making.form
+    × IsFlagGiven found (codes "wide") beginning.making.wide
+    × IsNumberGiven found (codes "width") beginning.making.width × IsNumberGiven found (codes "record") beginning.making.record_len
+    × IsNumberGiven found (codes "groups") beginning.making.groups × IsNumberIf found (codes "count") beginning.making.count
+    × IsSecretGiven found (codes "seed") beginning.making.seed
+    × IsSecretGiven found (codes "key") beginning.making.key
+
+-- another record, as the options and the words of `set` ask for it
+abbrev pub ReadsSet : Found → Setting → Type 0
+ReadsSet found setting =
+    (first_value found (codes "dir") ≡ Some setting.dir.now) × IsNumberGiven found (codes "INDEX") setting.index
+    × IsRecordGiven found (codes "HEX") setting.bytes.items
+
+-- one more record, as those of `add` do
+abbrev pub ReadsAdd : Found → Adding → Type 0
+ReadsAdd found adding =
+    (first_value found (codes "dir") ≡ Some adding.dir.now) × IsRecordGiven found (codes "HEX") adding.bytes.items
+
+-- what is to be shown, as those of `show` do
+abbrev pub ReadsShow : Found → Showing → Type 0
+ReadsShow found showing =
+    (first_value found (codes "dir") ≡ Some showing.dir.now) × IsNumberIf found (codes "INDEX") showing.index
+
+-- what is to be brought to servers, as those of `push` do, but which servers
+abbrev pub ReadsPush : Found → Pushing → Type 0
+ReadsPush found pushing =
+    (first_value found (codes "dir") ≡ Some pushing.dir.now) × IsSecretGiven found (codes "key") pushing.key
+    × IsFlagGiven found (codes "watch") pushing.watch × IsFlagGiven found (codes "verify") pushing.verify

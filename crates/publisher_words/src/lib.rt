@@ -1,0 +1,17 @@
+//! What the words of `pir_publisher`'s commands ask for, and what its help says of them.
+//!
+//! Each command is a table (`CommandText` of `command_words`); what is read of the words is a structure, and a contract says which word
+//! each field has.
+//!
+//! Its tests are in `tests/publisher`.
+#![tactic(auto)]
+
+mod command_line;
+mod init_line;
+mod peers;
+
+pub use command_line::{
+    Adding, Asked, Asking, KEY_TAKES, Pushing, Setting, Showing, Task, task_of,
+};
+pub use init_line::Beginning;
+pub use peers::Peer;
