@@ -34,6 +34,9 @@ pub enum Cause {
     /// A record that was retrieved of it is another one than the folder's.
     #[error("Differs: its record {0} is another: start it from a copy of the snapshot")]
     Differs(u32),
+    /// It is at the folder's version, and has more or fewer records, or another one published meanwhile.
+    #[error("Differs: it has another number of records: start it from a copy of the snapshot")]
+    OtherCount,
     /// A record could not be retrieved of it.
     #[error("Unverified: a record could not be retrieved")]
     Unverified,

@@ -8,6 +8,7 @@ use crate::watching::watch;
 use command_words::{Failed, Failure, printed};
 use publisher_files::records_name;
 use publisher_words::{Asking, KEY_TAKES, Peer, Pushing};
+use safe_files::{FileLock, LockFault, lock};
 use server_files::failed_at;
 use std::alloc::{AllocError, Global};
 
@@ -23,14 +24,11 @@ const LEFT: Failure = Failure::Fault("Left");
 /// The failure if a server did not tell its version.
 const NO_REPLY: Failure = Failure::Fault("Connect");
 
-/// What greets a server as a reader.
-const READER_KEY: [u8; 32] = [0; 32];
-
 /// Brings servers to a folder's version, and prints a line for each. With `watch` this goes on, also after versions to come.
 ///
 /// # Errors
 ///
-/// Those of the key and of the folder; `Left` if a server was left as it is, after a line for each. `Write` if a line can't be printed, `Memory`.
+/// Those of the key; `Locked` if another push from this folder goes on; those of the folder; `Left` if a server was left as it is, after a line for each. `Write` if a line can't be printed, `Memory`.
 pub fn push(rt: &HostRuntime, pushing: &Pushing<'_>) -> Result<(), Failed> {
     let key = pushing
         .key
@@ -41,6 +39,8 @@ pub fn push(rt: &HostRuntime, pushing: &Pushing<'_>) -> Result<(), Failed> {
     } else {
         Aim::Push
     };
+    // Two at once would append to the same drafts.
+    let _lock = lock_pushes(rt, pushing.dir)?;
     let folder = read_folder(rt, pushing.dir)?;
     let mut rounds = Rounds::new(rt)?;
     if pushing.watch {
@@ -74,7 +74,7 @@ fn push_all(
     let mut left = 0u64;
     let mut rest = FIRST_REST;
     for tried in 1..=TRIES {
-        let ends = rounds.run(rt, round, &away, SILENCE)?;
+        let ends = rounds.push(rt, round, &away, SILENCE)?;
         let mut again = Vec::new(rt.alloc());
         for (peer, end) in away.iter().zip(ends.iter()) {
             match end {
@@ -128,11 +128,7 @@ pub fn say_end(rt: &HostRuntime, peer: &Peer<'_>, end: End) -> Result<(), Failed
 pub fn status(rt: &HostRuntime, asking: &Asking<'_>) -> Result<(), Failed> {
     let folder = read_folder(rt, asking.dir)?;
     let mut rounds = Rounds::new(rt)?;
-    let round = Round {
-        folder: &folder,
-        aim: Aim::Ask,
-        key: READER_KEY,
-    };
+    let round = Round::to_ask(&folder);
     let ends = rounds.run(rt, &round, &asking.to, SILENCE)?;
     printed(rt, println!(rt; "ADDRESS VERSION LAG RECORDS"))?;
     let mut silent = 0u64;
@@ -156,6 +152,17 @@ fn say_status(rt: &HostRuntime, current: u64, peer: &Peer<'_>, end: End) -> Resu
         }
         End::Pushed(version) => printed(rt, println!(rt; "{peer} {version} 0 -")),
         End::Left(cause) => printed(rt, println!(rt; "{peer} - - - {cause}")),
+    }
+}
+
+// The lock that a push has, so that no other one from this folder goes on beside it.
+fn lock_pushes(rt: &HostRuntime, dir: &str) -> Result<FileLock, Failed> {
+    let name = format!(in rt.alloc(); "{dir}/push.lock")?;
+    match lock(rt, name.as_str()) {
+        Ok(lock) => Ok(lock),
+        Err(LockFault::Held) => Err(failed_at(rt, name.as_str(), Failure::Fault("Locked"))),
+        Err(LockFault::File) => Err(failed_at(rt, name.as_str(), Failure::Fault("File"))),
+        Err(LockFault::Memory) => Err(Failed::from(Failure::Memory)),
     }
 }
 

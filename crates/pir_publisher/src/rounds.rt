@@ -1,6 +1,7 @@
 //! Rounds, in each of which servers have their part side by side.
 
 use crate::ends::{Cause, End};
+use crate::pushing::add;
 use crate::talk::{Round, Talk};
 use client_core::ClientCore;
 use command_words::Failure;
@@ -77,6 +78,38 @@ impl Rounds {
         let _ = self
             .poll
             .poll(&mut self.events, Some(Duration::from_millis(millis)));
+    }
+
+    /// Brings these servers to a folder's version, as [`Rounds::run`] does, and then greets those anew that are there, to see that they have as
+    /// many records as the folder: what a session of before had appended, whose end a server has not seen yet, would be in their
+    /// version, too.
+    ///
+    /// # Errors
+    ///
+    /// `AllocError` when memory was refused.
+    pub fn push(
+        &mut self,
+        rt: &HostRuntime,
+        round: &Round<'_>,
+        peers: &[Peer<'_>],
+        silence: u64,
+    ) -> Result<Vec<End>, AllocError> {
+        let mut ends = self.run(rt, round, peers, silence)?;
+        let mut there = Vec::new(rt.alloc());
+        let mut places = Vec::new(rt.alloc());
+        for at in 0..peers.len().min(ends.len()) {
+            if let End::Pushed(_) = ends[at] {
+                add(&mut there, peers[at])?;
+                add(&mut places, at)?;
+            }
+        }
+        let told = self.run(rt, &round.asking(), &there, silence)?;
+        for (at, end) in places.iter().zip(told.iter()) {
+            if *at < ends.len() {
+                ends[*at] = confirmed(round, *end);
+            }
+        }
+        Ok(ends)
     }
 
     /// Has these servers their part side by side, each of which may say nothing for so many milliseconds, and answers how it ended with each, in
@@ -213,6 +246,19 @@ impl Rounds {
         }
         let client = client_for(rt, round)?;
         Talk::begin(rt.alloc(), stream, client, round.key, self.now(rt))
+    }
+}
+
+// How the part of a server ended that was brought to a folder's version, by what it told after that.
+fn confirmed(round: &Round<'_>, told: End) -> End {
+    let version = &round.folder.version;
+    match told {
+        End::Told(known)
+            if known.version == version.number() && known.count as usize == version.count() => {
+            End::Pushed(known.version)
+        }
+        End::Told(_) => End::Left(Cause::OtherCount),
+        end => end,
     }
 }
 

@@ -13,6 +13,9 @@ use std::alloc::{AllocError, Global};
 use std::io::{ErrorKind, Read, Write};
 use std::mem;
 
+/// What greets a server as a reader.
+const READER_KEY: [u8; 32] = [0; 32];
+
 /// How many reads a turn makes at most.
 const READS: u32 = 16;
 
@@ -39,6 +42,20 @@ pub struct Round<'a> {
 }
 
 impl<'a> Round<'a> {
+    /// A round in which servers tell what they have, as each reader is told.
+    pub fn to_ask(folder: &'a FolderView) -> Round<'a> {
+        Round {
+            folder,
+            aim: Aim::Ask,
+            key: READER_KEY,
+        }
+    }
+
+    /// The same of this round's folder.
+    pub fn asking(&self) -> Round<'a> {
+        Round::to_ask(self.folder)
+    }
+
     // The publications that a server lacks that has the first so many.
     fn publications_after(&self, count: usize) -> Publications<'a> {
         self.folder.version.publications().without_first(count)

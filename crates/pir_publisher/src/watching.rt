@@ -137,7 +137,7 @@ fn try_due(
     if peers.is_empty() {
         return Ok(());
     }
-    let ends = rounds.run(rt, round, &peers, silence)?;
+    let ends = rounds.push(rt, round, &peers, silence)?;
     let now = rounds.now(rt);
     for (at, end) in due.iter().zip(ends.iter()) {
         if *at < all.len() && all[*at].note(*end, now) {
