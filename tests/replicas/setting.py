@@ -85,6 +85,11 @@ def content_of(file):
     return fault or (version + len(publications), records)
 
 
+def pushed_in(out):
+    """The lines of a push on servers that have the version, and not those on servers that it left as they are."""
+    return sorted(line for line in out.splitlines() if not line.startswith("left "))
+
+
 class Publisher:
     """A publisher's folder, and what each version of it has."""
 
@@ -132,7 +137,7 @@ class Publisher:
         begun = time.monotonic()
         status, out, errors = run(*self.words_of_push(servers, key, more))
         self.took = time.monotonic() - begun
-        return status, sorted(out.splitlines()), errors
+        return status, pushed_in(out), errors
 
     def some_time(self, chance):
         """How long to wait so that a push is at any moment, or has just ended: by how long the last whole one took."""

@@ -13,10 +13,10 @@ use server_files::failed_at;
 use std::alloc::{AllocError, Global};
 
 /// How often a server is tried that may be well a moment later.
-const TRIES: u32 = 4;
+const TRIES: u32 = 3;
 
 /// How many milliseconds it is left alone after the first try; twice as many after each other one.
-const FIRST_REST: u64 = 500;
+const FIRST_REST: u64 = 200;
 
 /// The failure if a server was left as it is.
 const LEFT: Failure = Failure::Fault("Left");

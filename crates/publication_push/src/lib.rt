@@ -5,14 +5,14 @@
 //! names the right version. [`Push`] does so over a [`ClientCore`](client_core::ClientCore), without a connection: it gives the bytes to send, and takes
 //! those that came. `specs/Orders.antt` defines what is asked for, and [`laws`] says that a push of which each reply was Done
 //! leaves the server's history that of the log.
+//!
+//! Its tests are in `tests/long/publication_push`.
 #![tactic(auto)]
 
 mod fault;
 pub mod laws;
 mod orders;
 mod push;
-#[cfg(test)]
-mod tests;
 
 pub use fault::PushFault;
 pub use orders::{Order, Orders};
