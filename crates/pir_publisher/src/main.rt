@@ -9,7 +9,6 @@
 
 mod commands;
 mod ends;
-mod folder_view;
 mod lacking;
 mod pushing;
 mod rounds;

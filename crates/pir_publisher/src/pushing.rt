@@ -1,12 +1,11 @@
 //! The commands `push` and `status`.
 
 use crate::ends::{Cause, End};
-use crate::folder_view::FolderView;
 use crate::rounds::{Rounds, SILENCE};
 use crate::talk::{Aim, Round};
 use crate::watching::watch;
 use command_words::{Failed, Failure, printed};
-use publisher_files::records_name;
+use publisher_files::{FolderVersion, open_folder, records_name};
 use publisher_words::{Asking, KEY_TAKES, Peer, Pushing};
 use safe_files::{FileLock, LockFault, lock};
 use server_files::failed_at;
@@ -136,7 +135,7 @@ pub fn status(rt: &HostRuntime, asking: &Asking<'_>) -> Result<(), Failed> {
         if let End::Left(_) = end {
             silent = silent.saturating_add(1);
         }
-        say_status(rt, folder.version.number(), peer, *end)?;
+        say_status(rt, folder.number(), peer, *end)?;
     }
     all_well(rt.alloc(), silent, NO_REPLY, "that did not tell")
 }
@@ -167,9 +166,9 @@ fn lock_pushes(rt: &HostRuntime, dir: &str) -> Result<FileLock, Failed> {
 }
 
 // The version of a folder.
-fn read_folder(rt: &HostRuntime, dir: &str) -> Result<FolderView, Failed> {
+fn read_folder(rt: &HostRuntime, dir: &str) -> Result<FolderVersion, Failed> {
     let records = records_name(rt.alloc(), dir)?;
-    match FolderView::read(rt, records.as_str()) {
+    match open_folder(rt, records.as_str()) {
         Ok(folder) => Ok(folder),
         Err(failure) => Err(failed_at(rt, records.as_str(), failure)),
     }

@@ -251,7 +251,7 @@ impl Rounds {
 
 // How the part of a server ended that was brought to a folder's version, by what it told after that.
 fn confirmed(round: &Round<'_>, told: End) -> End {
-    let version = &round.folder.version;
+    let version = round.folder;
     match told {
         End::Told(known)
             if known.version == version.number() && known.count as usize == version.count() => {
@@ -268,7 +268,7 @@ fn client_for(rt: &HostRuntime, round: &Round<'_>) -> Result<ClientCore<Lanes>, 
     if rt.fill_bytes(&mut seed).is_err() {
         return Err(Cause::Unverified);
     }
-    let plan = round.folder.version.plan();
+    let plan = round.folder.plan();
     if is_wide(plan.form) {
         Ok(ClientCore::wide(rt.alloc(), Lanes, seed, 0))
     } else {

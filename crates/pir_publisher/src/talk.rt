@@ -1,13 +1,13 @@
 //! The connection to one server, in a round.
 
 use crate::ends::{Cause, End};
-use crate::folder_view::FolderView;
 use crate::lacking::{Lack, lack_of};
 use crate::verifying::{Verified, Verifying};
 use client_core::{ClientCore, ServerInfo};
 use mio::net::TcpStream;
 use publication_log::Publications;
 use publication_push::{Push, PushFault, PushStep};
+use publisher_files::FolderVersion;
 use session_core::Lanes;
 use std::alloc::{AllocError, Global};
 use std::io::{ErrorKind, Read, Write};
@@ -24,7 +24,7 @@ const READS: u32 = 16;
 pub enum Aim {
     /// Servers are brought to the folder's version.
     Push,
-    /// The same, and what was changed is retrieved of each and compared.
+    /// The same, and what was changed is retrieved of each and compared; of one that lacked nothing what the last publication changed.
     PushAndVerify,
     /// Servers tell what they have.
     Ask,
@@ -34,7 +34,7 @@ pub enum Aim {
 #[derive(Clone, Copy)]
 pub struct Round<'a> {
     /// The folder's version.
-    pub folder: &'a FolderView,
+    pub folder: &'a FolderVersion,
     /// What the round is for.
     pub aim: Aim,
     /// The key to greet with: the publisher's, or a reader's of zeros.
@@ -43,7 +43,7 @@ pub struct Round<'a> {
 
 impl<'a> Round<'a> {
     /// A round in which servers tell what they have, as each reader is told.
-    pub fn to_ask(folder: &'a FolderView) -> Round<'a> {
+    pub fn to_ask(folder: &'a FolderVersion) -> Round<'a> {
         Round {
             folder,
             aim: Aim::Ask,
@@ -58,12 +58,19 @@ impl<'a> Round<'a> {
 
     // The publications that a server lacks that has the first so many.
     fn publications_after(&self, count: usize) -> Publications<'a> {
-        self.folder.version.publications().without_first(count)
+        self.folder.publications().without_first(count)
+    }
+
+    // The publications whose changes are verified of a server that had the first so many: those that were pushed, or the last one if it
+    // had all.
+    fn publications_to_verify(&self, count: usize) -> Publications<'a> {
+        let all = self.folder.publications().count();
+        self.publications_after(count.min(all.saturating_sub(1)))
     }
 
     // What a server lacks.
     fn lack(&self, known: &ServerInfo) -> Lack {
-        let version = &self.folder.version;
+        let version = self.folder;
         lack_of(
             &version.plan(),
             version.snapshot_version(),
@@ -216,7 +223,7 @@ impl<'a> Talk<'a> {
                 self.pushed(round, step)
             }
             Stage::Verifying(verifying) => {
-                let verified = verifying.feed(round.folder, piece)?;
+                let verified = verifying.feed(piece)?;
                 self.verified(verified)
             }
             Stage::Over => Ok(None),
@@ -269,7 +276,7 @@ impl<'a> Talk<'a> {
         if round.aim != Aim::PushAndVerify {
             return Ok(Some(End::Pushed(version)));
         }
-        let pushed = round.publications_after(self.had);
+        let pushed = round.publications_to_verify(self.had);
         let client = push.into_client();
         match Verifying::begin(self.alloc, client, pushed, version)? {
             None => Ok(Some(End::Pushed(version))),

@@ -1,12 +1,12 @@
-//! What was pushed, retrieved of a server and compared with the folder's records.
+//! What was pushed, retrieved of a server and compared.
 
 use crate::ends::Cause;
-use crate::folder_view::FolderView;
 use client_core::{ClientCore, Event};
 use pir_schemes::Scheme;
-use publication_log::{Changes, Publications};
+use publication_log::Publications;
+use publisher_drafts::{ChangeMap, merged_of};
 use session_core::Lanes;
-use std::alloc::{AllocError, Global};
+use std::alloc::Global;
 
 /// What comes next.
 #[derive(Drop)]
@@ -21,8 +21,8 @@ pub enum Verified {
 #[derive(Drop)]
 pub struct Verifying {
     client: ClientCore<Lanes>,
-    // The places of the records, of which the last is next.
-    places: Vec<u32>,
+    // What each of them is to be, by its place.
+    left: ChangeMap,
     version: u64,
 }
 
@@ -39,10 +39,10 @@ impl Verifying {
         pushed: Publications<'_>,
         version: u64,
     ) -> Result<Option<(Verifying, Vec<u8>)>, Cause> {
-        let Ok(places) = changed_places(alloc, pushed) else {
+        let Ok(left) = merged_of(alloc, pushed) else {
             return Err(Cause::Memory);
         };
-        if places.is_empty() {
+        if left.is_empty() {
             return Ok(None);
         }
         let mut client = client;
@@ -51,7 +51,7 @@ impl Verifying {
         };
         let verifying = Verifying {
             client,
-            places,
+            left,
             version,
         };
         Ok(Some((verifying, bytes)))
@@ -62,7 +62,7 @@ impl Verifying {
     /// # Errors
     ///
     /// `Differs` if a record is another one than the folder's, `Unverified` if one could not be retrieved.
-    pub fn feed(&mut self, folder: &FolderView, piece: &[u8]) -> Result<Verified, Cause> {
+    pub fn feed(&mut self, piece: &[u8]) -> Result<Verified, Cause> {
         let fed = self.client.feed(piece);
         if fed.fault.is_some() {
             return Err(Cause::Unverified);
@@ -72,12 +72,7 @@ impl Verifying {
             // The client knows the version that it was welcomed at, before the push.
             Some(Event::Stale(version)) if *version == self.version => self.sync(),
             Some(Event::Synced(_, version)) if *version == self.version => self.ask_next(),
-            Some(Event::Retrieved { index, bytes, .. }) => {
-                if folder.record(*index) != Some(bytes.as_slice()) {
-                    return Err(Cause::Differs(*index));
-                }
-                self.ask_next()
-            }
+            Some(Event::Retrieved { index, bytes, .. }) => self.compare(*index, bytes.as_slice()),
             Some(_) => Err(Cause::Unverified),
         }
     }
@@ -90,37 +85,23 @@ impl Verifying {
         }
     }
 
+    // Compares a record that was retrieved, and asks for the next one.
+    fn compare(&mut self, place: u32, bytes: &[u8]) -> Result<Verified, Cause> {
+        match self.left.remove(&place) {
+            Some(wanted) if wanted.as_slice() == bytes => self.ask_next(),
+            _ => Err(Cause::Differs(place)),
+        }
+    }
+
     // Asks for the next record, if there is one left.
     fn ask_next(&mut self) -> Result<Verified, Cause> {
-        let Some(place) = self.places.pop() else {
+        let Some((place, _)) = self.left.first_key_value() else {
             return Ok(Verified::All(self.version));
         };
+        let place = *place;
         match self.client.ask(place) {
             Ok(bytes) => Ok(Verified::Sends(bytes)),
             Err(_) => Err(Cause::Unverified),
         }
     }
-}
-
-// The places that publications change, each once.
-fn changed_places(alloc: Global, publications: Publications<'_>) -> Result<Vec<u32>, AllocError> {
-    let mut places = Vec::new(alloc);
-    let mut left = publications;
-    'publications: while let Some((publication, rest)) = left.split_first() {
-        push_places(&mut places, publication.changes)?;
-        left = rest;
-    }
-    places.sort_unstable();
-    places.dedup();
-    Ok(places)
-}
-
-// Adds the places of changes.
-fn push_places(places: &mut Vec<u32>, changes: Changes<'_>) -> Result<(), AllocError> {
-    let mut left = changes;
-    'changes: while let Some((change, rest)) = left.split_first() {
-        places.push(change.place)?;
-        left = rest;
-    }
-    Ok(())
 }

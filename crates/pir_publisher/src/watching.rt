@@ -1,13 +1,14 @@
 //! Servers that are kept at a folder's version.
 
 use crate::ends::End;
-use crate::folder_view::FolderView;
 use crate::pushing::{add, say_end};
 use crate::rounds::{Rounds, SILENCE};
 use crate::talk::{Aim, Round};
 use command_words::{Failed, Failure};
+use publisher_files::{FolderVersion, open_folder};
 use publisher_words::Peer;
 use std::alloc::{AllocError, Global};
+use std::fs;
 
 /// How many milliseconds pass between two looks at the folder.
 const LOOK: u64 = 1_000;
@@ -20,10 +21,9 @@ const LONGEST_REST: u64 = 60_000;
 /// How many milliseconds a server may say nothing that was away before, while the others wait.
 const SHORT_SILENCE: u64 = 2_000;
 
-// A server that is kept at the folder's version.
+// What is known of a server that is kept at the folder's version.
 #[derive(Clone, Copy)]
-struct Kept<'a> {
-    peer: Peer<'a>,
+struct Watched {
     // When it is tried next, in milliseconds since the start.
     due: u64,
     // How long it is left alone the next time that it is away.
@@ -32,7 +32,7 @@ struct Kept<'a> {
     said: Option<End>,
 }
 
-impl Kept<'_> {
+impl Watched {
     // Whether it was well the last time that it was tried, or was not tried yet.
     fn is_well(&self) -> bool {
         !matches!(self.said, Some(End::Left(_)))
@@ -61,25 +61,25 @@ impl Kept<'_> {
 pub fn watch(
     rt: &HostRuntime,
     rounds: &mut Rounds,
-    folder: FolderView,
+    folder: FolderVersion,
     records: &str,
     aim: Aim,
     key: [u8; 32],
     to: &[Peer<'_>],
 ) -> Result<(), Failed> {
     let mut folder = folder;
-    let mut all = kept_all(rt.alloc(), to)?;
+    let mut all = watched_all(rt.alloc(), to.len())?;
     for _ in 0..u64::MAX {
         let round = Round {
             folder: &folder,
             aim,
             key,
         };
-        try_due(rt, rounds, &round, &mut all, true, SILENCE)?;
-        try_due(rt, rounds, &round, &mut all, false, SHORT_SILENCE)?;
+        try_due(rt, rounds, &round, to, &mut all, true)?;
+        try_due(rt, rounds, &round, to, &mut all, false)?;
         rounds.rest(LOOK);
-        if folder.is_old(rt) {
-            match FolderView::read(rt, records) {
+        if is_old(rt, &folder) {
+            match open_folder(rt, records) {
                 Ok(newer) => {
                     folder = newer;
                     all_well_due(&mut all);
@@ -93,55 +93,65 @@ pub fn watch(
     Ok(())
 }
 
-// Each server, due at once.
-fn kept_all<'a>(alloc: Global, to: &[Peer<'a>]) -> Result<Vec<Kept<'a>>, AllocError> {
+// Whether a folder's log has another length by now: there is another version, or another snapshot with a log of its own.
+fn is_old(rt: &HostRuntime, folder: &FolderVersion) -> bool {
+    let len = match fs::symlink_metadata(rt, folder.own.name.as_str()) {
+        Ok(there) => there.len(),
+        Err(_) => 0,
+    };
+    len != folder.log_size().bytes as u64
+}
+
+// So many servers, all due at once.
+fn watched_all(alloc: Global, count: usize) -> Result<Vec<Watched>, AllocError> {
+    let new = Watched {
+        due: 0,
+        rest: FIRST_REST,
+        said: None,
+    };
     let mut all = Vec::new(alloc);
-    for peer in to {
-        all.push(Kept {
-            peer: *peer,
-            due: 0,
-            rest: FIRST_REST,
-            said: None,
-        })?;
+    for _ in 0..count {
+        add(&mut all, new)?;
     }
     Ok(all)
 }
 
 // There is a new version: each server that is well lacks it.
-fn all_well_due(all: &mut [Kept<'_>]) {
-    for kept in all {
-        if kept.is_well() {
-            kept.due = 0;
+fn all_well_due(all: &mut [Watched]) {
+    for at in 0..all.len() {
+        if all[at].is_well() {
+            all[at].due = 0;
         }
     }
 }
 
-// Tries the servers that are due, of those that are well or of the others.
+// Tries the servers that are due, of those that are well or of the others, for which those don't wait as long.
 fn try_due(
     rt: &HostRuntime,
     rounds: &mut Rounds,
     round: &Round<'_>,
-    all: &mut [Kept<'_>],
+    to: &[Peer<'_>],
+    all: &mut [Watched],
     well: bool,
-    silence: u64,
 ) -> Result<(), Failed> {
     let now = rounds.now(rt);
     let mut due = Vec::new(rt.alloc());
     let mut peers = Vec::new(rt.alloc());
-    for at in 0..all.len() {
+    for at in 0..all.len().min(to.len()) {
         if all[at].is_well() == well && all[at].due <= now {
             add(&mut due, at)?;
-            add(&mut peers, all[at].peer)?;
+            add(&mut peers, to[at])?;
         }
     }
     if peers.is_empty() {
         return Ok(());
     }
+    let silence = if well { SILENCE } else { SHORT_SILENCE };
     let ends = rounds.push(rt, round, &peers, silence)?;
     let now = rounds.now(rt);
     for (at, end) in due.iter().zip(ends.iter()) {
-        if *at < all.len() && all[*at].note(*end, now) {
-            say_end(rt, &all[*at].peer, *end)?;
+        if *at < all.len() && *at < to.len() && all[*at].note(*end, now) {
+            say_end(rt, &to[*at], *end)?;
         }
     }
     Ok(())
