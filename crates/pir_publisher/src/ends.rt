@@ -10,10 +10,10 @@ pub enum Cause {
     /// No address of it takes a connection.
     #[error("Connect: it takes no connection")]
     Connect,
-    /// It said nothing for too long.
+    /// The server said nothing for too long.
     #[error("Timeout: it said nothing for too long")]
     Timeout,
-    /// It ended the connection.
+    /// The server ended the connection.
     #[error("Ended: it ended the connection")]
     Ended,
     /// Memory was refused.
@@ -34,7 +34,7 @@ pub enum Cause {
     /// A record that was retrieved of it is another one than the folder's.
     #[error("Differs: its record {0} is another: start it from a copy of the snapshot")]
     Differs(u32),
-    /// It is at the folder's version, and has more or fewer records, or another one published meanwhile.
+    /// The server is at the folder's version, and has more or fewer records, or another one was published meanwhile.
     #[error("Differs: it has another number of records: start it from a copy of the snapshot")]
     OtherCount,
     /// A record could not be retrieved of it.
@@ -61,10 +61,10 @@ impl From<PushFault> for Cause {
 /// How a server's part of a round ended.
 #[derive(Clone, Copy, Debug, PartialEq, Eq)]
 pub enum End {
-    /// It is at the folder's version.
+    /// The server is at the folder's version.
     Pushed(u64),
-    /// It told what it has.
+    /// The server told what it has.
     Told(ServerInfo),
-    /// It was left as it is.
+    /// The server was left as it is.
     Left(Cause),
 }

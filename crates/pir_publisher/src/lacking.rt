@@ -11,11 +11,11 @@ use pir_schemes::Plan;
 pub enum Lack {
     /// Its store is another one: the public seed or the sizes differ.
     OtherStore,
-    /// It is at a later version than the folder.
+    /// The server is at a later version than the folder.
     Ahead,
     /// The log begins after its version.
     BeforeLog,
-    /// It lacks what comes after so many publications of the log.
+    /// The server lacks what comes after so many publications of the log.
     After(usize),
 }
 

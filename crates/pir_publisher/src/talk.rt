@@ -83,7 +83,7 @@ impl<'a> Round<'a> {
 // How far the conversation is.
 #[derive(Drop)]
 enum Stage<'a> {
-    // It is greeted, or pushed to.
+    // The server is greeted, or pushed to.
     Pushing(Push<'a, Lanes>),
     // What was pushed is retrieved.
     Verifying(Verifying),

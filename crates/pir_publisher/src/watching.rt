@@ -85,7 +85,7 @@ pub fn watch(
                     all_well_due(&mut all);
                 }
                 Err(Failure::Memory) => return Err(Failed::from(Failure::Memory)),
-                // It is being replaced, or can't be read for the moment.
+                // The folder's files are being replaced, or can't be read for the moment.
                 Err(_) => {}
             }
         }
