@@ -18,6 +18,7 @@ sys.path[:0] = [f"{ROOT}/tests/service", f"{ROOT}/tests/model"]
 import formats
 import logs
 import wire
+from forwarding import Forwarder
 
 KEY, OTHER_KEY = wire.KEY.hex(), wire.OTHER_KEY.hex()
 SEED, OTHER_SEED = "55" * 32, "66" * 32
@@ -60,8 +61,14 @@ def bytes_in(name):
 
 
 def free_port():
-    with socket.create_server(("127.0.0.1", 0)) as listener:
-        return listener.getsockname()[1]
+    """A port that nobody listens at, and none that the system gives to a client while the server is down that has it."""
+    while True:
+        port = random.randrange(10_000, 32_000)
+        try:
+            socket.create_server(("127.0.0.1", port)).close()
+            return port
+        except OSError:
+            pass
 
 
 def backup_of(file):
@@ -230,48 +237,6 @@ def are_equal(name, publisher, replicas):
 # ---- what stands before servers
 
 
-class Forwarder:
-    """Passes on bytes between readers and servers, which it takes in turn, over those that are down."""
-
-    kind = "a forwarder"
-
-    def __init__(self, replicas):
-        self.ports, self.turn = [it.port for it in replicas], itertools.count()
-        self.listener = socket.create_server(("127.0.0.1", 0), backlog=256)
-        self.port = self.listener.getsockname()[1]
-        threading.Thread(target=self.listen, daemon=True).start()
-
-    def listen(self):
-        while True:
-            try:
-                stream, _ = self.listener.accept()
-            except OSError:
-                return
-            threading.Thread(target=self.forward, args=(stream,), daemon=True).start()
-
-    def forward(self, stream):
-        for _ in self.ports:
-            try:
-                server = socket.create_connection(("127.0.0.1", self.ports[next(self.turn) % len(self.ports)]))
-            except OSError:
-                continue
-            threading.Thread(target=self.pump, args=(server, stream), daemon=True).start()
-            self.pump(stream, server)
-            return
-        stream.close()
-
-    def pump(self, source, sink):
-        try:
-            while piece := source.recv(65_536):
-                sink.sendall(piece)
-            sink.shutdown(socket.SHUT_WR)
-        except OSError:
-            pass
-
-    def close(self):
-        self.listener.close()
-
-
 class Haproxy:
     """HAProxy by the file of examples/replicas, with other ports."""
 
@@ -306,7 +271,7 @@ class Haproxy:
 
 def balancer_before(replicas):
     program = shutil.which("haproxy", path=f"{os.environ.get('PATH', '')}:/usr/sbin:/usr/local/sbin")
-    return Haproxy(program, replicas) if program else Forwarder(replicas)
+    return Haproxy(program, replicas) if program else Forwarder(*(it.port for it in replicas))
 
 
 def some_chance(name):

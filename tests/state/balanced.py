@@ -2,37 +2,8 @@
 `TESTS` takes the module with the checks: `same`, `get`, `client`, `Server`."""
 import os
 import socket
-import threading
 
-
-class Balancer:
-    """Hands its connections to the servers of these ports in turn, and counts them."""
-
-    def __init__(self, *ports):
-        self.ports, self.count = ports, 0
-        self.listener = socket.create_server(("127.0.0.1", 0), backlog=64)
-        self.port = self.listener.getsockname()[1]
-        threading.Thread(target=self.listen, daemon=True).start()
-
-    def listen(self):
-        while True:
-            try:
-                stream, _ = self.listener.accept()
-            except OSError:
-                return
-            server = socket.create_connection(("127.0.0.1", self.ports[self.count % len(self.ports)]))
-            self.count += 1
-            for source, sink in ((stream, server), (server, stream)):
-                threading.Thread(target=pump, args=(source, sink), daemon=True).start()
-
-
-def pump(source, sink):
-    try:
-        while piece := source.recv(65_536):
-            sink.sendall(piece)
-        sink.shutdown(socket.SHUT_WR)
-    except OSError:
-        pass
+from forwarding import Forwarder
 
 
 def content(folder):
@@ -57,7 +28,7 @@ def two_versions(t, folder, form):
 def without_the_flag(t, folder, form):
     """The record of version 1, with a warning; and what was kept of version 2 stays."""
     older, newer, records = two_versions(t, folder, form)
-    before, balancer = content(folder), Balancer(older.port, newer.port)
+    before, balancer = content(folder), Forwarder(older.port, newer.port)
     warning = "warning: version 1 after 2\n"
     for turn in range(2):
         t.same(f"{folder}, {turn}: version 1", (0, t.retrieved(1, 1, records), warning), t.get(folder, balancer.port, 1))
@@ -72,7 +43,7 @@ def with_the_flag(t, folder, form, scheme="simple"):
     older, newer, records = two_versions(t, folder, form)
     words = ["get", "--state", folder, "--scheme", scheme, "--least-dimension", "4", "--no-older", "--verbose", "--port"]
     greetings = 1 + (form == 129)
-    before, alone = content(folder), Balancer(older.port)
+    before, alone = content(folder), Forwarder(older.port)
     asked = len(older.connections)
     cause = "fault: Older\ncause: 4 connections: version 1 after 2\n"
     t.same(f"{folder}: none but older ones", (3, "", cause), t.client(*words, alone.port, 1))
@@ -81,10 +52,10 @@ def with_the_flag(t, folder, form, scheme="simple"):
     t.same(f"{folder}: nothing was written", before, content(folder))
     wanted = (0, t.retrieved(1, 2, records), "")
     for ports, count in (((1, 2), 2), ((1, 1, 2), 3), ((1, 1, 1, 2), 4), ((2, 1), 1)):
-        balancer = Balancer(*(older.port if version == 1 else newer.port for version in ports))
+        balancer = Forwarder(*(older.port if version == 1 else newer.port for version in ports))
         t.same(f"{folder}, {ports}", wanted, t.client(*words, balancer.port, 1))
         t.same(f"{folder}, {ports}: connections", count, balancer.count)
-    late = Balancer(older.port, older.port, older.port, older.port, newer.port)
+    late = Forwarder(older.port, older.port, older.port, older.port, newer.port)
     t.same(f"{folder}: the fifth is not tried", (3, "", cause), t.client(*words, late.port, 1))
     t.same(f"{folder}: nor connected to", 4, late.count)
 
@@ -106,7 +77,7 @@ def gone_servers(t, folder):
         port = listener.getsockname()[1]
     words = ["get", "--state", folder, "--scheme", "simple", "--least-dimension", "4", "--no-older", "--port"]
     t.same(f"{folder}: nobody listens", (3, "", "fault: Connect\n"), t.client(*words, port, 1))
-    t.same(f"{folder}: and then", (0, t.retrieved(1, 2), ""), t.client(*words, Balancer(older.port, newer.port).port, 1))
+    t.same(f"{folder}: and then", (0, t.retrieved(1, 2), ""), t.client(*words, Forwarder(older.port, newer.port).port, 1))
 
 
 def older_ones_behind_a_balancer(t):
