@@ -28,7 +28,7 @@ pub record IsRead (h : LogHeader) (ps : List Published) (read : ReadLog) : Type 
   pub entries : entries_of read ≡ chain_bytes (first_link h) (bodies_of ps)
 
 -- a log that was read as these publications, after which the next one is appended
-pub record IsOpened (h : LogHeader) (ps : List Published) (opened : OpenedLog) : Type 0 where
+pub record IsOpened {F : Type 0} (h : LogHeader) (ps : List Published) (opened : OpenedLog F) : Type 0 where
   pub read : IsRead h ps opened.read
   pub link : opened.log.link ≡ end_link h ps
   pub version : opened.log.version ≡ h.version + length ps

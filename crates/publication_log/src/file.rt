@@ -8,9 +8,9 @@ use crate::header::{LOG_MARK, LogHeader};
 use crate::log::{Disk, DiskFailed, Log};
 use crate::opened::{OpenedLog, ReadLog};
 use crate::reading::{BadLog, ReadFault, read_log};
-use safe_files::{Bytes, ReplaceFault, folder_of, remove_beside, replace_file};
+use safe_files::{Bytes, FileSystem, ReplaceFault, folder_of, remove_beside, replace_file};
 use std::fs;
-use std::fs::{File, OpenOptions};
+use std::fs::{File, OpenFile, OpenOptions};
 use std::io::{ErrorKind, Read, Write};
 use thiserror::Error;
 
@@ -42,11 +42,11 @@ impl From<ReadFault> for OpenFault {
 
 /// A file to whose end entries are written.
 #[derive(Drop)]
-pub struct LogFile {
-    file: File,
+pub struct LogFile<F = File> {
+    file: F,
 }
 
-impl Disk for LogFile {
+impl<F: Write + OpenFile> Disk for LogFile<F> {
     fn write(&mut self, bytes: &[u8]) -> Result<(), DiskFailed> {
         match self.file.write_all(bytes) {
             Ok(()) => Ok(()),
@@ -79,7 +79,11 @@ impl Disk for LogFile {
 /// # Errors
 ///
 /// Each of [`OpenFault`] when its step failed or its cause was there.
-pub fn open_log(rt: &HostRuntime, name: &str, header: &LogHeader) -> Result<OpenedLog, OpenFault>
+pub fn open_log<R: FileSystem>(
+    rt: &R,
+    name: &str,
+    header: &LogHeader,
+) -> Result<OpenedLog<R::File>, OpenFault>
     ensures { IfOk result (λ opened. (ps : List Published) × IsOpened header.now ps opened) }
 {
     let Ok(prefix) = header.to_bytes(rt.alloc()) else {
@@ -108,8 +112,8 @@ pub fn open_log(rt: &HostRuntime, name: &str, header: &LogHeader) -> Result<Open
 /// # Errors
 ///
 /// As [`open_log`], but no `Cut`.
-pub fn read_log_file(
-    rt: &HostRuntime,
+pub fn read_log_file<R: FileSystem>(
+    rt: &R,
     name: &str,
     header: &LogHeader,
 ) -> Result<Option<ReadLog>, OpenFault>
@@ -135,7 +139,7 @@ pub fn read_log_file(
 /// # Errors
 ///
 /// `File` when it can't be removed, or its folder can't be sent to the device.
-pub fn remove_log(rt: &HostRuntime, name: &str) -> Result<(), OpenFault> {
+pub fn remove_log<R: FileSystem>(rt: &R, name: &str) -> Result<(), OpenFault> {
     match fs::remove_file(rt, name) {
         Ok(()) => sync_name(rt, name),
         Err(fault) if fault.kind() == ErrorKind::NotFound => Ok(()),
@@ -145,12 +149,12 @@ pub fn remove_log(rt: &HostRuntime, name: &str) -> Result<(), OpenFault> {
 
 /// Removes the logs beside a file but the one of this name: those of snapshots that the file had before. Whoever calls this has the
 /// lock of the file.
-pub fn remove_other_logs(rt: &HostRuntime, file: &str, kept: &str) {
+pub fn remove_other_logs<R: FileSystem>(rt: &R, file: &str, kept: &str) {
     remove_beside(rt, file, LOG_MARK, kept);
 }
 
 // Makes a log without entries if nothing has the name. What has it must be a file, and no link.
-fn make_missing(rt: &HostRuntime, name: &str, prefix: &[u8]) -> Result<(), OpenFault> {
+fn make_missing<R: FileSystem>(rt: &R, name: &str, prefix: &[u8]) -> Result<(), OpenFault> {
     match fs::symlink_metadata(rt, name) {
         Ok(there) if there.is_file() => Ok(()),
         Err(fault) if fault.kind() == ErrorKind::NotFound => {
@@ -165,7 +169,7 @@ fn make_missing(rt: &HostRuntime, name: &str, prefix: &[u8]) -> Result<(), OpenF
 }
 
 // Sends the file's name to the device: whoever made the file may have been killed before.
-fn sync_name(rt: &HostRuntime, name: &str) -> Result<(), OpenFault> {
+fn sync_name<R: FileSystem>(rt: &R, name: &str) -> Result<(), OpenFault> {
     let Ok(folder) = File::open(rt, folder_of(name)) else {
         return Err(OpenFault::File);
     };
@@ -178,7 +182,7 @@ fn sync_name(rt: &HostRuntime, name: &str) -> Result<(), OpenFault> {
 }
 
 // All bytes of a file, for which the room is made at once.
-fn bytes_of(rt: &HostRuntime, file: &mut File) -> Result<Vec<u8>, OpenFault> {
+fn bytes_of<R: FileSystem>(rt: &R, file: &mut R::File) -> Result<Vec<u8>, OpenFault> {
     let Ok(about) = file.metadata() else {
         return Err(OpenFault::File);
     };

@@ -5,6 +5,8 @@ ghost use Rattle.std.specs.Prelude.{◌≤◌, vec_len};
 use crate::file::LogFile;
 use crate::log::Log;
 use crate::reading::{Found, Publications};
+use std::fs::{File, OpenFile};
+use std::io::Write;
 
 /// The bytes of a log, and what was found in them.
 #[derive(Drop)]
@@ -53,14 +55,14 @@ impl ReadLog {
 
 /// A log that was opened, with what was read of it.
 #[derive(Drop)]
-pub struct OpenedLog {
+pub struct OpenedLog<F: Write + OpenFile + Drop = File> {
     /// The log, to which may be appended. Its torn end was cut off.
-    pub log: Log<LogFile>,
+    pub log: Log<LogFile<F>>,
     /// What was read, before the torn end was cut off.
     pub read: ReadLog,
 }
 
-impl OpenedLog {
+impl<F: Write + OpenFile + Drop> OpenedLog<F> {
     ghost use Rattle.std.specs.Prelude.{◌≡◌};
     ghost use Rattle.publication_log.specs.Opened.{entries_of};
 
@@ -72,7 +74,7 @@ impl OpenedLog {
     }
 
     /// The log, once its publications were read: their bytes are let go.
-    pub fn into_log(self) -> Log<LogFile>
+    pub fn into_log(self) -> Log<LogFile<F>>
         ensures { result ≡ self.log }
     {
         self.log

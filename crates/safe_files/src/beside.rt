@@ -1,5 +1,6 @@
 //! Files beside another one, by their names.
 
+use crate::system::FileSystem;
 use std::fs;
 
 /// How many hex digits follow a mark in the name of a file beside another.
@@ -55,7 +56,7 @@ fn is_after_dash(text: &str) -> bool {
 }
 
 // Whether a file stands at a name, and no link to one.
-fn is_own_file(rt: &HostRuntime, name: &str) -> bool {
+fn is_own_file<R: FileSystem>(rt: &R, name: &str) -> bool {
     match fs::symlink_metadata(rt, name) {
         Ok(found) => found.is_file(),
         Err(_) => false,
@@ -66,7 +67,7 @@ fn is_own_file(rt: &HostRuntime, name: &str) -> bool {
 /// killed processes left that were replacing such a file. Links and folders of such names stay. Whoever calls this has the lock of the file.
 ///
 /// One that can't be removed takes room, and does no other harm: it is not reported.
-pub fn remove_beside(rt: &HostRuntime, name: &str, mark: &str, kept: &str) {
+pub fn remove_beside<R: FileSystem>(rt: &R, name: &str, mark: &str, kept: &str) {
     let Ok(entries) = fs::read_dir(rt, folder_of(name)) else {
         return;
     };

@@ -18,6 +18,7 @@ mod locking;
 mod place;
 mod replacing;
 mod steady;
+mod system;
 
 pub use beside::{MARKED_DIGITS, are_hex_digits, folder_of, remove_beside};
 pub use content::{Bytes, Content, ContentFault};
@@ -27,6 +28,7 @@ pub use locking::{FileLock, LockFault, lock};
 pub use place::{Place, open_file, replace_file};
 pub use replacing::{ReplaceFault, SettleFault, finish, replace, settle};
 pub use steady::SteadyFile;
+pub use system::FileSystem;
 
 #[cfg(test)]
 mod tests;

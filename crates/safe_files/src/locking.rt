@@ -2,9 +2,9 @@
 
 ghost use Rattle.std.specs.Prelude.{◌≡◌};
 
-use crate::place::keep_owner;
+use crate::system::FileSystem;
 use std::alloc::AllocError;
-use std::fs::{File, Metadata, OpenOptions, TryLockError};
+use std::fs::{File, Metadata, OpenFile, OpenOptions, TryLockError};
 use std::io::ErrorKind;
 use std::os::unix::fs::{MetadataExt, OpenOptionsExt};
 use std::{fs, io};
@@ -40,14 +40,14 @@ impl From<AllocError> for LockFault {
 /// A lock that this process has. It is given back when the value is dropped, and by the system when the process ends,
 /// in whatever way.
 #[derive(Drop)]
-pub struct FileLock {
-    file: File,
+pub struct FileLock<R: FileSystem = HostRuntime> {
+    file: R::File,
 }
 
-impl FileLock {
+impl<R: FileSystem> FileLock<R> {
     // Gives the lock's file the owner of another.
-    pub(crate) fn keep_owner_of(&self, old: &Metadata) {
-        keep_owner(&self.file, old);
+    pub(crate) fn keep_owner_of(&self, rt: &R, old: &Metadata) {
+        rt.keep_owner(&self.file, old);
     }
 }
 
@@ -57,14 +57,14 @@ impl FileLock {
 /// # Errors
 ///
 /// `Held` where another process has it; `File` where the file can't be opened or made, or is a link or no file.
-pub fn lock(rt: &HostRuntime, name: &str) -> Result<FileLock, LockFault> {
+pub fn lock<R: FileSystem>(rt: &R, name: &str) -> Result<FileLock<R>, LockFault> {
     let Ok(file) = lock_file(rt, name) else {
         return Err(LockFault::File);
     };
     if !is_own_file(rt, name, &file) {
         return Err(LockFault::File);
     }
-    match file.try_lock() {
+    match rt.try_lock(&file) {
         Ok(()) => Ok(FileLock { file }),
         Err(TryLockError::WouldBlock) => Err(LockFault::Held),
         Err(TryLockError::Error(_)) => Err(LockFault::File),
@@ -72,7 +72,7 @@ pub fn lock(rt: &HostRuntime, name: &str) -> Result<FileLock, LockFault> {
 }
 
 // Opens the lock's file, or makes it. What is in it is never read nor written.
-fn lock_file(rt: &HostRuntime, name: &str) -> io::Result<File> {
+fn lock_file<R: FileSystem>(rt: &R, name: &str) -> io::Result<R::File> {
     match fs::symlink_metadata(rt, name) {
         Ok(found) if found.is_file() => File::open(rt, name),
         // To open a pipe is to wait for who writes to it.
@@ -88,7 +88,7 @@ fn lock_file(rt: &HostRuntime, name: &str) -> io::Result<File> {
 }
 
 // Whether the name is that of the open file itself, and neither a link nor something that is no file.
-fn is_own_file(rt: &HostRuntime, name: &str, file: &File) -> bool {
+fn is_own_file<R: FileSystem>(rt: &R, name: &str, file: &R::File) -> bool {
     match (fs::symlink_metadata(rt, name), file.metadata()) {
         (Ok(named), Ok(opened)) => named.is_file() && is_one_file(&named, &opened),
         _ => false,

@@ -6,11 +6,11 @@ use crate::disk::{Disk, DiskFailed};
 use crate::locking::{FileLock, LockFault, lock};
 use crate::replacing::{ReplaceFault, replace};
 use crate::steady::SteadyFile;
+use crate::system::FileSystem;
 use std::alloc::AllocError;
-use std::fs::{File, Metadata, OpenOptions};
+use std::fs::{File, OpenFile, OpenOptions};
 use std::io::ErrorKind;
-use std::os::unix::fs::{MetadataExt, OpenOptionsExt, PermissionsExt, fchown};
-use std::random::RandomSource;
+use std::os::unix::fs::{MetadataExt, OpenOptionsExt, PermissionsExt};
 use std::{fs, io, mem};
 
 /// How many names with random digits are tried for the file beside, after the first name.
@@ -28,8 +28,8 @@ const MODE_BITS: u32 = 0o7777;
 /// never opened, followed nor removed. It gets the old one's mode, and its owner where the system permits that; 0600
 /// where there was none. A file that a killed process left beside stays there, unless [`Place::lock`] removes it.
 #[derive(Drop)]
-pub struct Place<'a> {
-    rt: &'a HostRuntime,
+pub struct Place<'a, R: FileSystem = HostRuntime> {
+    rt: &'a R,
     // The name of the file itself, where the name given leads to it by links.
     name: String,
     // The name of the file beside that was made last, or that is tried first.
@@ -37,18 +37,18 @@ pub struct Place<'a> {
     // Names to try where something stands there. The memory for them is had before anything is done.
     others: Vec<String>,
     // The folder, open since the file was made, so that it can surely be sent to the device later.
-    folder: Option<File>,
+    folder: Option<R::File>,
     // A descriptor that is kept for the new file, so that there is one for it whatever else is open.
-    spare: Option<File>,
+    spare: Option<R::File>,
 }
 
-impl<'a> Place<'a> {
+impl<'a, R: FileSystem> Place<'a, R> {
     /// The place of a file of this name. Nothing is opened.
     ///
     /// # Errors
     ///
     /// `AllocError` where there is no memory for the names.
-    pub fn of(rt: &'a HostRuntime, name: &str) -> Result<Place<'a>, AllocError> {
+    pub fn of(rt: &'a R, name: &str) -> Result<Place<'a, R>, AllocError> {
         let name = real_name(rt, name)?;
         let beside = format!(in rt.alloc(); "{name}.new")?;
         let others = random_names(rt, name.as_str())?;
@@ -90,11 +90,11 @@ impl<'a> Place<'a> {
     /// # Errors
     ///
     /// As [`lock`], and `Memory`.
-    pub fn lock(&mut self) -> Result<FileLock, LockFault> {
+    pub fn lock(&mut self) -> Result<FileLock<R>, LockFault> {
         let beside = format!(in self.rt.alloc(); "{}.lock", self.name)?;
         let taken = lock(self.rt, beside.as_str())?;
         if let Ok(old) = fs::metadata(self.rt, self.name.as_str()) {
-            taken.keep_owner_of(&old);
+            taken.keep_owner_of(self.rt, &old);
         }
         remove_beside(self.rt, self.name.as_str(), ".new-", "");
         if let Some(other) = self.others.get_mut(0) {
@@ -112,7 +112,7 @@ impl<'a> Place<'a> {
     /// # Errors
     ///
     /// As [`open_file`].
-    pub fn open(&self) -> io::Result<SteadyFile> {
+    pub fn open(&self) -> io::Result<SteadyFile<R::File>> {
         open_file(self.rt, self.name.as_str())
     }
 
@@ -124,7 +124,7 @@ impl<'a> Place<'a> {
     }
 
     // Makes a new file under the first of some names that nothing has.
-    fn make_beside(&mut self) -> io::Result<File> {
+    fn make_beside(&mut self) -> io::Result<R::File> {
         if self.folder.is_none() {
             self.folder = Some(File::open(self.rt, folder_of(self.name.as_str()))?);
         }
@@ -142,11 +142,11 @@ impl<'a> Place<'a> {
     }
 
     // Gives the new file what the old one has, but its bytes.
-    fn keep_access(&self, file: &File) -> io::Result<()> {
+    fn keep_access(&self, file: &R::File) -> io::Result<()> {
         match fs::symlink_metadata(self.rt, self.name.as_str()) {
             Ok(old) if !old.is_file() => Ok(()),
             Ok(old) => {
-                keep_owner(file, &old);
+                self.rt.keep_owner(file, &old);
                 let mut access = old.permissions();
                 access.set_mode(old.mode() & MODE_BITS);
                 file.set_permissions(access)
@@ -157,10 +157,10 @@ impl<'a> Place<'a> {
     }
 }
 
-impl Disk for Place<'_> {
-    type File = SteadyFile;
+impl<R: FileSystem> Disk for Place<'_, R> {
+    type File = SteadyFile<R::File>;
 
-    fn make(&mut self) -> Result<SteadyFile, DiskFailed> {
+    fn make(&mut self) -> Result<SteadyFile<R::File>, DiskFailed> {
         let Ok(file) = self.make_beside() else {
             return Err(DiskFailed);
         };
@@ -173,14 +173,14 @@ impl Disk for Place<'_> {
         }
     }
 
-    fn sync(&mut self, file: &SteadyFile) -> Result<(), DiskFailed> {
+    fn sync(&mut self, file: &SteadyFile<R::File>) -> Result<(), DiskFailed> {
         match file.file().sync_all() {
             Ok(()) => Ok(()),
             Err(_) => Err(DiskFailed),
         }
     }
 
-    fn rename(&mut self, file: SteadyFile) -> Result<(), DiskFailed> {
+    fn rename(&mut self, file: SteadyFile<R::File>) -> Result<(), DiskFailed> {
         drop(file);
         self.keep_spare();
         match fs::rename(self.rt, self.beside.as_str(), self.name.as_str()) {
@@ -212,8 +212,8 @@ impl Disk for Place<'_> {
 /// # Errors
 ///
 /// As [`replace`], and `Memory` where there was none for the names.
-pub fn replace_file<C: Content>(
-    rt: &HostRuntime,
+pub fn replace_file<R: FileSystem, C: Content>(
+    rt: &R,
     name: &str,
     content: &C,
 ) -> Result<(), ReplaceFault> {
@@ -224,7 +224,7 @@ pub fn replace_file<C: Content>(
 }
 
 /// The name of the file that a name leads to by links, where there is a file and its name is text; else the name itself.
-pub(crate) fn real_name(rt: &HostRuntime, name: &str) -> Result<String, AllocError> {
+pub(crate) fn real_name<R: FileSystem>(rt: &R, name: &str) -> Result<String, AllocError> {
     match fs::canonicalize(rt, name) {
         Ok(path) => String::from_str(rt.alloc(), path.to_str().unwrap_or(name)),
         Err(fault) if fault.kind() == ErrorKind::OutOfMemory => Err(AllocError),
@@ -232,18 +232,12 @@ pub(crate) fn real_name(rt: &HostRuntime, name: &str) -> Result<String, AllocErr
     }
 }
 
-/// Gives a file the owner and the group of another, where the system permits that.
-pub(crate) fn keep_owner(file: &File, old: &Metadata) {
-    let _ = fchown(file, None, Some(old.gid()));
-    let _ = fchown(file, Some(old.uid()), None);
-}
-
 /// Opens a file to read it.
 ///
 /// # Errors
 ///
 /// Where it can't be opened, or is no file, as a folder. A pipe is not waited for.
-pub fn open_file(rt: &HostRuntime, name: &str) -> io::Result<SteadyFile> {
+pub fn open_file<R: FileSystem>(rt: &R, name: &str) -> io::Result<SteadyFile<R::File>> {
     if !fs::metadata(rt, name)?.is_file() {
         return Err(ErrorKind::InvalidInput.into());
     }
@@ -255,7 +249,7 @@ pub fn open_file(rt: &HostRuntime, name: &str) -> io::Result<SteadyFile> {
 }
 
 // Names beside a file that nobody can guess; none where there is no randomness.
-fn random_names(rt: &HostRuntime, name: &str) -> Result<Vec<String>, AllocError> {
+fn random_names<R: FileSystem>(rt: &R, name: &str) -> Result<Vec<String>, AllocError> {
     let mut names = Vec::new(rt.alloc());
     for _ in 0..RANDOM_NAMES {
         let mut digits = [0u8; 8];
@@ -269,7 +263,7 @@ fn random_names(rt: &HostRuntime, name: &str) -> Result<Vec<String>, AllocError>
 }
 
 // Makes a file where nothing stands.
-fn new_file(rt: &HostRuntime, name: &str) -> io::Result<File> {
+fn new_file<R: FileSystem>(rt: &R, name: &str) -> io::Result<R::File> {
     OpenOptions::new()
         .write(true)
         .create_new(true)

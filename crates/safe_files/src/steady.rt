@@ -1,6 +1,6 @@
 //! Open files whose calls no signal interrupts.
 
-use std::fs::{File, Metadata};
+use std::fs::{File, Metadata, OpenFile};
 use std::io;
 use std::io::{ErrorKind, Read, Write};
 
@@ -9,13 +9,13 @@ const TRIES: u32 = 1_000;
 
 /// An open file. A read or a write that a signal interrupted is made again.
 #[derive(Drop)]
-pub struct SteadyFile {
-    file: File,
+pub struct SteadyFile<F = File> {
+    file: F,
 }
 
-impl SteadyFile {
+impl<F: OpenFile> SteadyFile<F> {
     /// An open file.
-    pub fn new(file: File) -> SteadyFile {
+    pub fn new(file: F) -> SteadyFile<F> {
         SteadyFile { file }
     }
 
@@ -34,12 +34,12 @@ impl SteadyFile {
     }
 
     /// The file.
-    pub(crate) fn file(&self) -> &File {
+    pub(crate) fn file(&self) -> &F {
         &self.file
     }
 }
 
-impl Read for SteadyFile {
+impl<F: Read> Read for SteadyFile<F> {
     fn read(&mut self, buffer: &mut [u8]) -> io::Result<usize> {
         for _ in 0..TRIES {
             match self.file.read(buffer) {
@@ -51,7 +51,7 @@ impl Read for SteadyFile {
     }
 }
 
-impl Write for SteadyFile {
+impl<F: Write> Write for SteadyFile<F> {
     fn write(&mut self, bytes: &[u8]) -> io::Result<usize> {
         for _ in 0..TRIES {
             match self.file.write(bytes) {
