@@ -7,10 +7,10 @@ use crate::kept::KeptFile;
 use change_file::{Block, ChangesEnd, HEAD_LEN, block_bytes, empty_end, end_in, head_bytes};
 use client_core::{Plan, Scheme};
 use hint_file::{HintError, HintFields, KeptHead, file_name};
-use safe_files::{LockFault, lock};
+use safe_files::{FileSystem, LockFault, lock};
 use std::alloc::{AllocError, Global};
-use std::fs::{File, OpenOptions};
-use std::os::unix::fs::{FileExt, OpenOptionsExt};
+use std::fs::{OpenFile, OpenOptions};
+use std::os::unix::fs::OpenOptionsExt;
 
 /// The mode of a file that is made: its owner alone may use it.
 const FILE_MODE: u32 = 0o600;
@@ -51,7 +51,10 @@ impl KeptChanges {
     }
 
     // None yet: the head alone.
-    fn none(alloc: Global, kept: &KeptFile<'_>) -> Result<KeptChanges, AllocError> {
+    fn none<R: FileSystem>(
+        alloc: Global,
+        kept: &KeptFile<'_, R>,
+    ) -> Result<KeptChanges, AllocError> {
         let fields = &kept.head().fields;
         let bytes = head_bytes(kept.digest()).to_vec(alloc)?;
         let end = empty_end(kept.digest(), fields.version, fields.known.count);
@@ -59,9 +62,9 @@ impl KeptChanges {
     }
 
     // Those in the bytes of a file, whose end is read over; none if it is of another hint's file.
-    fn of(
+    fn of<R: FileSystem>(
         alloc: Global,
-        kept: &KeptFile<'_>,
+        kept: &KeptFile<'_, R>,
         mut bytes: Vec<u8>,
     ) -> Result<KeptChanges, AllocError> {
         match end_of(kept, &bytes) {
@@ -82,7 +85,7 @@ impl KeptChanges {
 }
 
 // Where the whole blocks of a file end, if they are of this hint's file.
-fn end_of(kept: &KeptFile<'_>, bytes: &[u8]) -> Option<ChangesEnd> {
+fn end_of<R: FileSystem>(kept: &KeptFile<'_, R>, bytes: &[u8]) -> Option<ChangesEnd> {
     let fields = &kept.head().fields;
     end_in(bytes, kept.digest(), fields.version, fields.known.count)
 }
@@ -92,19 +95,19 @@ pub fn most_changes(fields: &HintFields) -> usize {
     fields.rows.saturating_mul(fields.cols) / 2
 }
 
-impl<'a> Folder<'a> {
+impl<'a, R: FileSystem> Folder<'a, R> {
     /// The changes that are kept beside an open hint's file. A file of another hint, one of more bytes than there may be, and one that
     /// can't be read are none: the hint is sound without them.
     ///
     /// # Errors
     ///
     /// `AllocError` when memory was refused.
-    pub fn changes(&self, kept: &KeptFile<'_>) -> Result<KeptChanges, AllocError> {
+    pub fn changes(&self, kept: &KeptFile<'_, R>) -> Result<KeptChanges, AllocError> {
         let alloc = self.rt().alloc();
         let fields = &kept.head().fields;
         let name = changes_name(alloc, fields.scheme, &fields.known.plan)?;
         match open_file(self.rt(), self.path(), name.as_str()) {
-            Ok(Some(file)) => match bytes_of(alloc, &file, most_bytes(fields))? {
+            Ok(Some(file)) => match bytes_of(self.rt(), &file, most_bytes(fields))? {
                 Some(bytes) => KeptChanges::of(alloc, kept, bytes),
                 None => KeptChanges::none(alloc, kept),
             },
@@ -123,7 +126,7 @@ impl<'a> Folder<'a> {
     /// when memory was refused: then nothing was.
     pub fn add_changes(
         &self,
-        kept: &KeptFile<'_>,
+        kept: &KeptFile<'_, R>,
         changes: &mut KeptChanges,
         block: &Block<'_>,
     ) -> Result<bool, FolderFault> {
@@ -151,7 +154,7 @@ impl<'a> Folder<'a> {
     // Writes a block after those read, or, if the file has none of this hint's, the head and these before it.
     fn write_changes(
         &self,
-        kept: &KeptFile<'_>,
+        kept: &KeptFile<'_, R>,
         changes: &KeptChanges,
         block: &[u8],
     ) -> Result<(), FolderFault> {
@@ -180,15 +183,19 @@ impl<'a> Folder<'a> {
             .open(self.rt(), path.as_str())?;
         let at = changes.bytes.len() as u64;
         if changes.is_empty() {
-            file.write_all_at(&changes.bytes, 0)?;
+            self.rt().write_all_at(&file, &changes.bytes, 0)?;
         }
-        file.write_all_at(block, at)?;
+        self.rt().write_all_at(&file, block, at)?;
         file.set_len(at.saturating_add(block.len() as u64))?;
         Ok(())
     }
 
     // Whether the folder has this hint still, and these changes beside it.
-    fn still_has(&self, kept: &KeptFile<'_>, changes: &KeptChanges) -> Result<bool, FolderFault> {
+    fn still_has(
+        &self,
+        kept: &KeptFile<'_, R>,
+        changes: &KeptChanges,
+    ) -> Result<bool, FolderFault> {
         let fields = &kept.head().fields;
         match self.kept(fields.scheme, &fields.known.plan) {
             Ok(Some(now)) if now.digest() == kept.digest() => {}
@@ -221,13 +228,17 @@ fn most_bytes(fields: &HintFields) -> usize {
 }
 
 // The bytes of a file, if they are so many at most and can be read.
-fn bytes_of(alloc: Global, file: &File, most: usize) -> Result<Option<Vec<u8>>, AllocError> {
+fn bytes_of<R: FileSystem>(
+    rt: &R,
+    file: &R::File,
+    most: usize,
+) -> Result<Option<Vec<u8>>, AllocError> {
     let len = match file.metadata() {
         Ok(found) if found.len() <= most as u64 => found.len() as usize,
         _ => return Ok(None),
     };
-    let mut bytes = vec![in alloc; 0u8; len]?;
-    match file.read_exact_at(&mut bytes, 0) {
+    let mut bytes = vec![in rt.alloc(); 0u8; len]?;
+    match rt.read_exact_at(file, &mut bytes, 0) {
         Ok(()) => Ok(Some(bytes)),
         Err(_) => Ok(None),
     }

@@ -1,13 +1,18 @@
 //! The files in a client's folder.
 
 use crate::fault::FolderFault;
+use safe_files::FileSystem;
 use std::alloc::AllocError;
 use std::fs;
 use std::fs::File;
 use std::io::ErrorKind;
 
 /// Opens a file to be read, when there is one. What is no file of its own, as a link or a pipe, is never opened.
-pub fn open_file(rt: &HostRuntime, path: &str, name: &str) -> Result<Option<File>, FolderFault> {
+pub fn open_file<R: FileSystem>(
+    rt: &R,
+    path: &str,
+    name: &str,
+) -> Result<Option<R::File>, FolderFault> {
     let name = format!(in rt.alloc(); "{path}/{name}")?;
     match fs::symlink_metadata(rt, name.as_str()) {
         Ok(found) if found.is_file() => {}
@@ -23,7 +28,7 @@ pub fn open_file(rt: &HostRuntime, path: &str, name: &str) -> Result<Option<File
 }
 
 /// Whether a file of its own stands there, or nothing: no link, pipe or folder, which is never opened or replaced.
-pub fn is_free(rt: &HostRuntime, name: &str) -> bool {
+pub fn is_free<R: FileSystem>(rt: &R, name: &str) -> bool {
     match fs::symlink_metadata(rt, name) {
         Ok(found) => found.is_file(),
         Err(fault) => fault.kind() == ErrorKind::NotFound,
@@ -31,7 +36,7 @@ pub fn is_free(rt: &HostRuntime, name: &str) -> bool {
 }
 
 /// Removes a file, when there is one.
-pub fn remove_file(rt: &HostRuntime, path: &str, name: &str) -> Result<(), FolderFault> {
+pub fn remove_file<R: FileSystem>(rt: &R, path: &str, name: &str) -> Result<(), FolderFault> {
     let name = format!(in rt.alloc(); "{path}/{name}")?;
     match fs::remove_file(rt, name.as_str()) {
         Err(fault) if fault.kind() != ErrorKind::NotFound => Err(FolderFault::State),
@@ -40,7 +45,7 @@ pub fn remove_file(rt: &HostRuntime, path: &str, name: &str) -> Result<(), Folde
 }
 
 /// The names in a folder, in order.
-pub fn names_in(rt: &HostRuntime, path: &str) -> Result<Vec<String>, FolderFault> {
+pub fn names_in<R: FileSystem>(rt: &R, path: &str) -> Result<Vec<String>, FolderFault> {
     let mut names = Vec::new(rt.alloc());
     for entry in fs::read_dir(rt, path)? {
         let entry = entry?;

@@ -7,22 +7,19 @@ use crate::kept::KeptFile;
 use crate::names::{is_hint_name, is_name_of_ours};
 use client_core::{Hint, Plan, Scheme, ServerInfo};
 use hint_file::{HintError, KeptHead, file_name, hint_file, is_no_newer};
-use safe_files::{LockFault, Place, replace};
+use safe_files::{FileSystem, LockFault, Place, replace};
 use std::fs;
 use std::fs::DirBuilder;
 use std::io::ErrorKind;
-use std::os::unix::fs::{DirBuilderExt, MetadataExt};
+use std::os::unix::fs::DirBuilderExt;
 
 /// The mode of a folder that is made: its owner alone may use it.
 const FOLDER_MODE: u32 = 0o700;
 
-/// The bits of a mode by which others than the owner may use a file.
-const OTHERS: u32 = 0o077;
-
 /// A client's folder. It is not locked: any number of runs may use it.
 #[derive(Clone, Copy)]
-pub struct Folder<'a> {
-    rt: &'a HostRuntime,
+pub struct Folder<'a, R: FileSystem = HostRuntime> {
+    rt: &'a R,
     path: &'a str,
 }
 
@@ -34,13 +31,13 @@ pub struct KeptHeads {
     pub damaged: usize,
 }
 
-impl<'a> Folder<'a> {
+impl<'a, R: FileSystem> Folder<'a, R> {
     /// Opens a folder, and makes it when there is none.
     ///
     /// # Errors
     ///
     /// `State` when the folder can't be made, when others than its owner may use it, and when what stands there is no folder.
-    pub fn open(rt: &'a HostRuntime, path: &'a str) -> Result<Folder<'a>, FolderFault> {
+    pub fn open(rt: &'a R, path: &'a str) -> Result<Folder<'a, R>, FolderFault> {
         match DirBuilder::new().mode(FOLDER_MODE).create(rt, path) {
             Err(fault) if fault.kind() != ErrorKind::AlreadyExists => Err(FolderFault::State),
             _ => Folder::standing(rt, path),
@@ -52,9 +49,9 @@ impl<'a> Folder<'a> {
     /// # Errors
     ///
     /// `State` when there is no folder, or others than its owner may use it.
-    pub fn standing(rt: &'a HostRuntime, path: &'a str) -> Result<Folder<'a>, FolderFault> {
+    pub fn standing(rt: &'a R, path: &'a str) -> Result<Folder<'a, R>, FolderFault> {
         match fs::metadata(rt, path) {
-            Ok(found) if found.is_dir() && found.mode() & OTHERS == 0 => Ok(Folder { rt, path }),
+            Ok(found) if found.is_dir() && rt.is_private(&found) => Ok(Folder { rt, path }),
             _ => Err(FolderFault::State),
         }
     }
@@ -65,7 +62,7 @@ impl<'a> Folder<'a> {
     ///
     /// `Damaged` when its file begins with no head of such a hint, or is longer or shorter than that head says; `Read` when it can't
     /// be read; `Memory` when memory was refused.
-    pub fn kept(&self, scheme: Scheme, plan: &Plan) -> Result<Option<KeptFile<'a>>, HintError> {
+    pub fn kept(&self, scheme: Scheme, plan: &Plan) -> Result<Option<KeptFile<'a, R>>, HintError> {
         let name = file_name(self.rt.alloc(), scheme, plan)?;
         let Some(kept) = self.opened(name.as_str())? else {
             return Ok(None);
@@ -156,7 +153,7 @@ impl<'a> Folder<'a> {
     }
 
     /// The runtime.
-    pub(crate) fn rt(&self) -> &'a HostRuntime {
+    pub(crate) fn rt(&self) -> &'a R {
         self.rt
     }
 
@@ -166,7 +163,7 @@ impl<'a> Folder<'a> {
     }
 
     // The file of a hint, open.
-    fn opened(&self, name: &str) -> Result<Option<KeptFile<'a>>, HintError> {
+    fn opened(&self, name: &str) -> Result<Option<KeptFile<'a, R>>, HintError> {
         match open_file(self.rt, self.path, name) {
             Ok(Some(file)) => Ok(Some(KeptFile::of(self.rt, file)?)),
             Ok(None) => Ok(None),

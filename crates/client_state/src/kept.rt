@@ -4,10 +4,10 @@ use client_core::Hint;
 use hint_file::{
     HintError, KeptHead, KeptHint, MOST_HEAD, PartSpan, head_in, parts_in, place_of, read_hint,
 };
-use std::fs::File;
+use safe_files::FileSystem;
+use std::fs::OpenFile;
 use std::io;
 use std::io::Read;
-use std::os::unix::fs::FileExt;
 
 /// How many bytes stand before the digests of the parts.
 const FRONT_LEN: usize = 86;
@@ -17,42 +17,43 @@ const DIGEST_LEN: usize = 32;
 
 /// The file of a hint that was kept, open: what another run puts in its place changes nothing of it.
 #[derive(Drop)]
-pub struct KeptFile<'a> {
-    rt: &'a HostRuntime,
-    file: File,
+pub struct KeptFile<'a, R: FileSystem = HostRuntime> {
+    rt: &'a R,
+    file: R::File,
     head: KeptHead,
     digest: [u8; DIGEST_LEN],
 }
 
 // A file as it is read from its start.
 #[derive(Drop)]
-struct FromStart<'a> {
-    file: &'a File,
+struct FromStart<'a, R: FileSystem> {
+    rt: &'a R,
+    file: &'a R::File,
     at: u64,
 }
 
-impl Read for FromStart<'_> {
+impl<R: FileSystem> Read for FromStart<'_, R> {
     fn read(&mut self, buffer: &mut [u8]) -> io::Result<usize> {
-        let count = self.file.read_at(buffer, self.at)?;
+        let count = self.rt.read_at(self.file, buffer, self.at)?;
         self.at = self.at.saturating_add(count as u64);
         Ok(count)
     }
 }
 
-impl<'a> KeptFile<'a> {
+impl<'a, R: FileSystem> KeptFile<'a, R> {
     /// Reads the head of an open file. Its words are not read.
     ///
     /// # Errors
     ///
     /// `Damaged` when the file begins with no head of a hint, or is longer or shorter than that head says; `Read` when it can't be
     /// read; `Memory` when memory was refused.
-    pub(crate) fn of(rt: &'a HostRuntime, file: File) -> Result<KeptFile<'a>, HintError> {
+    pub(crate) fn of(rt: &'a R, file: R::File) -> Result<KeptFile<'a, R>, HintError> {
         let Ok(found) = file.metadata() else {
             return Err(HintError::Read);
         };
         let most = found.len().min(MOST_HEAD as u64) as usize;
         let mut bytes = vec![in rt.alloc(); 0u8; most]?;
-        if file.read_exact_at(&mut bytes, 0).is_err() {
+        if rt.read_exact_at(&file, &mut bytes, 0).is_err() {
             return Err(HintError::Read);
         }
         let head = head_in(rt.alloc(), &bytes)?;
@@ -95,7 +96,11 @@ impl<'a> KeptFile<'a> {
             return Err(HintError::Damaged);
         };
         let mut bytes = vec![in alloc; 0u8; len]?;
-        if self.file.read_exact_at(&mut bytes, start).is_err() {
+        if self
+            .rt
+            .read_exact_at(&self.file, &mut bytes, start)
+            .is_err()
+        {
             return Err(HintError::Read);
         }
         parts_in(alloc, &self.head, span, &bytes)
@@ -109,6 +114,7 @@ impl<'a> KeptFile<'a> {
     /// `Damaged` when the file is no hint's, `Read` when it can't be read, `Memory` when memory was refused.
     pub fn whole(&self) -> Result<KeptHint, HintError> {
         let mut reader = FromStart {
+            rt: self.rt,
             file: &self.file,
             at: 0,
         };

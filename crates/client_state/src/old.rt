@@ -4,8 +4,7 @@ use crate::fault::FolderFault;
 use crate::files::{open_file, remove_file};
 use crate::folder::Folder;
 use hint_file::{HintError, KeptHint, read_old_hint};
-use safe_files::{FileLock, LockFault, lock};
-use std::os::unix::fs::FileExt;
+use safe_files::{FileLock, FileSystem, LockFault, lock};
 
 /// The files of a folder of before, the secret one first, and what each begins with.
 const OLD_FILES: [(&str, [u8; 8]); 3] = [
@@ -24,7 +23,7 @@ pub struct OldFolder {
     pub hint_kept: bool,
 }
 
-impl Folder<'_> {
+impl<R: FileSystem> Folder<'_, R> {
     /// Takes a folder of before over, when this is one: its hint is kept, when it is a sound one, and its seed, its counter, its hint
     /// and its lock are removed. None when this is no such folder, or another process uses it as one.
     ///
@@ -58,7 +57,7 @@ impl Folder<'_> {
 }
 
 // Whether a file of a folder of before stands there.
-fn has_old(folder: &Folder<'_>) -> Result<bool, FolderFault> {
+fn has_old<R: FileSystem>(folder: &Folder<'_, R>) -> Result<bool, FolderFault> {
     for (name, magic) in OLD_FILES {
         if is_old(folder, name, magic)? {
             return Ok(true);
@@ -68,11 +67,15 @@ fn has_old(folder: &Folder<'_>) -> Result<bool, FolderFault> {
 }
 
 // Whether a file begins so. What can't be opened does not.
-fn is_old(folder: &Folder<'_>, name: &str, magic: [u8; 8]) -> Result<bool, FolderFault> {
+fn is_old<R: FileSystem>(
+    folder: &Folder<'_, R>,
+    name: &str,
+    magic: [u8; 8],
+) -> Result<bool, FolderFault> {
     match open_file(folder.rt(), folder.path(), name) {
         Ok(Some(file)) => {
             let mut begins = [0u8; 8];
-            Ok(file.read_exact_at(&mut begins, 0).is_ok() && begins == magic)
+            Ok(folder.rt().read_exact_at(&file, &mut begins, 0).is_ok() && begins == magic)
         }
         Ok(None) | Err(FolderFault::State) => Ok(false),
         Err(FolderFault::Memory) => Err(FolderFault::Memory),
@@ -80,7 +83,7 @@ fn is_old(folder: &Folder<'_>, name: &str, magic: [u8; 8]) -> Result<bool, Folde
 }
 
 // The lock of a folder of before; none when another process has it.
-fn old_lock(folder: &Folder<'_>) -> Result<Option<FileLock>, FolderFault> {
+fn old_lock<R: FileSystem>(folder: &Folder<'_, R>) -> Result<Option<FileLock<R>>, FolderFault> {
     let path = folder.path();
     let name = format!(in folder.rt().alloc(); "{path}/lock")?;
     match lock(folder.rt(), name.as_str()) {
@@ -91,7 +94,7 @@ fn old_lock(folder: &Folder<'_>) -> Result<Option<FileLock>, FolderFault> {
 }
 
 // The hint of a folder of before, when there is a sound one.
-fn old_hint(folder: &Folder<'_>) -> Result<Option<KeptHint>, FolderFault> {
+fn old_hint<R: FileSystem>(folder: &Folder<'_, R>) -> Result<Option<KeptHint>, FolderFault> {
     match open_file(folder.rt(), folder.path(), "hint") {
         Ok(Some(mut file)) => match read_old_hint(folder.rt().alloc(), &mut file) {
             Ok(kept) => Ok(Some(kept)),
@@ -104,7 +107,7 @@ fn old_hint(folder: &Folder<'_>) -> Result<Option<KeptHint>, FolderFault> {
 }
 
 // Removes the files of a folder of before. Whether there was one.
-fn remove_old(folder: &Folder<'_>) -> Result<bool, FolderFault> {
+fn remove_old<R: FileSystem>(folder: &Folder<'_, R>) -> Result<bool, FolderFault> {
     let mut removed = false;
     for (name, magic) in OLD_FILES {
         if is_old(folder, name, magic)? {
@@ -116,7 +119,7 @@ fn remove_old(folder: &Folder<'_>) -> Result<bool, FolderFault> {
 }
 
 // Removes what else a folder of before had: what killed processes left, and its lock.
-fn remove_left(folder: &Folder<'_>) -> Result<(), FolderFault> {
+fn remove_left<R: FileSystem>(folder: &Folder<'_, R>) -> Result<(), FolderFault> {
     for name in LEFT_FILES {
         remove_file(folder.rt(), folder.path(), name)?;
     }

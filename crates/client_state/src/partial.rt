@@ -9,11 +9,11 @@ use hint_file::{
     HintError, KeptHead, PartSpan, are_parts, empty_part, file_name, head_to_fetch, part_ask,
     part_digest, partial_front, place_of, whole_head,
 };
-use safe_files::{Disk, FileLock, LockFault, Place, lock};
+use safe_files::{Disk, FileLock, FileSystem, LockFault, Place, lock};
 use std::alloc::AllocError;
 use std::fs;
-use std::fs::{File, OpenOptions};
-use std::os::unix::fs::{FileExt, OpenOptionsExt};
+use std::fs::{OpenFile, OpenOptions};
+use std::os::unix::fs::OpenOptionsExt;
 
 /// The mode of a file that is made: its owner alone may use it.
 const FILE_MODE: u32 = 0o600;
@@ -26,11 +26,11 @@ const FRONT_LEN: usize = 86;
 
 /// The file of a hint that is fetched part by part, open. While this value lives no other run adds to it.
 #[derive(Drop)]
-pub struct PartialFile<'a> {
-    folder: Folder<'a>,
-    file: File,
+pub struct PartialFile<'a, R: FileSystem = HostRuntime> {
+    folder: Folder<'a, R>,
+    file: R::File,
     // Given back when the value is dropped.
-    _lock: FileLock,
+    _lock: FileLock<R>,
     // The names of the hint's file and of this one.
     name: String,
     partial: String,
@@ -40,13 +40,13 @@ pub struct PartialFile<'a> {
 
 /// A hint that was fetched.
 #[derive(Drop)]
-pub struct Fetched<'a> {
-    pub file: KeptFile<'a>,
+pub struct Fetched<'a, R: FileSystem = HostRuntime> {
+    pub file: KeptFile<'a, R>,
     /// Whether it could be kept for the next run.
     pub could_keep: bool,
 }
 
-impl<'a> Folder<'a> {
+impl<'a, R: FileSystem> Folder<'a, R> {
     /// The partial file of the hint of the version known: the one that stands there, with its first whole parts, or a new one in place
     /// of that of another version. None when another run adds to it, or when there is no such hint.
     ///
@@ -57,7 +57,7 @@ impl<'a> Folder<'a> {
         &self,
         known: &ServerInfo,
         scheme: Scheme,
-    ) -> Result<Option<PartialFile<'a>>, FolderFault> {
+    ) -> Result<Option<PartialFile<'a, R>>, FolderFault> {
         let alloc = self.rt().alloc();
         let Some(head) = head_to_fetch(alloc, known, scheme)? else {
             return Ok(None);
@@ -119,7 +119,7 @@ impl<'a> Folder<'a> {
     }
 }
 
-impl<'a> PartialFile<'a> {
+impl<'a, R: FileSystem> PartialFile<'a, R> {
     /// How many parts the hint has.
     pub fn parts(&self) -> usize {
         self.head.digests.len() / DIGEST_LEN
@@ -161,11 +161,15 @@ impl<'a> PartialFile<'a> {
     /// `State` when they are not as many bytes as the next part has, or can't be written.
     pub fn add(&mut self, bytes: &[u8]) -> Result<(), FolderFault> {
         match place_of(&self.head, self.next()) {
-            Some((start, len)) if len == bytes.len() => self.file.write_all_at(bytes, start)?,
+            Some((start, len)) if len == bytes.len() => {
+                let rt = self.folder.rt();
+                rt.write_all_at(&self.file, bytes, start)?
+            }
             _ => return Err(FolderFault::State),
         }
         let digest = part_digest(bytes);
-        self.file.write_all_at(&digest, digest_place(self.taken()))?;
+        let rt = self.folder.rt();
+        rt.write_all_at(&self.file, &digest, digest_place(self.taken()))?;
         self.note(digest);
         self.taken = self.taken.saturating_add(1);
         Ok(())
@@ -177,7 +181,7 @@ impl<'a> PartialFile<'a> {
     /// # Errors
     ///
     /// `Read` when it can't be written, `Damaged` when parts are missing, `Memory` when memory was refused.
-    pub fn finish(self) -> Result<Fetched<'a>, HintError> {
+    pub fn finish(self) -> Result<Fetched<'a, R>, HintError> {
         if self.taken() < self.parts() {
             return Err(HintError::Damaged);
         }
@@ -221,11 +225,11 @@ impl<'a> PartialFile<'a> {
         };
         let mut digest = [0u8; DIGEST_LEN];
         let mut bytes = vec![in alloc; 0u8; len]?;
-        if self
-            .file
-            .read_exact_at(&mut digest, digest_place(self.taken()))
+        let rt = self.folder.rt();
+        if rt
+            .read_exact_at(&self.file, &mut digest, digest_place(self.taken()))
             .is_err()
-            || self.file.read_exact_at(&mut bytes, start).is_err()
+            || rt.read_exact_at(&self.file, &mut bytes, start).is_err()
         {
             return Ok(false);
         }
@@ -252,7 +256,7 @@ impl<'a> PartialFile<'a> {
     fn seal(&self) -> Result<(), FolderFault> {
         self.file.sync_all()?;
         let head = whole_head(self.folder.rt().alloc(), &self.head)?;
-        self.file.write_all_at(&head, 0)?;
+        self.folder.rt().write_all_at(&self.file, &head, 0)?;
         self.file.set_len(self.whole_len())?;
         self.file.sync_all()?;
         Ok(())
@@ -319,7 +323,11 @@ fn digest_place(part: usize) -> u64 {
 }
 
 // The partial file that stands there, when it begins so.
-fn standing(rt: &HostRuntime, path: &str, front: &[u8]) -> Result<Option<File>, FolderFault> {
+fn standing<R: FileSystem>(
+    rt: &R,
+    path: &str,
+    front: &[u8],
+) -> Result<Option<R::File>, FolderFault> {
     if !is_free(rt, path) {
         return Err(FolderFault::State);
     }
@@ -327,14 +335,14 @@ fn standing(rt: &HostRuntime, path: &str, front: &[u8]) -> Result<Option<File>, 
         return Ok(None);
     };
     let mut begins = [0u8; FRONT_LEN];
-    if file.read_exact_at(&mut begins, 0).is_err() || begins.as_slice() != front {
+    if rt.read_exact_at(&file, &mut begins, 0).is_err() || begins.as_slice() != front {
         return Ok(None);
     }
     Ok(Some(file))
 }
 
 // A new partial file, in place of another.
-fn made(rt: &HostRuntime, path: &str, front: &[u8]) -> Result<File, FolderFault> {
+fn made<R: FileSystem>(rt: &R, path: &str, front: &[u8]) -> Result<R::File, FolderFault> {
     let _ = fs::remove_file(rt, path);
     let file = OpenOptions::new()
         .read(true)
@@ -342,6 +350,6 @@ fn made(rt: &HostRuntime, path: &str, front: &[u8]) -> Result<File, FolderFault>
         .create_new(true)
         .mode(FILE_MODE)
         .open(rt, path)?;
-    file.write_all_at(front, 0)?;
+    rt.write_all_at(&file, front, 0)?;
     Ok(file)
 }

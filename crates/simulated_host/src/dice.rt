@@ -1,0 +1,44 @@
+//! What is decided at random.
+
+use rand_core::{Rng, SeedableRng};
+use rand_xoshiro::Xoshiro256PlusPlus;
+
+/// A source of decisions. Two of the same seed decide alike.
+#[derive(Drop)]
+pub struct Dice {
+    numbers: Xoshiro256PlusPlus,
+}
+
+impl Dice {
+    /// The source of a seed.
+    pub fn new(seed: u64) -> Dice {
+        Dice {
+            numbers: Xoshiro256PlusPlus::seed_from_u64(seed),
+        }
+    }
+
+    /// Any number.
+    pub fn number(&mut self) -> u64 {
+        self.numbers.next_u64()
+    }
+
+    /// A number below another one; 0 if that is 0.
+    pub fn below(&mut self, end: usize) -> usize {
+        if end == 0 {
+            return 0;
+        }
+        (self.number() % end as u64) as usize
+    }
+
+    /// Whether something happens whose odds are one to so many.
+    pub fn one_in(&mut self, odds: usize) -> bool {
+        self.below(odds) == 0
+    }
+
+    /// Fills a buffer.
+    pub fn fill(&mut self, bytes: &mut [u8]) {
+        for byte in bytes.iter_mut() {
+            *byte = (self.number() % 256) as u8;
+        }
+    }
+}
