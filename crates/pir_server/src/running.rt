@@ -1,14 +1,12 @@
 //! The command `run`.
 
 ghost use Rattle.std.specs.Prelude.{◌≡◌, ◌-◌, min, max, IfOk};
+ghost use Rattle.server_files.specs.Saved.{saved_version};
 
 use crate::hint_lines::HintLines;
-use crate::saving::LogSaver;
+use crate::saving::FileSaver;
 use command_words::{Failed, Failure};
-use publication_log::open_log;
-use server_files::{
-    BAD_LOG, OwnFile, compacted_past, failed_at, kept_file, log_failure, not_listening, store_after,
-};
+use server_files::{OwnFile, failed_at, not_listening, open_pair, progress_of_file};
 use server_words::Running;
 use service_loop::{Limits, RunFault, run_service, say_line};
 use session_core::{Lanes, ServerCore, Store};
@@ -94,25 +92,22 @@ fn open_to_run(
     limit: usize,
     wanted: bool,
     lines: &mut HintLines<'_>,
-) -> Result<(Store<Lanes>, LogSaver), Failure>
-    ensures { IfOk result (λ it. it.1.has.version ≡ it.0.version) }
+) -> Result<(Store<Lanes>, FileSaver), Failure>
+    ensures { IfOk result (λ it. saved_version it.1.log ≡ it.0.version) }
 {
-    let kept = kept_file(rt, file, wanted)?;
-    let kept = compacted_past(rt, file, kept, limit)?;
-    let opened = match open_log(rt, kept.own.name.as_str(), &kept.own.header) {
-        Ok(opened) => opened,
-        Err(fault) => return Err(log_failure(fault)),
+    let progress = if wanted {
+        progress_of_file(rt, file.name())
+    } else {
+        None
     };
-    if opened.read.torn > 0 {
-        let torn = opened.read.torn;
+    let pair = open_pair(rt, file, limit, progress)?;
+    if pair.log.read.torn > 0 {
+        let torn = pair.log.read.torn;
         let line = format!(in rt.alloc(); "log: cut {torn} bytes\n")?;
         say_line(&line);
     }
-    let (store, has) = store_after(rt, kept.read, opened.publications(), lines)?;
-    match LogSaver::of(opened.into_log(), has) {
-        Some(saver) => Ok((store, saver)),
-        None => Err(BAD_LOG),
-    }
+    let (store, log) = pair.store(rt.alloc(), lines)?;
+    Ok((store, FileSaver { log }))
 }
 
 // How many connections there may be at once: as many as are asked for, or fewer where the process may have too few descriptors, which

@@ -10,6 +10,7 @@ use crate::folder::{LockedFolder, lock_folder};
 use crate::version::{FolderVersion, open_folder};
 use command_words::{Failed, Failure};
 use publisher_drafts::{ChangeMap, Target, judge, put_change};
+use safe_files::FileSystem;
 use std::alloc::{AllocError, Global};
 use std::collections::BTreeMap;
 
@@ -19,9 +20,9 @@ pub struct Drafted(pub usize);
 
 /// A folder that is locked, its current version, and its draft.
 #[derive(Drop)]
-pub struct OpenDraft<'a> {
+pub struct OpenDraft<'a, R: FileSystem = HostRuntime> {
     /// The folder's names, and its lock.
-    pub folder: LockedFolder<'a>,
+    pub folder: LockedFolder<'a, R>,
     /// The current version.
     pub version: FolderVersion,
     /// The draft of the next one.
@@ -33,7 +34,7 @@ pub struct OpenDraft<'a> {
 /// # Errors
 ///
 /// `File`, `Locked`, those of the snapshot and of its log, those of the draft; `Memory`.
-pub fn open_draft<'a>(rt: &'a HostRuntime, dir: &str) -> Result<OpenDraft<'a>, Failure>
+pub fn open_draft<'a, R: FileSystem>(rt: &'a R, dir: &str) -> Result<OpenDraft<'a, R>, Failure>
     ensures { IfOk result (λ it.
         IsSound (header_of it.version.snapshot) it.version.snapshot.records.items) }
 {
@@ -55,9 +56,9 @@ pub fn open_draft<'a>(rt: &'a HostRuntime, dir: &str) -> Result<OpenDraft<'a>, F
 /// # Errors
 ///
 /// Those of [`append_entry`].
-pub fn draft_changes(
-    rt: &HostRuntime,
-    open: OpenDraft<'_>,
+pub fn draft_changes<R: FileSystem>(
+    rt: &R,
+    open: OpenDraft<'_, R>,
     changes: ChangeMap,
 ) -> Result<Drafted, Failure> {
     let OpenDraft {
@@ -107,9 +108,13 @@ pub fn add(rt: &HostRuntime, dir: &str, bytes: Vec<u8>) -> Result<Drafted, Faile
     }
 }
 
-// Appends one change to a draft.
-fn draft_one(
-    rt: &HostRuntime,
+/// Replaces a record of a folder's draft, or appends one to it.
+///
+/// # Errors
+///
+/// Those of [`set`] or of [`add`].
+pub fn draft_one<R: FileSystem>(
+    rt: &R,
     dir: &str,
     target: Target,
     bytes: Vec<u8>,

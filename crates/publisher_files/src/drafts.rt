@@ -18,6 +18,7 @@ use publication_log::{
     Publications, open_log, read_log_file, remove_log,
 };
 use publisher_drafts::{ChangeMap, MergeFault, merge_entries, merged_of, publication_of};
+use safe_files::FileSystem;
 use server_files::{FileVersion, append_version};
 use std::alloc::Global;
 use std::collections::BTreeMap;
@@ -62,7 +63,11 @@ pub struct Draft {
 ///
 /// `File` if the file can't be read, or is none; `BadDraft` if it is damaged, or is no draft of the version nor of the one before
 /// that was published; `Memory`.
-pub fn read_draft(rt: &HostRuntime, name: &str, version: &FolderVersion) -> Result<Draft, Failure>
+pub fn read_draft<R: FileSystem>(
+    rt: &R,
+    name: &str,
+    version: &FolderVersion,
+) -> Result<Draft, Failure>
     requires { IsSound (header_of version.now.snapshot) version.now.snapshot.records.items }
 {
     let header = draft_header(version, version.number());
@@ -123,7 +128,11 @@ fn current_draft(
 }
 
 // The draft of no changes, if the file has a draft of the version before, and the current version has all that it changes.
-fn published_draft(rt: &HostRuntime, name: &str, version: &FolderVersion) -> Result<Draft, Failure>
+fn published_draft<R: FileSystem>(
+    rt: &R,
+    name: &str,
+    version: &FolderVersion,
+) -> Result<Draft, Failure>
     requires { IsSound (header_of version.now.snapshot) version.now.snapshot.records.items }
 {
     let header = draft_header(version, version.number().saturating_sub(1));
@@ -163,8 +172,8 @@ fn has_record(version: &FolderVersion, place: usize, bytes: &[u8]) -> bool
 ///
 /// `File` if the file can't be made or opened, `BadDraft` if it is no good draft, `VersionsUsedUp` if no number is left for the entry,
 /// `TooLong` if no entry has room for the changes, `Write` if it can't be written or sent to the device; `Memory`.
-pub fn append_entry(
-    rt: &HostRuntime,
+pub fn append_entry<R: FileSystem>(
+    rt: &R,
     name: &str,
     version: &FolderVersion,
     changes: &ChangeMap,
@@ -234,7 +243,7 @@ pub fn append_to<D: Disk>(
 /// # Errors
 ///
 /// `File` if it can't be removed, or its folder can't be sent to the device.
-pub fn remove_draft(rt: &HostRuntime, name: &str) -> Result<(), Failure> {
+pub fn remove_draft<R: FileSystem>(rt: &R, name: &str) -> Result<(), Failure> {
     match remove_log(rt, name) {
         Ok(()) => Ok(()),
         Err(fault) => Err(draft_failure(fault)),

@@ -4,7 +4,7 @@ ghost use Rattle.std.specs.Prelude.{◌≡◌, IfOk, string_bytes, codes};
 ghost use Rattle.publisher_files.specs.Names.{name_in};
 
 use command_words::{Failed, Failure};
-use safe_files::folder_of;
+use safe_files::{FileSystem, folder_of};
 use server_files::{OwnFile, failed_at, make};
 use server_words::Making;
 use std::alloc::{AllocError, Global};
@@ -43,13 +43,13 @@ pub fn draft_name(alloc: Global, dir: &str) -> Result<String, AllocError>
 
 /// A folder's names, and the lock of its snapshot, which who changes anything in the folder has.
 #[derive(Drop)]
-pub struct LockedFolder<'a> {
+pub struct LockedFolder<'a, R: FileSystem = HostRuntime> {
     /// The name of the snapshot.
     pub records: String,
     /// The name of the draft.
     pub draft: String,
     // Kept until the end.
-    _own: OwnFile<'a>,
+    _own: OwnFile<'a, R>,
 }
 
 /// Takes the lock of a folder.
@@ -57,7 +57,10 @@ pub struct LockedFolder<'a> {
 /// # Errors
 ///
 /// `File` if the folder has no snapshot, or its lock can't be taken; `Locked` if another process has it; `Memory`.
-pub fn lock_folder<'a>(rt: &'a HostRuntime, dir: &str) -> Result<LockedFolder<'a>, Failure> {
+pub fn lock_folder<'a, R: FileSystem>(
+    rt: &'a R,
+    dir: &str,
+) -> Result<LockedFolder<'a, R>, Failure> {
     let records = records_name(rt.alloc(), dir)?;
     let draft = draft_name(rt.alloc(), dir)?;
     let own = OwnFile::to_read(rt, records.as_str())?;

@@ -25,9 +25,9 @@ mod showing;
 mod version;
 
 pub use diffing::diff;
-pub use drafting::{Drafted, add, set};
+pub use drafting::{Drafted, add, draft_one, set};
 pub use folder::{draft_name, init, records_name};
 pub use importing::{ImportFault, import};
-pub use publishing::publish;
+pub use publishing::{publish, publish_draft};
 pub use showing::{show, show_record};
 pub use version::{FolderVersion, open_folder};

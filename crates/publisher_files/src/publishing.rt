@@ -13,6 +13,7 @@ use crate::folder::LockedFolder;
 use command_words::{Failed, Failure};
 use log_replay::{ReplayFault, replay_records};
 use publication_log::{Publication, PublicationBuilder, open_log};
+use safe_files::FileSystem;
 use server_files::{BAD_LOG, FileVersion, OwnLog, log_failure};
 use session_core::Snapshot;
 
@@ -34,8 +35,12 @@ pub fn publish(rt: &HostRuntime, dir: &str) -> Result<FileVersion, Failed> {
     }
 }
 
-// Publishes the draft of a folder.
-fn publish_draft(rt: &HostRuntime, dir: &str) -> Result<FileVersion, Failure> {
+/// The same without the text of a failure's cause.
+///
+/// # Errors
+///
+/// Those of [`publish`].
+pub fn publish_draft<R: FileSystem>(rt: &R, dir: &str) -> Result<FileVersion, Failure> {
     let OpenDraft {
         folder,
         version,
@@ -58,8 +63,8 @@ fn publish_draft(rt: &HostRuntime, dir: &str) -> Result<FileVersion, Failure> {
 }
 
 // Appends the publication after a version to the log of a snapshot.
-fn append_to_own(
-    rt: &HostRuntime,
+fn append_to_own<R: FileSystem>(
+    rt: &R,
     own: &OwnLog,
     number: u64,
     publication: &PublicationBuilder,
@@ -78,7 +83,11 @@ fn append_to_own(
 }
 
 // Why nothing is published. A draft without changes, as a command leaves that was killed before it wrote any, is removed.
-fn nothing_to_publish(rt: &HostRuntime, folder: &LockedFolder<'_>, file: DraftFile) -> Failure {
+fn nothing_to_publish<R: FileSystem>(
+    rt: &R,
+    folder: &LockedFolder<'_, R>,
+    file: DraftFile,
+) -> Failure {
     if file == DraftFile::Current {
         let _ = remove_draft(rt, folder.draft.as_str());
     }

@@ -11,7 +11,7 @@ use digit_pack::nth_record;
 use log_replay::{ReplayFault, replay_first};
 use pir_schemes::Plan;
 use publication_log::{Publications, ReadLog, read_log_file};
-use safe_files::{Place, SteadyFile};
+use safe_files::{FileSystem, Place, SteadyFile};
 use server_files::{BAD_LOG, LogSize, OwnLog, log_failure};
 use session_core::{Snapshot, SnapshotFault, read_snapshot_and_digest};
 use std::fs;
@@ -130,7 +130,7 @@ fn record_in(snapshot: &Snapshot, i: usize) -> &[u8]
 /// # Errors
 ///
 /// In this order: `File` if there is no snapshot or its log can't be read, the refusals of the snapshot, `BadLog`; `Memory`.
-pub fn open_folder(rt: &HostRuntime, records: &str) -> Result<FolderVersion, Failure>
+pub fn open_folder<R: FileSystem>(rt: &R, records: &str) -> Result<FolderVersion, Failure>
     ensures sound { IfOk result (λ it.
         IsSound (header_of it.snapshot) it.snapshot.records.items) }
 {
@@ -144,7 +144,7 @@ pub fn open_folder(rt: &HostRuntime, records: &str) -> Result<FolderVersion, Fai
 }
 
 // The version, unless the snapshot was replaced before its log was read: the old log may be gone then.
-fn read_pair(rt: &HostRuntime, place: &Place<'_>) -> Result<Option<FolderVersion>, Failure>
+fn read_pair<R: FileSystem>(rt: &R, place: &Place<'_, R>) -> Result<Option<FolderVersion>, Failure>
     ensures sound { IfOk result (λ it. IfSome it (λ it.
         IsSound (header_of it.snapshot) it.snapshot.records.items)) }
 {
@@ -171,7 +171,7 @@ fn opens_a_store(snapshot: &Snapshot)
 {}
 
 // Whether another file has the name by now. The number of the one that is open is not given again.
-fn is_replaced(rt: &HostRuntime, place: &Place<'_>, file: &SteadyFile) -> bool {
+fn is_replaced<R: FileSystem>(rt: &R, place: &Place<'_, R>, file: &SteadyFile<R::File>) -> bool {
     match (fs::metadata(rt, place.name()), file.metadata()) {
         (Ok(there), Ok(own)) => there.ino() != own.ino() || there.dev() != own.dev(),
         _ => true,

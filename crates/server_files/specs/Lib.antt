@@ -3,3 +3,4 @@ pub mod Makings
 pub mod Progress
 pub mod ReadIn
 pub mod Versions
+pub mod Saved

@@ -11,7 +11,7 @@ use crate::logs::{OwnLog, log_failure, replay_failure};
 use command_words::{Failed, Failure, printed};
 use log_replay::{earlier_count, replay_first};
 use publication_log::{Publications, ReadLog, read_log_file, relinked, remove_other_logs};
-use safe_files::{Bytes, replace_file};
+use safe_files::{Bytes, FileSystem, replace_file};
 use std::fs;
 
 /// Puts all publications of a file's log into its snapshot, but the last 16, and prints the version of the snapshot and how many
@@ -24,44 +24,64 @@ use std::fs;
 /// was none.
 pub fn compact_file(rt: &HostRuntime, name: &str) -> Result<(), Failed> {
     match compact_pair(rt, name) {
-        Ok((version, publications)) => {
-            printed(rt, println!(rt; "compacted {version} {publications}"))
-        }
+        Ok(Compacted { version, after }) => printed(
+            rt,
+            println!(rt; "compacted {version} {after}"),
+        ),
         Err(failure) => Err(failed_at(rt, name, failure)),
     }
 }
 
-// The version of the snapshot, and how many publications follow it.
-fn compact_pair(rt: &HostRuntime, name: &str) -> Result<(u64, usize), Failure> {
+/// What a file has whose log was made shorter.
+#[derive(Clone, Copy, Debug, PartialEq, Eq)]
+pub struct Compacted {
+    /// The version of the snapshot.
+    pub version: u64,
+    /// How many publications follow it.
+    pub after: usize,
+}
+
+/// Puts all publications of a file's log into its snapshot, but the last 16.
+///
+/// # Errors
+///
+/// Those of [`compact_file`].
+pub fn compact_pair<R: FileSystem>(rt: &R, name: &str) -> Result<Compacted, Failure> {
     let mut file = OwnFile::to_read(rt, name)?;
-    let kept = kept_file(rt, &mut file, false)?;
+    let kept = kept_file(rt, &mut file, None)?;
     // What one that was cut short left is removed, also if there is nothing to do.
     remove_other_logs(rt, file.name(), kept.own.name.as_str());
     match read_own(rt, &kept.own)? {
         Some(log) => compact_both(rt, &mut file, kept, &log),
-        None => Ok((kept.read.opening.version(), 0)),
+        None => Ok(Compacted {
+            version: kept.read.opening.version(),
+            after: 0,
+        }),
     }
 }
 
 // The same of a file that has this log.
-fn compact_both(
-    rt: &HostRuntime,
-    file: &mut OwnFile<'_>,
+fn compact_both<R: FileSystem>(
+    rt: &R,
+    file: &mut OwnFile<'_, R>,
     kept: KeptFile,
     log: &ReadLog,
-) -> Result<(u64, usize), Failure>
+) -> Result<Compacted, Failure>
     requires { IsSound kept.read.opening.header kept.read.opening.bytes }
 {
     let publications = log.publications();
     let earlier = earlier_count(publications);
     if earlier == 0 {
-        return Ok((kept.read.opening.version(), publications.count()));
+        return Ok(Compacted {
+            version: kept.read.opening.version(),
+            after: publications.count(),
+        });
     }
     let kept = shortened(rt, file, kept, log)?;
-    Ok((
-        kept.read.opening.version(),
-        publications.count().saturating_sub(earlier),
-    ))
+    Ok(Compacted {
+        version: kept.read.opening.version(),
+        after: publications.count().saturating_sub(earlier),
+    })
 }
 
 /// A file that is to be served, with a log of more than 16 publications and more than so many bytes made shorter.
@@ -69,9 +89,9 @@ fn compact_both(
 /// # Errors
 ///
 /// Those of the log (`File`, `BadLog`), and those of the new files (`File`, `Write`); `Memory`.
-pub fn compacted_past(
-    rt: &HostRuntime,
-    file: &mut OwnFile<'_>,
+pub fn compacted_past<R: FileSystem>(
+    rt: &R,
+    file: &mut OwnFile<'_, R>,
     kept: KeptFile,
     limit: usize,
 ) -> Result<KeptFile, Failure>
@@ -93,7 +113,7 @@ pub fn compacted_past(
 }
 
 // Whether a file has more than so many bytes: then it is worth reading.
-fn is_longer(rt: &HostRuntime, name: &str, limit: usize) -> bool {
+fn is_longer<R: FileSystem>(rt: &R, name: &str, limit: usize) -> bool {
     match fs::symlink_metadata(rt, name) {
         Ok(found) => found.len() > limit as u64,
         Err(_) => false,
@@ -101,7 +121,7 @@ fn is_longer(rt: &HostRuntime, name: &str, limit: usize) -> bool {
 }
 
 // The log beside a file, if there is one.
-fn read_own(rt: &HostRuntime, own: &OwnLog) -> Result<Option<ReadLog>, Failure> {
+fn read_own<R: FileSystem>(rt: &R, own: &OwnLog) -> Result<Option<ReadLog>, Failure> {
     match read_log_file(rt, own.name.as_str(), &own.header) {
         Ok(log) => Ok(log),
         Err(fault) => Err(log_failure(fault)),
@@ -110,9 +130,9 @@ fn read_own(rt: &HostRuntime, own: &OwnLog) -> Result<Option<ReadLog>, Failure> 
 
 // Writes the log of the last 16 publications under the name that belongs to the snapshot before them, then that snapshot in the place of
 // the file, and removes the log of before. At each moment the file and its log have what they had.
-fn shortened(
-    rt: &HostRuntime,
-    file: &mut OwnFile<'_>,
+fn shortened<R: FileSystem>(
+    rt: &R,
+    file: &mut OwnFile<'_, R>,
     kept: KeptFile,
     log: &ReadLog,
 ) -> Result<KeptFile, Failure>
@@ -137,8 +157,8 @@ fn shortened(
 }
 
 // Writes a log of these publications.
-fn write_log(
-    rt: &HostRuntime,
+fn write_log<R: FileSystem>(
+    rt: &R,
     own: &OwnLog,
     publications: Publications<'_>,
 ) -> Result<(), Failure> {

@@ -22,7 +22,8 @@ use log_replay::earlier_count;
 use log_replay::laws::last_sixteen_suffice;
 use publication_log::{Publications, log_name, remove_log, remove_other_logs};
 use safe_files::{
-    Content, ContentFault, FileLock, LockFault, Place, ReplaceFault, SteadyFile, open_file,
+    Content, ContentFault, FileLock, FileSystem, LockFault, Place, ReplaceFault, SteadyFile,
+    open_file,
 };
 use session_core::{
     Header, Lanes, MigrateError, Snapshot, SnapshotFault, Store, WidenError, WriteFault,
@@ -120,19 +121,19 @@ pub const NOT_WRITTEN: Failure = Failure::Fault("Write");
 ///
 /// Where the name given is a link, what it leads to is found once: that is what is locked, read and replaced.
 #[derive(Drop)]
-pub struct OwnFile<'a> {
-    place: Place<'a>,
+pub struct OwnFile<'a, R: FileSystem = HostRuntime> {
+    place: Place<'a, R>,
     // What is no file has none, and is written to as it is.
-    lock: Option<FileLock>,
+    lock: Option<FileLock<R>>,
 }
 
-impl<'a> OwnFile<'a> {
+impl<'a, R: FileSystem> OwnFile<'a, R> {
     /// A file that is to be made, or replaced.
     ///
     /// # Errors
     ///
     /// `Locked` where another process has it, `File` where its lock can't be taken, `Memory`.
-    pub fn to_write(rt: &'a HostRuntime, name: &str) -> Result<OwnFile<'a>, Failure> {
+    pub fn to_write(rt: &'a R, name: &str) -> Result<OwnFile<'a, R>, Failure> {
         let mut place = Place::of(rt, name)?;
         if place.is_no_file() {
             return Ok(OwnFile { place, lock: None });
@@ -153,7 +154,7 @@ impl<'a> OwnFile<'a> {
     /// # Errors
     ///
     /// `File` where nothing stands of this name, or no file; then as [`OwnFile::to_write`].
-    pub fn to_read(rt: &'a HostRuntime, name: &str) -> Result<OwnFile<'a>, Failure> {
+    pub fn to_read(rt: &'a R, name: &str) -> Result<OwnFile<'a, R>, Failure> {
         match fs::metadata(rt, name) {
             Ok(found) if found.is_file() => OwnFile::to_write(rt, name),
             _ => Err(NO_FILE),
@@ -202,26 +203,21 @@ impl KeptFile {
     }
 }
 
-/// The snapshot that a file has. The file is on the device then. How much of it has been read is said each second, if that is wanted.
+/// The snapshot that a file has. The file is on the device then. What reports on the reading, if anything does, counts each read.
 ///
 /// # Errors
 ///
 /// In this order: `File`, the refusals of the snapshot, `Write` where the file or its name can't be sent to the device; `Memory`.
-pub fn kept_file(
-    rt: &HostRuntime,
-    file: &mut OwnFile<'_>,
-    wanted: bool,
+pub fn kept_file<R: FileSystem>(
+    rt: &R,
+    file: &mut OwnFile<'_, R>,
+    progress: Option<Progress<'_>>,
 ) -> Result<KeptFile, Failure>
     ensures sound { IfOk result (λ it. IsSound it.read.opening.header it.read.opening.bytes) }
     ensures version { IfOk result (λ it. it.read.has.version ≡ it.read.opening.header.version) }
 {
     let Ok(opened) = file.place.open() else {
         return Err(NO_FILE);
-    };
-    let progress = if wanted {
-        progress_of_file(rt, file.name())
-    } else {
-        None
     };
     let read = match read_version(rt.alloc(), &mut file.place, opened, progress) {
         Ok((read, _file)) => read,
@@ -233,8 +229,8 @@ pub fn kept_file(
     Ok(KeptFile { read, own })
 }
 
-// What reports on the reading of a file.
-fn progress_of_file<'a>(rt: &'a HostRuntime, name: &str) -> Option<Progress<'a>> {
+/// What reports on the reading of a file, a line each second; nothing if the system has no clock.
+pub fn progress_of_file<'a>(rt: &'a HostRuntime, name: &str) -> Option<Progress<'a>> {
     let whole = match fs::metadata(rt, name) {
         Ok(found) => Whole::Bytes(found.len()),
         Err(_) => Whole::Unknown,
@@ -250,7 +246,7 @@ fn progress_of_file<'a>(rt: &'a HostRuntime, name: &str) -> Option<Progress<'a>>
 ///
 /// `BadLog` where one of the publications can't follow; `Memory`.
 pub fn store_after<W: HintWatcher>(
-    rt: &HostRuntime,
+    alloc: Global,
     read: ReadVersion,
     publications: Publications<'_>,
     watcher: &mut W,
@@ -268,12 +264,12 @@ pub fn store_after<W: HintWatcher>(
         Ok(taken) => taken,
         Err(fault) => return Err(replay_failure(fault)),
     };
-    open_and_replay(rt, taken, publications.without_first(earlier), watcher)
+    open_and_replay(alloc, taken, publications.without_first(earlier), watcher)
 }
 
 // The store of a snapshot after publications, and the version of both.
 fn open_and_replay<W: HintWatcher>(
-    rt: &HostRuntime,
+    alloc: Global,
     read: ReadVersion,
     publications: Publications<'_>,
     watcher: &mut W,
@@ -286,7 +282,7 @@ fn open_and_replay<W: HintWatcher>(
         (held_of read.opening.header read.opening.bytes)) }
 {
     let ReadVersion { opening, has, .. } = read;
-    let mut store = opening.open_watched(rt.alloc(), Lanes, watcher)?;
+    let mut store = opening.open_watched(alloc, Lanes, watcher)?;
     match replay_version(&mut store, has, publications) {
         Ok(has) => Ok((store, has)),
         Err(fault) => Err(replay_failure(fault)),
@@ -314,9 +310,9 @@ pub fn snapshot_in(rt: &HostRuntime, name: &str) -> Result<(Snapshot, [u8; 32]),
 /// # Errors
 ///
 /// As [`write_file`], and `File` where that log can't be removed.
-pub fn write_anew<C: Versioned>(
-    rt: &HostRuntime,
-    file: &mut OwnFile<'_>,
+pub fn write_anew<R: FileSystem, C: Versioned>(
+    rt: &R,
+    file: &mut OwnFile<'_, R>,
     content: &C,
 ) -> Result<FileVersion, Failure>
     ensures { IfOk result (λ it. it.version ≡ C.version content.now) }
@@ -405,9 +401,9 @@ pub fn digest_of<C: Content>(alloc: Global, content: &C) -> Result<[u8; 32], Fai
 ///
 /// `File` where no file can be made beside it, or can't be given the name; `Write` where it can't be written or sent to
 /// the device; `Memory`. None is left beside it.
-pub fn write_file<C: Versioned>(
-    rt: &HostRuntime,
-    file: &mut OwnFile<'_>,
+pub fn write_file<R: FileSystem, C: Versioned>(
+    rt: &R,
+    file: &mut OwnFile<'_, R>,
     content: &C,
 ) -> Result<FileVersion, Failure>
     ensures { IfOk result (λ it. it.version ≡ C.version content.now) }
@@ -422,8 +418,8 @@ pub fn write_file<C: Versioned>(
 }
 
 // Writes a snapshot to what is no file.
-fn write_in_place<C: Versioned>(
-    rt: &HostRuntime,
+fn write_in_place<R: FileSystem, C: Versioned>(
+    rt: &R,
     name: &str,
     content: &C,
 ) -> Result<FileVersion, Failure>

@@ -16,24 +16,30 @@ mod last_bytes;
 mod logs;
 mod making;
 mod moving;
+mod opening;
 mod pairs;
 mod progress;
 mod reading_in;
 mod rekeying;
+mod saving;
 mod serving;
 mod showing;
 mod slot_reading;
 
 pub use backing_up::back_up;
 pub use causes::{failed_at, not_listening};
-pub use compacting::{compact_file, compacted_past};
+pub use compacting::{Compacted, compact_file, compact_pair, compacted_past};
 pub use file_version::{FileVersion, ReadVersion, Versioned, append_version, take_back_version};
-pub use files::{KeptFile, OwnFile, RecordsOf, kept_file, store_after, write_anew};
+pub use files::{
+    KeptFile, OwnFile, RecordsOf, kept_file, progress_of_file, store_after, write_anew,
+};
 pub use logs::{BAD_LOG, OwnLog, log_failure};
 pub use making::make;
 pub use moving::{moved, widened};
+pub use opening::{OpenPair, open_pair};
 pub use pairs::{LogSize, Whole, whole_of};
-pub use progress::Pace;
+pub use progress::{Pace, Progress};
 pub use rekeying::rekey;
+pub use saving::LogSaver;
 pub use serving::serve_file;
 pub use showing::show;

@@ -80,10 +80,15 @@ fn open_to_serve(
 ) -> Result<(Store<Lanes>, FileVersion), Failure>
     ensures { IfOk result (λ it. it.1.version ≡ it.0.version) }
 {
-    let kept = kept_file(rt, file, false)?;
+    let kept = kept_file(rt, file, None)?;
     match read_log_file(rt, kept.own.name.as_str(), &kept.own.header) {
-        Ok(Some(log)) => store_after(rt, kept.read, log.publications(), &mut Unwatched),
-        Ok(None) => store_after(rt, kept.read, Publications { rest: &[] }, &mut Unwatched),
+        Ok(Some(log)) => store_after(rt.alloc(), kept.read, log.publications(), &mut Unwatched),
+        Ok(None) => store_after(
+            rt.alloc(),
+            kept.read,
+            Publications { rest: &[] },
+            &mut Unwatched,
+        ),
         Err(fault) => Err(log_failure(fault)),
     }
 }

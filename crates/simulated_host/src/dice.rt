@@ -35,6 +35,15 @@ impl Dice {
         self.below(odds) == 0
     }
 
+    /// All of so many, mostly; else some of them, and one at least.
+    pub fn part_of(&mut self, count: usize) -> usize {
+        if self.one_in(4) {
+            self.below(count).saturating_add(1)
+        } else {
+            count
+        }
+    }
+
     /// Fills a buffer.
     pub fn fill(&mut self, bytes: &mut [u8]) {
         for byte in bytes.iter_mut() {

@@ -5,5 +5,7 @@
 #![tactic(auto)]
 
 mod dice;
+mod network;
 
 pub use dice::Dice;
+pub use network::{End, Moved, Network, Side};
