@@ -9,7 +9,6 @@
 
 mod commands;
 mod ends;
-mod lacking;
 mod pushing;
 mod rounds;
 mod talk;

@@ -1,12 +1,11 @@
 //! The connection to one server, in a round.
 
 use crate::ends::{Cause, End};
-use crate::lacking::{Lack, lack_of};
 use crate::verifying::{Verified, Verifying};
 use client_core::{ClientCore, ServerInfo};
 use mio::net::TcpStream;
 use publication_log::Publications;
-use publication_push::{Push, PushFault, PushStep};
+use publication_push::{Lack, Push, PushFault, PushStep, lack_of};
 use publisher_files::FolderVersion;
 use session_core::Lanes;
 use std::alloc::{AllocError, Global};

@@ -1,3 +1,4 @@
 pub mod Orders
 pub mod Pushes
 pub mod Laws
+pub mod Lacking

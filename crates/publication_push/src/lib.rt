@@ -10,10 +10,12 @@
 #![tactic(auto)]
 
 mod fault;
+mod lacking;
 pub mod laws;
 mod orders;
 mod push;
 
 pub use fault::PushFault;
+pub use lacking::{Lack, lack_of};
 pub use orders::{Order, Orders};
 pub use push::{Push, PushStep};

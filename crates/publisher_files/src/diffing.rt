@@ -10,6 +10,7 @@ use crate::folder::{draft_name, records_name};
 use crate::version::{FolderVersion, open_folder};
 use command_words::{Failed, Failure, printed};
 use publisher_drafts::{appended_line, changed_line};
+use safe_files::FileSystem;
 use std::alloc::{AllocError, Global};
 
 /// How often a folder is read whose draft is none of its version, since another process may have published meanwhile.
@@ -36,7 +37,7 @@ pub fn diff(rt: &HostRuntime, dir: &str) -> Result<(), Failed> {
 /// # Errors
 ///
 /// `File`, those of the snapshot and of its log, those of the draft; `Memory`.
-pub fn read_folder(rt: &HostRuntime, dir: &str) -> Result<(FolderVersion, Draft), Failure>
+pub fn read_folder<R: FileSystem>(rt: &R, dir: &str) -> Result<(FolderVersion, Draft), Failure>
     ensures sound { IfOk result (λ it.
         IsSound (header_of it.0.snapshot) it.0.snapshot.records.items) }
 {

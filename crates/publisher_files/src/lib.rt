@@ -24,8 +24,9 @@ mod publishing;
 mod showing;
 mod version;
 
-pub use diffing::diff;
+pub use diffing::{diff, read_folder};
 pub use drafting::{Drafted, add, draft_one, set};
+pub use drafts::{Draft, DraftFile};
 pub use folder::{draft_name, init, records_name};
 pub use importing::{ImportFault, import};
 pub use publishing::{publish, publish_draft};

@@ -11,14 +11,14 @@ use std::alloc::Global;
 
 /// Appends publications to the log of a snapshot file. What it counts as saved is what file and log have.
 #[derive(Drop)]
-pub struct LogSaver<D: Disk> {
+pub struct LogSaver<D: Disk + Drop> {
     log: Log<D>,
     has: FileVersion,
     // Where the log ended before the last publication that was appended.
     before: LogEnd,
 }
 
-impl<D: Disk> LogSaver<D> {
+impl<D: Disk + Drop> LogSaver<D> {
     ghost use Rattle.server_files.specs.Saved.{saved_version};
 
     /// One for the log that a file has, and the version that both have; `None` if the log has another one.

@@ -2,8 +2,8 @@
 use Rattle.std.specs.Prelude.{◌≡◌, ◌≢◌, ◌≤◌, ◌<◌, ◌+◌, ℕ}
 use Rattle.pir_schemes.specs.declared.plan.Plan.{Plan}
 use Rattle.client_core.specs.declared.state.ServerInfo.{ServerInfo}
-use Rattle.pir_publisher.specs.declared.lacking.Lack.{Lack}
-use Rattle.pir_publisher.specs.declared.lacking.Lack.TheVariants.{OtherStore, Ahead, BeforeLog, After}
+use Rattle.publication_push.specs.declared.lacking.Lack.{Lack}
+use Rattle.publication_push.specs.declared.lacking.Lack.TheVariants.{OtherStore, Ahead, BeforeLog, After}
 
 -- what a server lacks that was greeted, of the publications after one version up to another
 abbrev pub IsLack : Plan → ℕ → ℕ → ServerInfo → Lack → Type 0

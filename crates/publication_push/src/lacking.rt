@@ -1,7 +1,7 @@
 //! What a server lacks of a folder's publications.
 
 ghost use Rattle.std.specs.Prelude.{◌≡◌};
-ghost use Rattle.pir_publisher.specs.Lacking.{IsLack};
+ghost use Rattle.publication_push.specs.Lacking.{IsLack};
 
 use client_core::ServerInfo;
 use pir_schemes::Plan;

@@ -1,0 +1,358 @@
+//! A process that serves.
+
+use crate::outside::Surroundings;
+use crate::server::Limits;
+use crate::serving::Serving;
+use server_files::OwnFile;
+use service_core::{Fault, Link, PIECE_LEN, Served, turn};
+use session_core::{Lanes, Store};
+use simulated_host::{Dice, End, Moved, Network, SimulatedFile, SimulatedFiles};
+use std::alloc::Global;
+use std::fs::OpenFile;
+use std::io::Write;
+
+/// How many milliseconds a connection that is over is read from.
+const LINGER: u64 = 2_000;
+
+/// Why a connection was closed before its end.
+#[derive(Clone, Copy, Debug, PartialEq, Eq)]
+pub enum Closing {
+    /// A turn ended early.
+    Turn(Fault),
+    /// There was no progress for too long.
+    Idle,
+    /// More bytes were held for all connections than are allowed, and most of them for this one.
+    Memory,
+}
+
+/// What a step of a server came to.
+#[derive(Clone, Copy, Debug, PartialEq, Eq)]
+pub enum Turned {
+    /// There was nothing to do, or there is no process.
+    Nothing,
+    /// A connection was accepted.
+    Accepted,
+    /// A frame was served, or bytes came or went.
+    Served,
+    /// A version was published.
+    Published(u64),
+    /// A connection came to its end.
+    Over,
+    /// A connection was closed before that.
+    Closed(Closing),
+    /// A version could not be saved: the process has ended.
+    Ended,
+}
+
+// A connection that was accepted.
+#[derive(Drop)]
+struct Held {
+    end: End,
+    id: u64,
+    link: Link,
+    // It is the publisher's, who may have edited the draft.
+    edits: bool,
+    // All was written: until this moment what still comes is read and forgotten.
+    lingers: Option<u64>,
+}
+
+/// A process that serves a file.
+#[derive(Drop)]
+pub struct Process<'a> {
+    // Its lock is kept until the process ends.
+    _file: OwnFile<'a, SimulatedFiles<'a>>,
+    serving: Serving<SimulatedFile<'a>>,
+    connections: Vec<Held>,
+    next_id: u64,
+}
+
+/// What a step of a process has at hand.
+#[derive(Drop)]
+pub struct Around<'w, 'a> {
+    /// The machine.
+    pub files: &'w SimulatedFiles<'a>,
+    /// The connections.
+    pub network: &'w mut Network,
+    /// What decides.
+    pub dice: &'w mut Dice,
+    /// The moment in milliseconds.
+    pub now: u64,
+    /// What the process allows.
+    pub limits: Limits,
+    /// Where memory comes from.
+    pub alloc: Global,
+    /// Where reads bring bytes.
+    pub buffer: &'w mut [u8],
+}
+
+impl<'a> Process<'a> {
+    /// A process that has opened a file.
+    pub fn new(
+        alloc: Global,
+        file: OwnFile<'a, SimulatedFiles<'a>>,
+        serving: Serving<SimulatedFile<'a>>,
+    ) -> Process<'a> {
+        Process {
+            _file: file,
+            serving,
+            connections: Vec::new(alloc),
+            next_id: 0,
+        }
+    }
+
+    /// The store that is served.
+    pub fn store(&self) -> &Store<Lanes> {
+        self.serving.core.store()
+    }
+
+    /// How many connections it has.
+    pub fn open(&self) -> usize {
+        self.connections.len()
+    }
+
+    /// How many bytes are held for all connections.
+    pub fn held(&self) -> usize {
+        let mut held = 0usize;
+        for connection in self.connections.iter() {
+            held = held.saturating_add(held_for(&self.serving, connection));
+        }
+        held
+    }
+
+    /// Accepts a connection, or makes a turn of one, chosen at random.
+    pub fn step(mut self, around: &mut Around<'_, 'a>) -> (Option<Process<'a>>, Turned) {
+        if self.connections.len() < around.limits.most && around.dice.one_in(4) {
+            let turned = self.accept(around);
+            return (Some(self), turned);
+        }
+        let place = around.dice.below(self.connections.len());
+        self.turn_at(place, around)
+    }
+
+    // Accepts a connection that waits.
+    fn accept(&mut self, around: &mut Around<'_, 'a>) -> Turned {
+        let Some(end) = around.network.accept(around.files.machine()) else {
+            return Turned::Nothing;
+        };
+        let id = self.next_id;
+        self.next_id = self.next_id.wrapping_add(1);
+        let held = Held {
+            end,
+            id,
+            link: Link::new(around.alloc, around.now),
+            edits: false,
+            lingers: None,
+        };
+        if self.serving.open_session(id).is_err() || self.connections.push(held).is_err() {
+            around.network.close(end);
+            return Turned::Over;
+        }
+        Turned::Accepted
+    }
+
+    // Makes a turn of the connection at a place.
+    fn turn_at(self, place: usize, around: &mut Around<'_, 'a>) -> (Option<Process<'a>>, Turned) {
+        let Process {
+            _file,
+            serving,
+            mut connections,
+            next_id,
+        } = self;
+        if place >= connections.len() {
+            let process = Process {
+                _file,
+                serving,
+                connections,
+                next_id,
+            };
+            return (Some(process), Turned::Nothing);
+        }
+        let mut held = connections.swap_remove(place);
+        let before = serving.core.store().version();
+        let (serving, outcome) = take_turn(serving, &mut held, around);
+        let Some(serving) = serving else {
+            return (None, Turned::Ended);
+        };
+        let after = serving.core.store().version();
+        let process = Process {
+            _file,
+            serving,
+            connections,
+            next_id,
+        };
+        let (process, turned) = process.after_turn(held, outcome, around);
+        if before != after {
+            (Some(process), Turned::Published(after))
+        } else {
+            (Some(process), turned)
+        }
+    }
+
+    // Puts a connection back, or lets it go.
+    fn after_turn(
+        mut self,
+        held: Held,
+        outcome: Outcome,
+        around: &mut Around<'_, 'a>,
+    ) -> (Process<'a>, Turned) {
+        match outcome {
+            Outcome::GoesOn(turned) => {
+                let end = held.end;
+                if self.connections.push(held).is_err() {
+                    around.network.close(end);
+                    return (self, Turned::Over);
+                }
+                self.within_memory(turned, around)
+            }
+            Outcome::Ends(turned) => (self.let_go(held, around), turned),
+        }
+    }
+
+    // Closes the connection for which most bytes are held, if there are more than are allowed for all.
+    fn within_memory(
+        mut self,
+        turned: Turned,
+        around: &mut Around<'_, 'a>,
+    ) -> (Process<'a>, Turned) {
+        if self.held() <= around.limits.memory {
+            return (self, turned);
+        }
+        let largest = self.largest();
+        if largest >= self.connections.len() {
+            return (self, turned);
+        }
+        let held = self.connections.swap_remove(largest);
+        (self.let_go(held, around), Turned::Closed(Closing::Memory))
+    }
+
+    // The place of the connection for which most bytes are held.
+    fn largest(&self) -> usize {
+        let mut largest = 0;
+        let mut most = 0;
+        for (place, connection) in self.connections.iter().enumerate() {
+            let held = held_for(&self.serving, connection);
+            if held > most {
+                largest = place;
+                most = held;
+            }
+        }
+        largest
+    }
+
+    // Lets a connection go, and drops the draft if nobody is left who edited it.
+    fn let_go(mut self, held: Held, around: &mut Around<'_, 'a>) -> Process<'a> {
+        around.network.close(held.end);
+        self.serving.close_session(held.id);
+        if held.edits && !self.connections.iter().any(|other| other.edits) {
+            let Process {
+                _file,
+                serving,
+                connections,
+                next_id,
+            } = self;
+            return Process {
+                _file,
+                serving: serving.without_draft(),
+                connections,
+                next_id,
+            };
+        }
+        self
+    }
+}
+
+// What a turn came to.
+enum Outcome {
+    // The connection goes on.
+    GoesOn(Turned),
+    // The connection is let go.
+    Ends(Turned),
+}
+
+// How many bytes are held for a connection: of an unfinished frame, and of replies that are owed.
+fn held_for<F: Write + OpenFile + Drop>(serving: &Serving<F>, held: &Held) -> usize {
+    let unfinished = serving.core.unfinished_len(held.id);
+    unfinished.saturating_add(held.link.owed().len())
+}
+
+// Makes a turn of a connection. Nothing is given back if a version could not be saved.
+fn take_turn<'a>(
+    serving: Serving<SimulatedFile<'a>>,
+    held: &mut Held,
+    around: &mut Around<'_, 'a>,
+) -> (Option<Serving<SimulatedFile<'a>>>, Outcome) {
+    if let Some(until) = held.lingers {
+        return (Some(serving), linger(held, until, around));
+    }
+    if !serving.core.has_session(held.id) || around.buffer.len() != PIECE_LEN {
+        return (Some(serving), Outcome::Ends(Turned::Over));
+    }
+    let was_marked = serving.core.store().is_marked();
+    let Some((serving, served)) = serve(serving, held, around) else {
+        return (None, Outcome::Ends(Turned::Ended));
+    };
+    held.edits = held.edits || !was_marked && serving.core.store().is_marked();
+    let outcome = match served {
+        Err(fault) => Outcome::Ends(Turned::Closed(Closing::Turn(fault))),
+        Ok(moved) => next(held, moved, around),
+    };
+    (Some(serving), outcome)
+}
+
+// Serves. Answers whether anything was done.
+fn serve<'a>(
+    serving: Serving<SimulatedFile<'a>>,
+    held: &mut Held,
+    around: &mut Around<'_, 'a>,
+) -> Option<(Serving<SimulatedFile<'a>>, Result<Turned, Fault>)> {
+    let Serving { mut core, saver } = serving;
+    let mut outside = Surroundings {
+        saver,
+        files: around.files,
+        network: around.network,
+        dice: around.dice,
+        end: held.end,
+        alloc: around.alloc,
+        written: 0,
+    };
+    let ended = turn(
+        &mut held.link,
+        &mut core,
+        &mut outside,
+        held.id,
+        around.now,
+        around.buffer,
+    );
+    let Surroundings { saver, .. } = outside;
+    match ended {
+        Ok(Served::Done | Served::PutOff) => Some((Serving { core, saver }, Ok(Turned::Served))),
+        Err(Fault::Save) => None,
+        Err(fault) => Some((Serving { core, saver }, Err(fault))),
+    }
+}
+
+// What is next after a turn.
+fn next(held: &mut Held, turned: Turned, around: &mut Around<'_, '_>) -> Outcome {
+    if held.link.is_done() {
+        around.network.end_writing(held.end);
+        held.lingers = Some(around.now.saturating_add(LINGER));
+        return Outcome::GoesOn(Turned::Over);
+    }
+    let idle = around.limits.idle;
+    if !held.link.may_serve() && held.link.is_expired(around.now, idle) {
+        return Outcome::Ends(Turned::Closed(Closing::Idle));
+    }
+    Outcome::GoesOn(turned)
+}
+
+// Reads and forgets, until the other end has ended too, or has had its time.
+fn linger(held: &mut Held, until: u64, around: &mut Around<'_, '_>) -> Outcome {
+    if around.now >= until {
+        return Outcome::Ends(Turned::Over);
+    }
+    match around.network.read(held.end, around.buffer, around.dice) {
+        Moved::Bytes(0) | Moved::Broken => Outcome::Ends(Turned::Over),
+        Moved::Bytes(_) => Outcome::GoesOn(Turned::Served),
+        Moved::Later => Outcome::GoesOn(Turned::Nothing),
+    }
+}
