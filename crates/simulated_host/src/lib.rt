@@ -4,6 +4,24 @@
 //! same code runs as on the host's. When a machine's power is cut, what was not synced is lost, torn or kept.
 #![tactic(auto)]
 
+mod change;
 mod dice;
+mod disk;
+mod faults;
+mod file;
+mod files;
+mod image;
+mod listing;
+mod machine;
+mod names;
+mod nodes;
 
 pub use dice::Dice;
+pub use disk::SimulatedDisk;
+pub use faults::{Faults, Odds};
+pub use file::SimulatedFile;
+pub use files::SimulatedFiles;
+pub use listing::SimulatedNames;
+
+#[cfg(test)]
+mod tests;
