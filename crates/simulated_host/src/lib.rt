@@ -4,8 +4,26 @@
 //! same code runs as on the host's. When a machine's power is cut, what was not synced is lost, torn or kept.
 #![tactic(auto)]
 
+mod change;
 mod dice;
+mod disk;
+mod faults;
+mod file;
+mod files;
+mod image;
+mod listing;
+mod machine;
+mod names;
 mod network;
+mod nodes;
 
 pub use dice::Dice;
+pub use disk::SimulatedDisk;
+pub use faults::{Faults, Odds};
+pub use file::SimulatedFile;
+pub use files::SimulatedFiles;
+pub use listing::SimulatedNames;
 pub use network::{End, Moved, Network, Side};
+
+#[cfg(test)]
+mod tests;
