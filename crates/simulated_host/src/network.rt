@@ -182,6 +182,13 @@ impl Network {
         })
     }
 
+    /// Whether a server has a connection of a client that it has not let go.
+    pub fn is_connected(&self, client: usize, server: usize) -> bool {
+        self.connections.iter().any(|connection| {
+            connection.client == client && connection.server == server && !connection.server_gone
+        })
+    }
+
     /// A server accepts the first connection that waits for it. Gives the server's end.
     pub fn accept(&mut self, server: usize) -> Option<End> {
         for connection in self.connections.iter_mut() {

@@ -13,3 +13,4 @@ mod serving;
 
 pub use process::{Around, Closing, Turned};
 pub use server::{Limits, Server};
+pub use service_core::PIECE_LEN;

@@ -1,0 +1,247 @@
+//! All machines, and one step after another.
+
+mod clients;
+mod ending;
+mod publishing;
+mod servers;
+mod troubles;
+
+use crate::broken::Broken;
+use crate::client::Client;
+use crate::events::{Event, Events, What};
+use crate::publisher::Publisher;
+use crate::pushing::Talk;
+use crate::records::Truth;
+use crate::setting::Setting;
+use publisher_files::FolderVersion;
+use simulated_host::{Dice, Network, SimulatedDisk, SimulatedFiles};
+use simulated_server::{PIECE_LEN, Server};
+use std::alloc::{AllocError, Global};
+use std::cell::RefCell;
+use std::collections::VecDeque;
+
+/// The publisher's folder, a server's file and a client's folder, on their machines.
+pub const PUBLISHER: &str = "p";
+/// The publisher's snapshot.
+pub const RECORDS: &str = "p/records.pir";
+/// A server's folder.
+pub const SERVER: &str = "s";
+/// A server's file.
+pub const FILE: &str = "s/records.pir";
+/// A client's folder.
+pub const CLIENT: &str = "c";
+
+/// What may go wrong.
+#[derive(Clone, Copy, Debug, PartialEq, Eq)]
+pub struct Troubles {
+    /// A machine's power is cut.
+    pub power: bool,
+    /// A process is killed.
+    pub kills: bool,
+    /// A connection breaks.
+    pub breaks: bool,
+    /// A server can't be reached for a while.
+    pub partitions: bool,
+    /// A disk is full, or its calls fail.
+    pub disks: bool,
+}
+
+/// How many machines there are of each kind.
+#[derive(Clone, Copy, Debug, PartialEq, Eq)]
+pub struct Sizes {
+    /// How many servers.
+    pub servers: usize,
+    /// How many clients. Two of them have one machine, and one folder.
+    pub clients: usize,
+}
+
+impl Sizes {
+    /// How many machines there are: the publisher's, those of servers, those of clients.
+    pub fn machines(&self) -> usize {
+        self.clients
+            .div_ceil(2)
+            .saturating_add(self.servers)
+            .saturating_add(1)
+    }
+
+    /// The number of a server's machine.
+    pub fn server(&self, server: usize) -> usize {
+        server.saturating_add(1)
+    }
+
+    /// The number of a client's machine.
+    pub fn client(&self, client: usize) -> usize {
+        (client / 2)
+            .saturating_add(self.servers)
+            .saturating_add(1)
+    }
+}
+
+/// What was done, in counts.
+#[derive(Clone, Copy, Debug, Default, PartialEq, Eq)]
+pub struct Counts {
+    /// Records that were retrieved.
+    pub retrieved: u64,
+    /// Versions that were published.
+    pub published: u64,
+    /// Servers that were brought to a version.
+    pub pushed: u64,
+    /// Processes of servers that began.
+    pub started: u64,
+    /// Machines whose power was cut.
+    pub power_cuts: u64,
+    /// Hints that were made anew and compared.
+    pub compared: u64,
+}
+
+/// A push that goes on.
+#[derive(Drop)]
+pub struct Round<'v> {
+    /// The folder's version, which is pushed.
+    pub version: &'v FolderVersion,
+    /// The conversations that go on.
+    pub talks: Vec<Talk<'v>>,
+}
+
+/// All machines.
+#[derive(Drop)]
+pub struct World<'a> {
+    alloc: Global,
+    disk: &'a RefCell<SimulatedDisk>,
+    sizes: Sizes,
+    setting: Setting,
+    troubles: Troubles,
+    dice: Dice,
+    network: Network,
+    publisher: Publisher<'a>,
+    servers: Vec<Server<'a>>,
+    clients: Vec<Client<'a>>,
+    // What each client saw of each server.
+    seen: Vec<u64>,
+    truth: Truth,
+    now: u64,
+    step: u64,
+    unreachable: Vec<bool>,
+    // Servers that lack more than the publisher's log has.
+    behind: Vec<bool>,
+    // Nothing goes wrong any more, and nothing new is begun.
+    is_calm: bool,
+    events: Events,
+    counts: Counts,
+    buffer: Vec<u8>,
+    room: Vec<u8>,
+}
+
+impl<'a> World<'a> {
+    /// The number of the next step.
+    pub fn step(&self) -> u64 {
+        self.step
+    }
+
+    /// The last events.
+    pub fn events(&self) -> &VecDeque<Event> {
+        self.events.all()
+    }
+
+    /// What was done.
+    pub fn counts(&self) -> Counts {
+        self.counts
+    }
+
+    // Notes an event.
+    fn note(&mut self, what: What) -> Result<(), AllocError> {
+        self.events.note(self.step, what)
+    }
+
+    /// One step.
+    ///
+    /// # Errors
+    ///
+    /// What is broken.
+    pub fn act(&mut self, round: Option<&mut Round<'_>>) -> Result<(), Broken> {
+        self.step = self.step.saturating_add(1);
+        self.now = self.now.saturating_add(1);
+        match self.dice.below(1_000) {
+            0..=349 => self.deliver(),
+            350..=619 => self.act_server(),
+            620..=889 => self.act_client(),
+            890..=969 => match round {
+                Some(round) => self.act_round(round),
+                None => self.act_client(),
+            },
+            970..=984 => self.act_publisher(),
+            985..=989 => self.pass_time(),
+            _ => self.trouble(),
+        }
+    }
+
+    // Bytes come.
+    fn deliver(&mut self) -> Result<(), Broken> {
+        self.network
+            .deliver_some(&mut self.dice, &self.unreachable);
+        Ok(())
+    }
+
+    // Time passes.
+    fn pass_time(&mut self) -> Result<(), Broken> {
+        let passed = self.dice.below(2_000);
+        self.now = self.now.saturating_add(passed as u64);
+        Ok(())
+    }
+}
+
+/// A world at its beginning: each server has version 1, and the publisher's folder, too.
+///
+/// # Errors
+///
+/// `Memory`.
+pub fn begin<'a>(
+    alloc: Global,
+    disk: &'a RefCell<SimulatedDisk>,
+    files: &'a [SimulatedFiles<'a>],
+    sizes: Sizes,
+    troubles: Troubles,
+    mut dice: Dice,
+) -> Result<World<'a>, Broken> {
+    let setting = Setting::choose(&mut dice);
+    let first = setting.first(alloc, &mut dice)?;
+    let Some(own) = files.first() else {
+        return Err(Broken::Memory);
+    };
+    servers::make_files(alloc, disk, files, &sizes, &setting, &first)?;
+    let publisher = Publisher::new(
+        alloc,
+        own,
+        (PUBLISHER, RECORDS),
+        (setting.most(), !setting.has_slots()),
+        &first,
+    )?;
+    let seen = Vec::from_elem(
+        alloc,
+        0u64,
+        sizes.servers.saturating_mul(sizes.clients).min(65_536),
+    )?;
+    Ok(World {
+        alloc,
+        disk,
+        sizes,
+        setting,
+        troubles,
+        dice,
+        network: Network::new(alloc),
+        publisher,
+        servers: servers::all(alloc, files, &sizes)?,
+        clients: clients::all(alloc, files, &sizes)?,
+        seen,
+        truth: Truth::new(alloc, first)?,
+        now: 0,
+        step: 0,
+        unreachable: Vec::from_elem(alloc, false, sizes.machines().min(65_536))?,
+        behind: Vec::from_elem(alloc, false, sizes.servers.min(65_536))?,
+        is_calm: false,
+        events: Events::none(alloc),
+        counts: Counts::default(),
+        buffer: Vec::from_elem(alloc, 0u8, PIECE_LEN)?,
+        room: Vec::from_elem(alloc, 0u8, 65_535)?,
+    })
+}
