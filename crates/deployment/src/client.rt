@@ -229,12 +229,7 @@ impl Running<'_> {
     }
 
     // Does what comes next.
-    fn take(
-        &mut self,
-        client: usize,
-        before: u64,
-        step: RunStep,
-    ) -> Result<ClientStep, Broken> {
+    fn take(&mut self, client: usize, before: u64, step: RunStep) -> Result<ClientStep, Broken> {
         match step {
             RunStep::Waits => Ok(ClientStep::Moved),
             RunStep::Sends(bytes) => {

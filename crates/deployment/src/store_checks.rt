@@ -101,7 +101,10 @@ fn are_alike(some: &Store<Lanes>, other: &Store<Lanes>) -> bool {
 // Whether all parts of a scheme's hint are those of the other.
 fn has_parts(some: &Store<Lanes>, other: &Store<Lanes>, scheme: Scheme) -> bool {
     for part in 0..usize::MAX {
-        match (some.hint_words(scheme, part), other.hint_words(scheme, part)) {
+        match (
+            some.hint_words(scheme, part),
+            other.hint_words(scheme, part),
+        ) {
             (Some(words), Some(others)) if words == others => {}
             (None, None) => return true,
             _ => return false,

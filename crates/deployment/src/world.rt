@@ -71,9 +71,7 @@ impl Sizes {
 
     /// The number of a client's machine.
     pub fn client(&self, client: usize) -> usize {
-        (client / 2)
-            .saturating_add(self.servers)
-            .saturating_add(1)
+        (client / 2).saturating_add(self.servers).saturating_add(1)
     }
 }
 
@@ -177,8 +175,7 @@ impl<'a> World<'a> {
 
     // Bytes come.
     fn deliver(&mut self) -> Result<(), Broken> {
-        self.network
-            .deliver_some(&mut self.dice, &self.unreachable);
+        self.network.deliver_some(&mut self.dice, &self.unreachable);
         Ok(())
     }
 

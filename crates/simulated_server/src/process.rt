@@ -1,5 +1,8 @@
 //! A process that serves.
 
+ghost use Rattle.std.specs.Prelude.{◌≡◌, ◌≢◌, None, length};
+ghost use Rattle.server_core.specs.Cores.{session_of};
+
 use crate::outside::Surroundings;
 use crate::server::Limits;
 use crate::serving::Serving;
@@ -262,6 +265,7 @@ impl<'a> Process<'a> {
 }
 
 // What a turn came to.
+#[derive(Clone, Copy)]
 enum Outcome {
     // The connection goes on.
     GoesOn(Turned),
@@ -304,7 +308,10 @@ fn serve<'a>(
     serving: Serving<SimulatedFile<'a>>,
     held: &mut Held,
     around: &mut Around<'_, 'a>,
-) -> Option<(Serving<SimulatedFile<'a>>, Result<Turned, Fault>)> {
+) -> Option<(Serving<SimulatedFile<'a>>, Result<Turned, Fault>)>
+    requires there { session_of serving.core.sessions held.old.id ≢ None }
+    requires room { length around.old.buffer.now ≡ 65536 }
+{
     let Serving { mut core, saver } = serving;
     let mut outside = Surroundings {
         saver,

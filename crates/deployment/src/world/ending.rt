@@ -49,10 +49,12 @@ impl World<'_> {
             }
         }
         let last = self.truth.last();
-        Ok(self.servers.iter().all(|node| match node.store() {
-            Some(store) => store.version() == last,
-            None => false,
-        }))
+        Ok(
+            self.servers.iter().all(|node| match node.store() {
+                Some(store) => store.version() == last,
+                None => false,
+            }),
+        )
     }
 
     /// Judges the stores of all servers.

@@ -1,6 +1,6 @@
 //! Steps of servers.
 
-use super::{FILE, PUBLISHER, RECORDS, SERVER, CLIENT, Sizes, World};
+use super::{CLIENT, FILE, PUBLISHER, RECORDS, SERVER, Sizes, World};
 use crate::broken::Broken;
 use crate::events::What;
 use crate::publisher::{is_damage, name_of};
@@ -75,12 +75,7 @@ fn make_folders(disk: &RefCell<SimulatedDisk>, sizes: &Sizes) -> Result<(), Brok
 }
 
 // Writes version 1. Whether that could be done.
-fn write_file(
-    files: &SimulatedFiles<'_>,
-    name: &str,
-    setting: &Setting,
-    bytes: &[u8],
-) -> bool {
+fn write_file(files: &SimulatedFiles<'_>, name: &str, setting: &Setting, bytes: &[u8]) -> bool {
     let Ok(mut file) = OwnFile::to_write(files, name) else {
         return false;
     };

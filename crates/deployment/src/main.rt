@@ -1,0 +1,25 @@
+//! A deployment in one process: a publisher, servers and clients, on simulated disks and over a simulated network, all of it decided by
+//! one seed. What must never be is looked for at each step; a seed that finds something is run again in shorter forms.
+//!
+//! Exit statuses: 0 nothing was found, 1 something was, 2 a bad command line, 4 out of memory.
+#![tactic(auto)]
+
+mod broken;
+mod client;
+mod command_line;
+mod events;
+mod publisher;
+mod pushing;
+mod records;
+mod running;
+mod setting;
+mod shortening;
+mod simulating;
+mod store_checks;
+mod world;
+
+use std::process::ExitCode;
+
+fn main(rt: HostRuntime) -> ExitCode {
+    ExitCode::from(simulating::simulate(&rt))
+}
