@@ -1,4 +1,5 @@
-//! The hint of the version known, held by the client: the one kept, read as a whole, or as a sync has moved or brought it.
+//! The hint of the version known, held by the client: the one kept, read as a whole, or as a sync has moved or brought
+//! it.
 
 use crate::counts::count;
 use crate::fault::RunFault;

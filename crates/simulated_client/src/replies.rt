@@ -27,8 +27,8 @@ pub fn whole_frame(alloc: Global, reply: &[u8]) -> Result<Frame, RunFault> {
     }
 }
 
-/// The bytes of the next part, in the whole reply to its ask. None if the server has another version, or refuses it: whoever asks again
-/// gets the same again.
+/// The bytes of the next part, in the whole reply to its ask. None if the server has another version, or refuses it:
+/// whoever asks again gets the same again.
 pub fn part_in<'r, R: FileSystem>(
     partial: &PartialFile<'_, R>,
     reply: &'r [u8],

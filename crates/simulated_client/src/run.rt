@@ -43,8 +43,8 @@ pub struct ClientRun<'a, R: FileSystem> {
 }
 
 impl<'a, R: FileSystem> ClientRun<'a, R> {
-    /// Begins a run over a store of a kind, and gives the greeting to send. The seed is one that no other run has. Of the numbers wanted
-    /// each is taken modulo the count of records known when its turn comes.
+    /// Begins a run over a store of a kind, and gives the greeting to send. The seed is one that no other run has. Of
+    /// the numbers wanted each is taken modulo the count of records known when its turn comes.
     ///
     /// # Errors
     ///
@@ -84,7 +84,8 @@ impl<'a, R: FileSystem> ClientRun<'a, R> {
         Ok((run, greeting))
     }
 
-    /// Takes the next piece of the server's stream. One call at most is outstanding, so that a byte after a reply is a fault.
+    /// Takes the next piece of the server's stream. One call at most is outstanding, so that a byte after a reply is a
+    /// fault.
     pub fn feed(&mut self, piece: &[u8]) -> RunStep {
         let step = match self.advance(piece) {
             Ok(step) => step,

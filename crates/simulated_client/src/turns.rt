@@ -1,4 +1,5 @@
-//! The turns of the records wanted: each is asked for over its rows of the hint kept, or once the hint of the version known is held.
+//! The turns of the records wanted: each is asked for over its rows of the hint kept, or once the hint of the version
+//! known is held.
 
 use crate::counts::count;
 use crate::fault::RunFault;
@@ -77,7 +78,8 @@ impl<'a, R: FileSystem> ClientRun<'a, R> {
         self.attempt()
     }
 
-    // Drops the hint kept, if rows of it were damaged: at the end alone, so that all records are asked for in the same way.
+    // Drops the hint kept, if rows of it were damaged: at the end alone, so that all records are asked for in the same
+    // way.
     fn discard_damaged(&self, now: &ServerInfo) {
         if self.has_damaged_rows {
             // One that stays is found damaged again.
@@ -163,7 +165,8 @@ impl<'a, R: FileSystem> ClientRun<'a, R> {
         self.hold_hint()
     }
 
-    // The rows of the record in the hint kept, if that is one of SimplePIR and of the version known. Damaged rows are zeros.
+    // The rows of the record in the hint kept, if that is one of SimplePIR and of the version known. Damaged rows are
+    // zeros.
     fn rows_kept(&self) -> Result<Option<Rows>, RunFault> {
         let now = self.known()?;
         let Some(kept) = &self.kept else {
