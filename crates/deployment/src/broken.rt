@@ -1,6 +1,6 @@
 //! What must never be, and was seen.
 
-use std::alloc::AllocError;
+use std::alloc::{AllocError, AllocFailed};
 use thiserror::Error;
 
 /// What must never be, and was seen.
@@ -111,6 +111,17 @@ impl From<AllocError> for Broken {
     ghost from_gives = { λ _ fault. fault ≡ Memory };
 
     fn from(_refused: AllocError) -> Self {
+        Broken::Memory
+    }
+}
+
+impl<T: Drop> From<AllocFailed<T>> for Broken {
+    ghost use Rattle.deployment.specs.declared.broken.Broken.TheVariants.{Memory};
+    ghost use Rattle.std.specs.Prelude.{◌≡◌};
+
+    ghost from_gives = { λ _ fault. fault ≡ Memory };
+
+    fn from(_refused: AllocFailed<T>) -> Self {
         Broken::Memory
     }
 }

@@ -126,6 +126,14 @@ impl<'a> Client<'a> {
         Ok(true)
     }
 
+    /// Whether there is something to do for the run that goes on.
+    pub fn is_ready(&self, network: &Network) -> bool {
+        match &self.running {
+            Some(running) => running.sent < running.out.len() || network.is_ready(running.end),
+            None => false,
+        }
+    }
+
     /// Ends the run, in whatever way. Gives its end of the connection.
     pub fn stop(&mut self) -> Option<End> {
         let running = self.running.take()?;

@@ -31,6 +31,8 @@ pub struct Plan {
     pub sizes: Sizes,
     /// What may go wrong.
     pub troubles: Troubles,
+    /// Whether the last events of each run are printed.
+    pub events: bool,
 }
 
 // The program's arguments.
@@ -64,6 +66,10 @@ const SIMULATE: CommandText = CommandText {
             name: "clients",
             value: "N",
             help: "How many clients there are (8 if not given)",
+        },
+        Argument::Flag {
+            name: "events",
+            help: "The last events of each run are printed",
         },
         Argument::Flag {
             name: "without-power-cuts",
@@ -110,6 +116,7 @@ pub fn plan_of<'a>(alloc: Global, words: &'a [String]) -> Result<Plan, BadLine<'
             partitions: !found.get_flag("without-partitions"),
             disks: !found.get_flag("without-disk-faults"),
         },
+        events: found.get_flag("events"),
     })
 }
 

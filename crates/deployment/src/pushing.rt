@@ -9,7 +9,7 @@ use simulated_host::{Dice, End, Moved, Network};
 use std::alloc::{AllocError, Global};
 
 /// How many steps with nothing to do a push waits for a server.
-const PATIENCE: u32 = 400;
+const PATIENCE: u32 = 200;
 
 /// How a server's part of a push ended.
 #[derive(Clone, Copy, Debug, PartialEq, Eq)]
@@ -83,6 +83,11 @@ impl<'v> Talk<'v> {
     /// The publisher's end of the connection.
     pub fn end(&self) -> End {
         self.end
+    }
+
+    /// Whether there is something to do.
+    pub fn is_ready(&self, network: &Network) -> bool {
+        self.sent < self.out.len() || network.is_ready(self.end)
     }
 
     /// Sends or takes what there is.

@@ -5,10 +5,13 @@ use crate::world::{Round, World};
 use publisher_files::FolderVersion;
 
 /// How many steps one push lasts at most.
-const ROUND: u32 = 3_000;
+const ROUND: u32 = 2_000;
 
 /// How many pushes there are at the end, at most.
 const LAST_ROUNDS: u32 = 40;
+
+/// How many steps there are between two of them, in which servers find connections ended.
+const BETWEEN: u32 = 1_000;
 
 /// How many steps a client's last run has.
 const LAST_RUN: u32 = 60_000;
@@ -70,11 +73,20 @@ fn finish(world: &mut World<'_>) -> Result<(), Broken> {
             world.check_all()?;
             return retrieve_all(world);
         }
+        pass(world, BETWEEN)?;
         push_once(world, u64::MAX)?;
     }
     Err(Broken::Stuck {
         what: "not all servers have the last version",
     })
+}
+
+// Makes so many steps.
+fn pass(world: &mut World<'_>, steps: u32) -> Result<(), Broken> {
+    for _ in 0..steps {
+        world.act(None)?;
+    }
+    Ok(())
 }
 
 // Each client retrieves each record.

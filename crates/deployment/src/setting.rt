@@ -19,6 +19,8 @@ pub struct Setting {
     pub key: [u8; 32],
     /// What servers allow.
     pub limits: Limits,
+    /// Something goes wrong one time in so many hundred steps.
+    pub rest: usize,
 }
 
 impl Setting {
@@ -49,6 +51,11 @@ impl Setting {
             header,
             key,
             limits: limits_of(dice),
+            rest: match dice.below(3) {
+                0 => 1,
+                1 => 3,
+                _ => 10,
+            },
         }
     }
 

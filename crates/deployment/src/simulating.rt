@@ -66,6 +66,9 @@ fn run_all(rt: &HostRuntime, plan: &Plan) -> io::Result<bool> {
         };
         let ended = perform(rt.alloc(), &run)?;
         say_run(rt, &run, &ended)?;
+        if plan.events {
+            say_events(rt, &ended)?;
+        }
         if ended.broken.is_some() {
             say_broken(rt, &run, &ended)?;
             return Ok(false);
@@ -132,14 +135,25 @@ fn say_run(rt: &HostRuntime, run: &Run, ended: &Ended) -> io::Result<()> {
     let Counts {
         retrieved,
         published,
+        rounds,
         pushed,
+        left,
         started,
         power_cuts,
         compared,
     } = ended.counts;
     println!(rt;
-        "seed {seed}: {steps} steps, {retrieved} retrieved, {published} published, {pushed} pushed, {started} started, {power_cuts} power cuts, {compared} compared"
+        "seed {seed}: {steps} steps, {retrieved} retrieved, {published} published, {rounds} pushes, {pushed} pushed to, {left} left, {started} started, {power_cuts} power cuts, {compared} compared"
     )
+}
+
+// Prints the last events of a run.
+fn say_events(rt: &HostRuntime, ended: &Ended) -> io::Result<()> {
+    for event in ended.events.iter() {
+        let Event { step, what } = event;
+        println!(rt; "{step}: {what:?}")?;
+    }
+    Ok(())
 }
 
 // Prints what is broken, the last events, and the shortest run that finds it.
@@ -156,10 +170,7 @@ fn say_broken(rt: &HostRuntime, run: &Run, ended: &Ended) -> io::Result<()> {
         troubles,
         ..
     } = shorter;
-    for event in last.events.iter() {
-        let Event { step, what } = event;
-        println!(rt; "{step}: {what:?}")?;
-    }
+    say_events(rt, &last)?;
     println!(rt;
         "shortest: --seed {seed} --steps {steps} --servers {servers} --clients {clients}, {troubles:?}"
     )

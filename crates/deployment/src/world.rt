@@ -1,10 +1,10 @@
 //! All machines, and one step after another.
 
 mod clients;
+mod disturbing;
 mod ending;
 mod publishing;
 mod servers;
-mod troubles;
 
 use crate::broken::Broken;
 use crate::client::Client;
@@ -82,8 +82,12 @@ pub struct Counts {
     pub retrieved: u64,
     /// Versions that were published.
     pub published: u64,
+    /// Pushes that began.
+    pub rounds: u64,
     /// Servers that were brought to a version.
     pub pushed: u64,
+    /// Servers that a push left as they were.
+    pub left: u64,
     /// Processes of servers that began.
     pub started: u64,
     /// Machines whose power was cut.
@@ -160,14 +164,14 @@ impl<'a> World<'a> {
         self.step = self.step.saturating_add(1);
         self.now = self.now.saturating_add(1);
         match self.dice.below(1_000) {
-            0..=349 => self.deliver(),
-            350..=619 => self.act_server(),
-            620..=889 => self.act_client(),
-            890..=969 => match round {
+            0..=319 => self.deliver(),
+            320..=619 => self.act_server(),
+            620..=849 => self.act_client(),
+            850..=974 => match round {
                 Some(round) => self.act_round(round),
                 None => self.act_client(),
             },
-            970..=984 => self.act_publisher(),
+            975..=984 => self.act_publisher(),
             985..=989 => self.pass_time(),
             _ => self.trouble(),
         }

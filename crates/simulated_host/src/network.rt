@@ -96,6 +96,16 @@ impl Direction {
         Moved::Bytes(taken)
     }
 
+    // Whether there is something to read.
+    fn is_ready(&self) -> bool {
+        self.came > 0 || self.end_came
+    }
+
+    // Whether something is on its way.
+    fn is_under_way(&self) -> bool {
+        self.came < self.bytes.len() || self.ended && !self.end_came
+    }
+
     // Some bytes come, or all, and with the last of them the end.
     fn deliver(&mut self, dice: &mut Dice) {
         let left = self.bytes.len().saturating_sub(self.came);
@@ -127,6 +137,20 @@ pub struct Connection {
     client_gone: bool,
     server_gone: bool,
     broken: bool,
+}
+
+impl Connection {
+    // Something comes that is on its way, in one direction if there is any, else in the other. Whether anything did.
+    fn deliver(&mut self, dice: &mut Dice, first_up: bool) -> bool {
+        let up = self.up.is_under_way();
+        let down = self.down.is_under_way();
+        if up && (first_up || !down) {
+            self.up.deliver(dice);
+        } else if down {
+            self.down.deliver(dice);
+        }
+        up || down
+    }
 }
 
 /// All connections.
@@ -282,18 +306,37 @@ impl Network {
         self.forget_closed();
     }
 
-    /// Bytes come on one connection, chosen at random, unless its server can't be reached.
+    /// Whether a connection waits for a server to accept it.
+    pub fn has_waiting(&self, server: usize) -> bool {
+        self.connections.iter().any(|connection| {
+            connection.server == server && !connection.accepted && !connection.broken
+        })
+    }
+
+    /// Whether there is something for an end to read: bytes, the end of the stream, or that the connection is broken.
+    pub fn is_ready(&self, end: End) -> bool {
+        match self
+            .connections
+            .iter()
+            .find(|connection| connection.number == end.number)
+        {
+            Some(connection) if !connection.broken => match end.side {
+                Side::Client => connection.down.is_ready(),
+                Side::Server => connection.up.is_ready(),
+            },
+            _ => true,
+        }
+    }
+
+    /// Bytes come on one connection that has any on their way, chosen at random, unless its server can't be reached.
     pub fn deliver_some(&mut self, dice: &mut Dice, unreachable: &[bool]) {
-        let place = dice.below(self.connections.len());
+        let start = dice.below(self.connections.len());
         let first_up = dice.one_in(2);
-        if let Some(connection) = self.connections.get_mut(place) {
-            if matches!(unreachable.get(connection.server), Some(true)) {
+        let (before, after) = self.connections.split_at_mut(start);
+        for connection in after.iter_mut().chain(before.iter_mut()) {
+            let is_cut_off = matches!(unreachable.get(connection.server), Some(true));
+            if !is_cut_off && connection.deliver(dice, first_up) {
                 return;
-            }
-            if first_up {
-                connection.up.deliver(dice);
-            } else {
-                connection.down.deliver(dice);
             }
         }
     }

@@ -59,6 +59,13 @@ struct Held {
     lingers: Option<u64>,
 }
 
+impl Held {
+    // Whether there is something to do.
+    fn is_ready(&self, network: &Network) -> bool {
+        self.link.may_serve() || self.link.owes() || network.is_ready(self.end)
+    }
+}
+
 /// A process that serves a file.
 #[derive(Drop)]
 pub struct Process<'a> {
@@ -122,14 +129,35 @@ impl<'a> Process<'a> {
         held
     }
 
-    /// Accepts a connection, or makes a turn of one, chosen at random.
+    /// Accepts a connection, or makes a turn of one for which there is something to do, chosen at random; now and then of any.
     pub fn step(mut self, around: &mut Around<'_, 'a>) -> (Option<Process<'a>>, Turned) {
         if self.connections.len() < around.limits.most && around.dice.one_in(4) {
             let turned = self.accept(around);
             return (Some(self), turned);
         }
-        let place = around.dice.below(self.connections.len());
+        let start = around.dice.below(self.connections.len());
+        let place = if around.dice.one_in(16) {
+            start
+        } else {
+            self.ready_from(start, around.network)
+        };
         self.turn_at(place, around)
+    }
+
+    /// Whether there is something to do.
+    pub fn is_ready(&self, network: &Network) -> bool {
+        self.connections.iter().any(|held| held.is_ready(network))
+    }
+
+    // The first place from one on whose connection has something to do, or the first of all; the one given if there is none.
+    fn ready_from(&self, start: usize, network: &Network) -> usize {
+        let count = self.connections.len();
+        for place in (start..count).chain(0..start) {
+            if matches!(self.connections.get(place), Some(held) if held.is_ready(network)) {
+                return place;
+            }
+        }
+        start
     }
 
     // Accepts a connection that waits.

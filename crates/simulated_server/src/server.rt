@@ -5,7 +5,7 @@ use crate::serving::Serving;
 use command_words::Failure;
 use server_files::{OwnFile, open_pair};
 use session_core::{Lanes, Store};
-use simulated_host::SimulatedFiles;
+use simulated_host::{Network, SimulatedFiles};
 use std::alloc::Global;
 use version_store::Unwatched;
 
@@ -63,6 +63,16 @@ impl<'a> Server<'a> {
         match &self.process {
             Some(process) => Some(process.store()),
             None => None,
+        }
+    }
+
+    /// Whether there is something to do for a process that runs.
+    pub fn is_ready(&self, network: &Network) -> bool {
+        match &self.process {
+            Some(process) => {
+                process.is_ready(network) || network.has_waiting(self.files.machine())
+            }
+            None => false,
         }
     }
 

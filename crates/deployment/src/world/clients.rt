@@ -28,14 +28,19 @@ pub fn all<'a>(
 }
 
 impl World<'_> {
-    /// A step of a client, chosen at random.
+    /// A step of a client for which there is something to do, chosen at random; now and then of any.
     pub(super) fn act_client(&mut self) -> Result<(), Broken> {
-        let client = self.dice.below(self.clients.len());
+        let start = self.dice.below(self.clients.len());
+        let client = if self.dice.one_in(8) {
+            start
+        } else {
+            self.ready_from(start)
+        };
         let Some(node) = self.clients.get_mut(client) else {
             return Ok(());
         };
         if !node.runs() {
-            return if !self.is_calm && self.dice.one_in(8) {
+            return if !self.is_calm && self.dice.one_in(2) {
                 let count = self.dice.below(3).saturating_add(1);
                 let wanted = self.some_numbers(count)?;
                 self.begin_run(client, wanted)
@@ -59,6 +64,17 @@ impl World<'_> {
         }
         self.look_at_seen(client)?;
         self.look_at_power(self.sizes.client(client))
+    }
+
+    // The first client from a number on for which there is something to do, or the first of all; the one given if there is none.
+    fn ready_from(&self, start: usize) -> usize {
+        let count = self.clients.len();
+        for client in (start..count).chain(0..start) {
+            if matches!(self.clients.get(client), Some(node) if node.is_ready(&self.network)) {
+                return client;
+            }
+        }
+        start
     }
 
     // So many random numbers.

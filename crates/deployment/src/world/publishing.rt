@@ -31,7 +31,7 @@ impl World<'_> {
 
     /// Whether a push is to begin.
     pub fn wants_push(&mut self) -> bool {
-        self.dice.one_in(300)
+        self.dice.one_in(100)
     }
 
     /// The folder's version, which is to be pushed. None if it can't be read now.
@@ -59,6 +59,7 @@ impl World<'_> {
     ///
     /// What is broken.
     pub fn begin_round<'v>(&mut self, version: &'v FolderVersion) -> Result<Round<'v>, Broken> {
+        self.counts.rounds = self.counts.rounds.saturating_add(1);
         self.note(What::PushBegan(version.number()))?;
         let mut talks = Vec::new(self.alloc);
         for server in 0..self.servers.len() {
@@ -85,7 +86,7 @@ impl World<'_> {
 
     /// A step of one conversation of a push.
     pub(super) fn act_round(&mut self, round: &mut Round<'_>) -> Result<(), Broken> {
-        let place = self.dice.below(round.talks.len());
+        let place = self.ready_talk(round);
         if place >= round.talks.len() {
             return Ok(());
         }
@@ -103,6 +104,21 @@ impl World<'_> {
             round.talks.push(talk)?;
         }
         Ok(())
+    }
+
+    // The place of a conversation in which there is something to do, chosen at random; now and then of any.
+    fn ready_talk(&mut self, round: &Round<'_>) -> usize {
+        let count = round.talks.len();
+        let start = self.dice.below(count);
+        if self.dice.one_in(8) {
+            return start;
+        }
+        for place in (start..count).chain(0..start) {
+            if matches!(round.talks.get(place), Some(talk) if talk.is_ready(&self.network)) {
+                return place;
+            }
+        }
+        start
     }
 
     // Notes what came of a step.
@@ -123,7 +139,10 @@ impl World<'_> {
                 }
                 self.note(What::NotPushed(server, "BeforeLog"))?;
             }
-            Some(PushEnd::Left(why)) => self.note(What::NotPushed(server, why))?,
+            Some(PushEnd::Left(why)) => {
+                self.counts.left = self.counts.left.saturating_add(1);
+                self.note(What::NotPushed(server, why))?;
+            }
         }
         Ok(())
     }

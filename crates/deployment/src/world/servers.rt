@@ -87,14 +87,19 @@ fn write_file(files: &SimulatedFiles<'_>, name: &str, setting: &Setting, bytes: 
 }
 
 impl<'a> World<'a> {
-    /// A step of a server, chosen at random.
+    /// A step of a server for which there is something to do, chosen at random; now and then of any.
     pub(super) fn act_server(&mut self) -> Result<(), Broken> {
-        let server = self.dice.below(self.servers.len());
+        let start = self.dice.below(self.servers.len());
+        let server = if self.dice.one_in(8) {
+            start
+        } else {
+            self.ready_server(start)
+        };
         let Some(node) = self.servers.get_mut(server) else {
             return Ok(());
         };
         if !node.runs() {
-            return if self.is_calm || self.dice.one_in(40) {
+            return if self.is_calm || self.dice.one_in(20) {
                 self.start(server)
             } else {
                 Ok(())
@@ -115,6 +120,17 @@ impl<'a> World<'a> {
         }
         self.after_turn(server, turned)?;
         self.look_at_power(self.sizes.server(server))
+    }
+
+    // The first server from a number on for which there is something to do, or the first of all; the one given if there is none.
+    fn ready_server(&self, start: usize) -> usize {
+        let count = self.servers.len();
+        for server in (start..count).chain(0..start) {
+            if matches!(self.servers.get(server), Some(node) if node.is_ready(&self.network)) {
+                return server;
+            }
+        }
+        start
     }
 
     // Judges what a turn came to.

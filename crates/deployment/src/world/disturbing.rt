@@ -16,7 +16,7 @@ impl World<'_> {
     pub(super) fn trouble(&mut self) -> Result<(), Broken> {
         let machine = self.dice.below(self.sizes.machines());
         let kind = self.dice.below(24);
-        if self.is_calm {
+        if self.is_calm || !self.dice.one_in(self.setting.rest) {
             return Ok(());
         }
         match kind {
