@@ -8,7 +8,7 @@ use std::mem;
 /// How many changes wait at most. With one more, the device gets all of them by itself.
 const MOST_PENDING: usize = 64;
 
-/// How the bytes that did not come look, if the length did.
+/// One time in so many, zeros are in place of the bytes that did not come; else anything is.
 const ZEROS_IN: usize = 2;
 
 /// The bytes of a file.

@@ -6,7 +6,7 @@ mod paths;
 
 use crate::dice::Dice;
 use crate::faults::{Faults, Odds, is_failing};
-use crate::names::Names;
+use crate::names::{Names, plain};
 use crate::nodes::{Node, Nodes};
 use std::alloc::{AllocError, Global};
 use std::io;
@@ -64,6 +64,7 @@ impl Machine {
 
     /// Makes a folder that the device has at once.
     pub(crate) fn add_folder(&mut self, path: &str) -> Result<(), AllocError> {
+        let path = plain(path);
         if self.names.get(path).is_some() {
             return Ok(());
         }
