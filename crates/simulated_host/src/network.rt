@@ -330,7 +330,9 @@ impl Network {
 
     /// Bytes come on one connection that has any on their way, chosen at random, unless its server can't be reached.
     pub fn deliver_some(&mut self, dice: &mut Dice, unreachable: &[bool]) {
-        let start = dice.below(self.connections.len());
+        let start = dice
+            .below(self.connections.len())
+            .min(self.connections.len());
         let first_up = dice.one_in(2);
         let (before, after) = self.connections.split_at_mut(start);
         for connection in after.iter_mut().chain(before.iter_mut()) {
