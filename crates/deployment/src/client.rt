@@ -205,7 +205,8 @@ impl<'a> Client<'a> {
 impl Running<'_> {
     // Sends some of what is to be sent.
     fn send(&mut self, network: &mut Network, dice: &mut Dice) -> Result<ClientStep, Broken> {
-        match network.write(self.end, &self.out[self.sent..], dice)? {
+        let left = self.out.get(self.sent..).unwrap_or(&[]);
+        match network.write(self.end, left, dice)? {
             Moved::Bytes(count) => {
                 self.idle = 0;
                 self.sent = self.sent.saturating_add(count);

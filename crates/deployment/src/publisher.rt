@@ -187,7 +187,7 @@ impl<'a> Publisher<'a> {
         let target = if appends {
             Target::End
         } else {
-            Target::At(place as u32)
+            Target::At(u32::try_from(place).unwrap_or(u32::MAX))
         };
         let copy = bytes.to_vec(self.alloc)?;
         match draft_one(self.files, self.dir, target, copy) {

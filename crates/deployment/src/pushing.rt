@@ -145,7 +145,8 @@ impl<'v> Talk<'v> {
 
     // Sends some of what is to be sent.
     fn send(&mut self, network: &mut Network, dice: &mut Dice) -> Result<Pushed, Broken> {
-        match network.write(self.end, &self.out[self.sent..], dice)? {
+        let left = self.out.get(self.sent..).unwrap_or(&[]);
+        match network.write(self.end, left, dice)? {
             Moved::Bytes(count) => {
                 self.idle = 0;
                 self.sent = self.sent.saturating_add(count);
@@ -163,20 +164,31 @@ impl<'v> Talk<'v> {
         step: Result<PushStep, PushFault>,
     ) -> Result<Pushed, Broken> {
         match step {
+            Ok(PushStep::Greeted(known)) => self.greeted(version, &known),
+            step => self.go(version, step),
+        }
+    }
+
+    // Does what comes next, once the server was greeted.
+    fn go(
+        &mut self,
+        version: &FolderVersion,
+        step: Result<PushStep, PushFault>,
+    ) -> Result<Pushed, Broken> {
+        match step {
             Ok(PushStep::Waits) => Ok(self.goes_on(None)),
             Ok(PushStep::Sends(bytes)) => {
                 self.out = bytes;
                 self.sent = 0;
                 Ok(self.goes_on(None))
             }
-            Ok(PushStep::Greeted(known)) => self.greeted(version, &known),
-            Ok(PushStep::Pushed(at)) if at != version.number() => Err(Broken::OtherPush {
-                server: self.server,
-            }),
-            Ok(PushStep::Pushed(at)) => Ok(Pushed {
+            Ok(PushStep::Pushed(at)) if at == version.number() => Ok(Pushed {
                 server: self.server,
                 reported: Some(at),
                 end: Some(PushEnd::Pushed(at)),
+            }),
+            Ok(PushStep::Pushed(_) | PushStep::Greeted(_)) => Err(Broken::OtherPush {
+                server: self.server,
             }),
             Err(fault) => self.failed(fault),
         }
@@ -206,7 +218,7 @@ impl<'v> Talk<'v> {
             }),
             Lack::After(count) => {
                 let step = self.push.begin(version.publications().without_first(count));
-                let pushed = self.take(version, step)?;
+                let pushed = self.go(version, step)?;
                 Ok(Pushed {
                     reported: Some(known.version.max(pushed.reported.unwrap_or(0))),
                     ..pushed

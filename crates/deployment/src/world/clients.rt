@@ -63,7 +63,8 @@ impl World<'_> {
             ClientStep::Ended(how) => self.note(What::RunEnded(client, how))?,
         }
         self.look_at_seen(client)?;
-        self.look_at_power(self.sizes.client(client))
+        let machine = self.sizes.client(client);
+        self.look_at_power(machine)
     }
 
     // The first client from a number on for which there is something to do, or the first of all; the one given if there is none.
@@ -81,7 +82,7 @@ impl World<'_> {
     fn some_numbers(&mut self, count: usize) -> Result<Vec<u32>, AllocError> {
         let mut numbers = Vec::new(self.alloc);
         for _ in 0..count {
-            numbers.push(self.dice.below(1_000) as u32)?;
+            numbers.push((self.dice.number() % 1_000) as u32)?;
         }
         Ok(numbers)
     }

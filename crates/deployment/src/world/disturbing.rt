@@ -9,7 +9,7 @@ use server_files::{OwnFile, RecordsOf, write_anew};
 use simulated_host::Faults;
 
 /// After how many calls a machine's power is cut at most.
-const MOST_CALLS: usize = 40;
+const MOST_CALLS: u64 = 40;
 
 impl World<'_> {
     /// Something goes wrong, chosen at random, if it may.
@@ -37,7 +37,7 @@ impl World<'_> {
 
     // Cuts a machine's power after some more calls of its disk.
     fn cut_later(&mut self, machine: usize) -> Result<(), Broken> {
-        let calls = self.dice.below(MOST_CALLS) as u32;
+        let calls = (self.dice.number() % MOST_CALLS) as u32;
         if let Ok(mut disk) = self.disk.try_borrow_mut() {
             disk.cut_after(machine, Some(calls));
         }

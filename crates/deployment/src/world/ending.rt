@@ -83,7 +83,7 @@ impl World<'_> {
         let count = self.record_count();
         let mut wanted = Vec::new(self.alloc);
         for index in 0..count {
-            wanted.push(index as u32)?;
+            wanted.push(u32::try_from(index).unwrap_or(u32::MAX))?;
         }
         self.begin_run(client, wanted)
     }

@@ -119,7 +119,8 @@ impl<'a> World<'a> {
             self.note(What::Server(server, turned))?;
         }
         self.after_turn(server, turned)?;
-        self.look_at_power(self.sizes.server(server))
+        let machine = self.sizes.server(server);
+        self.look_at_power(machine)
     }
 
     // The first server from a number on for which there is something to do, or the first of all; the one given if there is none.
@@ -137,7 +138,10 @@ impl<'a> World<'a> {
     fn after_turn(&mut self, server: usize, turned: Turned) -> Result<(), Broken> {
         match turned {
             Turned::Published(_) => self.check_store(server, 6)?,
-            Turned::Ended => self.end_process(self.sizes.server(server))?,
+            Turned::Ended => {
+                let machine = self.sizes.server(server);
+                self.end_process(machine)?;
+            }
             _ => {}
         }
         let held = match self.servers.get(server) {
@@ -165,7 +169,8 @@ impl<'a> World<'a> {
                 self.note(What::NotStarted(server, fault))?;
             }
         }
-        self.look_at_power(self.sizes.server(server))
+        let machine = self.sizes.server(server);
+        self.look_at_power(machine)
     }
 
     // Judges what a server has that has just begun.
