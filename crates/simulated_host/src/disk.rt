@@ -47,8 +47,8 @@ impl SimulatedDisk {
         }
     }
 
-    /// Cuts the power after so many more calls that change or sync something, in the midst of the next one. That one and
-    /// all later calls fail, until [`cut_power`](SimulatedDisk::cut_power) turns it on again.
+    /// Cuts the power after so many more calls that change or sync something, in the midst of the next one. That one
+    /// and all later calls fail, until [`cut_power`](SimulatedDisk::cut_power) turns it on again.
     pub fn cut_after(&mut self, machine: usize, calls: Option<u32>) {
         if let Some(machine) = self.machines.get_mut(machine) {
             machine.cut_after(calls);

@@ -1,8 +1,8 @@
 //! What surrounds a process in a simulation, all of it decided by one seed: the disk of each machine, and the network
 //! between them.
 //!
-//! A [`SimulatedDisk`] has several machines' files. A [`SimulatedFiles`] is what one machine sees of it: a `FileSystem`,
-//! on which the same code runs as on the host's. When a machine's power is cut, what was not synced is lost, torn or
+//! A [`SimulatedDisk`] has several machines' files. A [`SimulatedFiles`] is what one machine sees of it: a
+//! `FileSystem`, on which the same code runs as on the host's. When a machine's power is cut, what was not synced is lost, torn or
 //! kept.
 #![tactic(auto)]
 

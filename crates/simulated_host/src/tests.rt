@@ -133,6 +133,16 @@ fn a_lock_is_held_until_its_handle_is_dropped(rt: HostRuntime) -> Result<(), Fai
     Ok(())
 }
 
+// The paths that reading a folder gives, one after another.
+fn paths_in<R: FileSystem>(rt: &R, folder: &str) -> io::Result<Vec<u8>> {
+    let mut paths = Vec::new(rt.alloc());
+    for entry in fs::read_dir(rt, folder)? {
+        let entry = entry?;
+        paths.extend_from_slice(entry.path().as_str().as_bytes())?;
+    }
+    Ok(paths)
+}
+
 #[test]
 fn the_names_of_a_folder_are_read(rt: HostRuntime) -> Result<(), Fail> {
     let alloc = rt.alloc();
@@ -142,11 +152,8 @@ fn the_names_of_a_folder_are_read(rt: HostRuntime) -> Result<(), Fail> {
     File::create(&files, "m/b")?;
     File::create(&files, "m/c/d")?;
     File::create(&files, "e")?;
-    let mut names = Vec::new(alloc);
-    for entry in fs::read_dir(&files, "m")? {
-        names.extend_from_slice(entry?.path().as_str().as_bytes())?;
-    }
-    assert_eq!(rt; names.as_slice(), b"m/bm/c".as_slice());
+    let paths = paths_in(&files, "m")?;
+    assert_eq!(rt; paths.as_slice(), b"m/bm/c".as_slice());
     fs::remove_file(&files, "./e")?;
     assert!(rt; fs::metadata(&files, "e").is_err());
     Ok(())
