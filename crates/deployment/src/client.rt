@@ -205,7 +205,9 @@ impl<'a> Client<'a> {
 impl Running<'_> {
     // Sends some of what is to be sent.
     fn send(&mut self, network: &mut Network, dice: &mut Dice) -> Result<ClientStep, Broken> {
-        let left = self.out.get(self.sent..).unwrap_or(&[]);
+        let Some(left) = self.out.get(self.sent..) else {
+            return Ok(ClientStep::Nothing);
+        };
         match network.write(self.end, left, dice)? {
             Moved::Bytes(count) => {
                 self.idle = 0;

@@ -145,7 +145,9 @@ impl<'v> Talk<'v> {
 
     // Sends some of what is to be sent.
     fn send(&mut self, network: &mut Network, dice: &mut Dice) -> Result<Pushed, Broken> {
-        let left = self.out.get(self.sent..).unwrap_or(&[]);
+        let Some(left) = self.out.get(self.sent..) else {
+            return Ok(self.goes_on(None));
+        };
         match network.write(self.end, left, dice)? {
             Moved::Bytes(count) => {
                 self.idle = 0;
