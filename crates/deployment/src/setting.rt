@@ -42,7 +42,7 @@ impl Setting {
             record_len: (3 + dice.below(3) % 3) as u16,
             groups: (1 + dice.below(3) % 3) as u16,
             count: (2 + dice.below(7) % 7) as u32,
-            dimension: 1,
+            dimension: dimension_of(dice),
             version: 1,
             seed,
             publisher: Sha256::digest(key.as_slice()),
@@ -53,8 +53,8 @@ impl Setting {
             limits: limits_of(dice),
             rest: match dice.below(3) {
                 0 => 1,
-                1 => 3,
-                _ => 10,
+                1 => 2,
+                _ => 6,
             },
         }
     }
@@ -120,6 +120,15 @@ impl Setting {
             bytes.push(0)?;
         }
         Ok(())
+    }
+}
+
+// How many words a secret has: one, mostly. With more, a hint has room for a log of the records that changed.
+fn dimension_of(dice: &mut Dice) -> u16 {
+    match dice.below(4) {
+        0 => 64,
+        1 => 16,
+        _ => 1,
     }
 }
 

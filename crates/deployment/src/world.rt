@@ -167,11 +167,11 @@ impl<'a> World<'a> {
             0..=319 => self.deliver(),
             320..=619 => self.act_server(),
             620..=849 => self.act_client(),
-            850..=974 => match round {
+            850..=964 => match round {
                 Some(round) => self.act_round(round),
                 None => self.act_client(),
             },
-            975..=984 => self.act_publisher(),
+            965..=984 => self.act_publisher(),
             985..=989 => self.pass_time(),
             _ => self.trouble(),
         }

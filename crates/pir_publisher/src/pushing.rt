@@ -5,7 +5,7 @@ use crate::rounds::{Rounds, SILENCE};
 use crate::talk::{Aim, Round};
 use crate::watching::watch;
 use command_words::{Failed, Failure, printed};
-use publisher_files::{FolderVersion, open_folder, records_name};
+use publisher_files::{FolderVersion, open_folder, records_name, settled_folder};
 use publisher_words::{Asking, KEY_TAKES, Peer, Pushing};
 use safe_files::{FileLock, LockFault, lock};
 use server_files::failed_at;
@@ -16,6 +16,9 @@ const TRIES: u32 = 3;
 
 /// How many milliseconds it is left alone after the first try; twice as many after each other one.
 const FIRST_REST: u64 = 200;
+
+/// The failure of a folder that another command changes.
+const LOCKED: Failure = Failure::Fault("Locked");
 
 /// The failure if a server was left as it is.
 const LEFT: Failure = Failure::Fault("Left");
@@ -41,8 +44,8 @@ pub fn push(rt: &HostRuntime, pushing: &Pushing<'_>) -> Result<(), Failed> {
     };
     // Two at once would append to the same drafts.
     let _lock = lock_pushes(rt, pushing.dir)?;
-    let folder = read_folder(rt, pushing.dir)?;
     let mut rounds = Rounds::new(rt)?;
+    let folder = folder_to_push(rt, &mut rounds, pushing.dir)?;
     if pushing.watch {
         let records = records_name(rt.alloc(), pushing.dir)?;
         return watch(
@@ -164,6 +167,26 @@ fn lock_pushes(rt: &HostRuntime, dir: &str) -> Result<FileLock, Failed> {
         Err(LockFault::File) => Err(failed_at(rt, name.as_str(), Failure::Fault("File"))),
         Err(LockFault::Memory) => Err(Failed::from(Failure::Memory)),
     }
+}
+
+// The folder's version, on the device. A command that changes the folder is waited for a while.
+fn folder_to_push(
+    rt: &HostRuntime,
+    rounds: &mut Rounds,
+    dir: &str,
+) -> Result<FolderVersion, Failed> {
+    let records = records_name(rt.alloc(), dir)?;
+    let mut rest = FIRST_REST;
+    for _ in 0..TRIES {
+        match settled_folder(rt, records.as_str()) {
+            Ok(folder) => return Ok(folder),
+            Err(LOCKED) => {}
+            Err(failure) => return Err(failed_at(rt, records.as_str(), failure)),
+        }
+        rounds.rest(rest);
+        rest = rest.saturating_mul(2);
+    }
+    Err(failed_at(rt, records.as_str(), LOCKED))
 }
 
 // The version of a folder.

@@ -5,7 +5,7 @@ use crate::pushing::{add, say_end};
 use crate::rounds::{Rounds, SILENCE};
 use crate::talk::{Aim, Round};
 use command_words::{Failed, Failure};
-use publisher_files::{FolderVersion, open_folder};
+use publisher_files::{FolderVersion, settled_folder};
 use publisher_words::Peer;
 use std::alloc::{AllocError, Global};
 use std::fs;
@@ -79,13 +79,13 @@ pub fn watch(
         try_due(rt, rounds, &round, to, &mut all, false)?;
         rounds.rest(LOOK);
         if is_old(rt, &folder) {
-            match open_folder(rt, records) {
+            match settled_folder(rt, records) {
                 Ok(newer) => {
                     folder = newer;
                     all_well_due(&mut all);
                 }
                 Err(Failure::Memory) => return Err(Failed::from(Failure::Memory)),
-                // The folder's files are being replaced, or can't be read for the moment.
+                // Another command changes the folder, or its files can't be read for the moment.
                 Err(_) => {}
             }
         }

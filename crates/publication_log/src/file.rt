@@ -4,10 +4,11 @@ ghost use Rattle.std.specs.Prelude.{IfOk, IfSome, List};
 ghost use Rattle.publication_log.specs.Publications.{Published};
 ghost use Rattle.publication_log.specs.Opened.{IsOpened, IsRead};
 
+use crate::entries::frame_at;
 use crate::header::{LOG_MARK, LogHeader};
 use crate::log::{Disk, DiskFailed, Log};
 use crate::opened::{OpenedLog, ReadLog};
-use crate::reading::{BadLog, ReadFault, read_log};
+use crate::reading::{BadLog, Found, ReadFault, read_log};
 use safe_files::{Bytes, FileSystem, ReplaceFault, folder_of, remove_beside, replace_file};
 use std::fs;
 use std::fs::{File, OpenFile, OpenOptions};
@@ -70,8 +71,9 @@ impl<F: Write + OpenFile> Disk for LogFile<F> {
 }
 
 /// Opens the log of a snapshot, or makes it. A torn end is cut off. The file and its name are sent to the device first:
-/// what a process wrote that was killed is seen, and need not be there yet. No more memory is taken than for the file's
-/// bytes and its header.
+/// what a process wrote that was killed is seen, and need not be there yet. The last entry is written once more, in its place, before
+/// that: what a sync that failed has lost is still seen, and a later sync alone would not bring it. No more memory is taken than for the
+/// file's bytes and its header.
 ///
 /// A new file has its header as soon as it has the name, and mode 0600. Whoever calls this has the lock of the snapshot's
 /// file, so that nobody else appends meanwhile.
@@ -93,12 +95,13 @@ pub fn open_log<R: FileSystem>(
     let Ok(mut file) = OpenOptions::new().read(true).append(true).open(rt, name) else {
         return Err(OpenFault::File);
     };
+    let bytes = bytes_of(rt, &mut file)?;
+    let found = read_log(rt.alloc(), header, &bytes)?;
+    write_last_again(rt, name, &bytes, &found)?;
     if file.sync_all().is_err() {
         return Err(OpenFault::File);
     }
     sync_name(rt, name)?;
-    let bytes = bytes_of(rt, &mut file)?;
-    let found = read_log(rt.alloc(), header, &bytes)?;
     let Ok(log) = Log::recover(LogFile { file }, &found, bytes.len()) else {
         return Err(OpenFault::Cut);
     };
@@ -166,6 +169,43 @@ fn make_missing<R: FileSystem>(rt: &R, name: &str, prefix: &[u8]) -> Result<(), 
         }
         _ => Err(OpenFault::File),
     }
+}
+
+// Writes the last entry of a log over itself.
+fn write_last_again<R: FileSystem>(
+    rt: &R,
+    name: &str,
+    bytes: &[u8],
+    found: &Found,
+) -> Result<(), OpenFault> {
+    let at = last_entry(bytes, found);
+    let Some(entry) = bytes.get(at..found.len) else {
+        return Ok(());
+    };
+    if entry.is_empty() {
+        return Ok(());
+    }
+    let Ok(file) = OpenOptions::new().write(true).open(rt, name) else {
+        return Err(OpenFault::File);
+    };
+    match rt.write_all_at(&file, entry, at as u64) {
+        Ok(()) => Ok(()),
+        Err(_) => Err(OpenFault::File),
+    }
+}
+
+// Where the last entry of a log begins; where its entries end if it has none.
+fn last_entry(bytes: &[u8], found: &Found) -> usize {
+    let Some(entries) = bytes.get(found.start..found.len) else {
+        return found.len;
+    };
+    let mut last = entries;
+    let mut rest = entries;
+    'entries: while let Some(frame) = frame_at(rest) {
+        last = rest;
+        rest = frame.rest;
+    }
+    found.len.saturating_sub(last.len())
 }
 
 // Sends the file's name to the device: whoever made the file may have been killed before.

@@ -31,4 +31,4 @@ pub use folder::{draft_name, init, records_name};
 pub use importing::{ImportFault, import};
 pub use publishing::{publish, publish_draft};
 pub use showing::{show, show_record};
-pub use version::{FolderVersion, open_folder};
+pub use version::{FolderVersion, open_folder, settled_folder};

@@ -10,9 +10,9 @@ use command_words::Failure;
 use digit_pack::nth_record;
 use log_replay::{ReplayFault, replay_first};
 use pir_schemes::Plan;
-use publication_log::{Publications, ReadLog, read_log_file};
+use publication_log::{Publications, ReadLog, open_log, read_log_file};
 use safe_files::{FileSystem, Place, SteadyFile};
-use server_files::{BAD_LOG, LogSize, OwnLog, log_failure};
+use server_files::{BAD_LOG, LogSize, OwnFile, OwnLog, log_failure};
 use session_core::{Snapshot, SnapshotFault, read_snapshot_and_digest};
 use std::fs;
 use std::os::unix::fs::MetadataExt;
@@ -141,6 +141,28 @@ pub fn open_folder<R: FileSystem>(rt: &R, records: &str) -> Result<FolderVersion
         }
     }
     Err(NO_FILE)
+}
+
+/// The same, with its last publication on the device, so that it may be pushed: one that failed half, or that another process is about to
+/// make, is there by then, or not among them.
+///
+/// # Errors
+///
+/// `File` if there is no snapshot, `Locked` if another process changes the folder, those of [`open_folder`], and `Write` if a torn end of
+/// the log can't be cut off.
+pub fn settled_folder<R: FileSystem>(rt: &R, records: &str) -> Result<FolderVersion, Failure>
+    ensures sound { IfOk result (λ it.
+        IsSound (header_of it.snapshot) it.snapshot.records.items) }
+{
+    let _own = OwnFile::to_read(rt, records)?;
+    let version = open_folder(rt, records)?;
+    if version.log.is_some() {
+        match open_log(rt, version.own.name.as_str(), &version.own.header) {
+            Ok(_) => {}
+            Err(fault) => return Err(log_failure(fault)),
+        }
+    }
+    Ok(version)
 }
 
 // The version, unless the snapshot was replaced before its log was read: the old log may be gone then.

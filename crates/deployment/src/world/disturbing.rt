@@ -4,7 +4,7 @@ use super::{FILE, World};
 use crate::broken::Broken;
 use crate::events::What;
 use crate::publisher::records_of;
-use publisher_files::open_folder;
+use publisher_files::settled_folder;
 use server_files::{OwnFile, RecordsOf, write_anew};
 use simulated_host::Faults;
 
@@ -14,7 +14,7 @@ const MOST_CALLS: u64 = 40;
 impl World<'_> {
     /// Something goes wrong, chosen at random, if it may.
     pub(super) fn trouble(&mut self) -> Result<(), Broken> {
-        let machine = self.dice.below(self.sizes.machines());
+        let machine = self.some_machine();
         let kind = self.dice.below(24);
         if self.is_calm || !self.dice.one_in(self.setting.rest) {
             return Ok(());
@@ -32,6 +32,15 @@ impl World<'_> {
             14 | 15 => self.mend_disks(),
             16..=18 => self.restore_one(),
             _ => Ok(()),
+        }
+    }
+
+    // Any machine, or one of those with a log.
+    fn some_machine(&mut self) -> usize {
+        if self.dice.one_in(3) {
+            self.dice.below(self.sizes.machines())
+        } else {
+            self.dice.below(self.sizes.server(self.sizes.servers))
         }
     }
 
@@ -158,7 +167,8 @@ impl World<'_> {
 
     /// Stops a server, and gives it a copy of the publisher's version.
     pub(super) fn restore(&mut self, server: usize) -> Result<(), Broken> {
-        let Ok(version) = open_folder(self.publisher.files(), self.publisher.records_name()) else {
+        let Ok(version) = settled_folder(self.publisher.files(), self.publisher.records_name())
+        else {
             return Ok(());
         };
         self.publisher.push(&version, &mut self.truth)?;

@@ -5,7 +5,7 @@ use crate::broken::Broken;
 use crate::events::What;
 use crate::publisher::{Command, is_damage, name_of};
 use crate::pushing::{PushEnd, Pushed, Talk};
-use publisher_files::{FolderVersion, open_folder};
+use publisher_files::{FolderVersion, settled_folder};
 
 impl World<'_> {
     /// A command of the publisher, chosen at random.
@@ -41,7 +41,7 @@ impl World<'_> {
     /// What is broken.
     pub fn version_to_push(&mut self) -> Result<Option<FolderVersion>, Broken> {
         let files = self.publisher.files();
-        match open_folder(files, self.publisher.records_name()) {
+        match settled_folder(files, self.publisher.records_name()) {
             Ok(version) => {
                 self.publisher.push(&version, &mut self.truth)?;
                 Ok(Some(version))

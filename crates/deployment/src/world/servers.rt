@@ -115,7 +115,7 @@ impl<'a> World<'a> {
             buffer: &mut self.buffer,
         };
         let turned = node.step(&mut around);
-        if turned != Turned::Nothing {
+        if !matches!(turned, Turned::Nothing | Turned::Served) {
             self.note(What::Server(server, turned))?;
         }
         self.after_turn(server, turned)?;
