@@ -30,7 +30,8 @@ const NO_REPLY: Failure = Failure::Fault("Connect");
 ///
 /// # Errors
 ///
-/// Those of the key; `Locked` if another push from this folder goes on; those of the folder; `Left` if a server was left as it is,
+/// Those of the key; `Locked` if another push from this folder goes on, or another command changes it for long; those of the folder;
+/// `Left` if a server was left as it is,
 /// after a line for each. `Write` if a line can't be printed, `Memory`.
 pub fn push(rt: &HostRuntime, pushing: &Pushing<'_>) -> Result<(), Failed> {
     let key = pushing
