@@ -328,19 +328,22 @@ impl<'a> Publisher<'a> {
     /// # Errors
     ///
     /// `OtherFolder` when no command left it.
-    pub fn push(&mut self, version: &FolderVersion, truth: &mut Truth) -> Result<(), Broken> {
+    pub fn push(&mut self, version: &FolderVersion, truth: &mut Truth) -> Result<(), Broken>
+        requires { IsSound (header_of version.now.snapshot) version.now.snapshot.records.items }
+    {
         let number = version.number();
+        let records = records_of(self.alloc, version)?;
         let mut left = Vec::new(self.alloc);
         for state in mem::replace(&mut self.states, Vec::new(self.alloc)).into_iter() {
-            if state.version == number {
+            if state.version == number && state.records.are(&records) {
                 left.push(state)?;
             }
         }
-        let Some(first) = left.first() else {
+        if left.is_empty() {
             return Err(Broken::OtherFolder { version: number });
-        };
+        }
         if number > truth.last() {
-            truth.publish(first.records.copy(self.alloc)?)?;
+            truth.publish(records)?;
         }
         self.states = left;
         Ok(())

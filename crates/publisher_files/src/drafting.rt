@@ -7,7 +7,7 @@ ghost use Rattle.version_store.specs.Openings.{IsSound};
 use crate::causes::failed_in;
 use crate::drafts::{Draft, DraftFile, append_entry, read_draft, remove_draft};
 use crate::folder::{LockedFolder, lock_folder};
-use crate::version::{FolderVersion, open_folder};
+use crate::version::{FolderVersion, open_folder, settle_log};
 use command_words::{Failed, Failure};
 use publisher_drafts::{ChangeMap, Target, judge, put_change};
 use safe_files::FileSystem;
@@ -40,6 +40,7 @@ pub fn open_draft<'a, R: FileSystem>(rt: &'a R, dir: &str) -> Result<OpenDraft<'
 {
     let folder = lock_folder(rt, dir)?;
     let version = open_folder(rt, folder.records.as_str())?;
+    settle_log(rt, &version)?;
     let draft = read_draft(rt, folder.draft.as_str(), &version)?;
     if draft.file == DraftFile::Published {
         remove_draft(rt, folder.draft.as_str())?;

@@ -156,13 +156,23 @@ pub fn settled_folder<R: FileSystem>(rt: &R, records: &str) -> Result<FolderVers
 {
     let _own = OwnFile::to_read(rt, records)?;
     let version = open_folder(rt, records)?;
-    if version.log.is_some() {
-        match open_log(rt, version.own.name.as_str(), &version.own.header) {
-            Ok(_) => {}
-            Err(fault) => return Err(log_failure(fault)),
-        }
-    }
+    settle_log(rt, &version)?;
     Ok(version)
+}
+
+/// Sends the log of a version to the device, by who has the folder's lock: nothing is to be built on a publication that is not there.
+///
+/// # Errors
+///
+/// `File` if the log can't be opened, `BadLog`, `Write` if a torn end can't be cut off; `Memory`.
+pub fn settle_log<R: FileSystem>(rt: &R, version: &FolderVersion) -> Result<(), Failure> {
+    if version.log.is_none() {
+        return Ok(());
+    }
+    match open_log(rt, version.own.name.as_str(), &version.own.header) {
+        Ok(_) => Ok(()),
+        Err(fault) => Err(log_failure(fault)),
+    }
 }
 
 // The version, unless the snapshot was replaced before its log was read: the old log may be gone then.
