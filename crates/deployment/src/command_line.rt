@@ -68,6 +68,10 @@ const SIMULATE: CommandText = CommandText {
             help: "How many clients there are (8 if not given)",
         },
         Argument::Flag {
+            name: "large",
+            help: "Each store has hints that come in more than one part",
+        },
+        Argument::Flag {
             name: "events",
             help: "The last events of each run are printed",
         },
@@ -108,6 +112,7 @@ pub fn plan_of<'a>(alloc: Global, words: &'a [String]) -> Result<Plan, BadLine<'
         sizes: Sizes {
             servers: number_or(&found, "servers", 3, MOST, SERVERS_TAKES)?.max(1) as usize,
             clients: number_or(&found, "clients", 8, MOST, CLIENTS_TAKES)?.max(1) as usize,
+            large: found.get_flag("large"),
         },
         troubles: Troubles {
             power: !found.get_flag("without-power-cuts"),

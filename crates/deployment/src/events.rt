@@ -1,6 +1,6 @@
 //! The last events, which are printed if something is broken.
 
-use crate::broken::Broken;
+use deployment_model::Broken;
 use simulated_server::Turned;
 use std::alloc::{AllocError, Global};
 use std::collections::VecDeque;

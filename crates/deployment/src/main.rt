@@ -4,18 +4,11 @@
 //! Exit statuses: 0 nothing was found, 1 something was, 2 a bad command line, 4 out of memory.
 #![tactic(auto)]
 
-mod broken;
-mod client;
 mod command_line;
 mod events;
-mod publisher;
-mod pushing;
-mod records;
 mod running;
-mod setting;
 mod shortening;
 mod simulating;
-mod store_checks;
 mod world;
 
 use std::process::ExitCode;

@@ -1,7 +1,7 @@
 //! A whole run: so many steps with troubles, and then the end without any.
 
-use crate::broken::Broken;
 use crate::world::{Round, World};
+use deployment_model::Broken;
 use publisher_files::FolderVersion;
 
 /// How many steps one push lasts at most.

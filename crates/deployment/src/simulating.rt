@@ -1,12 +1,12 @@
 //! The program: runs, and what is printed of them.
 
-use crate::broken::Broken;
 use crate::command_line::{Plan, plan_of};
 use crate::events::Event;
 use crate::running::run;
 use crate::shortening::shortest;
 use crate::world::{Counts, Sizes, Troubles, begin};
 use command_words::program_words;
+use deployment_model::Broken;
 use simulated_host::{Dice, SimulatedDisk, SimulatedFiles};
 use std::alloc::{AllocError, Global};
 use std::cell::RefCell;
@@ -163,7 +163,12 @@ fn say_broken(rt: &HostRuntime, run: &Run, ended: &Ended) -> io::Result<()> {
     };
     println!(rt; "broken: {broken}")?;
     let (shorter, last) = shortest(rt.alloc(), run, ended)?;
-    let Sizes { servers, clients } = shorter.sizes;
+    let Sizes {
+        servers,
+        clients,
+        large,
+    } = shorter.sizes;
+    let large = if large { " --large" } else { "" };
     let Run {
         seed,
         steps,
@@ -172,6 +177,6 @@ fn say_broken(rt: &HostRuntime, run: &Run, ended: &Ended) -> io::Result<()> {
     } = shorter;
     say_events(rt, &last)?;
     println!(rt;
-        "shortest: --seed {seed} --steps {steps} --servers {servers} --clients {clients}, {troubles:?}"
+        "shortest: --seed {seed} --steps {steps} --servers {servers} --clients {clients}{large}, {troubles:?}"
     )
 }

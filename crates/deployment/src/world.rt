@@ -6,13 +6,8 @@ mod ending;
 mod publishing;
 mod servers;
 
-use crate::broken::Broken;
-use crate::client::Client;
 use crate::events::{Event, Events, What};
-use crate::publisher::Publisher;
-use crate::pushing::Talk;
-use crate::records::Truth;
-use crate::setting::Setting;
+use deployment_model::{Broken, Client, Publisher, Setting, Talk, Truth};
 use publisher_files::FolderVersion;
 use simulated_host::{Dice, Network, SimulatedDisk, SimulatedFiles};
 use simulated_server::{PIECE_LEN, Server};
@@ -46,13 +41,15 @@ pub struct Troubles {
     pub disks: bool,
 }
 
-/// How many machines there are of each kind.
+/// How many machines there are of each kind, and how large the store is.
 #[derive(Clone, Copy, Debug, PartialEq, Eq)]
 pub struct Sizes {
     /// How many servers.
     pub servers: usize,
     /// How many clients. Two of them have one machine, and one folder.
     pub clients: usize,
+    /// Whether the store is a large one, whose hints come in more than one part; else a few are.
+    pub large: bool,
 }
 
 impl Sizes {
@@ -164,14 +161,14 @@ impl<'a> World<'a> {
         self.step = self.step.saturating_add(1);
         self.now = self.now.saturating_add(1);
         match self.dice.below(1_000) {
-            0..=319 => self.deliver(),
-            320..=619 => self.act_server(),
-            620..=849 => self.act_client(),
-            850..=964 => match round {
+            0..=299 => self.deliver(),
+            300..=589 => self.act_server(),
+            590..=774 => self.act_client(),
+            775..=954 => match round {
                 Some(round) => self.act_round(round),
                 None => self.act_client(),
             },
-            965..=984 => self.act_publisher(),
+            955..=984 => self.act_publisher(),
             985..=989 => self.pass_time(),
             _ => self.trouble(),
         }
@@ -204,7 +201,7 @@ pub fn begin<'a>(
     troubles: Troubles,
     mut dice: Dice,
 ) -> Result<World<'a>, Broken> {
-    let setting = Setting::choose(&mut dice);
+    let setting = Setting::choose(&mut dice, sizes.large);
     let first = setting.first(alloc, &mut dice)?;
     let Some(own) = files.first() else {
         return Err(Broken::Memory);

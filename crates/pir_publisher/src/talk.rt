@@ -41,7 +41,7 @@ pub struct Round<'a> {
 }
 
 impl<'a> Round<'a> {
-    /// A round in which servers tell what they have, as each reader is told.
+    /// A round in which servers report what they have, as they do to each reader.
     pub fn to_ask(folder: &'a FolderVersion) -> Round<'a> {
         Round {
             folder,

@@ -14,7 +14,7 @@ pub struct Faults {
     pub opens_fail: Odds,
     /// To read a file.
     pub reads_fail: Odds,
-    /// To write a file, or to set its length.
+    /// To write a file, some bytes of which may come all the same, or to set its length.
     pub writes_fail: Odds,
     /// To sync a file or a folder. What was written may then never reach the device.
     pub syncs_fail: Odds,

@@ -1,9 +1,8 @@
 //! Steps of clients.
 
 use super::{CLIENT, Sizes, World};
-use crate::broken::Broken;
-use crate::client::{Asked, Client, ClientStep};
 use crate::events::What;
+use deployment_model::{Asked, Broken, Client, ClientStep};
 use pir_schemes::Scheme;
 use simulated_host::SimulatedFiles;
 use std::alloc::{AllocError, Global};

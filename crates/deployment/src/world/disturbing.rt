@@ -1,15 +1,14 @@
 //! What goes wrong.
 
 use super::{FILE, World};
-use crate::broken::Broken;
 use crate::events::What;
-use crate::publisher::records_of;
+use deployment_model::{Broken, records_of};
 use publisher_files::settled_folder;
 use server_files::{OwnFile, RecordsOf, write_anew};
 use simulated_host::Faults;
 
 /// After how many calls a machine's power is cut at most.
-const MOST_CALLS: u64 = 40;
+const MOST_CALLS: usize = 40;
 
 impl World<'_> {
     /// Something goes wrong, chosen at random, if it may.
@@ -20,9 +19,9 @@ impl World<'_> {
             return Ok(());
         }
         match kind {
-            0 | 1 if self.troubles.power => self.cut_later(machine),
-            2 if self.troubles.power => self.cut_power(machine),
-            3 | 4 if self.troubles.kills => self.end_process(machine),
+            0..=2 if self.troubles.power => self.cut_later(machine),
+            3 if self.troubles.power => self.cut_power(machine),
+            4 if self.troubles.kills => self.end_process(machine),
             5..=8 if self.troubles.breaks => {
                 self.network.break_one(&mut self.dice);
                 Ok(self.note(What::ConnectionBroken)?)
@@ -44,9 +43,10 @@ impl World<'_> {
         }
     }
 
-    // Cuts a machine's power after some more calls of its disk.
-    fn cut_later(&mut self, machine: usize) -> Result<(), Broken> {
-        let calls = (self.dice.number() % MOST_CALLS) as u32;
+    /// Cuts a machine's power after some more calls of its disk, mostly after a few.
+    pub(super) fn cut_later(&mut self, machine: usize) -> Result<(), Broken> {
+        let most = self.dice.below(MOST_CALLS);
+        let calls = u32::try_from(self.dice.below(most.saturating_add(1))).unwrap_or(0);
         if let Ok(mut disk) = self.disk.try_borrow_mut() {
             disk.cut_after(machine, Some(calls));
         }

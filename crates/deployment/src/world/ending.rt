@@ -1,7 +1,7 @@
 //! The end: nothing goes wrong any more, and everything is to be reached.
 
 use super::World;
-use crate::broken::Broken;
+use deployment_model::Broken;
 use simulated_host::Faults;
 
 impl World<'_> {

@@ -1,17 +1,21 @@
 //! Steps of the publisher, and of its pushes.
 
 use super::{Round, World};
-use crate::broken::Broken;
 use crate::events::What;
-use crate::publisher::{Command, is_damage, name_of};
-use crate::pushing::{PushEnd, Pushed, Talk};
+use deployment_model::{Broken, Command, PushEnd, Pushed, Talk, is_damage, name_of};
 use publisher_files::{FolderVersion, settled_folder};
+
+/// The power of the publisher's machine is cut soon after one command in so many, or in twice or six times as many.
+const COMMANDS: usize = 32;
 
 impl World<'_> {
     /// A command of the publisher, chosen at random.
     pub(super) fn act_publisher(&mut self) -> Result<(), Broken> {
         if self.is_calm {
             return Ok(());
+        }
+        if self.troubles.power && self.dice.one_in(COMMANDS.saturating_mul(self.setting.rest)) {
+            self.cut_later(0)?;
         }
         let command = self.publisher.command(&mut self.dice, &mut self.truth)?;
         match command {

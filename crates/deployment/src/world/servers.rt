@@ -1,12 +1,8 @@
 //! Steps of servers.
 
 use super::{CLIENT, FILE, PUBLISHER, RECORDS, SERVER, Sizes, World};
-use crate::broken::Broken;
 use crate::events::What;
-use crate::publisher::{is_damage, name_of};
-use crate::records::Records;
-use crate::setting::Setting;
-use crate::store_checks::{check_hints, check_records};
+use deployment_model::{Broken, Records, Setting, check_hints, check_records, is_damage, name_of};
 use server_files::{OwnFile, RecordsOf, write_anew};
 use simulated_host::{SimulatedDisk, SimulatedFiles};
 use simulated_server::{Around, Server, Turned};

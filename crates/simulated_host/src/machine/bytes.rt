@@ -33,7 +33,8 @@ impl Machine {
         count
     }
 
-    /// Writes some bytes at a place, or at the end, and answers how many and where the last one ends.
+    /// Writes some bytes at a place, or at the end, and answers how many and where the last one ends. A write that fails may have written
+    /// some of them.
     pub(crate) fn write(
         &mut self,
         handle: Handle,
@@ -41,22 +42,20 @@ impl Machine {
         bytes: &[u8],
     ) -> io::Result<(usize, u64)> {
         self.begin_on(handle)?;
-        let is_cut = self.spend().is_err();
-        if !is_cut {
-            self.risk(self.faults.writes_fail)?;
-        }
+        let is_failing = self.spend().is_err()
+            || is_failing(&mut self.dice, self.faults.writes_fail);
         let len = self.node(handle)?.image.len();
         let at = match at {
             Some(at) => at as usize,
             None => len,
         };
-        let count = if is_cut {
+        let count = if is_failing {
             self.dice.below(bytes.len().saturating_add(1))
         } else {
             self.fitting(len.saturating_sub(at), bytes.len())
         };
         self.put(handle, at, bytes, count)?;
-        if is_cut {
+        if is_failing {
             return Err(failed());
         }
         if count == 0 && !bytes.is_empty() {

@@ -162,9 +162,14 @@ impl<'a> Publisher<'a> {
     pub fn command(&mut self, dice: &mut Dice, truth: &mut Truth) -> Result<Command, Broken> {
         match dice.below(8) {
             0 => self.compact(),
-            1 | 2 => self.publish(truth),
+            1..=3 if !self.may_have_published(truth) => self.publish(truth),
             _ => self.draft(dice, truth),
         }
+    }
+
+    // Whether a publication that failed may be there: another one comes once that is clear, so that the model has each version's records.
+    fn may_have_published(&self, truth: &Truth) -> bool {
+        self.states.iter().any(|state| state.version > truth.last())
     }
 
     // Makes the log shorter.

@@ -10,6 +10,19 @@ use std::alloc::{AllocError, Global};
 /// How many bytes the length of a record takes in its slot.
 const LENGTH: usize = 2;
 
+/// One store in so many is a large one.
+const LARGE_IN: usize = 40;
+
+/// A store whose SimplePIR hint has 76,800 words: two parts. Most of its groups have no record.
+const LARGE: Shape = Shape {
+    record_len: 4,
+    groups: 300,
+    dimension: 64,
+};
+
+/// How many bytes a server may hold for the parts of a large store's hint.
+const ROOM_FOR_PARTS: usize = 2_000_000;
+
 /// Which store a run is about.
 #[derive(Clone, Copy)]
 pub struct Setting {
@@ -24,8 +37,8 @@ pub struct Setting {
 }
 
 impl Setting {
-    /// A setting, chosen at random.
-    pub fn choose(dice: &mut Dice) -> Setting {
+    /// A setting, chosen at random: that of a large store if so asked.
+    pub fn choose(dice: &mut Dice, large: bool) -> Setting {
         let mut key = [0u8; 32];
         dice.fill(&mut key);
         let mut seed = [0u8; 32];
@@ -36,13 +49,14 @@ impl Setting {
             2 => 129,
             _ => 130,
         };
+        let shape = Shape::choose(dice, large);
         let header = Header {
             form,
             width: 8,
-            record_len: (3 + dice.below(3) % 3) as u16,
-            groups: (1 + dice.below(3) % 3) as u16,
+            record_len: shape.record_len,
+            groups: shape.groups,
             count: (2 + dice.below(7) % 7) as u32,
-            dimension: dimension_of(dice),
+            dimension: shape.dimension,
             version: 1,
             seed,
             publisher: Sha256::digest(key.as_slice()),
@@ -50,7 +64,7 @@ impl Setting {
         Setting {
             header,
             key,
-            limits: limits_of(dice),
+            limits: limits_of(dice, shape.room()),
             rest: match dice.below(3) {
                 0 => 1,
                 1 => 2,
@@ -123,6 +137,37 @@ impl Setting {
     }
 }
 
+// The sizes of a store.
+#[derive(Clone, Copy)]
+struct Shape {
+    record_len: u16,
+    groups: u16,
+    dimension: u16,
+}
+
+impl Shape {
+    // A small one, mostly. A few have hints that come in more than one part.
+    fn choose(dice: &mut Dice, large: bool) -> Shape {
+        if dice.one_in(LARGE_IN) || large {
+            return LARGE;
+        }
+        Shape {
+            record_len: (3 + dice.below(3) % 3) as u16,
+            groups: (1 + dice.below(3) % 3) as u16,
+            dimension: dimension_of(dice),
+        }
+    }
+
+    // How many bytes a server has to hold for a part of a hint.
+    fn room(&self) -> usize {
+        if self.groups == LARGE.groups {
+            ROOM_FOR_PARTS
+        } else {
+            0
+        }
+    }
+}
+
 // How many words a secret has: one, mostly. With more, a hint has room for a log of the records that changed.
 fn dimension_of(dice: &mut Dice) -> u16 {
     match dice.below(4) {
@@ -132,12 +177,15 @@ fn dimension_of(dice: &mut Dice) -> u16 {
     }
 }
 
-// What servers allow.
-fn limits_of(dice: &mut Dice) -> Limits {
+// What servers allow, with room for so many more bytes than a small store asks for.
+fn limits_of(dice: &mut Dice, more: usize) -> Limits {
     Limits {
         most: dice.below(6).saturating_add(3),
         idle: 60_000,
-        memory: dice.below(20_000).saturating_add(2_000),
-        log: dice.below(3_000).saturating_add(200),
+        memory: dice
+            .below(20_000)
+            .saturating_add(2_000)
+            .saturating_add(more),
+        log: dice.below(6_000).saturating_add(200),
     }
 }

@@ -105,7 +105,7 @@ pub enum Broken {
 }
 
 impl From<AllocError> for Broken {
-    ghost use Rattle.deployment.specs.declared.broken.Broken.TheVariants.{Memory};
+    ghost use Rattle.deployment_model.specs.declared.broken.Broken.TheVariants.{Memory};
     ghost use Rattle.std.specs.Prelude.{◌≡◌};
 
     ghost from_gives = { λ _ fault. fault ≡ Memory };
@@ -116,7 +116,7 @@ impl From<AllocError> for Broken {
 }
 
 impl<T: Drop> From<AllocFailed<T>> for Broken {
-    ghost use Rattle.deployment.specs.declared.broken.Broken.TheVariants.{Memory};
+    ghost use Rattle.deployment_model.specs.declared.broken.Broken.TheVariants.{Memory};
     ghost use Rattle.std.specs.Prelude.{◌≡◌};
 
     ghost from_gives = { λ _ fault. fault ≡ Memory };
