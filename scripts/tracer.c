@@ -1,4 +1,4 @@
-/* Loaded before the C library: notes each call that opens, writes, cuts, syncs, renames, removes or locks a file below the folder
+/* Loaded before the C library: notes each call that opens, writes (at a place, too), cuts, syncs, renames, removes or locks a file below the folder
    TRACE_UNDER, or makes a folder there, as a line of the file whose number is in TRACE_TO: what was done, and the path. The call whose
    number, counted from 1, is in TRACE_AT, which may have several with a comma between, fails with the error of the number TRACE_ERROR;
    without one the process is killed before the call. A line is noted, too, for each socket that is listened on, each wait for
@@ -13,7 +13,7 @@ extern long syscall(long, ...);
 extern int *__errno_location(void);
 
 enum {
-    WRITE = 1, OPEN = 2, GETPID = 39, SENDTO = 44, LISTEN = 50, KILL = 62, FLOCK = 73, FSYNC = 74, FDATASYNC = 75, FTRUNCATE = 77, RENAME = 82,
+    WRITE = 1, OPEN = 2, PWRITE = 18, GETPID = 39, SENDTO = 44, LISTEN = 50, KILL = 62, FLOCK = 73, FSYNC = 74, FDATASYNC = 75, FTRUNCATE = 77, RENAME = 82,
     MKDIR = 83, UNLINK = 87, READLINK = 89, EPOLL_WAIT = 232, OPENAT = 257, UNLINKAT = 263, ACCEPT4 = 288
 };
 
@@ -138,6 +138,13 @@ long write(int file, const void *bytes, size count)
 {
     return fails_at("write", file) ? -1 : syscall(WRITE, (long)file, bytes, count);
 }
+
+long pwrite(int file, const void *bytes, size count, long at)
+{
+    return fails_at("write-at", file) ? -1 : syscall(PWRITE, (long)file, bytes, count, at);
+}
+
+long pwrite64(int file, const void *bytes, size count, long at) { return pwrite(file, bytes, count, at); }
 
 int ftruncate(int file, long count) { return fails_at("cut", file) ? -1 : (int)syscall(FTRUNCATE, (long)file, count); }
 
