@@ -16,8 +16,6 @@ mod blocks;
 mod ends;
 mod heads;
 pub mod laws;
-#[cfg(test)]
-mod tests;
 
 pub use blocks::{Block, BlockBytes, Link, WholeBlock, block_bytes, next_block};
 pub use ends::{ChangesEnd, empty_end, end_in};

@@ -20,6 +20,3 @@ pub use folder::{Folder, KeptHeads};
 pub use kept::KeptFile;
 pub use old::OldFolder;
 pub use partial::{Fetched, PartialFile};
-
-#[cfg(test)]
-mod tests;

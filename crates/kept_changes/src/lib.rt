@@ -13,8 +13,6 @@ mod files;
 pub mod laws;
 mod moving;
 mod replies;
-#[cfg(test)]
-mod tests;
 mod whole_hint;
 
 pub use files::rows_after;

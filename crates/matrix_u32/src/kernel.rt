@@ -111,6 +111,3 @@ fn column_dot(a: &Matrix, b: &Matrix, i: usize, j: usize) -> u32
     }
     sum
 }
-
-#[cfg(test)]
-mod tests;

@@ -269,6 +269,3 @@ fn put_words(words: &mut Vec<u32>, mut more: Vec<u32>) -> Result<(), MatrixError
     words.append(&mut more).unwrap();
     Ok(())
 }
-
-#[cfg(test)]
-mod tests;

@@ -80,6 +80,3 @@ pub fn round(word: u32, w: u32) -> u32
     let step = delta(w);
     word.wrapping_add(step / 2) / step
 }
-
-#[cfg(test)]
-mod tests;

@@ -1,9 +1,12 @@
-//! Tests of the kernel over lanes, of the digits, of both schemes, and of the hints that follow an edit.
+//! Tests of products, of the scale of a digit, of the kernel over lanes, of the digits, of both schemes, and of the hints that follow
+//! an edit.
 //!
-//! The gate proves a crate that has tests twice, once with them. The tests of these five crates
+//! The gate proves a crate that has tests twice, once with them. The tests of these crates
 //! make public calls alone, so they stand here, above them all. Those in `src` are proved over what these calls promise, and then run.
 //! The others are modules in `tests/long/scheme_tests`, which the gate runs alone, and which `tests/long/run --prove` proves.
 #![tactic(auto)]
 
 #[cfg(test)]
 mod logs;
+#[cfg(test)]
+mod one_row;

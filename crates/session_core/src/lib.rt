@@ -62,6 +62,3 @@ pub use snapshot_file::{
     read_snapshot_and_digest, snapshot_digest, widen, write_snapshot_bytes,
 };
 pub use version_store::{AppendError, EditError, OpenError, PublishError, Store, write_snapshot};
-
-#[cfg(test)]
-mod tests;

@@ -10,6 +10,8 @@ mod client;
 #[cfg(test)]
 mod engines;
 #[cfg(test)]
+mod folders;
+#[cfg(test)]
 mod hints;
 #[cfg(test)]
 mod server;

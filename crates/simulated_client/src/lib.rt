@@ -14,8 +14,6 @@ mod replies;
 mod run;
 mod state;
 mod steps;
-#[cfg(test)]
-mod tests;
 mod turns;
 
 pub use counts::RunCounts;

@@ -26,6 +26,3 @@ pub use file::SimulatedFile;
 pub use files::SimulatedFiles;
 pub use listing::SimulatedNames;
 pub use network::{End, Moved, Network, Side};
-
-#[cfg(test)]
-mod tests;

@@ -22,6 +22,3 @@ mod server_handle;
 pub use client_handle::ClientHandle;
 pub use reported::{ReportedEvent, ReportedServer};
 pub use server_handle::ServerHandle;
-
-#[cfg(test)]
-mod tests;

@@ -1,4 +1,5 @@
 //! Runs over a real folder, with a server of a few records beside them.
+//! Proved by `tests/long/run --prove`.
 
 use crate::{ClientRun, RunEnd, RunStep};
 use client_core::Scheme;

@@ -1,4 +1,5 @@
 //! What a disk has after a crash.
+//! Proved by `tests/long/run --prove`.
 
 use crate::{SimulatedDisk, SimulatedFiles};
 use safe_files::{Bytes, replace_file};

@@ -1,3 +1,6 @@
+//! One retrieval worked out apart from the code.
+//! Proved by `tests/long/run --prove`.
+
 use super::*;
 use matrix_u32::Plain;
 use std::process::Abort;
@@ -93,18 +96,5 @@ fn half_of_delta_goes_up(rt: HostRuntime) {
         (4_286_578_687, 255),
     ] {
         assert_eq!(rt; round(word, 8), digit, "at {word}");
-    }
-}
-
-#[test]
-fn delta_for_each_width(rt: HostRuntime) {
-    for (w, step) in [
-        (6, 67_108_864),
-        (7, 33_554_432),
-        (8, 16_777_216),
-        (9, 8_388_608),
-        (10, 4_194_304),
-    ] {
-        assert_eq!(rt; delta(w), step, "at {w} bits");
     }
 }

@@ -1,4 +1,5 @@
 //! The session that the crate's page shows.
+//! Proved by `tests/long/run --prove`.
 
 use crate::{
     CallFault, ClientCore, Event, FeedError, Header, Kernel, Lanes, Plain, Scheme, ServerCore,

@@ -1,4 +1,7 @@
-use super::*;
+//! Products without lanes, and the scale of a digit.
+
+use matrix_u32::{Kernel, Matrix, Plain};
+use regev_core::delta;
 use std::process::Abort;
 use std::test::Fail;
 
@@ -49,21 +52,14 @@ fn plain_products(rt: HostRuntime) -> Result<(), Fail> {
 }
 
 #[test]
-fn a_product_overwrites_what_was_there(rt: HostRuntime) -> Result<(), Fail> {
-    let x = Matrix::from_words(2, 2, vec![in rt.alloc(); 1u32, 2, 3, 4]?)?;
-    let y = Matrix::from_words(2, 3, vec![in rt.alloc(); 5u32, 6, 7, 8, 9, 10]?)?;
-    let mut out = Matrix::from_words(2, 3, vec![in rt.alloc(); 7u32; 6]?)?;
-    Plain.mul_into(&x, &y, &mut out);
-    assert_eq!(rt; out.words(), [21, 24, 27, 47, 54, 61].as_slice());
-    Ok(())
-}
-
-#[test]
-fn a_row_is_written_through_its_loan(rt: HostRuntime) -> Result<(), Fail> {
-    let mut m = Matrix::zeros(rt.alloc(), 2, 2)?;
-    assert_eq!(rt; m.rows(), 2);
-    assert_eq!(rt; m.cols(), 2);
-    Plain.add_scaled(m.row_mut(1), &[4, 5], 10);
-    assert_eq!(rt; m.words(), [0, 0, 40, 50].as_slice());
-    Ok(())
+fn delta_for_each_width(rt: HostRuntime) {
+    for (w, step) in [
+        (6, 67_108_864),
+        (7, 33_554_432),
+        (8, 16_777_216),
+        (9, 8_388_608),
+        (10, 4_194_304),
+    ] {
+        assert_eq!(rt; delta(w), step, "at {w} bits");
+    }
 }

@@ -1,4 +1,5 @@
 //! A client's life through its exports. The C programs of tests/c have the rest.
+//! Proved by `tests/long/run --prove`.
 
 use crate::client::{
     vul_client_close, vul_client_hello, vul_client_open, vul_client_take_bytes, vul_client_waiting,

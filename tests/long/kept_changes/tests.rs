@@ -1,8 +1,9 @@
 //! The rows of records beside the whole hint, that hint moved, an ask and its replies. The longer tests are in tests/long/session_tests.
+//! Proved by `tests/long/run --prove`.
 
 ghost use Rattle.std.specs.Prelude.{◌≡◌, IfOk};
 
-use crate::{ChangesReply, changes_ask, hint_after, judged, rows_after};
+use crate::{ChangesReply, hint_after, judged, rows_after};
 use change_file::{Block, Link, block_bytes, head_bytes, read_head};
 use client_core::{Hint, Plan, Scheme, ServerInfo};
 use frame_codec::{Bytes, Frame};
@@ -120,15 +121,6 @@ fn the_whole_hint_is_moved_by_the_file(rt: HostRuntime) -> Result<(), Fail> {
     assert_eq!(rt;
         whole_after(rt.alloc(), &head_bytes(&DIGEST))?,
         Some(([1000, 2000], 1))
-    );
-    Ok(())
-}
-
-#[test]
-fn an_ask_is_written(rt: HostRuntime) -> Result<(), Fail> {
-    assert_eq!(rt;
-        changes_ask(rt.alloc(), 5)?.as_slice(),
-        [8, 0, 0, 0, 0x0a, 5, 0, 0, 0, 0, 0, 0, 0].as_slice()
     );
     Ok(())
 }

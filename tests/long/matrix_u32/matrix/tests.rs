@@ -1,3 +1,6 @@
+//! What a matrix holds, and what it is refused for.
+//! Proved by `tests/long/run --prove`.
+
 use super::*;
 use std::test::Fail;
 

@@ -1,7 +1,7 @@
 //! The example of a file with one block, whose bytes were computed by Python's hashlib and struct. The longer tests are in
 //! tests/long/frame_tests.
 
-use crate::{Block, BlockBytes, Link};
+use change_file::{Block, BlockBytes, Link};
 use std::alloc::{AllocError, Global};
 use std::test::Fail;
 
@@ -33,7 +33,7 @@ const ENTRIES: [u8; 12] = [1, 0, 0, 0, 0xc8, 0xff, 2, 0, 0, 0, 0, 7];
 // The functions below have no clause, so that a test doesn't carry those of the calls.
 
 fn head() -> Link {
-    crate::read_head(&HEAD, &DIGEST).unwrap_or(Link { bytes: [0; 32] })
+    change_file::read_head(&HEAD, &DIGEST).unwrap_or(Link { bytes: [0; 32] })
 }
 
 fn first_bytes(alloc: Global, link: &Link) -> Result<BlockBytes, AllocError> {
@@ -43,12 +43,12 @@ fn first_bytes(alloc: Global, link: &Link) -> Result<BlockBytes, AllocError> {
         count: 3,
         entries: &ENTRIES,
     };
-    crate::block_bytes(alloc, link, &block)
+    change_file::block_bytes(alloc, link, &block)
 }
 
 // Whether the bytes of the first block are read as it.
 fn is_read(bytes: &[u8], link: &Link) -> bool {
-    let Some(found) = crate::next_block(bytes, link, 1) else {
+    let Some(found) = change_file::next_block(bytes, link, 1) else {
         return false;
     };
     let block = found.block;
@@ -62,7 +62,7 @@ fn is_read(bytes: &[u8], link: &Link) -> bool {
 
 // Whether a file ends with the first block.
 fn ends(file: &[u8]) -> bool {
-    let Some(end) = crate::end_in(file, &DIGEST, 1, 2) else {
+    let Some(end) = change_file::end_in(file, &DIGEST, 1, 2) else {
         return false;
     };
     end.len == 140
@@ -73,7 +73,10 @@ fn ends(file: &[u8]) -> bool {
 
 #[test]
 fn the_example_is_written_and_read(rt: HostRuntime) -> Result<(), Fail> {
-    assert_eq!(rt; crate::head_bytes(&DIGEST).as_slice(), HEAD.as_slice());
+    assert_eq!(rt;
+        change_file::head_bytes(&DIGEST).as_slice(),
+        HEAD.as_slice()
+    );
     let link = head();
     assert_eq!(rt; link.bytes.as_slice(), &HEAD[40..]);
     let first = first_bytes(rt.alloc(), &link)?;

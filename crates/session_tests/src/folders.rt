@@ -1,7 +1,7 @@
-//! A real folder. tests/long has the rest.
+//! A client's folder. tests/long/client_state has the rest.
 
-use crate::{Folder, FolderFault};
 use client_core::{Plan, Scheme};
+use client_state::{Folder, FolderFault};
 use std::fs;
 use std::os::unix::fs::PermissionsExt;
 use std::test::Fail;
