@@ -7,8 +7,8 @@
 ghost use Rattle.std.specs.Prelude.{◌≡◌, ◌≤◌, ◌<◌, ◌^◌};
 ghost use Rattle.noise_odds.specs.Odds.{double_odds, even_bits, even_from, greatest, less_excess, margin_squared, mean_from, simple_odds, spread, worst_bits, worst_from};
 
-#[cfg(test)]
-mod tests;
+// Bits are rounded down, so that odds are never said to be better than they are by the definitions. The tests are in
+// `scheme_tests::sources`.
 
 /// Bits of the odds of one thing.
 #[derive(Clone, Copy, Debug, PartialEq, Eq)]

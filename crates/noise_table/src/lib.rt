@@ -1,6 +1,6 @@
 //! The noise that stands for a word, and the margin that sums of noise have to keep.
 //!
-//! Its tests are in `tests`.
+//! Its tests are in tests/long/noise_table and in `scheme_tests::sources`.
 #![tactic(auto)]
 
 ghost use Rattle.std.specs.Prelude.{◌≡◌, ◌≤◌, ◌<◌, ◌^◌, ◌↔◌, pos, length, unsigned_abs, IsTrue};
@@ -12,8 +12,8 @@ ghost use Rattle.noise_table.specs.Laws.{NoiseIsBounded, CertainIsQuiet};
 
 use seed_expand::WordSource;
 
-#[cfg(test)]
-mod tests;
+// The table and its largest magnitude are the code's own: the definitions have theirs (`specs/Noise`), and the contract of
+// `noise_of` holds for these words only if both agree.
 
 /// The largest magnitude of noise.
 pub const NOISE_MAX: i32 = 27;

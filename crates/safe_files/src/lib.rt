@@ -29,6 +29,3 @@ pub use place::{Place, open_file, replace_file};
 pub use replacing::{ReplaceFault, SettleFault, finish, replace, settle};
 pub use steady::SteadyFile;
 pub use system::FileSystem;
-
-#[cfg(test)]
-mod tests;

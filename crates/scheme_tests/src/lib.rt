@@ -1,5 +1,5 @@
-//! Tests of products, of the scale of a digit, of the kernel over lanes, of the digits, of both schemes, and of the hints that follow
-//! an edit.
+//! Tests of words of a seed, of noise, of products, of the scale of a digit, of the kernel over lanes, of the digits, of both schemes, and
+//! of the hints that follow an edit.
 //!
 //! The gate proves a crate that has tests twice, once with them. The tests of these crates
 //! make public calls alone, so they stand here, above them all. Those in `src` are proved over what these calls promise, and then run.
@@ -10,3 +10,5 @@
 mod logs;
 #[cfg(test)]
 mod one_row;
+#[cfg(test)]
+mod sources;

@@ -4,7 +4,7 @@
 //! with a 64-bit block counter and a 64-bit nonce: the seed is the key, the stream's number is the
 //! nonce, and a place counts the 32-bit words of a stream from block 0 on, sixteen to a block.
 //!
-//! Its tests are in `tests`.
+//! Its tests are in tests/long/seed_expand and in `scheme_tests::sources`.
 #![tactic(auto)]
 
 ghost use Rattle.std.specs.Prelude.{◌≡◌, ℕ, ◌+◌, ◌%◌, ◌^◌, ◌<◌, ◌≤◌, IfOk, length};
@@ -20,8 +20,8 @@ use rand_core::utils::NextWord;
 use std::alloc::{AllocError, Global};
 use std::marker::Model;
 
-#[cfg(test)]
-mod tests;
+// A source is a generator of the library's: what is proved of it here is which word each place gives, and that the places of
+// a stream run on from block to block.
 
 /// The words of one stream of a seed, read one after another from a place on.
 ///

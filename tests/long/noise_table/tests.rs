@@ -1,24 +1,7 @@
 //! Noise and margins that were worked out apart from the code.
+//! Proved by `tests/long/run --prove`.
 
 use super::*;
-
-#[test]
-fn noise_of_words(rt: HostRuntime) {
-    let worked = [
-        (0, 0),
-        (2042, 0),
-        (32768, 0),
-        (2043, 1),
-        (34811, -1),
-        (32767, 27),
-        (65535, -27),
-        (0xFFFF_0000, 0),
-    ];
-    for (word, want) in worked {
-        assert_eq!(rt; noise_of(word), want, "word {word}");
-    }
-    assert_eq!(rt; NOISE_MAX, 27);
-}
 
 // Each magnitude begins at its limit, with either sign and whatever stands in the high bits.
 #[test]

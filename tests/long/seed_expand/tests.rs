@@ -1,4 +1,5 @@
 //! Words that other sources give for the same seed, stream and place.
+//! Proved by `tests/long/run --prove`.
 
 use super::*;
 
@@ -49,30 +50,6 @@ fn the_last_row(rt: HostRuntime) -> Result<(), AllocError> {
     assert_eq!(rt; a.get(0, 0), 0xf148_72e3);
     assert_eq!(rt; a.get(0, 1023), 0x0bbc_730f);
     Ok(())
-}
-
-// The keystreams of RFC 8439, appendix A.1, test vectors 1, 2 and 5, and of section 2.3.2: the second
-// word of its 96-bit nonce is the low half of the stream's number, the third the high half, and the
-// first the high half of the block.
-#[test]
-fn words_of_the_standard(rt: HostRuntime) {
-    let vectors = [
-        (ZERO, 0, 0, 0xade0_b876, 0x903d_f1a0),
-        (ZERO, 0, 16, 0xbee7_079f, 0x7a38_5155),
-        (ZERO, 0x0200_0000_0000_0000, 0, 0x374d_c6c2, 0x3736_d58c),
-        (
-            COUNTING,
-            0x4a00_0000,
-            0x9000_0000_0000_0010,
-            0xe4e7_f110,
-            0x1559_3bd1,
-        ),
-    ];
-    for (seed, stream, place, first, second) in vectors {
-        let mut source = WordSource::at(&seed, stream, place);
-        assert_eq!(rt; source.next(), first, "stream {stream}, place {place}");
-        assert_eq!(rt; source.next(), second, "stream {stream}, place {place}");
-    }
 }
 
 // OpenSSL's words at both ends of the numbers of streams and places, and across a block's end.

@@ -1,5 +1,5 @@
-//! The steps of a replacement on a disk in memory. Those of which one fails, and what a real folder has after each, are in
-//! `tests/long/safe_files`.
+//! The steps of a replacement on a disk in memory. Those of which one fails, and what a real folder has after each, are in `tests`.
+//! Proved by `tests/long/run --prove`.
 
 use crate::{Bytes, Disk, DiskFailed, ReplaceFault, replace};
 use std::alloc::Global;
@@ -22,7 +22,7 @@ enum Name {
     Remove,
 }
 
-// A file in memory, whose writes fail where the disk has no room.
+// A file in memory, whose writes fail if the disk has no room.
 #[derive(Drop)]
 struct MemoryFile {
     bytes: Vec<u8>,
@@ -71,7 +71,7 @@ impl MemoryDisk {
         })
     }
 
-    // Notes a step, and fails where it is the one that does.
+    // Notes a step, and fails if it is the one that does.
     fn step(&mut self, name: Name) -> Result<(), DiskFailed> {
         if self.steps.push(name).is_err() || self.fails == Some(name) {
             return Err(DiskFailed);
