@@ -1,24 +1,17 @@
 -- What the end of a turn makes of places and sessions.
 use Rattle.std.proofs.Common.{◌≡◌, ◌<◌, ℕ, List, length, Option, None, Some, set, inl, refl, sym, subst, ◌∙◌}
 use Rattle.server_core.specs.Cores.{Core, session_of}
-use Rattle.service_loop.specs.Holding.{held_by}
+use Rattle.connection_table.specs.Holding.{held_by}
 use Rattle.service_core.specs.Runs.{OthersStay, DoesToCore, Closes}
-use Rattle.service_loop.specs.declared.connection.Connection.{Connection}
-use Rattle.service_loop.specs.declared.connection.Outcome.{Outcome}
-use Rattle.service_loop.specs.declared.connection.Outcome.TheVariants.{Busy, PutOff, Waits, Over, Closed}
-use Rattle.service_loop.specs.Judging.{GoesOn}
-use Rattle.service_loop.specs.Places.{connection_at, OthersStayOrGo}
+use Rattle.connection_table.specs.declared.connection.Connection.{Connection}
+use Rattle.connection_table.specs.declared.connection.Outcome.{Outcome}
+use Rattle.connection_table.specs.Judging.{GoesOn}
+use Rattle.connection_table.specs.Places.{connection_at}
+use Rattle.service_loop.specs.Turns.{OthersStayOrGo}
 use Rattle.service_loop.specs.Sessions.{Settles, SessionsStayOrGo, AreNoted}
 use Rattle.service_loop.proofs.Leaving.{others_stay, goes_on, settles_others, settles_sessions}
+use Rattle.connection_table.proofs.Turned.{either_end}
 use Rattle.service_loop.proofs.Noted.{left_noted, back_noted, settled_noted}
-
--- a turn's end as it goes on, or as it is over
-pub either_end : (P : Type 0) (o : Outcome) → (GoesOn o → P) → ((GoesOn o → ⊥) → P) → P
-either_end P Busy first second = first tt
-either_end P PutOff first second = first tt
-either_end P Waits first second = first tt
-either_end P Over first second = second (λ h. h)
-either_end P (Closed why) first second = second (λ h. h)
 
 module _ (o : Outcome) (place : ℕ) (c d : Connection) (places freed : List (Option Connection)) (old mid : Core) (after : List (Option Connection)) (new : Core)
     (is_freed : freed ≡ set places place None)

@@ -4,9 +4,10 @@ use Rattle.std.specs.Prelude.{option_map}
 use Rattle.std.proofs.lemmas.Bool.{cases_eq, cases_lt}
 use Rattle.std.proofs.lemmas.List.{get_or-set_same, get_or-set_other, get_or_past, length-set}
 use Rattle.server_core.specs.Cores.{Core, session_of}
-use Rattle.service_loop.specs.Holding.{held_by}
-use Rattle.service_loop.specs.declared.connection.Connection.{Connection}
-use Rattle.service_loop.specs.Places.{connection_at, noted, unflagged, OnlyFlagsChange}
+use Rattle.connection_table.specs.Holding.{held_by}
+use Rattle.connection_table.specs.declared.connection.Connection.{Connection}
+use Rattle.connection_table.specs.Places.{connection_at, noted}
+use Rattle.service_loop.specs.Turns.{unflagged, OnlyFlagsChange}
 use Rattle.service_loop.specs.Sessions.{AreNoted}
 
 -- what is noted of a socket changes its flags alone

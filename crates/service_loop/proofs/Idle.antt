@@ -6,16 +6,15 @@ use Rattle.std.proofs.lemmas.Option.{slice_get_past, slice_get-get_or}
 use Rattle.std.specs.Prelude.{option_map}
 use Rattle.server_core.specs.Cores.{Core}
 use Rattle.service_core.specs.Runs.{DoesToCore, Closes}
-use Rattle.service_loop.specs.declared.connection.Connection.{Connection}
-use Rattle.service_loop.specs.declared.connection.Outcome.{Outcome}
-use Rattle.service_loop.specs.declared.connection.Outcome.TheVariants.{Closed}
-use Rattle.service_loop.specs.declared.report.Closing.TheVariants.{Idle}
-use Rattle.service_loop.specs.Judging.{GoesOn, IsIdle, HasBeenIdle}
-use Rattle.service_loop.specs.Places.{connection_at, unflagged, HasNoIdle, HasTurn, OnlyFlagsChange, OthersStayOrGo}
+use Rattle.connection_table.specs.declared.connection.Connection.{Connection}
+use Rattle.connection_table.specs.declared.connection.Outcome.{Outcome}
+use Rattle.connection_table.specs.Judging.{GoesOn, IsIdle}
+use Rattle.service_loop.specs.Turns.{HasBeenIdle, unflagged, HasNoIdle, HasTurn, OnlyFlagsChange, OthersStayOrGo}
+use Rattle.connection_table.specs.Places.{connection_at}
 use Rattle.service_loop.specs.Sessions.{Settles}
 use Rattle.service_loop.proofs.Leaving.{freed, given_there}
 use Rattle.service_loop.proofs.Flags.{bare_there}
-use Rattle.service_loop.proofs.Concluding.{either_end}
+use Rattle.connection_table.proofs.Turned.{either_end}
 
 -- what holds of none holds where a place is freed
 pub none_is : (P : Connection → Type 0) (o : Option Connection) → o ≡ None → IfSome o P
@@ -59,13 +58,6 @@ stays_idle c moment now idle le h = record {
   nothing = h.idles.nothing;
   late = idle_later idle moment c.link.progress now h.idles.late h.began le;
 }
-
--- a connection that goes on as it was judged is not idle
-pub judged_active : (o r : Outcome) (c : Connection) (now idle : ℕ) → (GoesOn o → IsIdle c now idle → r ≡ Closed Idle) → ((GoesOn o → ⊥) → r ≡ o)
-    → GoesOn r → IsIdle c now idle → ⊥
-judged_active o r c now idle closes over g i = either_end ⊥ o
-    (λ on. subst GoesOn (closes on i) g)
-    (λ n. n (subst GoesOn (over n) g))
 
 bared : (c : Connection) (moment idle : ℕ) → HasBeenIdle c moment idle → HasBeenIdle (unflagged c) moment idle
 bared c moment idle h = record {

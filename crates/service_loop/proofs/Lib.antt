@@ -4,4 +4,3 @@ pub mod Idle
 pub mod Leaving
 pub mod Marks
 pub mod Noted
-pub mod Turned

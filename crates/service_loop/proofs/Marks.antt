@@ -5,9 +5,10 @@ use Rattle.std.proofs.lemmas.List.{get_or-set_other, get_or_past, length-set}
 use Rattle.std.proofs.lemmas.Option.{slice_get_within}
 use Rattle.std.specs.Prelude.{min, unwrap_or}
 use Rattle.server_core.specs.Cores.{Core}
-use Rattle.service_loop.specs.declared.connection.Connection.{Connection}
-use Rattle.service_loop.specs.Judging.{HasBeenIdle, due_of}
-use Rattle.service_loop.specs.Places.{connection_at, noted, AreMarkedNoted, AreQueued, ComesWithTurn, HasNoIdle, HasTurn, HasTurnIfMarked, OthersStayOrGo}
+use Rattle.connection_table.specs.declared.connection.Connection.{Connection}
+use Rattle.service_loop.specs.Turns.{HasBeenIdle, AreMarkedNoted, AreQueued, ComesWithTurn, HasNoIdle, HasTurn, HasTurnIfMarked, OthersStayOrGo}
+use Rattle.connection_table.specs.Judging.{due_of}
+use Rattle.connection_table.specs.Places.{connection_at, noted}
 use Rattle.service_loop.specs.Sessions.{Settles}
 use Rattle.service_loop.proofs.Leaving.{settles_others, given_there}
 use Rattle.service_loop.proofs.Idle.{none_is, settled_holds}

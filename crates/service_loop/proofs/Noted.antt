@@ -3,10 +3,10 @@ use Rattle.std.proofs.Common.{◌≡◌, ◌≢◌, ◌⊎◌, ◌<◌, ◌+◌,
 use Rattle.std.proofs.lemmas.Bool.{cases_eq}
 use Rattle.std.proofs.lemmas.List.{get_or-set_other, length-set}
 use Rattle.server_core.specs.Cores.{Core, session_of}
-use Rattle.service_loop.specs.Holding.{held_by}
+use Rattle.connection_table.specs.Holding.{held_by}
 use Rattle.service_core.specs.Runs.{OthersStay}
-use Rattle.service_loop.specs.declared.connection.Connection.{Connection}
-use Rattle.service_loop.specs.Places.{connection_at}
+use Rattle.connection_table.specs.declared.connection.Connection.{Connection}
+use Rattle.connection_table.specs.Places.{connection_at}
 use Rattle.service_loop.specs.Sessions.{Settles, AreNoted}
 use Rattle.service_loop.proofs.Leaving.{freed, given_there}
 

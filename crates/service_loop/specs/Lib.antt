@@ -1,10 +1,7 @@
+pub mod Accepting
 pub mod Drafting
-pub mod Holding
-pub mod Judging
 pub mod Lines
-pub mod Places
 pub mod Sessions
 pub mod Stopping
-pub mod Timing
+pub mod Turns
 pub mod Visiting
-pub mod Watching

@@ -1,5 +1,5 @@
 -- Which lines are said, how many in a second, and what they are.
-use Rattle.std.specs.Prelude.{◌+◌, ◌-◌, ◌++◌, ℕ, List, [], Bool, true, false, not, ◌&&◌, ◌||◌, Option, None, Some, is_some, option_copied, unwrap_or, cond, codes, decimal, nat_le, nat_lt}
+use Rattle.std.specs.Prelude.{◌+◌, ◌-◌, ◌++◌, ℕ, List, [], Bool, not, ◌&&◌, ◌||◌, Option, None, Some, is_some, option_copied, unwrap_or, cond, codes, decimal, nat_le, nat_lt}
 use Rattle.service_watch.specs.declared.entries.Entry.{Entry}
 use Rattle.service_watch.specs.declared.entries.Event.{Event}
 use Rattle.service_watch.specs.declared.entries.Event.TheVariants.{Accepted, Closed, Refused}

@@ -1,10 +1,10 @@
 -- Places of connections, and the sessions of a server.
 use Rattle.std.specs.Prelude.{◌≡◌, ◌≢◌, ◌<◌, ◌⊎◌, ℕ, List, Option, None, Some, slice_set}
 use Rattle.server_core.specs.Cores.{Core, session_of}
-use Rattle.service_loop.specs.Holding.{held_by}
+use Rattle.connection_table.specs.Holding.{held_by}
 use Rattle.service_core.specs.Runs.{DoesToCore, Closes}
-use Rattle.service_loop.specs.declared.connection.Connection.{Connection}
-use Rattle.service_loop.specs.Places.{connection_at, LosesLargest}
+use Rattle.connection_table.specs.declared.connection.Connection.{Connection}
+use Rattle.connection_table.specs.Places.{connection_at, LosesLargest}
 
 -- A connection was put into a place. It is there, or one of those for which most is held went, with its session and no other.
 abbrev pub Settles : ℕ → Connection → List (Option Connection) → Core → List (Option Connection) → Core → Type 0

@@ -1,25 +1,16 @@
 //! The loop of a server: many connections in one thread, over readiness.
 //!
-//! What a connection does to the server is a [`service_core::turn`], which is proved. This crate has the sockets, the
-//! clock and the table of connections: who may be accepted, whose turn it is, who is closed.
+//! A connection and its turn are those of `connection_table`. This crate has the listener and who asks for the service's health: who may
+//! be accepted, whose turn it is, who is closed, and when the service stops.
 #![tactic(auto)]
 
-mod connection;
-mod device;
-mod kept;
 mod lines;
-mod places;
-mod report;
 mod serving;
 mod status;
 mod stopping;
-mod tallies;
-mod turning;
-mod watch;
 
-pub use device::Saver;
+pub use connection_table::{RunFault, Saver};
 pub use lines::say_line;
-pub use report::RunFault;
 pub use service_core::{AppendFailed, SaveFailed};
 pub use service_watch::LogFormat;
 pub use serving::{Limits, run_service};

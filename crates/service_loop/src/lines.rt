@@ -6,11 +6,11 @@
 ghost use Rattle.std.specs.Prelude.{◌≡◌, IfOk};
 ghost use Rattle.service_loop.specs.Lines.{after_line, has_line, is_said, line_text, plain_text, quota_at};
 
-use crate::report::Closing;
+use connection_table::{Closing, unix_millis};
 use service_watch::{Entry, Event, LogFormat, ReplyHead, entry_line, moment_text};
 use std::alloc::{AllocError, Global};
 use std::net::SocketAddr;
-use std::time::{Instant, SystemTime, UNIX_EPOCH};
+use std::time::Instant;
 
 /// The most bytes of a line. A pipe that has room has room for so many.
 const LONGEST_LINE: usize = 4_096;
@@ -241,17 +241,6 @@ fn plain_line(alloc: Global, what: &str, count: Option<u64>) -> Result<Vec<u8>, 
     let mut line = Vec::new(alloc);
     line.extend_from_slice(text.as_bytes())?;
     Ok(line)
-}
-
-/// Milliseconds since 1970 began in UTC; 0 where the clock can't be read.
-pub fn unix_millis(rt: &HostRuntime) -> u64 {
-    let Ok(now) = SystemTime::now(rt) else {
-        return 0;
-    };
-    match now.duration_since(UNIX_EPOCH) {
-        Ok(since) => u64::try_from(since.as_millis()).unwrap_or(u64::MAX),
-        Err(_) => 0,
-    }
 }
 
 /// Writes a line on standard error, if there is room for it at once, and answers whether all of it went out. One that is longer than

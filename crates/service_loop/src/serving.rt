@@ -8,13 +8,10 @@ mod drafting;
 mod queueing;
 mod turns;
 
-use crate::device::Saver;
-use crate::kept::Kept;
 use crate::lines::Log;
-use crate::places::Places;
-use crate::report::RunFault;
 use crate::status::Status;
 use crate::stopping::{InputState, Phase, read_input, watch_input};
+use connection_table::{Kept, Places, RunFault, Saver};
 use lane_kernels::Lanes;
 use mio::net::TcpListener;
 use mio::{Events, Interest, Poll, Token};
@@ -209,8 +206,9 @@ fn bind(rt: &HostRuntime, poll: &Poll, address: SocketAddr) -> io::Result<TcpLis
 }
 
 impl Service {
-    ghost use Rattle.service_loop.specs.Places.{AreMarkedNoted, HasNoIdle};
-    ghost use Rattle.service_loop.specs.Stopping.{IsOver, is_stopping, open_count, stopping_from};
+    ghost use Rattle.service_loop.specs.Turns.{AreMarkedNoted, HasNoIdle};
+    ghost use Rattle.service_loop.specs.Stopping.{IsOver, is_stopping, stopping_from};
+    ghost use Rattle.connection_table.specs.Places.{open_count};
     ghost use Rattle.service_loop.specs.Sessions.{AreNoted};
 
     // One round after another.

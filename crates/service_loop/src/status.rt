@@ -7,7 +7,7 @@ ghost use Rattle.std.specs.Prelude.{◌≡◌, None, IfOk, length, replicate};
 
 mod visitor;
 
-use crate::report::RunFault;
+use connection_table::RunFault;
 use mio::net::TcpListener;
 use mio::{Events, Interest, Poll, Registry, Token};
 use service_watch::Figures;

@@ -3,7 +3,7 @@
 ghost use Rattle.std.specs.Prelude.{◌≡◌, ◌↔◌, IsTrue};
 ghost use Rattle.service_loop.specs.Stopping.{IsOver, is_stopping, stopping_from};
 
-use crate::report::RunFault;
+use connection_table::RunFault;
 use mio::unix::SourceFd;
 use mio::{Interest, Poll, Token};
 

@@ -1,13 +1,10 @@
 //! Connections that are accepted.
 
 ghost use Rattle.std.specs.Prelude.{◌≡◌, ◌<◌, ◌↔◌, ℕ, None, IsTrue, length};
-ghost use Rattle.service_loop.specs.Watching.{HasEnough};
+ghost use Rattle.service_loop.specs.Accepting.{HasEnough};
 
 use super::Service;
-use crate::connection::Connection;
-use crate::device::Saver;
-use crate::kept::Kept;
-use crate::report::{Closing, RunFault};
+use connection_table::{Closing, Connection, Kept, RunFault, Saver};
 use mio::net::TcpStream;
 use mio::{Interest, Token};
 use service_core::Link;
@@ -26,7 +23,8 @@ const ACCEPTS: u32 = 64;
 const ENFILE: i32 = 23;
 
 impl Service {
-    ghost use Rattle.service_loop.specs.Places.{connection_at, ComesWithTurn, HasTurn, OthersStayOrGo};
+    ghost use Rattle.connection_table.specs.Places.{connection_at};
+    ghost use Rattle.service_loop.specs.Turns.{ComesWithTurn, HasTurn, OthersStayOrGo};
     ghost use Rattle.service_loop.specs.Sessions.{AreNoted, SessionsStayOrGo};
 
     // Accepts what waits, while there is a free place, so many at most.

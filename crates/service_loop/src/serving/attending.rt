@@ -1,10 +1,8 @@
 //! Those who ask how the service does, after the turns of a round.
 
 use super::Service;
-use crate::device::{Saver, micros_since};
-use crate::kept::Kept;
-use crate::report::RunFault;
 use crate::status::Status;
+use connection_table::{Kept, RunFault, Saver, micros_since};
 use mio::Events;
 use service_watch::Figures;
 use std::net::SocketAddr;

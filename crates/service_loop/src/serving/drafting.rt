@@ -3,8 +3,7 @@
 ghost use Rattle.std.specs.Prelude.{◌≡◌};
 
 use super::Service;
-use crate::device::Saver;
-use crate::kept::Kept;
+use connection_table::{Kept, Saver};
 use service_watch::DraftLife;
 
 impl Service {

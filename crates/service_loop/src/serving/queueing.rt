@@ -10,7 +10,8 @@ use mio::Events;
 const RESCAN: u64 = 100;
 
 impl Service {
-    ghost use Rattle.service_loop.specs.Places.{connection_at, noted, AreQueued, HasTurn, HasTurnIfMarked, OnlyFlagsChange};
+    ghost use Rattle.connection_table.specs.Places.{connection_at, noted};
+    ghost use Rattle.service_loop.specs.Turns.{AreQueued, HasTurn, HasTurnIfMarked, OnlyFlagsChange};
 
     // Has the connection at a place have its turn, if there is one.
     pub(super) fn queue(&mut self, place: usize, readable: bool, writable: bool)

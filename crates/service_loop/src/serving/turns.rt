@@ -3,17 +3,15 @@
 ghost use Rattle.std.specs.Prelude.{◌≡◌, ◌≤◌, ◌<◌, ℕ, slice_get, None, IfOk, IfSome, OnOk, length, true, false};
 
 use super::Service;
-use crate::connection::{Connection, Outcome};
-use crate::device::Saver;
-use crate::kept::Kept;
-use crate::report::{Closing, RunFault};
+use connection_table::{Closing, Connection, Kept, Outcome, RunFault, Saver};
 use service_watch::{Cause, Counted, Event};
 use std::mem;
 
 impl Service {
     ghost use Rattle.service_core.specs.Runs.{DoesToCore, Closes};
-    ghost use Rattle.service_loop.specs.Judging.{GoesOn};
-    ghost use Rattle.service_loop.specs.Places.{all_held, connection_at, AreMarkedNoted, HasNoIdle, HasTurn, HasTurnIfMarked, OthersStayOrGo};
+    ghost use Rattle.connection_table.specs.Judging.{GoesOn};
+    ghost use Rattle.connection_table.specs.Places.{all_held, connection_at};
+    ghost use Rattle.service_loop.specs.Turns.{AreMarkedNoted, HasNoIdle, HasTurn, HasTurnIfMarked, OthersStayOrGo};
     ghost use Rattle.service_loop.specs.Sessions.{AreNoted, Settles, SessionsStayOrGo};
 
     // Gives a turn to each connection that is to have one.

@@ -1,6 +1,5 @@
 use Rattle.std.proofs.Common.{◌≡◌, true, sym, subst}
-use Rattle.service_loop.specs.Judging.{HasBeenIdle}
-use Rattle.service_loop.specs.Places.{HasTurn}
+use Rattle.service_loop.specs.Turns.{HasBeenIdle, HasTurn}
 use Rattle.service_loop.specs.Sessions.{AreNoted}
 use Rattle.service_loop.proofs.Noted.{none_noted}
 use Rattle.service_loop.proofs.Marks.{free_holds}

@@ -1,5 +1,5 @@
 use Rattle.std.proofs.Common.{◌≡◌, ℕ}
-use Rattle.service_loop.specs.Places.{ComesWithTurn, HasTurn}
+use Rattle.service_loop.specs.Turns.{ComesWithTurn, HasTurn}
 use Rattle.service_loop.specs.Sessions.{AreNoted}
 use Rattle.service_loop.proofs.serving.Service.accept_all.Given as goal
 

@@ -1,5 +1,5 @@
 use Rattle.std.proofs.Common.{◌≡◌, ℕ}
-use Rattle.service_loop.specs.Places.{HasTurnIfMarked, OnlyFlagsChange}
+use Rattle.service_loop.specs.Turns.{HasTurnIfMarked, OnlyFlagsChange}
 use Rattle.service_loop.proofs.serving.Service.note_all.Given as goal
 
 abbrev pub invariant-loop-event : goal.invariant-loop-event

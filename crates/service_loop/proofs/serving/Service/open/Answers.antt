@@ -1,9 +1,9 @@
 use Rattle.std.proofs.Common.{◌≡◌, ◌<◌, ◌+◌, None, Some, Result, Ok, Err, OnOk, true, false, sym, ap, subst, ◌∙◌, arith}
 use Rattle.std.specs.Result.{is_err}
 use Rattle.server_core.specs.Cores.{session_of}
-use Rattle.service_loop.specs.Holding.{held_by}
-use Rattle.service_loop.specs.declared.connection.Connection.{Connection}
-use Rattle.service_loop.specs.declared.places.Places.{Places}
+use Rattle.connection_table.specs.Holding.{held_by}
+use Rattle.connection_table.specs.declared.connection.Connection.{Connection}
+use Rattle.connection_table.specs.declared.places.Places.{Places}
 use Rattle.server_core.specs.Sessions.{new_session}
 use Rattle.service_loop.specs.Sessions.{AreNoted, Settles}
 use Rattle.service_loop.proofs.Noted.{opened_noted, given_noted, settled_noted}

@@ -1,7 +1,8 @@
 use Rattle.std.proofs.Common.{List, Option, sym, ap, subst, ◌∙◌}
-use Rattle.service_loop.specs.declared.connection.Connection.{Connection}
-use Rattle.service_loop.specs.declared.places.Places.{Places}
-use Rattle.service_loop.specs.Places.{connection_at, HasTurn, HasTurnIfMarked}
+use Rattle.connection_table.specs.declared.connection.Connection.{Connection}
+use Rattle.connection_table.specs.declared.places.Places.{Places}
+use Rattle.connection_table.specs.Places.{connection_at}
+use Rattle.service_loop.specs.Turns.{HasTurn, HasTurnIfMarked}
 use Rattle.service_loop.proofs.Marks.{anyhow, note_marked}
 use Rattle.service_loop.proofs.serving.Service.queue.Goals as goal
 

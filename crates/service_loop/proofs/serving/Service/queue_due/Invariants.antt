@@ -1,7 +1,8 @@
 use Rattle.std.proofs.Common.{◌≡◌, ◌≤◌, ◌<◌, ℕ, Some, true}
-use Rattle.service_loop.specs.declared.connection.Connection.{Connection}
-use Rattle.service_loop.specs.Judging.{due_of}
-use Rattle.service_loop.specs.Places.{connection_at, HasTurnIfMarked, OnlyFlagsChange}
+use Rattle.connection_table.specs.declared.connection.Connection.{Connection}
+use Rattle.connection_table.specs.Judging.{due_of}
+use Rattle.connection_table.specs.Places.{connection_at}
+use Rattle.service_loop.specs.Turns.{HasTurnIfMarked, OnlyFlagsChange}
 use Rattle.service_loop.proofs.serving.Service.queue_due.Given as goal
 
 abbrev pub invariant-loop-place : goal.invariant-loop-place

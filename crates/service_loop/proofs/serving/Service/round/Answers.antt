@@ -2,7 +2,7 @@ use Rattle.std.proofs.Common.{◌∙◌, ℕ, inl, inr, sym, ap, subst}
 use Rattle.std.proofs.lemmas.Bool.{cases_lt}
 use Rattle.service_loop.specs.declared.serving.Limits.{Limits}
 use Rattle.service_loop.specs.declared.serving.Service.{Service}
-use Rattle.service_loop.specs.Places.{AreMarkedNoted}
+use Rattle.service_loop.specs.Turns.{AreMarkedNoted}
 use Rattle.service_loop.specs.Sessions.{AreNoted}
 use Rattle.service_loop.proofs.Flags.{flags_noted}
 use Rattle.service_loop.proofs.Idle.{flags_active, here_moved}

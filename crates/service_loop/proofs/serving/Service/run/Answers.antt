@@ -1,7 +1,7 @@
-use Rattle.std.proofs.Common.{◌≡◌, sym, ap, subst}
-use Rattle.service_loop.specs.declared.places.Places.{Places}
+use Rattle.std.proofs.Common.{sym, ap, subst}
+use Rattle.connection_table.specs.declared.places.Places.{Places}
 use Rattle.service_loop.specs.declared.serving.Limits.{Limits}
-use Rattle.service_loop.specs.Places.{HasNoIdle}
+use Rattle.service_loop.specs.Turns.{HasNoIdle}
 use Rattle.service_loop.specs.Sessions.{AreNoted}
 use Rattle.service_loop.proofs.Idle.{here_moved}
 use Rattle.service_loop.proofs.Marks.{marks_stay}

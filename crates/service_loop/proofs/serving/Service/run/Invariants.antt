@@ -1,5 +1,5 @@
 use Rattle.std.proofs.Common.{ℕ}
-use Rattle.service_loop.specs.Places.{AreMarkedNoted, HasNoIdle}
+use Rattle.service_loop.specs.Turns.{AreMarkedNoted, HasNoIdle}
 use Rattle.service_loop.specs.Sessions.{AreNoted}
 use Rattle.service_loop.proofs.serving.Service.run.Given as goal
 

@@ -1,8 +1,8 @@
 use Rattle.std.proofs.Common.{◌≡◌, ◌≤◌, List, Option, None, Some, IfSome, false, sym, subst, ◌∙◌}
-use Rattle.service_loop.specs.declared.connection.Connection.{Connection}
-use Rattle.service_loop.specs.Judging.{HasBeenIdle}
+use Rattle.connection_table.specs.declared.connection.Connection.{Connection}
+use Rattle.service_loop.specs.Turns.{HasBeenIdle}
 use Rattle.service_loop.specs.declared.serving.Service.{Service}
-use Rattle.service_loop.specs.Places.{all_held, connection_at}
+use Rattle.connection_table.specs.Places.{all_held, connection_at}
 use Rattle.service_loop.specs.Sessions.{AreNoted, SessionsStayOrGo}
 use Rattle.service_loop.proofs.Idle.{concluded_holds, stays_idle}
 use Rattle.service_loop.proofs.Leaving.{is_within}

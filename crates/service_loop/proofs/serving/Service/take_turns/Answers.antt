@@ -1,7 +1,7 @@
 use Rattle.std.proofs.Common.{◌≡◌, ◌∙◌, Result, Ok, Err, OnOk, sym, ap, subst}
 use Rattle.service_loop.specs.declared.serving.Limits.{Limits}
 use Rattle.service_loop.specs.declared.serving.Service.{Service}
-use Rattle.service_loop.specs.Places.{AreMarkedNoted, HasNoIdle}
+use Rattle.service_loop.specs.Turns.{AreMarkedNoted, HasNoIdle}
 use Rattle.service_loop.proofs.Idle.{stays_moved, here_moved, shown_at, turn_taken}
 use Rattle.service_loop.proofs.Marks.{either_way}
 use Rattle.service_loop.proofs.serving.Service.take_turns.Goals as goal

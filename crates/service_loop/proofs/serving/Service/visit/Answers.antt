@@ -1,6 +1,6 @@
 use Rattle.std.proofs.Common.{◌∙◌, sym, ap, subst}
-use Rattle.service_loop.specs.declared.places.Places.{Places}
-use Rattle.service_loop.specs.Places.{HasTurnIfMarked, OnlyFlagsChange}
+use Rattle.connection_table.specs.declared.places.Places.{Places}
+use Rattle.service_loop.specs.Turns.{HasTurnIfMarked, OnlyFlagsChange}
 use Rattle.service_loop.specs.Sessions.{AreNoted}
 use Rattle.service_loop.proofs.Flags.{flags_noted}
 use Rattle.service_loop.proofs.Idle.{flags_active, visit_stays}

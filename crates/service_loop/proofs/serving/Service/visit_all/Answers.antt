@@ -1,6 +1,6 @@
 use Rattle.std.proofs.Common.{◌≡◌, ◌≤◌, ◌∙◌, [], length, false, ap, arith}
 use Rattle.service_loop.specs.declared.serving.Limits.{Limits}
-use Rattle.service_loop.specs.Places.{HasNoIdle, HasTurnIfMarked}
+use Rattle.service_loop.specs.Turns.{HasNoIdle, HasTurnIfMarked}
 use Rattle.service_loop.proofs.Idle.{stays_moved, here_moved, below_next, each_place}
 use Rattle.service_loop.proofs.Marks.{all_marked}
 use Rattle.service_loop.proofs.serving.Service.visit_all.Goals as goal

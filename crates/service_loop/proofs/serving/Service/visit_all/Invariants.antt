@@ -1,5 +1,5 @@
 use Rattle.std.proofs.Common.{◌≡◌, ◌<◌, ℕ, [], false}
-use Rattle.service_loop.specs.Places.{HasNoIdle, HasTurnIfMarked}
+use Rattle.service_loop.specs.Turns.{HasNoIdle, HasTurnIfMarked}
 use Rattle.service_loop.specs.Sessions.{AreNoted}
 use Rattle.service_loop.proofs.serving.Service.visit_all.Given as goal
 

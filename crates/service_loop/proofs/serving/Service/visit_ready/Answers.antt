@@ -1,6 +1,6 @@
 use Rattle.std.proofs.Common.{◌≡◌, ◌<◌, ◌≤◌, ◌∙◌, IfSome, slice_get, length, refl, ap, arith}
 use Rattle.service_loop.specs.declared.serving.Limits.{Limits}
-use Rattle.service_loop.specs.Places.{HasNoIdle, HasTurnIfMarked}
+use Rattle.service_loop.specs.Turns.{HasNoIdle, HasTurnIfMarked}
 use Rattle.service_loop.proofs.Idle.{stays_moved, here_moved, below_next, at_index, each_index, shown_at}
 use Rattle.service_loop.proofs.Marks.{turns_begin, turns_end, turns_go_on}
 use Rattle.service_loop.proofs.serving.Service.visit_ready.Goals as goal

@@ -1,5 +1,5 @@
 use Rattle.std.proofs.Common.{◌≡◌, ◌≤◌, ◌<◌, ◌⊎◌, ℕ, Some, IfSome, slice_get}
-use Rattle.service_loop.specs.Places.{AreMarkedNoted, HasNoIdle, HasTurnIfMarked}
+use Rattle.service_loop.specs.Turns.{AreMarkedNoted, HasNoIdle, HasTurnIfMarked}
 use Rattle.service_loop.specs.Sessions.{AreNoted}
 use Rattle.service_loop.proofs.serving.Service.visit_ready.Given as goal
 

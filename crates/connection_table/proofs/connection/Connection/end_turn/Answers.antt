@@ -1,0 +1,14 @@
+use Rattle.std.proofs.Common.{◌∙◌, ap}
+use Rattle.connection_table.specs.declared.connection.Connection.{Connection}
+use Rattle.connection_table.proofs.Turned.{judged_active, stays_noted, stays_over}
+use Rattle.connection_table.proofs.connection.Connection.end_turn.Goals as goal
+
+pub returns : goal.returns
+returns g c = record {
+  id = c.retired-outcome.ensures.id ∙ ap (λ (k : Connection). k.id) c.note_held.ensures;
+  held = stays_noted c.args.kept.now.core c.args.self.now c.note_held.new.self c.retired-outcome.new.self c.note_held.ensures
+      c.retired-outcome.ensures.held c.retired-outcome.ensures.id c.retired-outcome.ensures.link;
+  queued = c.retired-outcome.ensures.queued ∙ ap (λ (k : Connection). k.queued) c.note_held.ensures;
+  active = judged_active c.retired-outcome.result c.judged.result c.retired-outcome.new.self c.args.now c.args.idle c.judged.ensures.idle c.judged.ensures.over;
+  over = stays_over c.args.outcome c.retired-outcome.result c.judged.result (λ n. (c.retired-outcome.ensures.over n).1) c.judged.ensures.over;
+}

@@ -1,0 +1,23 @@
+//! Connections over sockets, and a table of them.
+//!
+//! What a connection does to the server is a [`service_core::turn`], which is proved. This crate has its socket, the clock of its turns,
+//! what is counted of them, and the table in which the bytes that are held for all connections are bounded. Which one has its turn is the
+//! matter of `service_loop`.
+#![tactic(auto)]
+
+mod connection;
+mod device;
+mod kept;
+mod places;
+mod report;
+mod tallies;
+mod turning;
+mod watch;
+
+pub use connection::{Connection, Outcome};
+pub use device::{Saver, micros_since, unix_millis};
+pub use kept::Kept;
+pub use places::Places;
+pub use report::{Closing, RunFault};
+pub use tallies::{Tallies, TurnTimes};
+pub use watch::Watch;

@@ -1,6 +1,0 @@
-use Rattle.std.proofs.Common.{◌≡◌, take}
-use Rattle.service_loop.specs.Drafting.{editor_count}
-use Rattle.service_loop.proofs.places.Places.editors.Given as goal
-
-abbrev pub invariant-loop-connection : goal.invariant-loop-connection
-invariant-loop-connection l = l.editors ≡ editor_count l.version (take l.connection-index l.self.connections.items)

@@ -1,6 +1,0 @@
-use Rattle.std.proofs.Common.{◌≢◌, ◌<◌, ◌≤◌, ℕ, None}
-use Rattle.service_loop.specs.Places.{connection_at}
-use Rattle.service_loop.proofs.places.Places.first_free.Given as goal
-
-abbrev pub invariant-loop-place : goal.invariant-loop-place
-invariant-loop-place l = (i : ℕ) → l.from ≤ i → i < l.place → connection_at l.self.connections.items i ≢ None

@@ -1,6 +1,0 @@
-use Rattle.std.proofs.Common.{◌≡◌, take}
-use Rattle.service_loop.specs.Stopping.{open_count}
-use Rattle.service_loop.proofs.places.Places.open.Given as goal
-
-abbrev pub invariant-loop-connection : goal.invariant-loop-connection
-invariant-loop-connection l = l.open ≡ open_count (take l.connection-index l.self.connections.items)

@@ -1,6 +1,0 @@
-use Rattle.std.specs.List.{IsFirstMaxByKey}
-use Rattle.service_loop.specs.Places.{held_bytes}
-use Rattle.service_loop.proofs.places.largest.Given as goal
-
-abbrev pub invariant-loop-place : goal.invariant-loop-place
-invariant-loop-place l = IsFirstMaxByKey held_bytes l.connections l.place l.best
