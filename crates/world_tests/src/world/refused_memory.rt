@@ -100,17 +100,30 @@ fn started<K: Kernel>(rt: &impl AllocGlobal, kernel: K) -> Result<World<K>, Fail
     }
 }
 
-// Retrieves a record: again in the same world where the server was refused memory, and else in a new one.
+// Retrieves a record in a world that may go on: again if the server was refused memory.
+fn ends_in<K: Kernel>(rt: &impl Abort, world: &mut World<K>) {
+    if !ends_retrieved(world) {
+        assert!(rt; are_made(rt, world));
+        assert!(rt; ends_retrieved(world));
+    }
+}
+
+// The same, as far as memory goes. Answers whether the world may go on.
+fn begins_in<K: Kernel>(rt: &impl Abort, world: &mut World<K>) -> bool {
+    if !are_made(rt, world) {
+        return false;
+    }
+    ends_in(rt, world);
+    true
+}
+
+// Retrieves a record, in a new world if the first one may not go on. What is dropped on the way out of a function is proved for each way,
+// so each one owns one world at most.
 fn retrieves<K: Kernel>(rt: &(impl Abort + AllocGlobal), kernel: K) -> Result<(), Fail> {
-    let mut first = started(rt, kernel)?;
-    if !are_made(rt, &mut first) {
-        first = started(rt, kernel)?;
-        assert!(rt; are_made(rt, &mut first));
+    if begins_in(rt, &mut started(rt, kernel)?) {
+        return Ok(());
     }
-    if !ends_retrieved(&first) {
-        assert!(rt; are_made(rt, &mut first));
-        assert!(rt; ends_retrieved(&first));
-    }
+    assert!(rt; begins_in(rt, &mut started(rt, kernel)?));
     Ok(())
 }
 
