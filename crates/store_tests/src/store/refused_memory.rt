@@ -228,34 +228,85 @@ fn publishes_the_appends<K: Kernel>(
     assert_eq!(rt; publish(kept), Err(PublishError::NothingToPublish));
 }
 
+// A store that grows: its form, its records after it, of which it has three before, and the two that are appended.
+#[derive(Clone, Copy)]
+struct Growth<'a> {
+    form: u8,
+    bytes: &'a [u8; 15],
+    appended: [&'a [u8]; 2],
+}
+
 fn grows_later<K: Kernel>(
     rt: &(impl Abort + AllocGlobal),
     kernel: K,
-    form: u8,
-    bytes: &[u8; 15],
-    appended: [&[u8]; 2],
+    growth: Growth<'_>,
 ) -> Result<(), Fail> {
-    let mut kept = opened_with(rt.alloc(), kernel, form, 3, &bytes[..9])?;
-    let first = opened_with(rt.alloc(), kernel, form, 3, &bytes[..9])?;
-    let made = opened_with(rt.alloc(), kernel, form, 5, bytes)?;
-    publishes_the_appends(rt, &mut kept, &first, &made, appended);
+    let bytes = growth.bytes;
+    let mut kept = opened_with(rt.alloc(), kernel, growth.form, 3, &bytes[..9])?;
+    grows_from(rt, kernel, growth, &mut kept)
+}
+
+// The functions below own one store each, so that what is dropped on their way out is proved once.
+fn grows_from<K: Kernel>(
+    rt: &(impl Abort + AllocGlobal),
+    kernel: K,
+    growth: Growth<'_>,
+    kept: &mut Store<K>,
+) -> Result<(), Fail> {
+    let bytes = growth.bytes;
+    let first = opened_with(rt.alloc(), kernel, growth.form, 3, &bytes[..9])?;
+    grows_to(rt, kernel, growth, kept, &first)
+}
+
+fn grows_to<K: Kernel>(
+    rt: &(impl Abort + AllocGlobal),
+    kernel: K,
+    growth: Growth<'_>,
+    kept: &mut Store<K>,
+    first: &Store<K>,
+) -> Result<(), Fail> {
+    let bytes = growth.bytes;
+    let made = opened_with(rt.alloc(), kernel, growth.form, 5, bytes)?;
+    publishes_the_appends(rt, kept, first, &made, growth.appended);
     Ok(())
 }
 
 #[test]
 fn a_refused_growth_is_made_later(rt: HostRuntime) -> Result<(), Fail> {
-    let appended: [&[u8]; 2] = [&[10, 11, 12], &[255, 0, 128]];
-    grows_later(&rt, Plain, 1, &ALIKE, appended)?;
-    grows_later(&rt, Lanes, 1, &ALIKE, appended)?;
-    grows_later(&rt, Lanes, 129, &ALIKE, appended)
+    let growth = Growth {
+        form: 1,
+        bytes: &ALIKE,
+        appended: [&[10, 11, 12], &[255, 0, 128]],
+    };
+    grows_later(&rt, Plain, growth)?;
+    grows_later(&rt, Lanes, growth)?;
+    grows_later(
+        &rt,
+        Lanes,
+        Growth {
+            form: 129,
+            ..growth
+        },
+    )
 }
 
 #[test]
 fn a_refused_growth_of_slots_is_made_later(rt: HostRuntime) -> Result<(), Fail> {
-    let appended: [&[u8]; 2] = [&[7], &[128]];
-    grows_later(&rt, Plain, 2, &SLOTS, appended)?;
-    grows_later(&rt, Lanes, 2, &SLOTS, appended)?;
-    grows_later(&rt, Lanes, 130, &SLOTS, appended)
+    let growth = Growth {
+        form: 2,
+        bytes: &SLOTS,
+        appended: [&[7], &[128]],
+    };
+    grows_later(&rt, Plain, growth)?;
+    grows_later(&rt, Lanes, growth)?;
+    grows_later(
+        &rt,
+        Lanes,
+        Growth {
+            form: 130,
+            ..growth
+        },
+    )
 }
 
 // A file of the store, so that none has to be written here.
