@@ -24,7 +24,7 @@ all_held places = sum_by held_bytes places
 -- how many bytes are owed to a connection
 abbrev pub owed_bytes : Option Connection → ℕ
 owed_bytes None = 0
-owed_bytes (Some c) = length c.link.owed
+owed_bytes (Some c) = length c.state.owed
 
 -- how many bytes are owed to all connections together, as a word says it
 abbrev pub all_owed : List (Option Connection) → ℕ

@@ -8,11 +8,11 @@ ghost use Rattle.connection_table.specs.Judging.{GoesOn, HasMore, IsIdle, due_of
 ghost use Rattle.connection_table.specs.Ending.{EndsWriting, IsQuiet};
 
 use crate::device::{Device, Saver};
-use crate::kept::Kept;
 use crate::report::{Closing, RunFault};
+use crate::saved_server::SavedServer;
 use crate::watch::Watch;
 use mio::net::TcpStream;
-use service_core::{Fault, Link, PIECE_LEN, Served, turn};
+use service_core::{ConnectionState, Fault, PIECE_LEN, Served, turn};
 use std::io::{ErrorKind, Read};
 use std::net::{Shutdown, SocketAddr};
 
@@ -31,7 +31,7 @@ pub struct Connection {
     /// The number of its session.
     pub id: u64,
     /// What is kept for it.
-    pub link: Link,
+    pub state: ConnectionState,
     /// There may be something to read.
     pub readable: bool,
     /// There may be room to write.
@@ -48,7 +48,7 @@ pub struct Connection {
 
 /// What a turn came to.
 #[derive(Clone, Copy, PartialEq, Eq)]
-pub enum Outcome {
+pub enum TurnResult {
     /// There is more to do at once.
     Busy,
     /// Its frame was put off: there is more to do at once, and the frame goes on waiting.
@@ -61,14 +61,14 @@ pub enum Outcome {
     Closed(Closing),
 }
 
-impl Outcome {
+impl TurnResult {
     /// Whether the connection would go on.
     pub fn goes_on(self) -> bool
         ensures { IsTrue result ↔ GoesOn self }
     {
         match self {
-            Outcome::Busy | Outcome::PutOff | Outcome::Waits => true,
-            Outcome::Over | Outcome::Closed(_) => false,
+            TurnResult::Busy | TurnResult::PutOff | TurnResult::Waits => true,
+            TurnResult::Over | TurnResult::Closed(_) => false,
         }
     }
 
@@ -77,8 +77,8 @@ impl Outcome {
         ensures { IsTrue result ↔ HasMore self }
     {
         match self {
-            Outcome::Busy | Outcome::PutOff => true,
-            Outcome::Waits | Outcome::Over | Outcome::Closed(_) => false,
+            TurnResult::Busy | TurnResult::PutOff => true,
+            TurnResult::Waits | TurnResult::Over | TurnResult::Closed(_) => false,
         }
     }
 }
@@ -90,14 +90,14 @@ impl Connection {
         address: SocketAddr,
         peer: [u8; 16],
         id: u64,
-        link: Link,
+        state: ConnectionState,
     ) -> Connection
         ensures { result ≡ record {
           stream = stream;
           address = address;
           peer = peer;
           id = id;
-          link = link;
+          state = state;
           readable = true;
           writable = true;
           lingers = None;
@@ -111,7 +111,7 @@ impl Connection {
             address,
             peer,
             id,
-            link,
+            state,
             readable: true,
             writable: true,
             lingers: None,
@@ -127,7 +127,7 @@ impl Connection {
     {
         match self.lingers {
             Some(until) => until,
-            None => self.link.expires_at(idle),
+            None => self.state.expires_at(idle),
         }
     }
 
@@ -141,54 +141,54 @@ impl Connection {
         &mut self,
         rt: &HostRuntime,
         now: u64,
-        kept: Kept<S>,
+        server: SavedServer<S>,
         buffer: &mut [u8],
-    ) -> Result<(Kept<S>, Outcome), RunFault>
+    ) -> Result<(SavedServer<S>, TurnResult), RunFault>
         ensures id { self.new.id ≡ self.old.id }
         ensures held { self.new.held ≡ self.old.held }
-        ensures others { IfOk result (λ it. OthersStay self.old.id kept.core it.0.core) }
+        ensures others { IfOk result (λ it. OthersStay self.old.id server.core it.0.core) }
         ensures queued { self.new.queued ≡ false }
     {
         self.queued = false;
         self.watch.reply = None;
         self.watch.saved = 0;
         if let Some(until) = self.lingers {
-            return Ok((kept, self.linger(now, until, buffer)));
+            return Ok((server, self.linger(now, until, buffer)));
         }
-        if !kept.core.has_session(self.id) || buffer.len() != PIECE_LEN {
-            return Ok((kept, Outcome::Over));
+        if !server.core.has_session(self.id) || buffer.len() != PIECE_LEN {
+            return Ok((server, TurnResult::Over));
         }
-        let (kept, ended) = self.serve(rt, now, kept, buffer)?;
+        let (server, ended) = self.serve(rt, now, server, buffer)?;
         match ended {
-            Ok(Served::Done) => Ok((kept, self.next(now))),
-            Ok(Served::PutOff) => Ok((kept, Outcome::PutOff)),
-            Err(fault) => Ok((kept, Outcome::Closed(Closing::Turn(fault)))),
+            Ok(Served::Done) => Ok((server, self.next(now))),
+            Ok(Served::PutOff) => Ok((server, TurnResult::PutOff)),
+            Err(fault) => Ok((server, TurnResult::Closed(Closing::Turn(fault)))),
         }
     }
 
     /// What is to be done with it after a turn: one that would go on is closed exactly where it is idle.
-    pub fn judged(&self, now: u64, idle: u64, outcome: Outcome) -> Outcome
+    pub fn close_if_idle(&self, now: u64, idle: u64, outcome: TurnResult) -> TurnResult
         ensures idle { GoesOn outcome → IsIdle self.now now idle →
-            result ≡ Outcome.Closed Closing.Idle }
+            result ≡ TurnResult.Closed Closing.Idle }
         ensures over { (GoesOn outcome → ⊥) → result ≡ outcome }
         ensures active { (IsIdle self.now now idle → ⊥) → result ≡ outcome }
     {
         if outcome.goes_on() && self.is_idle(now, idle) {
-            Outcome::Closed(Closing::Idle)
+            TurnResult::Closed(Closing::Idle)
         } else {
             outcome
         }
     }
 
     /// Ends the writing after a turn if the service stops and nothing of the connection is left to be served.
-    pub fn retired(&mut self, now: u64, stops: bool, outcome: Outcome) -> Outcome
+    pub fn retired(&mut self, now: u64, stops: bool, outcome: TurnResult) -> TurnResult
         ensures serves { stops ≡ false → (self.new ≡ self.old) × (result ≡ outcome) }
         ensures over { (GoesOn outcome → ⊥) → (self.new ≡ self.old) × (result ≡ outcome) }
         ensures begun { (IsQuiet self.old → ⊥) → (self.new ≡ self.old) × (result ≡ outcome) }
         ensures ends { stops ≡ true → GoesOn outcome → IsQuiet self.old →
             EndsWriting now self.old self.new result }
         ensures id { self.new.id ≡ self.old.id }
-        ensures link { self.new.link ≡ self.old.link }
+        ensures state { self.new.state ≡ self.old.state }
         ensures held { self.new.held ≡ self.old.held }
         ensures queued { self.new.queued ≡ self.old.queued }
     {
@@ -203,24 +203,24 @@ impl Connection {
     fn is_quiet(&self) -> bool
         ensures { IsTrue result ↔ IsQuiet self.now }
     {
-        self.lingers.is_none() && !self.readable && self.link.may_read() && self.held == 0
+        self.lingers.is_none() && !self.readable && self.state.may_read() && self.held == 0
     }
 
     // Whether it has nothing to serve, and made no progress for too long.
     fn is_idle(&self, now: u64, idle: u64) -> bool
         ensures { IsTrue result ↔ IsIdle self.now now idle }
     {
-        self.lingers.is_none() && !self.link.may_serve() && self.link.is_expired(now, idle)
+        self.lingers.is_none() && !self.state.may_serve() && self.state.is_expired(now, idle)
     }
 
     /// Notes how many bytes its session keeps of an unfinished frame, and how many are owed.
-    pub fn note_held<S: Saver>(&mut self, kept: &Kept<S>)
+    pub fn note_held<S: Saver>(&mut self, server: &SavedServer<S>)
         ensures { self.new ≡ record self.old {
-          held = held_by (session_of kept.now.core.sessions self.old.id) self.old.link;
+          held = held_by (session_of server.now.core.sessions self.old.id) self.old.state;
         } }
     {
-        let unfinished = kept.core.unfinished_len(self.id);
-        self.held = unfinished.saturating_add(self.link.owed().len());
+        let unfinished = server.core.unfinished_len(self.id);
+        self.held = unfinished.saturating_add(self.state.owed().len());
     }
 
     // The turn of a connection that is not over.
@@ -228,21 +228,21 @@ impl Connection {
         &mut self,
         rt: &HostRuntime,
         now: u64,
-        kept: Kept<S>,
+        server: SavedServer<S>,
         buffer: &mut [u8],
-    ) -> Result<(Kept<S>, Result<Served, Fault>), RunFault>
-        requires there { session_of kept.core.sessions self.old.id ≢ None }
+    ) -> Result<(SavedServer<S>, Result<Served, Fault>), RunFault>
+        requires there { session_of server.core.sessions self.old.id ≢ None }
         requires room { length buffer.old ≡ 65536 }
         ensures id { self.new.id ≡ self.old.id }
         ensures held { self.new.held ≡ self.old.held }
-        ensures others { IfOk result (λ it. OthersStay self.old.id kept.core it.0.core) }
+        ensures others { IfOk result (λ it. OthersStay self.old.id server.core it.0.core) }
         ensures queued { self.new.queued ≡ self.old.queued }
     {
-        let Kept {
+        let SavedServer {
             mut core,
             saver,
             counters,
-        } = kept;
+        } = server;
         let mut device = Device {
             rt,
             saver,
@@ -252,7 +252,14 @@ impl Connection {
             watch: self.watch,
             counters,
         };
-        let ended = turn(&mut self.link, &mut core, &mut device, self.id, now, buffer);
+        let ended = turn(
+            &mut self.state,
+            &mut core,
+            &mut device,
+            self.id,
+            now,
+            buffer,
+        );
         let Device {
             saver,
             readable,
@@ -266,7 +273,7 @@ impl Connection {
         self.writable = writable;
         match ended {
             Ok(served) => Ok((
-                Kept {
+                SavedServer {
                     core,
                     saver,
                     counters,
@@ -275,7 +282,7 @@ impl Connection {
             )),
             Err(Fault::Save) => Err(RunFault::Write),
             Err(fault) => Ok((
-                Kept {
+                SavedServer {
                     core,
                     saver,
                     counters,
@@ -286,64 +293,64 @@ impl Connection {
     }
 
     // What is next after a turn.
-    fn next(&mut self, now: u64) -> Outcome
+    fn next(&mut self, now: u64) -> TurnResult
         ensures id { self.new.id ≡ self.old.id }
         ensures held { self.new.held ≡ self.old.held }
         ensures queued { self.new.queued ≡ self.old.queued }
     {
-        if self.link.is_done() {
+        if self.state.is_done() {
             return self.end(now);
         }
-        if self.readable && self.link.may_read()
-            || self.writable && self.link.owes()
-            || self.link.may_serve()
+        if self.readable && self.state.may_read()
+            || self.writable && self.state.owes()
+            || self.state.may_serve()
         {
-            Outcome::Busy
+            TurnResult::Busy
         } else {
-            Outcome::Waits
+            TurnResult::Waits
         }
     }
 
     // Ends the writing.
-    fn end(&mut self, now: u64) -> Outcome
+    fn end(&mut self, now: u64) -> TurnResult
         ensures id { self.new.id ≡ self.old.id }
-        ensures link { self.new.link ≡ self.old.link }
+        ensures state { self.new.state ≡ self.old.state }
         ensures held { self.new.held ≡ self.old.held }
         ensures queued { self.new.queued ≡ self.old.queued }
         ensures ends { self.old.readable ≡ false → EndsWriting now self.old self.new result }
     {
         if self.stream.shutdown(Shutdown::Write).is_err() {
-            return Outcome::Over;
+            return TurnResult::Over;
         }
         self.lingers = Some(now.saturating_add(LINGER));
         if self.readable {
-            Outcome::Busy
+            TurnResult::Busy
         } else {
-            Outcome::Waits
+            TurnResult::Waits
         }
     }
 
     // Reads and forgets, until the peer has ended too, or has had its time.
-    fn linger(&mut self, now: u64, until: u64, buffer: &mut [u8]) -> Outcome
+    fn linger(&mut self, now: u64, until: u64, buffer: &mut [u8]) -> TurnResult
         ensures id { self.new.id ≡ self.old.id }
         ensures held { self.new.held ≡ self.old.held }
         ensures queued { self.new.queued ≡ self.old.queued }
     {
         if now >= until {
-            return Outcome::Over;
+            return TurnResult::Over;
         }
         if !self.readable {
-            return Outcome::Waits;
+            return TurnResult::Waits;
         }
         let mut stream = &self.stream;
         match stream.read(buffer) {
-            Ok(0) => Outcome::Over,
-            Ok(_) => Outcome::Busy,
+            Ok(0) => TurnResult::Over,
+            Ok(_) => TurnResult::Busy,
             Err(e) if e.kind() == ErrorKind::WouldBlock => {
                 self.readable = false;
-                Outcome::Waits
+                TurnResult::Waits
             }
-            Err(_) => Outcome::Over,
+            Err(_) => TurnResult::Over,
         }
     }
 }

@@ -7,17 +7,17 @@
 
 mod connection;
 mod device;
-mod kept;
-mod places;
 mod report;
+mod saved_server;
+mod table;
 mod tallies;
 mod turning;
 mod watch;
 
-pub use connection::{Connection, Outcome};
+pub use connection::{Connection, TurnResult};
 pub use device::{Saver, micros_since, unix_millis};
-pub use kept::Kept;
-pub use places::Places;
 pub use report::{Closing, RunFault};
+pub use saved_server::SavedServer;
+pub use table::ConnectionTable;
 pub use tallies::{Tallies, TurnTimes};
 pub use watch::Watch;

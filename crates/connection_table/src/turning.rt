@@ -8,10 +8,10 @@ ghost use Rattle.connection_table.specs.Holding.{held_by};
 ghost use Rattle.connection_table.specs.Judging.{GoesOn, IsIdle};
 ghost use Rattle.connection_table.specs.Watching.{published_between};
 
-use crate::connection::{Connection, Outcome};
+use crate::connection::{Connection, TurnResult};
 use crate::device::{Saver, micros_since, unix_millis};
-use crate::kept::Kept;
 use crate::report::RunFault;
+use crate::saved_server::SavedServer;
 use crate::tallies::{Tallies, TurnTimes};
 use crate::watch::Watch;
 use service_watch::Counted;
@@ -28,25 +28,25 @@ impl Connection {
         rt: &HostRuntime,
         start: Instant,
         now: u64,
-        kept: Kept<S>,
+        server: SavedServer<S>,
         buffer: &mut [u8],
-    ) -> Result<(Kept<S>, Outcome), RunFault>
+    ) -> Result<(SavedServer<S>, TurnResult), RunFault>
         ensures id { self.new.id ≡ self.old.id }
-        ensures others { IfOk result (λ it. OthersStay self.old.id kept.core it.0.core) }
+        ensures others { IfOk result (λ it. OthersStay self.old.id server.core it.0.core) }
         ensures queued { self.new.queued ≡ false }
         ensures published { IfOk result (λ it. self.new.watch.published ≡
-            published_between kept.core.store.version it.0.core.store.version) }
+            published_between server.core.store.version it.0.core.store.version) }
     {
-        let before = kept.core.store().version();
+        let before = server.core.store().version();
         let began = micros_since(rt, Some(start));
-        let (mut kept, outcome) = self.take_turn(rt, now, kept, buffer)?;
+        let (mut server, outcome) = self.take_turn(rt, now, server, buffer)?;
         let ended = micros_since(rt, Some(start));
-        let turn = self.watch.times(kept.counters.polled, began, ended);
-        self.watch.published = published_between(before, kept.core.store().version());
+        let turn = self.watch.times(server.counters.polled, began, ended);
+        self.watch.published = published_between(before, server.core.store().version());
         self.watch.note_edit(before);
-        count_turn(rt, &mut kept.counters, &self.watch, turn);
+        count_turn(rt, &mut server.counters, &self.watch, turn);
         self.watch.note_end(turn, outcome);
-        Ok((kept, outcome))
+        Ok((server, outcome))
     }
 
     /// Notes after a turn how much is held for it, and answers what is to be done with it: one that would go on is closed where it is
@@ -56,19 +56,19 @@ impl Connection {
         now: u64,
         stops: bool,
         idle: u64,
-        kept: &Kept<S>,
-        outcome: Outcome,
-    ) -> Outcome
+        server: &SavedServer<S>,
+        outcome: TurnResult,
+    ) -> TurnResult
         ensures id { self.new.id ≡ self.old.id }
         ensures held { self.new.held ≡
-            held_by (session_of kept.now.core.sessions self.new.id) self.new.link }
+            held_by (session_of server.now.core.sessions self.new.id) self.new.state }
         ensures queued { self.new.queued ≡ self.old.queued }
         ensures active { GoesOn result → IsIdle self.new now idle → ⊥ }
         ensures over { (GoesOn outcome → ⊥) → result ≡ outcome }
     {
-        self.note_held(kept);
+        self.note_held(server);
         let outcome = self.retired(now, stops, outcome);
-        self.judged(now, idle, outcome)
+        self.close_if_idle(now, idle, outcome)
     }
 }
 

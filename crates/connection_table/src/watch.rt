@@ -6,7 +6,7 @@ ghost use Rattle.connection_table.specs.Judging.{HasMore};
 ghost use Rattle.connection_table.specs.Timing.{time_of};
 ghost use Rattle.connection_table.specs.Watching.{seen_reply};
 
-use crate::connection::Outcome;
+use crate::connection::TurnResult;
 use crate::tallies::TurnTimes;
 use service_watch::{FrameScan, ReplyHead, head_of_reply};
 
@@ -69,10 +69,10 @@ impl Watch {
     }
 
     /// Notes since when the frame waits that is at hand after a turn, and how long turns took that have put it off.
-    pub fn note_end(&mut self, turn: TurnTimes, outcome: Outcome)
-        ensures put_off { outcome ≡ Outcome.PutOff →
+    pub fn note_end(&mut self, turn: TurnTimes, outcome: TurnResult)
+        ensures put_off { outcome ≡ TurnResult.PutOff →
             (self.new.left_more ≡ Some turn.waits_since) × (self.new.spent ≡ time_of turn) }
-        ensures busy { outcome ≡ Outcome.Busy →
+        ensures busy { outcome ≡ TurnResult.Busy →
             (self.new.left_more ≡ Some turn.ended) × (self.new.spent ≡ 0) }
         ensures waits { (HasMore outcome → ⊥) →
             (self.new.left_more ≡ None) × (self.new.spent ≡ 0) }
@@ -82,15 +82,15 @@ impl Watch {
         } }
     {
         match outcome {
-            Outcome::PutOff => {
+            TurnResult::PutOff => {
                 self.left_more = Some(turn.waits_since);
                 self.spent = turn.took();
             }
-            Outcome::Busy => {
+            TurnResult::Busy => {
                 self.left_more = Some(turn.ended);
                 self.spent = 0;
             }
-            Outcome::Waits | Outcome::Over | Outcome::Closed(_) => {
+            TurnResult::Waits | TurnResult::Over | TurnResult::Closed(_) => {
                 self.left_more = None;
                 self.spent = 0;
             }

@@ -51,7 +51,7 @@ fn main(rt: HostRuntime) -> ExitCode {
         let _ = eprintln!(&rt; "usage: kernel_bench [full | store | rate]");
         return ExitCode::FAILURE;
     };
-    match done(&rt, task) {
+    match run_task(&rt, task) {
         Some(()) => ExitCode::SUCCESS,
         None => {
             let _ = eprintln!(&rt; "memory, the clock or the output was refused");
@@ -74,7 +74,7 @@ fn asked(rt: &HostRuntime) -> Option<Task> {
     }
 }
 
-fn done(rt: &HostRuntime, task: Task) -> Option<()> {
+fn run_task(rt: &HostRuntime, task: Task) -> Option<()> {
     match task {
         Task::Small => {
             work::time_kernels(rt, SMALL)?;

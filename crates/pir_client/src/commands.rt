@@ -26,14 +26,14 @@ pub fn run(rt: &HostRuntime) -> u8 {
         Ok(asked) => asked,
         Err(bad) => return bad.report(rt),
     };
-    match done(rt, asked.task) {
+    match run_task(rt, asked.task) {
         Ok(status) => status,
         Err(failed) => failed.report(rt, asked.verbose),
     }
 }
 
 // Does what was asked for, prints what came of it, and answers the exit status.
-fn done(rt: &HostRuntime, task: Task<'_>) -> Result<u8, Failed>
+fn run_task(rt: &HostRuntime, task: Task<'_>) -> Result<u8, Failed>
     requires { TaskFits task }
 {
     match task {

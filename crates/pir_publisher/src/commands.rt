@@ -27,14 +27,14 @@ pub fn run(rt: &HostRuntime) -> u8 {
     if let Task::Import(dir) = asked.task {
         return import_lines(rt, dir, asked.verbose);
     }
-    match done(rt, asked.task) {
+    match run_task(rt, asked.task) {
         Ok(()) => 0,
         Err(failed) => failed.report(rt, asked.verbose),
     }
 }
 
 // Does what was asked for.
-fn done(rt: &HostRuntime, task: Task<'_>) -> Result<(), Failed> {
+fn run_task(rt: &HostRuntime, task: Task<'_>) -> Result<(), Failed> {
     match task {
         Task::Init(beginning) => begin(rt, &beginning),
         // Done already, since a bad line is reported in its own way.

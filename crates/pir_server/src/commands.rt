@@ -31,7 +31,7 @@ pub fn run(rt: &HostRuntime) -> u8 {
         Ok(asked) => asked,
         Err(bad) => return bad.report(rt),
     };
-    match done(rt, asked.task) {
+    match run_task(rt, asked.task) {
         Ok(()) => 0,
         Err(failed) if matches!(asked.task, Task::Run(_)) => said(rt, &failed, asked.verbose),
         Err(failed) => failed.report(rt, asked.verbose),
@@ -54,7 +54,7 @@ fn said(rt: &HostRuntime, failed: &Failed, verbose: bool) -> u8 {
 }
 
 // Does what was asked for.
-fn done(rt: &HostRuntime, task: Task<'_>) -> Result<(), Failed> {
+fn run_task(rt: &HostRuntime, task: Task<'_>) -> Result<(), Failed> {
     match task {
         Task::Make(making) => make_file(rt, &making),
         Task::Migrate(migrating) => migrate_file(rt, &migrating),
@@ -64,7 +64,7 @@ fn done(rt: &HostRuntime, task: Task<'_>) -> Result<(), Failed> {
         Task::Compact(file) => compact_file(rt, file),
         Task::BackUp(backing_up) => back_up(rt, &backing_up),
         Task::Serve(serving) => serve_file(rt, &serving),
-        Task::Run(running) => run_file(rt, &running),
+        Task::Run(options) => run_file(rt, &options),
         Task::Once => Ok(serve_once(rt)?),
     }
 }

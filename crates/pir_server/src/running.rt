@@ -7,7 +7,7 @@ use crate::hint_lines::HintLines;
 use crate::saving::FileSaver;
 use command_words::{Failed, Failure};
 use server_files::{OwnFile, failed_at, not_listening, open_pair, progress_of_file};
-use server_words::Running;
+use server_words::RunOptions;
 use service_loop::{Limits, RunFault, run_service, say_line};
 use session_core::{Lanes, ServerCore, Store};
 
@@ -31,49 +31,49 @@ const STATUS_DESCRIPTORS: u64 = 9;
 /// is too long can't be made shorter), `Input` where standard input is to be watched and can't be, `Connect` where the address or that of `--status` can't be listened on, and `Write` where
 /// one can't be printed, or what is left of a failed append can't be cut off. `Memory` where there was none. A connection that is closed
 /// before its end is reported on standard error, and ends nothing else.
-pub fn run_file(rt: &HostRuntime, running: &Running<'_>) -> Result<(), Failed> {
-    let mut file = match OwnFile::to_read(rt, running.file) {
+pub fn run_file(rt: &HostRuntime, options: &RunOptions<'_>) -> Result<(), Failed> {
+    let mut file = match OwnFile::to_read(rt, options.file) {
         Ok(file) => file,
-        Err(failure) => return Err(failed_at(rt, running.file, failure)),
+        Err(failure) => return Err(failed_at(rt, options.file, failure)),
     };
-    let limit = bytes_of_mib(running.log_limit);
-    let mut lines = HintLines::new(rt, running.progress);
-    let (store, saver) = match open_to_run(rt, &mut file, limit, running.progress, &mut lines) {
+    let limit = bytes_of_mib(options.log_limit);
+    let mut lines = HintLines::new(rt, options.progress);
+    let (store, saver) = match open_to_run(rt, &mut file, limit, options.progress, &mut lines) {
         Ok(both) => both,
-        Err(failure) => return Err(failed_at(rt, running.file, failure)),
+        Err(failure) => return Err(failed_at(rt, options.file, failure)),
     };
     let core = ServerCore::new(rt.alloc(), store);
     let limits = Limits {
-        most: possible_most(rt, running.most, other_descriptors(running))?,
-        idle: running.idle.saturating_mul(1000),
-        memory: bytes_of_mib(running.memory),
-        most_per_peer: most_per_peer(running),
-        quiet: running.quiet,
-        format: running.log,
-        grace: grace_of(running),
-        draft: running.draft,
+        most: possible_most(rt, options.most, other_descriptors(options))?,
+        idle: options.idle.saturating_mul(1000),
+        memory: bytes_of_mib(options.memory),
+        most_per_peer: most_per_peer(options),
+        quiet: options.quiet,
+        format: options.log,
+        grace: grace_of(options),
+        draft: options.draft,
     };
-    match run_service(rt, core, running.listen, limits, running.status, saver) {
+    match run_service(rt, core, options.listen, limits, options.status, saver) {
         Ok(()) => Ok(()),
-        Err(RunFault::Connect) => Err(not_listening(rt, running.listen)),
-        Err(RunFault::Status) => Err(not_listening(rt, running.status.unwrap_or(running.listen))),
-        Err(RunFault::Write) => Err(failed_at(rt, running.file, Failure::Fault("Write"))),
+        Err(RunFault::Connect) => Err(not_listening(rt, options.listen)),
+        Err(RunFault::Status) => Err(not_listening(rt, options.status.unwrap_or(options.listen))),
+        Err(RunFault::Write) => Err(failed_at(rt, options.file, Failure::Fault("Write"))),
         Err(RunFault::Input) => Err(failed_at(rt, "standard input", Failure::Fault("Input"))),
         Err(RunFault::Memory) => Err(Failed::from(Failure::Memory)),
     }
 }
 
 // How many milliseconds what was begun has after the end of standard input.
-fn grace_of(running: &Running<'_>) -> Option<u64> {
-    match running.grace {
+fn grace_of(options: &RunOptions<'_>) -> Option<u64> {
+    match options.grace {
         Some(seconds) => Some(seconds.saturating_mul(1000)),
         None => None,
     }
 }
 
 // How many connections one peer may have, if that is bounded.
-fn most_per_peer(running: &Running<'_>) -> Option<usize> {
-    match running.most_per_peer {
+fn most_per_peer(options: &RunOptions<'_>) -> Option<usize> {
+    match options.most_per_peer {
         Some(most) => Some(most as usize),
         None => None,
     }
@@ -125,8 +125,8 @@ fn possible_most(rt: &HostRuntime, asked: usize, others: u64) -> Result<usize, F
 }
 
 // How many descriptors are kept for all but connections.
-fn other_descriptors(running: &Running<'_>) -> u64 {
-    if running.status.is_some() {
+fn other_descriptors(options: &RunOptions<'_>) -> u64 {
+    if options.status.is_some() {
         OTHER_DESCRIPTORS + STATUS_DESCRIPTORS
     } else {
         OTHER_DESCRIPTORS

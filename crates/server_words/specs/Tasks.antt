@@ -15,7 +15,7 @@ use Rattle.server_words.specs.declared.command_line.Widening.{Widening}
 use Rattle.server_words.specs.declared.command_line.BackingUp.{BackingUp}
 use Rattle.server_words.specs.declared.command_line.Rekeying.{Rekeying}
 use Rattle.server_words.specs.declared.command_line.Serving.{Serving}
-use Rattle.server_words.specs.declared.run_line.Running.{Running}
+use Rattle.server_words.specs.declared.run_line.RunOptions.{RunOptions}
 
 -- what was given for a name is this number in decimal digits
 abbrev pub IsNumberGiven : Found → List ℕ → ℕ → Type 0
@@ -91,7 +91,7 @@ ReadsGrace found grace =
     × MatchBool stops (IsSomeAnd grace (IsNumberOr 10 found (codes "grace"))) ((grace ≡ None) × (first_value found (codes "grace") ≡ None))
 
 -- connections side by side, as those of `run` do, but the addresses, whether it is quiet, and whether is said how far the hints are
-abbrev pub ReadsRun : Found → Running → Type 0
+abbrev pub ReadsRun : Found → RunOptions → Type 0
 ReadsRun found running =
     (first_value found (codes "file") ≡ Some running.file.now) × IsNumberOr 256 found (codes "most") running.most
     × IsNumberOr 60 found (codes "idle") running.idle × IsNumberOr 256 found (codes "memory") running.memory × IsNumberOr 64 found (codes "log-limit") running.log_limit

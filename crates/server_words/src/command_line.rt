@@ -5,7 +5,7 @@ ghost use Rattle.clap.specs.Matches.{found_of};
 ghost use Rattle.server_words.specs.Tasks.{ReadsBackup, ReadsMigrate, ReadsRekey, ReadsServe, ReadsWiden};
 
 use crate::make_line::{MAKE, Making, making_of};
-use crate::run_line::{RUN, Running, running_of};
+use crate::run_line::{RUN, RunOptions, options_of_run};
 use clap::{ArgMatches, Command};
 use command_words::{Argument, BadLine, CommandText, Secret, key_at, number_at, seed_at, text_at};
 use std::alloc::{AllocError, Global};
@@ -96,7 +96,7 @@ pub enum Task<'a> {
     /// A snapshot file served over connections, one after the other.
     Serve(Serving<'a>),
     /// A snapshot file served over many connections side by side.
-    Run(Running<'a>),
+    Run(RunOptions<'a>),
     /// One database served over standard input and output.
     Once,
 }
@@ -365,7 +365,7 @@ fn task_named<'a>(name: &str, found: &ArgMatches<'a>) -> Result<Task<'a>, BadLin
         "compact" => text_at(found, "file", FILE_TAKES).map(Task::Compact),
         "backup" => backing_up_of(found).map(Task::BackUp),
         "serve" => serving_of(found).map(Task::Serve),
-        "run" => running_of(found).map(Task::Run),
+        "run" => options_of_run(found).map(Task::Run),
         _ => Ok(Task::Once),
     }
 }

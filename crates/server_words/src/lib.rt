@@ -14,4 +14,4 @@ pub use command_line::{
     Asked, BackingUp, KEY_TAKES, Migrating, Rekeying, SEED_TAKES, Serving, Task, Widening, task_of,
 };
 pub use make_line::Making;
-pub use run_line::Running;
+pub use run_line::RunOptions;

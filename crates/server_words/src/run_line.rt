@@ -50,7 +50,7 @@ const MEMORY: u64 = 256;
 
 /// What `run` is to serve.
 #[derive(Clone, Copy)]
-pub struct Running<'a> {
+pub struct RunOptions<'a> {
     /// The snapshot file.
     pub file: &'a str,
     /// Where it listens; port 0 is any that is free.
@@ -158,7 +158,7 @@ pub const RUN: CommandText = CommandText {
 };
 
 /// What the words of `run` ask for.
-pub fn running_of<'a>(found: &ArgMatches<'a>) -> Result<Running<'a>, BadLine<'a>>
+pub fn options_of_run<'a>(found: &ArgMatches<'a>) -> Result<RunOptions<'a>, BadLine<'a>>
     ensures most { IfOk result (λ running. (1 ≤ running.most) × (running.most ≤ 65535)) }
     ensures idle { IfOk result (λ running. (1 ≤ running.idle) × (running.idle ≤ 86400)) }
     ensures memory { IfOk result (λ running. (1 ≤ running.memory) × (running.memory ≤ 1048576)) }
@@ -168,7 +168,7 @@ pub fn running_of<'a>(found: &ArgMatches<'a>) -> Result<Running<'a>, BadLine<'a>
         (λ seconds. (1 ≤ seconds) × (seconds ≤ 3600))) }
     ensures read { IfOk result (ReadsRun (found_of found.now)) }
 {
-    Ok(Running {
+    Ok(RunOptions {
         file: text_at(found, "file", FILE_TAKES)?,
         listen: address_at(found)?,
         most: number_or(found, "most", MOST, 65_535, MOST_TAKES)? as usize,

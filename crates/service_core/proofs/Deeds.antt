@@ -12,7 +12,7 @@ use Rattle.server_core.specs.Cores.{Core, session_of}
 use Rattle.server_core.specs.Serving.{Setting, setting_of, is_closed}
 use Rattle.server_core.specs.Sessions.{Session, FeedsSession, Fed}
 use Rattle.server_core.specs.Laws.{FirstsArePieces}
-use Rattle.service_core.specs.Links.{LinkState, after_frame}
+use Rattle.service_core.specs.Links.{ConnectionSeen, after_frame}
 use Rattle.service_core.specs.Runs.{Deed, Opens, Serves, Stops, Closes, Undrafts, DoesToCore, FeedsLink, Moment, ServesOn, RunStep, DeedsAreOneRun}
 use Rattle.service_core.specs.Turns.{served_between, replied_between, ServedFramesAreMoves, ServedFramesAreDeeds}
 
@@ -110,11 +110,11 @@ deeds_are_one_run deeds first last h stands f = run_from (setting_of first.store
 -- ---- a frame that was served
 
 -- how many bytes were used up
-used : (old new : LinkState) (count : ℕ) → count ≤ length old.unserved → new.unserved ≡ drop count old.unserved →
+used : (old new : ConnectionSeen) (count : ℕ) → count ≤ length old.unserved → new.unserved ≡ drop count old.unserved →
     length old.unserved - length new.unserved ≡ count
 used old new count le e = omega (arith, le, ap length e ∙ length-drop count old.unserved)
 
-replied : (old new : LinkState) (reply : List ℕ) → new.owed ≡ old.owed ++ reply → replied_between old new ≡ reply
+replied : (old new : ConnectionSeen) (reply : List ℕ) → new.owed ≡ old.owed ++ reply → replied_between old new ≡ reply
 replied old new reply e = ap (drop (length old.owed)) e ∙ drop-append_seam old.owed reply
 
 pub served_frames_are_deeds : FirstsArePieces → ServedFramesAreDeeds
@@ -124,8 +124,8 @@ served_frames_are_deeds pieces before after id now old new there at others = (th
     feeds h stands s is =
         let n = at h stands s is in
         let x : Setting = setting_of before.store in
-        let count_is = used old new n.count n.within (ap (λ (y : LinkState). y.unserved) n.new_is) in
-        let reply_is = replied old new (flat_map encoding n.replies) (ap (λ (y : LinkState). y.owed) n.new_is) in
+        let count_is = used old new n.count n.within (ap (λ (y : ConnectionSeen). y.unserved) n.new_is) in
+        let reply_is = replied old new (flat_map encoding n.replies) (ap (λ (y : ConnectionSeen). y.owed) n.new_is) in
         let course : FeedsSession x h s (take n.count old.unserved) (Ok tt) n.history n.session n.replies =
         pieces x h s old.unserved n.count n.history n.session n.replies n.served in (
           n.session,
@@ -143,10 +143,10 @@ served_frames_are_deeds pieces before after id now old new there at others = (th
 
 pub served_frames_are_moves : ServedFramesAreMoves
 served_frames_are_moves x h s id now old new after n =
-    let unserved_is = ap (λ (y : LinkState). y.unserved) n.new_is in
+    let unserved_is = ap (λ (y : ConnectionSeen). y.unserved) n.new_is in
     let count_is = used old new n.count n.within unserved_is in
-    let reply_is = replied old new (flat_map encoding n.replies) (ap (λ (y : LinkState). y.owed) n.new_is) in
-    let live_is : new.live ≡ not (is_closed n.session.standing) = ap (λ (y : LinkState). y.live) n.new_is in
+    let reply_is = replied old new (flat_map encoding n.replies) (ap (λ (y : ConnectionSeen). y.owed) n.new_is) in
+    let live_is : new.live ≡ not (is_closed n.session.standing) = ap (λ (y : ConnectionSeen). y.live) n.new_is in
     let reply : List ℕ = flat_map encoding n.replies in
     let live : Bool = not (is_closed n.session.standing) in
     let served : List ℕ = served_between old new in

@@ -16,7 +16,7 @@ use Rattle.version_store.specs.Histories.{History}
 use Rattle.server_core.specs.declared.standing.Standing.{Standing}
 use Rattle.server_core.specs.Serving.{Setting, Outcome, IsOutcome, ServesAll, is_closed}
 use Rattle.server_core.specs.Sessions.{Session, AfterReading, EndsPiece, ServesFrame, FeedsFirst, frames_taken, reading_end}
-use Rattle.service_core.specs.Links.{LinkState}
+use Rattle.service_core.specs.Links.{ConnectionSeen}
 use Rattle.service_core.specs.Turns.{OwedIsBounded}
 
 of_option : (o : Option Frame) → (o2 : List Frame) → o2 ≡ option_to_list o → (o2 ≡ []) ⊎ ((f : Frame) × (o2 ≡ f ∷ []))
@@ -93,6 +93,6 @@ short replies (inr f) all =
 
 pub owed_is_bounded : OwedIsBounded
 owed_is_bounded x h s id now old new after may n =
-    let owed_is : new.owed ≡ old.owed ++ flat_map encoding n.replies = ap (λ (y : LinkState). y.owed) n.new_is in
+    let owed_is : new.owed ≡ old.owed ++ flat_map encoding n.replies = ap (λ (y : ConnectionSeen). y.owed) n.new_is in
     let le = short n.replies (at_most_one x h s old.unserved n.count n.history n.session n.replies n.served) n.each in
     omega (arith, ap length owed_is, length-append old.owed (flat_map encoding n.replies), le, may.little_owed)

@@ -2,7 +2,7 @@
 use Rattle.std.proofs.Common.{◌≡◌, ◌+◌, ◌-◌, ℕ, List, [], ◌∷◌, ◌++◌, Result, Ok, Err, inl, inr, refl, sym, ap, subst, arith}
 use Rattle.server_core.specs.Cores.{Core}
 use Rattle.service_core.specs.Calls.{Call, Read, ReadLater, ReadFails, Write, WriteLater, WriteFails, Append, AppendUndone, AppendLost, TakeBack, TakeBackFails}
-use Rattle.service_core.specs.Links.{LinkState}
+use Rattle.service_core.specs.Links.{ConnectionSeen}
 use Rattle.service_core.specs.Turns.{ReadsOnce, ServesOnce, Publishes, WritesOnce, TakesTurn, StopsAtFrame}
 use Rattle.service_core.specs.Saving.{Notes, saved_after, WritesOnlySaved, SavesBeforeWriting, TurnsSaveBeforeWriting}
 use Rattle.service_core.specs.declared.turns.Served.{Served}
@@ -65,7 +65,7 @@ left_of : (version saved left next : ℕ) (calls : List Call) → Leaves version
 left_of version saved left next calls l e = subst (λ (n : ℕ). Leaves version saved n calls) e l
 
 -- what is read changes nothing
-reads_leave : (version saved : ℕ) (old new : LinkState) (calls : List Call) → ReadsOnce Notes old [] (Ok tt) new calls → Leaves version saved saved calls
+reads_leave : (version saved : ℕ) (old new : ConnectionSeen) (calls : List Call) → ReadsOnce Notes old [] (Ok tt) new calls → Leaves version saved saved calls
 reads_leave version saved old new calls (inl nothing) = same version saved saved [] calls (none version saved) nothing.2
 reads_leave version saved old new calls (inr some) = elim some.1 [
   | inl later ↦ then_ version saved saved saved [] calls ReadLater (none version saved) later.0 (tt, refl)
@@ -76,7 +76,7 @@ reads_leave version saved old new calls (inr some) = elim some.1 [
 ]
 
 -- a publication that was appended
-appends_leave : (version saved : ℕ) (answer : Result (Unit {0}) Fault) (id now : ℕ) (old new : LinkState) (before after : Core) (a b : List Call) →
+appends_leave : (version saved : ℕ) (answer : Result (Unit {0}) Fault) (id now : ℕ) (old new : ConnectionSeen) (before after : Core) (a b : List Call) →
     Leaves version saved before.store.version a → (p : Publishes Notes id now old before a answer new after b)
     → Leaves version saved (before.store.version + 1) p.appended_by
 appends_leave version saved answer id now old new before after a b l p =
@@ -88,7 +88,7 @@ back_leaves : (version saved was now : ℕ) (a b : List Call) → Leaves version
 back_leaves version saved was now a b l n e = then_ version saved (was + 1) now a b (TakeBack (was + 1)) l n (tt, omega (arith, e))
 
 -- a frame that is served, or put off
-serves_leave : (version saved id now : ℕ) (old new : LinkState) (before after : Core) (served : Served) (a b : List Call) →
+serves_leave : (version saved id now : ℕ) (old new : ConnectionSeen) (before after : Core) (served : Served) (a b : List Call) →
     Leaves version saved before.store.version a → ServesOnce Notes id now old before a (Ok served) new after b
     → Leaves version saved after.store.version b
 serves_leave version saved id now old new before after Done a b l (inl nothing) =
@@ -109,7 +109,7 @@ serves_leave version saved id now old new before after PutOff a b l nothing =
     (ap (λ (c : Core). c.store.version) (sym nothing.3))
 
 -- what is written is of the version that is there
-writes_leave : (version saved now : ℕ) (old new : LinkState) (answer : Result (Unit {0}) Fault) (a b : List Call) → Leaves version saved version a →
+writes_leave : (version saved now : ℕ) (old new : ConnectionSeen) (answer : Result (Unit {0}) Fault) (a b : List Call) → Leaves version saved version a →
     WritesOnce Notes now old a answer new b → Leaves version saved version b
 writes_leave version saved now old new (Ok done) a b l (inl nothing) = same version saved version a b l nothing.2
 writes_leave version saved now old new (Ok done) a b l (inr (inl later)) = then_ version saved version version a b WriteLater l later.0 (tt, refl)
@@ -122,7 +122,7 @@ writes_leave version saved now old new (Err fault.Save) a b l w = absurd w
 given : (before after : ℕ) (answer : Result Served Fault) (calls : List Call) → Leaves after before after calls → SavesBeforeWriting before after answer calls
 given before after answer calls l = record { writes = l.writes; saved = λ n. l.left_is }
 
-takes : (id now : ℕ) (old new : LinkState) (before after : Core) (served : Served) (answer : Result (Unit {0}) Fault) (said : Result Served Fault)
+takes : (id now : ℕ) (old new : ConnectionSeen) (before after : Core) (served : Served) (answer : Result (Unit {0}) Fault) (said : Result Served Fault)
     (calls : List Call) → TakesTurn Notes id now old before [] served answer new after calls
     → SavesBeforeWriting before.store.version after.store.version said calls
 takes id now old new before after served answer said calls t =
@@ -132,7 +132,7 @@ takes id now old new before after served answer said calls t =
     (writes_leave after.store.version before.store.version now t.answered new answer t.served_by calls s t.writes)
 
 -- memory was refused to the frame at hand
-stops_for_memory : (id now : ℕ) (old new : LinkState) (before after : Core) (calls : List Call) →
+stops_for_memory : (id now : ℕ) (old new : ConnectionSeen) (before after : Core) (calls : List Call) →
     StopsAtFrame Notes id now old before [] fault.Memory new after calls → SavesBeforeWriting before.store.version after.store.version (Err fault.Memory) calls
 stops_for_memory id now old new before after calls t =
     let v : ℕ = after.store.version in
@@ -146,7 +146,7 @@ stops_for_memory id now old new before after calls t =
     ])
 
 -- nothing is left of a publication that could not be appended
-stops_for_append : (id now : ℕ) (old new : LinkState) (before after : Core) (calls : List Call) →
+stops_for_append : (id now : ℕ) (old new : ConnectionSeen) (before after : Core) (calls : List Call) →
     StopsAtFrame Notes id now old before [] fault.Write new after calls → SavesBeforeWriting before.store.version after.store.version (Err fault.Write) calls
 stops_for_append id now old new before after calls t =
     let v : ℕ = after.store.version in
@@ -156,7 +156,7 @@ stops_for_append id now old new before after calls t =
     given w v (Err fault.Write) calls (left_of v w w v calls m (ap (λ (c : Core). c.store.version) (sym t.serves.1.core_is)))
 
 -- nothing may be written any more
-stops_all : (id now : ℕ) (old new : LinkState) (before after : Core) (calls : List Call) →
+stops_all : (id now : ℕ) (old new : ConnectionSeen) (before after : Core) (calls : List Call) →
     StopsAtFrame Notes id now old before [] fault.Save new after calls → SavesBeforeWriting before.store.version after.store.version (Err fault.Save) calls
 stops_all id now old new before after calls t =
     let v : ℕ = after.store.version in

@@ -11,12 +11,12 @@ use Rattle.server_core.specs.declared.server.FeedError.{FeedError}
 use Rattle.server_core.specs.declared.server.FeedError.TheVariants.{NoSession, Memory}
 use Rattle.server_core.specs.Serving.{Setting, is_closed}
 use Rattle.server_core.specs.Sessions.{Session, FeedsFirst, FedFirst}
-use Rattle.service_core.specs.Links.{LinkState, is_progress, after_frame}
+use Rattle.service_core.specs.Links.{ConnectionSeen, is_progress, after_frame}
 use Rattle.service_core.specs.Turns.{ServesNext, StopsNext}
-use Rattle.service_core.specs.declared.link.Progress.{Progress}
+use Rattle.service_core.specs.declared.connection_state.Progress.{Progress}
 
 -- what was fed and how the code saw it
-pub record Saw (old : LinkState) (after : Core) (id now : ℕ) (owed : List ℕ) (live : Bool) (last : Progress) (replied : ℕ) : Type 0 where
+pub record Saw (old : ConnectionSeen) (after : Core) (id now : ℕ) (owed : List ℕ) (live : Bool) (last : Progress) (replied : ℕ) : Type 0 where
   pub live_is : live ≡ is_open (session_of after.sessions id)
   pub replied_is : replied ≡ length owed - length old.owed
   pub last_is : last ≡ cond (is_progress old.awaited replied live) (record { moment = now; awaited = length owed })
@@ -28,7 +28,7 @@ parts : (b : Bool) (last : Progress) (now owed moment awaited : ℕ) → last �
 parts true last now owed moment awaited e = (ap (λ (p : Progress). p.moment) e, ap (λ (p : Progress). p.awaited) e)
 parts false last now owed moment awaited e = (ap (λ (p : Progress). p.moment) e, ap (λ (p : Progress). p.awaited) e)
 
-pub serves_next : (x : Setting) (h : History) (s : Session) (id now : ℕ) (old : LinkState) (after : Core) (count : ℕ) (owed : List ℕ) (live : Bool)
+pub serves_next : (x : Setting) (h : History) (s : Session) (id now : ℕ) (old : ConnectionSeen) (after : Core) (count : ℕ) (owed : List ℕ) (live : Bool)
     (last : Progress) (replied : ℕ) → count ≤ length old.unserved
     → (t : Session) × (session_of after.sessions id ≡ Some t) × FedFirst x h s old.unserved (Ok count) after.store t old.owed owed
     → Saw old after id now owed live last replied
@@ -68,7 +68,7 @@ serves_next x h s id now old after count owed live last replied le fed saw =
       new_is = new_is;
     }
 
-pub stops_next : (x : Setting) (h : History) (s : Session) (id : ℕ) (old : LinkState) (after : Core) (e : FeedError) (owed : List ℕ)
+pub stops_next : (x : Setting) (h : History) (s : Session) (id : ℕ) (old : ConnectionSeen) (after : Core) (e : FeedError) (owed : List ℕ)
     → (t : Session) × (session_of after.sessions id ≡ Some t) × FeedsCoreFirst x h s old.unserved (Err e) after.store t old.owed owed
     → owed ≡ old.owed
     → StopsNext x h s id old (record { unserved = old.unserved; owed = owed; live = old.live; ended = old.ended; progress = old.progress; awaited = old.awaited }) after
@@ -83,7 +83,7 @@ stops_next x h s id old after Memory owed fed same =
       setting_is = f.setting_is;
       store_is = f.store_is;
       session_is = fed.1;
-      new_is = ap (λ (y : List ℕ). let l : LinkState = record {
+      new_is = ap (λ (y : List ℕ). let l : ConnectionSeen = record {
         unserved = old.unserved;
         owed = y;
         live = old.live;
@@ -94,7 +94,7 @@ stops_next x h s id old after Memory owed fed same =
     }
 
 -- the same of what the code handed over, which is what was unserved and owed
-pub stops_given : (x : Setting) (h : History) (s : Session) (id : ℕ) (old : LinkState) (after : Core) (e : FeedError) (piece before owed : List ℕ)
+pub stops_given : (x : Setting) (h : History) (s : Session) (id : ℕ) (old : ConnectionSeen) (after : Core) (e : FeedError) (piece before owed : List ℕ)
     → piece ≡ old.unserved → before ≡ old.owed
     → (t : Session) × (session_of after.sessions id ≡ Some t) × FeedsCoreFirst x h s piece (Err e) after.store t before owed
     → owed ≡ before

@@ -2,7 +2,7 @@
 use Rattle.std.specs.Prelude.{◌≡◌, ◌≢◌, ◌-◌, ℕ, List, [], ◌∷◌, ◌++◌, Result, Err}
 use Rattle.server_core.specs.Cores.{Core}
 use Rattle.service_core.specs.Calls.{Call, Write, Append, TakeBack}
-use Rattle.service_core.specs.Links.{LinkState}
+use Rattle.service_core.specs.Links.{ConnectionSeen}
 use Rattle.service_core.specs.Turns.{IsTurn}
 use Rattle.service_core.specs.declared.turns.Served.{Served}
 use Rattle.service_core.specs.declared.turns.Fault.{Fault}
@@ -35,5 +35,5 @@ pub record SavesBeforeWriting (before after : ℕ) (answer : Result Served Fault
 
 -- each turn writes only what is there after a crash
 abbrev pub TurnsSaveBeforeWriting : Type 0
-TurnsSaveBeforeWriting = (id now : ℕ) (old new : LinkState) (before after : Core) (answer : Result Served Fault) (calls : List Call) →
+TurnsSaveBeforeWriting = (id now : ℕ) (old new : ConnectionSeen) (before after : Core) (answer : Result Served Fault) (calls : List Call) →
     IsTurn Notes id now old before [] answer new after calls → SavesBeforeWriting before.store.version after.store.version answer calls

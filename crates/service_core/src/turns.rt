@@ -7,7 +7,7 @@ ghost use Rattle.service_core.specs.Links.{MayServe};
 ghost use Rattle.service_core.specs.Runs.{OthersStay};
 ghost use Rattle.service_core.specs.Turns.{EndsAppended, FrameGives, IsTurn, ReadsOnce, ServesOnce, WritesOnce};
 
-use crate::link::Link;
+use crate::connection_state::ConnectionState;
 use crate::outside::{AppendFailed, Outside, Stop};
 use matrix_u32::Kernel;
 use server_core::ServerCore;
@@ -53,23 +53,23 @@ impl Fault {
 
 /// Reads once at most, where the connection may read.
 fn read_once<K: Kernel, O: Outside<K>>(
-    link: &mut Link,
+    state: &mut ConnectionState,
     outside: &mut O,
     buffer: &mut [u8],
 ) -> Result<(), Fault>
     requires { length buffer.old ≡ 65536 }
-    ensures reads { ReadsOnce O.does link.old outside.old result link.new outside.new }
+    ensures reads { ReadsOnce O.does state.old outside.old result state.new outside.new }
     ensures kept { O.saved outside.new ≡ O.saved outside.old }
 {
-    if !link.may_read() {
+    if !state.may_read() {
         return Ok(());
     }
     match outside.read(buffer) {
         Ok(0) => {
-            link.end();
+            state.end();
             Ok(())
         }
-        Ok(n) => match link.receive(&buffer[..n]) {
+        Ok(n) => match state.receive(&buffer[..n]) {
             Ok(()) => Ok(()),
             Err(_) => Err(Fault::Memory),
         },
@@ -80,21 +80,21 @@ fn read_once<K: Kernel, O: Outside<K>>(
 
 /// Serves the frame at hand.
 fn serve_frame<K: Kernel>(
-    link: &mut Link,
+    state: &mut ConnectionState,
     core: &mut ServerCore<K>,
     id: u64,
     now: u64,
 ) -> Result<(), Fault>
-    requires may { MayServe link.old }
+    requires may { MayServe state.old }
     requires there { session_of core.old.sessions id ≢ None }
-    ensures gives { FrameGives id now link.old core.old result link.new core.new }
-    ensures version { PublishesIf (PublishesNext core.old id link.old.unserved)
+    ensures gives { FrameGives id now state.old core.old result state.new core.new }
+    ensures version { PublishesIf (PublishesNext core.old id state.old.unserved)
         core.old.store.version core.new.store.version }
     ensures same { OnErr result (core.new.store.version ≡ core.old.store.version) }
     ensures fault { result ≢ Err Fault.Save }
     ensures others { OthersStay id core.old core.new }
 {
-    match link.serve_next(core, id, now) {
+    match state.serve_next(core, id, now) {
         Ok(()) => Ok(()),
         Err(_) => Err(Fault::Memory),
     }
@@ -102,22 +102,22 @@ fn serve_frame<K: Kernel>(
 
 /// Serves the frame of a publication that was appended, which is taken back if it is not made.
 fn serve_appended<K: Kernel, O: Outside<K>>(
-    link: &mut Link,
+    state: &mut ConnectionState,
     core: &mut ServerCore<K>,
     outside: &mut O,
     id: u64,
     now: u64,
 ) -> Result<(), Fault>
-    requires may { MayServe link.old }
+    requires may { MayServe state.old }
     requires appended { O.saved outside.old ≡ core.old.store.version + 1 }
     requires there { session_of core.old.sessions id ≢ None }
-    ensures ends { EndsAppended O.does id now link.old core.old outside.old result link.new
+    ensures ends { EndsAppended O.does id now state.old core.old outside.old result state.new
         core.new outside.new }
     ensures saved { result ≢ Err Fault.Save → O.saved outside.new ≡ core.new.store.version }
     ensures others { OthersStay id core.old core.new }
 {
     let before = core.store().version();
-    let served = serve_frame(link, core, id, now);
+    let served = serve_frame(state, core, id, now);
     if core.store().version() == before && outside.take_back(core.store()).is_err() {
         return Err(Fault::Save);
     }
@@ -127,7 +127,7 @@ fn serve_appended<K: Kernel, O: Outside<K>>(
 /// Serves one frame at most, where one may be served and it is not put off. If it publishes, the publication is appended
 /// before.
 fn serve_once<K: Kernel, O: Outside<K>>(
-    link: &mut Link,
+    state: &mut ConnectionState,
     core: &mut ServerCore<K>,
     outside: &mut O,
     id: u64,
@@ -135,25 +135,26 @@ fn serve_once<K: Kernel, O: Outside<K>>(
 ) -> Result<Served, Fault>
     requires saved { O.saved outside.old ≡ core.old.store.version }
     requires there { session_of core.old.sessions id ≢ None }
-    ensures serves { ServesOnce O.does id now link.old core.old outside.old result link.new core.new
+    ensures serves { ServesOnce O.does id now state.old core.old outside.old result state.new
+        core.new
         outside.new }
     ensures saved { result ≢ Err Fault.Save → O.saved outside.new ≡ core.new.store.version }
     ensures others { OthersStay id core.old core.new }
 {
-    if !link.may_serve() {
+    if !state.may_serve() {
         return Ok(Served::Done);
     }
-    if !link.prepare_next(core, id) {
+    if !state.prepare_next(core, id) {
         return Ok(Served::PutOff);
     }
-    if !link.publishes_next(core, id) {
-        return match serve_frame(link, core, id, now) {
+    if !state.publishes_next(core, id) {
+        return match serve_frame(state, core, id, now) {
             Ok(()) => Ok(Served::Done),
             Err(fault) => Err(fault),
         };
     }
     match outside.append(core.store()) {
-        Ok(()) => match serve_appended(link, core, outside, id, now) {
+        Ok(()) => match serve_appended(state, core, outside, id, now) {
             Ok(()) => Ok(Served::Done),
             Err(fault) => Err(fault),
         },
@@ -164,21 +165,21 @@ fn serve_once<K: Kernel, O: Outside<K>>(
 
 /// Writes once at most, where something is owed.
 fn write_once<K: Kernel, O: Outside<K>>(
-    link: &mut Link,
+    state: &mut ConnectionState,
     core: &ServerCore<K>,
     outside: &mut O,
     now: u64,
 ) -> Result<(), Fault>
     requires { O.saved outside.old ≡ core.now.store.version }
-    ensures writes { WritesOnce O.does now link.old outside.old result link.new outside.new }
+    ensures writes { WritesOnce O.does now state.old outside.old result state.new outside.new }
     ensures kept { O.saved outside.new ≡ O.saved outside.old }
 {
-    if !link.owes() {
+    if !state.owes() {
         return Ok(());
     }
-    match outside.write(core.store(), link.owed()) {
+    match outside.write(core.store(), state.owed()) {
         Ok(n) => {
-            link.wrote(n, now);
+            state.wrote(n, now);
             Ok(())
         }
         Err(Stop::Later) => Ok(()),
@@ -200,7 +201,7 @@ fn write_once<K: Kernel, O: Outside<K>>(
 /// `Save` exactly when a part of a publication that could not be appended may be left, or one that was not made could not
 /// be taken back: no turn may follow, on any connection.
 pub fn turn<K: Kernel, O: Outside<K>>(
-    link: &mut Link,
+    state: &mut ConnectionState,
     core: &mut ServerCore<K>,
     outside: &mut O,
     id: u64,
@@ -210,20 +211,20 @@ pub fn turn<K: Kernel, O: Outside<K>>(
     requires saved { O.saved outside.old ≡ core.old.store.version }
     requires there { session_of core.old.sessions id ≢ None }
     requires room { length buffer.old ≡ 65536 }
-    ensures turn { IsTurn O.does id now link.old core.old outside.old result link.new core.new
+    ensures turn { IsTurn O.does id now state.old core.old outside.old result state.new core.new
         outside.new }
     ensures saved { result ≢ Err Fault.Save → O.saved outside.new ≡ core.new.store.version }
     ensures others { OthersStay id core.old core.new }
 {
-    match read_once(link, outside, buffer) {
+    match read_once(state, outside, buffer) {
         Ok(()) => {}
         Err(fault) => return Err(fault),
     }
-    let served = match serve_once(link, core, outside, id, now) {
+    let served = match serve_once(state, core, outside, id, now) {
         Ok(served) => served,
         Err(fault) => return Err(fault),
     };
-    match write_once(link, core, outside, now) {
+    match write_once(state, core, outside, now) {
         Ok(()) => Ok(served),
         Err(fault) => Err(fault),
     }

@@ -4,22 +4,22 @@ use Rattle.server_core.specs.Cores.{Core, session_of}
 use Rattle.connection_table.specs.Holding.{held_by}
 use Rattle.service_core.specs.Runs.{OthersStay, DoesToCore, Closes}
 use Rattle.connection_table.specs.declared.connection.Connection.{Connection}
-use Rattle.connection_table.specs.declared.connection.Outcome.{Outcome}
+use Rattle.connection_table.specs.declared.connection.TurnResult.{TurnResult}
 use Rattle.connection_table.specs.Judging.{GoesOn}
 use Rattle.connection_table.specs.Places.{connection_at}
 use Rattle.service_loop.specs.Turns.{OthersStayOrGo}
-use Rattle.service_loop.specs.Sessions.{Settles, SessionsStayOrGo, AreNoted}
+use Rattle.service_loop.specs.Sessions.{PutsOrEvicts, SessionsStayOrGo, AreNoted}
 use Rattle.service_loop.proofs.Leaving.{others_stay, goes_on, settles_others, settles_sessions}
 use Rattle.connection_table.proofs.Turned.{either_end}
 use Rattle.service_loop.proofs.Noted.{left_noted, back_noted, settled_noted}
 
-module _ (o : Outcome) (place : ℕ) (c d : Connection) (places freed : List (Option Connection)) (old mid : Core) (after : List (Option Connection)) (new : Core)
+module _ (o : TurnResult) (place : ℕ) (c d : Connection) (places freed : List (Option Connection)) (old mid : Core) (after : List (Option Connection)) (new : Core)
     (is_freed : freed ≡ set places place None)
-    (puts_back : GoesOn o → Settles place d freed mid after new)
+    (puts_back : GoesOn o → PutsOrEvicts place d freed mid after new)
     (closes_it : (GoesOn o → ⊥) → (after ≡ freed) × DoesToCore mid (Closes d.id) new)
     (id : d.id ≡ c.id) (stay : OthersStay c.id old mid) where
-  puts : GoesOn o → Settles place d (set places place None) mid after new
-  puts g = subst (λ (k : List (Option Connection)). Settles place d k mid after new) is_freed (puts_back g)
+  puts : GoesOn o → PutsOrEvicts place d (set places place None) mid after new
+  puts g = subst (λ (k : List (Option Connection)). PutsOrEvicts place d k mid after new) is_freed (puts_back g)
 
   closes : (GoesOn o → ⊥) → (after ≡ set places place None) × DoesToCore mid (Closes d.id) new
   closes n = let h = closes_it n in (h.0 ∙ is_freed, h.1)
@@ -43,7 +43,7 @@ module _ (o : Outcome) (place : ℕ) (c d : Connection) (places freed : List (Op
 
   -- what is noted stays right
   pub concluded_noted : (next : ℕ) → place < length places → connection_at places place ≡ Some c → AreNoted places old next
-      → d.held ≡ held_by (session_of mid.sessions d.id) d.link → AreNoted after new next
+      → d.held ≡ held_by (session_of mid.sessions d.id) d.state → AreNoted after new next
   concluded_noted next within there n is = either_end (AreNoted after new next) o
       (λ g. settled_noted place d (set places place None) mid after new next (puts g)
       (back_noted places place c d old mid next within there n stay id is))

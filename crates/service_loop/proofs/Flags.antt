@@ -50,7 +50,7 @@ bare_there (Some d) p c e is =
 pub flags_noted : (before after : List (Option Connection)) (core : Core) (next : ℕ) → OnlyFlagsChange before after → AreNoted before core next → AreNoted after core next
 flags_noted before after core next flags n = record {
   noted = λ i c is. let h = there i c is in
-      subst (λ (k : Connection). k.held ≡ held_by (session_of core.sessions k.id) k.link) (sym h.2) (n.noted i h.0 h.1);
+      subst (λ (k : Connection). k.held ≡ held_by (session_of core.sessions k.id) k.state) (sym h.2) (n.noted i h.0 h.1);
   below = λ i c is. let h = there i c is in subst (λ (k : Connection). k.id < next) (sym h.2) (n.below i h.0 h.1);
   apart = λ i j c d is js same. let h = there i c is in let k = there j d js in
       n.apart i j h.0 k.0 h.1 k.1 (sym (ap (λ (x : Connection). x.id) h.2) ∙ (same ∙ ap (λ (x : Connection). x.id) k.2));

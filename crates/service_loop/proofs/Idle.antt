@@ -7,11 +7,11 @@ use Rattle.std.specs.Prelude.{option_map}
 use Rattle.server_core.specs.Cores.{Core}
 use Rattle.service_core.specs.Runs.{DoesToCore, Closes}
 use Rattle.connection_table.specs.declared.connection.Connection.{Connection}
-use Rattle.connection_table.specs.declared.connection.Outcome.{Outcome}
+use Rattle.connection_table.specs.declared.connection.TurnResult.{TurnResult}
 use Rattle.connection_table.specs.Judging.{GoesOn, IsIdle}
 use Rattle.service_loop.specs.Turns.{HasBeenIdle, unflagged, HasNoIdle, HasTurn, OnlyFlagsChange, OthersStayOrGo}
 use Rattle.connection_table.specs.Places.{connection_at}
-use Rattle.service_loop.specs.Sessions.{Settles}
+use Rattle.service_loop.specs.Sessions.{PutsOrEvicts}
 use Rattle.service_loop.proofs.Leaving.{freed, given_there}
 use Rattle.service_loop.proofs.Flags.{bare_there}
 use Rattle.connection_table.proofs.Turned.{either_end}
@@ -29,7 +29,7 @@ freed_holds P places p i h = elim (cases_eq i p) [
 
 -- what holds of a connection that is put into a place holds there
 pub settled_holds : (P : Connection → Type 0) (place : ℕ) (c : Connection) (before : List (Option Connection)) (old : Core) (after : List (Option Connection)) (new : Core)
-    → place < length before → P c → Settles place c before old after new → IfSome (connection_at after place) P
+    → place < length before → P c → PutsOrEvicts place c before old after new → IfSome (connection_at after place) P
 settled_holds P place c before old after new within h (inl (is, _)) =
     subst (λ (k : List (Option Connection)). IfSome (connection_at k place) P) (sym is)
     (subst (λ (k : Option Connection). IfSome k P) (sym (given_there before place (Some c) within)) h)
@@ -39,9 +39,9 @@ settled_holds P place c before old after new within h (inr (lost, goes, _)) =
     (subst (λ (k : Option Connection). IfSome k P) (sym (given_there before place (Some c) within)) h))
 
 -- what holds of a connection that goes on holds in its place after the turn
-pub concluded_holds : (P : Connection → Type 0) (o : Outcome) (place : ℕ) (d : Connection) (places before : List (Option Connection)) (mid : Core) (after : List (Option Connection)) (new : Core)
+pub concluded_holds : (P : Connection → Type 0) (o : TurnResult) (place : ℕ) (d : Connection) (places before : List (Option Connection)) (mid : Core) (after : List (Option Connection)) (new : Core)
     → before ≡ set places place None → place < length places
-    → (GoesOn o → Settles place d before mid after new) → ((GoesOn o → ⊥) → (after ≡ before) × DoesToCore mid (Closes d.id) new)
+    → (GoesOn o → PutsOrEvicts place d before mid after new) → ((GoesOn o → ⊥) → (after ≡ before) × DoesToCore mid (Closes d.id) new)
     → (GoesOn o → P d) → IfSome (connection_at after place) P
 concluded_holds P o place d places before mid after new is_freed within puts closes h = either_end (IfSome (connection_at after place) P) o
     (λ g. settled_holds P place d before mid after new
@@ -56,7 +56,7 @@ pub stays_idle : (c : Connection) (moment now idle : ℕ) → moment ≤ now →
 stays_idle c moment now idle le h = record {
   stays = h.idles.stays;
   nothing = h.idles.nothing;
-  late = idle_later idle moment c.link.progress now h.idles.late h.began le;
+  late = idle_later idle moment c.state.progress now h.idles.late h.began le;
 }
 
 bared : (c : Connection) (moment idle : ℕ) → HasBeenIdle c moment idle → HasBeenIdle (unflagged c) moment idle

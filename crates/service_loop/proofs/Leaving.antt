@@ -7,7 +7,7 @@ use Rattle.service_core.specs.Runs.{OthersStay, DoesToCore, Closes}
 use Rattle.connection_table.specs.declared.connection.Connection.{Connection}
 use Rattle.connection_table.specs.Places.{connection_at}
 use Rattle.service_loop.specs.Turns.{OthersStayOrGo}
-use Rattle.service_loop.specs.Sessions.{Settles, SessionsStayOrGo}
+use Rattle.service_loop.specs.Sessions.{PutsOrEvicts, SessionsStayOrGo}
 
 -- a place that is given a connection, or none
 pub given_there : (places : List (Option Connection)) (i : ℕ) (c : Option Connection) → i < length places → connection_at (set places i c) i ≡ c
@@ -47,7 +47,7 @@ one_goes place p places = λ i ne. elim (cases_eq i p) [
 
 -- a connection that is put into a place leaves the others, but for one that may go
 pub settles_others : (place : ℕ) (c : Connection) (before : List (Option Connection)) (old : Core) (after : List (Option Connection)) (new : Core)
-    → Settles place c before old after new → OthersStayOrGo place before after
+    → PutsOrEvicts place c before old after new → OthersStayOrGo place before after
 settles_others place c before old after new (inl (is, _)) = subst (OthersStayOrGo place before) (sym is) (others_stay before place (Some c))
 settles_others place c before old after new (inr (lost, goes, _)) =
     goes_on place before (set before place (Some c)) after (others_stay before place (Some c))
@@ -57,12 +57,12 @@ settles_others place c before old after new (inr (lost, goes, _)) =
 pub closes_others : (id lost : ℕ) (a b c : Core) → OthersStay id a b → DoesToCore b (Closes lost) c → SessionsStayOrGo id a c
 closes_others id lost a b c stay closes = λ other ne. elim (cases_eq other lost) [
   | inl e ↦ inr (subst (λ k. session_of c.sessions k ≡ None) (sym e) closes.0)
-  | inr kept ↦ inl (closes.2 other kept ∙ stay other ne)
+  | inr server ↦ inl (closes.2 other server ∙ stay other ne)
 ]
 
 -- a connection that is put into a place leaves the sessions, but for one that may go
 pub settles_sessions : (id place : ℕ) (c : Connection) (before : List (Option Connection)) (first old : Core) (after : List (Option Connection)) (new : Core)
-    → OthersStay id first old → Settles place c before old after new → SessionsStayOrGo id first new
+    → OthersStay id first old → PutsOrEvicts place c before old after new → SessionsStayOrGo id first new
 settles_sessions id place c before first old after new stay (inl (_, is)) =
     λ other ne. inl (ap (λ (k : Core). session_of k.sessions other) is ∙ stay other ne)
 settles_sessions id place c before first old after new stay (inr (lost, _, closes)) = closes_others id lost.id first old new stay closes

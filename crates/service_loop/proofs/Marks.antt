@@ -9,7 +9,7 @@ use Rattle.connection_table.specs.declared.connection.Connection.{Connection}
 use Rattle.service_loop.specs.Turns.{HasBeenIdle, AreMarkedNoted, AreQueued, ComesWithTurn, HasNoIdle, HasTurn, HasTurnIfMarked, OthersStayOrGo}
 use Rattle.connection_table.specs.Judging.{due_of}
 use Rattle.connection_table.specs.Places.{connection_at, noted}
-use Rattle.service_loop.specs.Sessions.{Settles}
+use Rattle.service_loop.specs.Sessions.{PutsOrEvicts}
 use Rattle.service_loop.proofs.Leaving.{settles_others, given_there}
 use Rattle.service_loop.proofs.Idle.{none_is, settled_holds}
 
@@ -87,7 +87,7 @@ comes_on a b c all all2 ready ready2 i more (inr new) (inl same) = inr (subst (�
 
 -- a connection that is marked and put into a place that has its turn
 pub settled_comes : (place : ℕ) (c : Connection) (before : List (Option Connection)) (old : Core) (after : List (Option Connection)) (new : Core) (all : Bool) (ready : List ℕ)
-    → place < length before → c.queued ≡ true → HasTurn all ready place → Settles place c before old after new
+    → place < length before → c.queued ≡ true → HasTurn all ready place → PutsOrEvicts place c before old after new
     → (i : ℕ) → ComesWithTurn before after all ready i
 settled_comes place c before old after new all ready within marked turn settles i = elim (cases_eq i place) [
   | inl e ↦ inr (subst (λ (k : ℕ). IfSome (connection_at after k) (λ d. (d.queued ≡ true) × HasTurn all ready k)) (sym e)
@@ -136,8 +136,8 @@ due_by idle moment progress most a b = omega (arith, a, b)
 
 -- for a connection that was idle something was due
 was_due : (c : Connection) (moment idle : ℕ) → HasBeenIdle c moment idle → due_of idle c ≤ moment
-was_due c moment idle h = subst (λ (o : Option ℕ). unwrap_or o (min (c.link.progress + idle) (2 ^ 64 - 1)) ≤ moment) (sym h.idles.stays)
-    (due_by idle moment c.link.progress (2 ^ 64 - 1) h.idles.late h.began)
+was_due c moment idle h = subst (λ (o : Option ℕ). unwrap_or o (min (c.state.progress + idle) (2 ^ 64 - 1)) ≤ moment) (sym h.idles.stays)
+    (due_by idle moment c.state.progress (2 ^ 64 - 1) h.idles.late h.began)
 
 if_there : (o : Option Connection) (P : Connection → Type 0) → ((c : Connection) → o ≡ Some c → P c) → IfSome o P
 if_there None P h = tt

@@ -7,7 +7,7 @@ use Rattle.connection_table.specs.Holding.{held_by}
 use Rattle.service_core.specs.Runs.{OthersStay}
 use Rattle.connection_table.specs.declared.connection.Connection.{Connection}
 use Rattle.connection_table.specs.Places.{connection_at}
-use Rattle.service_loop.specs.Sessions.{Settles, AreNoted}
+use Rattle.service_loop.specs.Sessions.{PutsOrEvicts, AreNoted}
 use Rattle.service_loop.proofs.Leaving.{freed, given_there}
 
 -- a connection that is there after a place was freed was there before, at another place
@@ -30,8 +30,8 @@ there_after places p c i d within is = elim (cases_eq i p) [
 
 -- what no other session's change does to a number
 kept_number : (id : ℕ) (old new : Core) → OthersStay id old new → (d : Connection) → d.id ≢ id
-    → d.held ≡ held_by (session_of old.sessions d.id) d.link → d.held ≡ held_by (session_of new.sessions d.id) d.link
-kept_number id old new stay d ne is = is ∙ ap (λ s. held_by s d.link) (sym (stay d.id ne))
+    → d.held ≡ held_by (session_of old.sessions d.id) d.state → d.held ≡ held_by (session_of new.sessions d.id) d.state
+kept_number id old new stay d ne is = is ∙ ap (λ s. held_by s d.state) (sym (stay d.id ne))
 
 -- a connection is away from its place, and only its session has changed
 pub left_noted : (places : List (Option Connection)) (p : ℕ) (c : Connection) (old new : Core) (next : ℕ) → connection_at places p ≡ Some c
@@ -57,11 +57,11 @@ HasNone places id = (i : ℕ) (d : Connection) → connection_at places i ≡ So
 
 -- a connection was put into a place, with a number of its own, and what is noted of it is right
 pub given_noted : (places : List (Option Connection)) (p : ℕ) (c : Connection) (core : Core) (next : ℕ) → p < length places
-    → AreNoted places core next → HasNone places c.id → c.id < next → c.held ≡ held_by (session_of core.sessions c.id) c.link
+    → AreNoted places core next → HasNone places c.id → c.id < next → c.held ≡ held_by (session_of core.sessions c.id) c.state
     → AreNoted (set places p (Some c)) core next
 given_noted places p c core next within n none low is = record {
   noted = λ i d there. elim (there_after places p c i d within there) [
-    | inl (_, e) ↦ subst (λ (k : Connection). k.held ≡ held_by (session_of core.sessions k.id) k.link) (sym e) is
+    | inl (_, e) ↦ subst (λ (k : Connection). k.held ≡ held_by (session_of core.sessions k.id) k.state) (sym e) is
     | inr (_, h) ↦ n.noted i d h
   ];
   below = λ i d there. elim (there_after places p c i d within there) [
@@ -82,7 +82,7 @@ given_noted places p c core next within n none low is = record {
 
 -- after a connection was put into a place, and one went for what is held for it or none
 pub settled_noted : (place : ℕ) (c : Connection) (before : List (Option Connection)) (old : Core) (after : List (Option Connection)) (new : Core) (next : ℕ)
-    → Settles place c before old after new → AreNoted (set before place (Some c)) old next → AreNoted after new next
+    → PutsOrEvicts place c before old after new → AreNoted (set before place (Some c)) old next → AreNoted after new next
 settled_noted place c before old after new next (inl (is, same)) n =
     subst (λ (k : Core). AreNoted after k next) (sym same) (subst (λ (k : List (Option Connection)). AreNoted k old next) (sym is) n)
 settled_noted place c before old after new next (inr (lost, goes, closes)) n =
@@ -91,7 +91,7 @@ settled_noted place c before old after new next (inr (lost, goes, closes)) n =
 
 -- A connection is back in its place after a turn, in which its session alone has changed, and what is noted of it is right.
 pub back_noted : (places : List (Option Connection)) (p : ℕ) (c d : Connection) (old new : Core) (next : ℕ) → p < length places → connection_at places p ≡ Some c
-    → AreNoted places old next → OthersStay c.id old new → d.id ≡ c.id → d.held ≡ held_by (session_of new.sessions d.id) d.link
+    → AreNoted places old next → OthersStay c.id old new → d.id ≡ c.id → d.held ≡ held_by (session_of new.sessions d.id) d.state
     → AreNoted (set (set places p None) p (Some d)) new next
 back_noted places p c d old new next within there n stay id is =
     given_noted (set places p None) p d new next (subst (λ k. p < k) (sym (length-set places p None)) within)
@@ -139,7 +139,7 @@ none_noted places n core is = record {
 -- what is noted stays right while no session changes
 pub same_noted : (places : List (Option Connection)) (old new : Core) (next : ℕ) → new.sessions ≡ old.sessions → AreNoted places old next → AreNoted places new next
 same_noted places old new next same n = record {
-  noted = λ i c there. n.noted i c there ∙ ap (λ sessions. held_by (session_of sessions c.id) c.link) (sym same);
+  noted = λ i c there. n.noted i c there ∙ ap (λ sessions. held_by (session_of sessions c.id) c.state) (sym same);
   below = n.below;
   apart = n.apart;
 }

@@ -7,7 +7,7 @@ use Rattle.connection_table.specs.Places.{connection_at}
 -- a connection was idle at a moment, since its last progress before that
 pub record HasBeenIdle (c : Connection) (moment idle : ℕ) : Type 0 where
   pub idles : IsIdle c moment idle
-  pub began : c.link.progress ≤ moment
+  pub began : c.state.progress ≤ moment
 
 -- a connection without the flags of its socket, and of its turn
 abbrev pub unflagged : Connection → Connection

@@ -11,7 +11,7 @@ mod turns;
 use crate::lines::Log;
 use crate::status::Status;
 use crate::stopping::{InputState, Phase, read_input, watch_input};
-use connection_table::{Kept, Places, RunFault, Saver};
+use connection_table::{ConnectionTable, RunFault, SavedServer, Saver};
 use lane_kernels::Lanes;
 use mio::net::TcpListener;
 use mio::{Events, Interest, Poll, Token};
@@ -62,7 +62,7 @@ struct Service {
     input_ready: bool,
     phase: Phase,
     accepts_from: u64,
-    places: Places,
+    places: ConnectionTable,
     // There is no free place.
     full: bool,
     // Where a free place is looked for first.
@@ -122,7 +122,12 @@ pub fn run_service<S: Saver + Drop>(
     service
         .log
         .note(rt, &service_entry(Event::Listening, Some(address)));
-    service.run(rt, &mut events, Kept::opened(core, saver), &mut status)
+    service.run(
+        rt,
+        &mut events,
+        SavedServer::opened(core, saver),
+        &mut status,
+    )
 }
 
 // Listens.
@@ -133,7 +138,7 @@ fn open_service(rt: &HostRuntime, address: SocketAddr, limits: Limits) -> Result
     ensures number { IfOk result (λ service. service.next_id ≡ 0) }
     ensures serving { IfOk result (λ service. service.phase ≡ Phase.Serving) }
 {
-    let places = match Places::new(rt.alloc(), limits.most, limits.memory) {
+    let places = match ConnectionTable::new(rt.alloc(), limits.most, limits.memory) {
         Ok(places) => places,
         Err(_) => return Err(RunFault::Memory),
     };
@@ -216,10 +221,10 @@ impl Service {
         &mut self,
         rt: &HostRuntime,
         events: &mut Events,
-        mut kept: Kept<S>,
+        mut server: SavedServer<S>,
         status: &mut Option<Status>,
     ) -> Result<(), RunFault>
-        requires noted { AreNoted self.old.places.connections.items kept.core self.old.next_id }
+        requires noted { AreNoted self.old.places.connections.items server.core self.old.next_id }
         requires marked { AreMarkedNoted self.old.places.connections.items
             self.old.visits_all self.old.ready.items }
         requires idle { (i : ℕ) → HasNoIdle self.old.places.connections.items i
@@ -227,8 +232,8 @@ impl Service {
     {
         let mut until = 0;
         for _ in 0..u64::MAX {
-            kept = self.round(rt, events, until, kept)?;
-            until = self.attend(rt, events, status, &kept)?;
+            server = self.round(rt, events, until, server)?;
+            until = self.attend(rt, events, status, &server)?;
             self.stop_at_end(rt)?;
             if self.is_over(rt)? {
                 self.log.note(rt, &service_entry(Event::Stopped, None));
@@ -307,15 +312,15 @@ impl Service {
         rt: &HostRuntime,
         events: &mut Events,
         until: u64,
-        mut kept: Kept<S>,
-    ) -> Result<Kept<S>, RunFault>
-        requires noted { AreNoted self.old.places.connections.items kept.core self.old.next_id }
+        mut server: SavedServer<S>,
+    ) -> Result<SavedServer<S>, RunFault>
+        requires noted { AreNoted self.old.places.connections.items server.core self.old.next_id }
         requires marked { AreMarkedNoted self.old.places.connections.items
             self.old.visits_all self.old.ready.items }
         requires idle { (i : ℕ) → HasNoIdle self.old.places.connections.items i
             self.old.scanned self.old.limits.idle }
-        ensures noted { IfOk result (λ kept.
-            AreNoted self.new.places.connections.items kept.core self.new.next_id) }
+        ensures noted { IfOk result (λ server.
+            AreNoted self.new.places.connections.items server.core self.new.next_id) }
         ensures marked { OnOk result (AreMarkedNoted self.new.places.connections.items
             self.new.visits_all self.new.ready.items) }
         ensures idle { OnOk result ((i : ℕ) → HasNoIdle self.new.places.connections.items i
@@ -326,11 +331,11 @@ impl Service {
             Ok(()) => {}
             Err(e) => return Err(RunFault::of_system(&e)),
         }
-        kept.counters.polled = self.micros(rt);
+        server.counters.polled = self.micros(rt);
         self.note_all(events);
-        self.accept_all(rt, &mut kept)?;
+        self.accept_all(rt, &mut server)?;
         self.note_due(self.now(rt)?);
-        self.take_turns(rt, kept)
+        self.take_turns(rt, server)
     }
 
     // Milliseconds since the start.

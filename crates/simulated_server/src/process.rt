@@ -7,7 +7,7 @@ use crate::outside::Surroundings;
 use crate::server::Limits;
 use crate::serving::Serving;
 use server_files::OwnFile;
-use service_core::{Fault, Link, PIECE_LEN, Served, turn};
+use service_core::{ConnectionState, Fault, PIECE_LEN, Served, turn};
 use session_core::{Lanes, Store};
 use simulated_host::{Dice, End, Moved, Network, SimulatedFile, SimulatedFiles};
 use std::alloc::Global;
@@ -52,7 +52,7 @@ pub enum Turned {
 struct Held {
     end: End,
     id: u64,
-    link: Link,
+    state: ConnectionState,
     // It is the publisher's, who may have edited the draft.
     edits: bool,
     // All was written: until this moment what still comes is read and forgotten.
@@ -62,7 +62,7 @@ struct Held {
 impl Held {
     // Whether there is something to do.
     fn is_ready(&self, network: &Network) -> bool {
-        self.link.may_serve() || self.link.owes() || network.is_ready(self.end)
+        self.state.may_serve() || self.state.owes() || network.is_ready(self.end)
     }
 }
 
@@ -170,7 +170,7 @@ impl<'a> Process<'a> {
         let held = Held {
             end,
             id,
-            link: Link::new(around.alloc, around.now),
+            state: ConnectionState::new(around.alloc, around.now),
             edits: false,
             lingers: None,
         };
@@ -304,7 +304,7 @@ enum Outcome {
 // How many bytes are held for a connection: of an unfinished frame, and of replies that are owed.
 fn held_for<F: Write + OpenFile + Drop>(serving: &Serving<F>, held: &Held) -> usize {
     let unfinished = serving.core.unfinished_len(held.id);
-    unfinished.saturating_add(held.link.owed().len())
+    unfinished.saturating_add(held.state.owed().len())
 }
 
 // Makes a turn of a connection. Nothing is given back if a version could not be saved.
@@ -351,7 +351,7 @@ fn serve<'a>(
         written: 0,
     };
     let ended = turn(
-        &mut held.link,
+        &mut held.state,
         &mut core,
         &mut outside,
         held.id,
@@ -368,13 +368,13 @@ fn serve<'a>(
 
 // What is next after a turn.
 fn next(held: &mut Held, turned: Turned, around: &mut Around<'_, '_>) -> Outcome {
-    if held.link.is_done() {
+    if held.state.is_done() {
         around.network.end_writing(held.end);
         held.lingers = Some(around.now.saturating_add(LINGER));
         return Outcome::GoesOn(Turned::Over);
     }
     let idle = around.limits.idle;
-    if !held.link.may_serve() && held.link.is_expired(around.now, idle) {
+    if !held.state.may_serve() && held.state.is_expired(around.now, idle) {
         return Outcome::Ends(Turned::Closed(Closing::Idle));
     }
     Outcome::GoesOn(turned)

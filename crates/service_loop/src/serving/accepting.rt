@@ -4,10 +4,10 @@ ghost use Rattle.std.specs.Prelude.{◌≡◌, ◌<◌, ◌↔◌, ℕ, None, Is
 ghost use Rattle.service_loop.specs.Accepting.{HasEnough};
 
 use super::Service;
-use connection_table::{Closing, Connection, Kept, RunFault, Saver};
+use connection_table::{Closing, Connection, RunFault, SavedServer, Saver};
 use mio::net::TcpStream;
 use mio::{Interest, Token};
-use service_core::Link;
+use service_core::ConnectionState;
 use service_watch::{Cause, Counted, Event};
 use std::io;
 use std::io::ErrorKind;
@@ -31,10 +31,12 @@ impl Service {
     pub(super) fn accept_all<S: Saver>(
         &mut self,
         rt: &HostRuntime,
-        kept: &mut Kept<S>,
+        server: &mut SavedServer<S>,
     ) -> Result<(), RunFault>
-        requires noted { AreNoted self.old.places.connections.items kept.old.core self.old.next_id }
-        ensures noted { AreNoted self.new.places.connections.items kept.new.core self.new.next_id }
+        requires noted { AreNoted self.old.places.connections.items server.old.core
+            self.old.next_id }
+        ensures noted { AreNoted self.new.places.connections.items server.new.core
+            self.new.next_id }
         ensures turns { (i : ℕ) → HasTurn self.old.visits_all self.old.ready.items i
             → HasTurn self.new.visits_all self.new.ready.items i }
         ensures comes { (i : ℕ) → ComesWithTurn self.old.places.connections.items
@@ -52,14 +54,14 @@ impl Service {
                 return Ok(());
             };
             match self.accept_next() {
-                Ok((stream, address)) => self.open(rt, kept, now, place, stream, address),
+                Ok((stream, address)) => self.open(rt, server, now, place, stream, address),
                 Err(e) if e.kind() == ErrorKind::WouldBlock => {
                     self.acceptable = false;
                     return Ok(());
                 }
                 Err(e) => {
                     self.log.report(rt, Closing::Connect, None, None);
-                    kept.counters.add(Counted::Closed(Cause::Connect), 1);
+                    server.counters.add(Counted::Closed(Cause::Connect), 1);
                     if has_no_descriptor(&e) {
                         self.accepts_from = now.saturating_add(PAUSE);
                         return Ok(());
@@ -82,7 +84,7 @@ impl Service {
     pub(super) fn open<S: Saver>(
         &mut self,
         rt: &HostRuntime,
-        kept: &mut Kept<S>,
+        server: &mut SavedServer<S>,
         now: u64,
         place: usize,
         mut stream: TcpStream,
@@ -90,12 +92,14 @@ impl Service {
     )
         requires within { place < length self.old.places.connections.items }
         requires free { connection_at self.old.places.connections.items place ≡ None }
-        requires noted { AreNoted self.old.places.connections.items kept.old.core self.old.next_id }
-        ensures noted { AreNoted self.new.places.connections.items kept.new.core self.new.next_id }
+        requires noted { AreNoted self.old.places.connections.items server.old.core
+            self.old.next_id }
+        ensures noted { AreNoted self.new.places.connections.items server.new.core
+            self.new.next_id }
         ensures others { OthersStayOrGo place self.old.places.connections.items
             self.new.places.connections.items }
-        ensures sessions { SessionsStayOrGo self.old.next_id kept.old.core kept.new.core }
-        ensures store { kept.new.core.store ≡ kept.old.core.store }
+        ensures sessions { SessionsStayOrGo self.old.next_id server.old.core server.new.core }
+        ensures store { server.new.core.store ≡ server.old.core.store }
         ensures turns { (i : ℕ) → HasTurn self.old.visits_all self.old.ready.items i
             → HasTurn self.new.visits_all self.new.ready.items i }
         ensures comes { (i : ℕ) → ComesWithTurn self.old.places.connections.items
@@ -106,13 +110,13 @@ impl Service {
         let peer = octets_of(address.ip());
         if has_enough(self.limits.most_per_peer, self.places.open_of(&peer)) {
             self.log.report(rt, Closing::TooMany, None, Some(address));
-            kept.counters.add(Counted::Closed(Cause::TooMany), 1);
+            server.counters.add(Counted::Closed(Cause::TooMany), 1);
             return;
         }
         let id = self.next_id;
         let Some(next_id) = id.checked_add(1) else {
             self.log.report(rt, Closing::Connect, None, Some(address));
-            kept.counters.add(Counted::Closed(Cause::Connect), 1);
+            server.counters.add(Counted::Closed(Cause::Connect), 1);
             return;
         };
         self.next_id = next_id;
@@ -122,19 +126,25 @@ impl Service {
             .poll
             .registry()
             .register(&mut stream, Token(place), both);
-        if registered.is_err() || kept.open_session(id).is_err() {
+        if registered.is_err() || server.open_session(id).is_err() {
             self.log.report(rt, Closing::Connect, None, Some(address));
-            kept.counters.add(Counted::Closed(Cause::Connect), 1);
+            server.counters.add(Counted::Closed(Cause::Connect), 1);
             return;
         }
         self.log
             .note_connection(rt, Event::Accepted, id, address, None);
-        kept.counters.add(Counted::Accepted, 1);
+        server.counters.add(Counted::Accepted, 1);
         // A reply is one write: it is not to wait for more.
         let _ = stream.set_nodelay(true);
-        let connection = Connection::opened(stream, address, peer, id, Link::new(rt.alloc(), now));
+        let connection = Connection::opened(
+            stream,
+            address,
+            peer,
+            id,
+            ConnectionState::new(rt.alloc(), now),
+        );
         self.push_ready(place);
-        self.settle(rt, kept, place, connection);
+        self.put_or_evict(rt, server, place, connection);
     }
 }
 

@@ -2,7 +2,7 @@
 
 use super::Service;
 use crate::status::Status;
-use connection_table::{Kept, RunFault, Saver, micros_since};
+use connection_table::{RunFault, SavedServer, Saver, micros_since};
 use mio::Events;
 use service_watch::Figures;
 use std::net::SocketAddr;
@@ -30,7 +30,7 @@ impl Service {
         rt: &HostRuntime,
         events: &Events,
         status: &mut Option<Status>,
-        kept: &Kept<S>,
+        server: &SavedServer<S>,
     ) -> Result<u64, RunFault> {
         let Some(status) = status else {
             return Ok(u64::MAX);
@@ -39,16 +39,16 @@ impl Service {
         status.note_all(events);
         status.accept_all(rt.alloc(), self.poll.registry(), now);
         if status.read_all(now) {
-            status.answer_all(rt.alloc(), &self.figures(kept));
+            status.answer_all(rt.alloc(), &self.figures(server));
         }
         status.write_all(now);
         Ok(status.due())
     }
 
     // What there is to say of the service.
-    fn figures<S: Saver>(&self, kept: &Kept<S>) -> Figures {
-        let store = kept.core.store();
-        let tallies = &kept.counters;
+    fn figures<S: Saver>(&self, server: &SavedServer<S>) -> Figures {
+        let store = server.core.store();
+        let tallies = &server.counters;
         let owed = self.places.owed();
         let held = self.places.held() as u64;
         Figures {

@@ -3,7 +3,7 @@
 ghost use Rattle.std.specs.Prelude.{◌≡◌, ◌≤◌, ◌<◌, ℕ, slice_get, None, IfOk, IfSome, OnOk, length, true, false};
 
 use super::Service;
-use connection_table::{Closing, Connection, Kept, Outcome, RunFault, Saver};
+use connection_table::{Closing, Connection, RunFault, SavedServer, Saver, TurnResult};
 use service_watch::{Cause, Counted, Event};
 use std::mem;
 
@@ -12,17 +12,17 @@ impl Service {
     ghost use Rattle.connection_table.specs.Judging.{GoesOn};
     ghost use Rattle.connection_table.specs.Places.{all_held, connection_at};
     ghost use Rattle.service_loop.specs.Turns.{AreMarkedNoted, HasNoIdle, HasTurn, HasTurnIfMarked, OthersStayOrGo};
-    ghost use Rattle.service_loop.specs.Sessions.{AreNoted, Settles, SessionsStayOrGo};
+    ghost use Rattle.service_loop.specs.Sessions.{AreNoted, PutsOrEvicts, SessionsStayOrGo};
 
     // Gives a turn to each connection that is to have one.
     pub(super) fn take_turns<S: Saver + Drop>(
         &mut self,
         rt: &HostRuntime,
-        kept: Kept<S>,
-    ) -> Result<Kept<S>, RunFault>
-        requires noted { AreNoted self.old.places.connections.items kept.core self.old.next_id }
-        ensures noted { IfOk result (λ kept.
-            AreNoted self.new.places.connections.items kept.core self.new.next_id) }
+        server: SavedServer<S>,
+    ) -> Result<SavedServer<S>, RunFault>
+        requires noted { AreNoted self.old.places.connections.items server.core self.old.next_id }
+        ensures noted { IfOk result (λ server.
+            AreNoted self.new.places.connections.items server.core self.new.next_id) }
         ensures idle { OnOk result ((i : ℕ) → HasTurn self.old.visits_all self.old.ready.items i
             → HasNoIdle self.new.places.connections.items i
             self.old.scanned self.old.limits.idle) }
@@ -35,19 +35,19 @@ impl Service {
             self.old.ready.items → OnOk result (AreMarkedNoted
             self.new.places.connections.items self.new.visits_all self.new.ready.items) }
     {
-        let kept = self.visit_all(rt, kept)?;
-        self.visit_ready(rt, kept)
+        let server = self.visit_all(rt, server)?;
+        self.visit_ready(rt, server)
     }
 
     // Gives a turn to each connection that is noted.
     pub(super) fn visit_ready<S: Saver + Drop>(
         &mut self,
         rt: &HostRuntime,
-        mut kept: Kept<S>,
-    ) -> Result<Kept<S>, RunFault>
-        requires noted { AreNoted self.old.places.connections.items kept.core self.old.next_id }
-        ensures noted { IfOk result (λ kept.
-            AreNoted self.new.places.connections.items kept.core self.new.next_id) }
+        mut server: SavedServer<S>,
+    ) -> Result<SavedServer<S>, RunFault>
+        requires noted { AreNoted self.old.places.connections.items server.core self.old.next_id }
+        ensures noted { IfOk result (λ server.
+            AreNoted self.new.places.connections.items server.core self.new.next_id) }
         ensures idle { OnOk result ((k : ℕ) → IfSome (slice_get self.old.ready.items k)
             (λ i. HasNoIdle self.new.places.connections.items i
             self.old.scanned self.old.limits.idle)) }
@@ -64,20 +64,20 @@ impl Service {
         self.ready.clear();
         for at in 0..self.turns.len() {
             let place = self.turns[at];
-            kept = self.visit(rt, place, kept)?;
+            server = self.visit(rt, place, server)?;
         }
-        Ok(kept)
+        Ok(server)
     }
 
     // Gives each connection a turn, where one could not be noted.
     pub(super) fn visit_all<S: Saver + Drop>(
         &mut self,
         rt: &HostRuntime,
-        mut kept: Kept<S>,
-    ) -> Result<Kept<S>, RunFault>
-        requires noted { AreNoted self.old.places.connections.items kept.core self.old.next_id }
-        ensures noted { IfOk result (λ kept.
-            AreNoted self.new.places.connections.items kept.core self.new.next_id) }
+        mut server: SavedServer<S>,
+    ) -> Result<SavedServer<S>, RunFault>
+        requires noted { AreNoted self.old.places.connections.items server.core self.old.next_id }
+        ensures noted { IfOk result (λ server.
+            AreNoted self.new.places.connections.items server.core self.new.next_id) }
         ensures idle { self.old.visits_all ≡ true → OnOk result ((i : ℕ) →
             HasNoIdle self.new.places.connections.items i self.old.scanned self.old.limits.idle) }
         ensures none { self.old.visits_all ≡ false → OnOk result (self.new ≡ self.old) }
@@ -87,15 +87,15 @@ impl Service {
             self.new.places.connections.items self.new.visits_all self.new.ready.items) }
     {
         if !self.visits_all {
-            return Ok(kept);
+            return Ok(server);
         }
         self.visits_all = false;
         // What was noted has its turn among all, and none a second one.
         self.ready.clear();
         for place in 0..self.places.len() {
-            kept = self.visit(rt, place, kept)?;
+            server = self.visit(rt, place, server)?;
         }
-        Ok(kept)
+        Ok(server)
     }
 
     // Gives the connection at a place a turn, if there is one, and has it have another if it has more to do at once.
@@ -103,11 +103,11 @@ impl Service {
         &mut self,
         rt: &HostRuntime,
         place: usize,
-        kept: Kept<S>,
-    ) -> Result<Kept<S>, RunFault>
-        requires noted { AreNoted self.old.places.connections.items kept.core self.old.next_id }
-        ensures noted { IfOk result (λ kept.
-            AreNoted self.new.places.connections.items kept.core self.new.next_id) }
+        server: SavedServer<S>,
+    ) -> Result<SavedServer<S>, RunFault>
+        requires noted { AreNoted self.old.places.connections.items server.core self.old.next_id }
+        ensures noted { IfOk result (λ server.
+            AreNoted self.new.places.connections.items server.core self.new.next_id) }
         ensures idle { OnOk result (HasNoIdle self.new.places.connections.items place
             self.old.scanned self.old.limits.idle) }
         ensures stays { OnOk result ((i : ℕ) → HasNoIdle self.old.places.connections.items i
@@ -123,11 +123,11 @@ impl Service {
             → HasTurnIfMarked self.new.places.connections.items
             self.new.visits_all self.new.ready.items i) }
     {
-        let kept = self.end_draft(kept);
-        let (kept, more) = self.take_turn_at(rt, place, kept)?;
+        let server = self.end_draft(server);
+        let (server, more) = self.take_turn_at(rt, place, server)?;
         self.note_next_at(place);
         self.queue_again(place, more);
-        Ok(kept)
+        Ok(server)
     }
 
     // Gives the connection at a place a turn, if there is one, and closes what is over. Answers whether there is more to do
@@ -136,9 +136,9 @@ impl Service {
         &mut self,
         rt: &HostRuntime,
         place: usize,
-        kept: Kept<S>,
-    ) -> Result<(Kept<S>, bool), RunFault>
-        requires noted { AreNoted self.old.places.connections.items kept.core self.old.next_id }
+        server: SavedServer<S>,
+    ) -> Result<(SavedServer<S>, bool), RunFault>
+        requires noted { AreNoted self.old.places.connections.items server.core self.old.next_id }
         ensures noted { IfOk result (λ it.
             AreNoted self.new.places.connections.items it.0.core self.new.next_id) }
         ensures idle { OnOk result (HasNoIdle self.new.places.connections.items place
@@ -148,13 +148,13 @@ impl Service {
         ensures bounded { OnOk result
             (all_held self.new.places.connections.items ≤ self.new.limits.memory) }
         ensures free { connection_at self.old.places.connections.items place ≡ None →
-            IfOk result (λ it. (it.0.core ≡ kept.core) × (it.1 ≡ false)
+            IfOk result (λ it. (it.0.core ≡ server.core) × (it.1 ≡ false)
             × (self.new.places.connections.items ≡ self.old.places.connections.items)) }
         ensures others { OnOk result (OthersStayOrGo place
             self.old.places.connections.items self.new.places.connections.items) }
         ensures sessions { IfOk result (λ it.
             IfSome (connection_at self.old.places.connections.items place)
-            (λ c. SessionsStayOrGo c.id kept.core it.0.core)) }
+            (λ c. SessionsStayOrGo c.id server.core it.0.core)) }
         ensures turns { OnOk result (self.new.turns ≡ self.old.turns) }
         ensures unmarked { OnOk result (IfSome
             (connection_at self.new.places.connections.items place) (λ c. c.queued ≡ false)) }
@@ -162,17 +162,17 @@ impl Service {
         ensures ready { OnOk result (self.new.ready ≡ self.old.ready) }
     {
         if self.places.is_free(place) {
-            return Ok((kept, false));
+            return Ok((server, false));
         }
         let now = self.now_of_turn(rt)?;
         let Some(mut connection) = self.places.take(place) else {
-            return Ok((kept, false));
+            return Ok((server, false));
         };
-        let (mut kept, outcome) = connection.take_counted_turn(
+        let (mut server, outcome) = connection.take_counted_turn(
             rt,
             self.start,
             now,
-            kept,
+            server,
             &mut self.buffer,
         )?;
         self.log.note_turn(
@@ -183,32 +183,32 @@ impl Service {
             connection.watch.published,
         );
         let stops = self.phase.is_stopping();
-        let outcome = connection.end_turn(now, stops, self.limits.idle, &kept, outcome);
-        let more = self.conclude(rt, &mut kept, place, connection, outcome);
-        Ok((kept, more))
+        let outcome = connection.end_turn(now, stops, self.limits.idle, &server, outcome);
+        let more = self.finish_turn(rt, &mut server, place, connection, outcome);
+        Ok((server, more))
     }
 
     // Puts a connection back into its place after a turn, or closes it. Answers whether there is more to do at once: where it
     // is closed, whether another may be accepted in its place.
-    pub(super) fn conclude<S: Saver>(
+    pub(super) fn finish_turn<S: Saver>(
         &mut self,
         rt: &HostRuntime,
-        kept: &mut Kept<S>,
+        server: &mut SavedServer<S>,
         place: usize,
         connection: Connection,
-        outcome: Outcome,
+        outcome: TurnResult,
     ) -> bool
         requires within { place < length self.old.places.connections.items }
         requires free { connection_at self.old.places.connections.items place ≡ None }
-        ensures goes_on { GoesOn outcome → Settles place connection
-            self.old.places.connections.items kept.old.core
-            self.new.places.connections.items kept.new.core }
+        ensures goes_on { GoesOn outcome → PutsOrEvicts place connection
+            self.old.places.connections.items server.old.core
+            self.new.places.connections.items server.new.core }
         ensures over { (GoesOn outcome → ⊥) →
             (self.new.places.connections.items ≡ self.old.places.connections.items)
-            × DoesToCore kept.old.core (Closes connection.id) kept.new.core }
-        ensures busy { outcome ≡ Outcome.Busy → result ≡ true }
-        ensures put_off { outcome ≡ Outcome.PutOff → result ≡ true }
-        ensures waits { outcome ≡ Outcome.Waits → result ≡ false }
+            × DoesToCore server.old.core (Closes connection.id) server.new.core }
+        ensures busy { outcome ≡ TurnResult.Busy → result ≡ true }
+        ensures put_off { outcome ≡ TurnResult.PutOff → result ≡ true }
+        ensures waits { outcome ≡ TurnResult.Waits → result ≡ false }
         ensures again { (GoesOn outcome → ⊥) → result ≡ self.old.acceptable }
         ensures limits { self.new.limits ≡ self.old.limits }
         ensures scanned { self.new.scanned ≡ self.old.scanned }
@@ -218,38 +218,39 @@ impl Service {
         ensures ready { self.new.ready ≡ self.old.ready }
     {
         if outcome.goes_on() {
-            self.settle(rt, kept, place, connection);
+            self.put_or_evict(rt, server, place, connection);
             return outcome.has_more();
         }
         let (id, address) = (connection.id, connection.address);
         match outcome {
-            Outcome::Closed(closing) => {
+            TurnResult::Closed(closing) => {
                 self.log.report(rt, closing, Some(id), Some(address));
-                kept.counters.add(Counted::Closed(closing.cause()), 1);
+                server.counters.add(Counted::Closed(closing.cause()), 1);
             }
             _ => {
                 self.log
                     .note_connection(rt, Event::Closed, id, address, None);
-                kept.counters.add(Counted::Closed(Cause::End), 1);
+                server.counters.add(Counted::Closed(Cause::End), 1);
             }
         }
         self.full = false;
-        kept.close_session(connection.id);
+        server.close_session(connection.id);
         self.acceptable
     }
 
     // Puts a connection into a free place. If too many bytes are held for all then, the one for which most are held is closed.
-    pub(super) fn settle<S: Saver>(
+    pub(super) fn put_or_evict<S: Saver>(
         &mut self,
         rt: &HostRuntime,
-        kept: &mut Kept<S>,
+        server: &mut SavedServer<S>,
         place: usize,
         connection: Connection,
     )
         requires within { place < length self.old.places.connections.items }
         requires free { connection_at self.old.places.connections.items place ≡ None }
-        ensures settles { Settles place connection self.old.places.connections.items kept.old.core
-            self.new.places.connections.items kept.new.core }
+        ensures settles { PutsOrEvicts place connection self.old.places.connections.items
+            server.old.core
+            self.new.places.connections.items server.new.core }
         ensures limits { self.new.limits ≡ self.old.limits }
         ensures scanned { self.new.scanned ≡ self.old.scanned }
         ensures number { self.new.next_id ≡ self.old.next_id }
@@ -260,9 +261,9 @@ impl Service {
         if let Some(lost) = self.places.put(place, connection) {
             self.log
                 .report(rt, Closing::Crowded, Some(lost.id), Some(lost.address));
-            kept.counters.add(Counted::Closed(Cause::Memory), 1);
+            server.counters.add(Counted::Closed(Cause::Memory), 1);
             self.full = false;
-            kept.close_session(lost.id);
+            server.close_session(lost.id);
         }
     }
 

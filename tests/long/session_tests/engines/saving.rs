@@ -4,7 +4,7 @@
 
 use lane_kernels::Lanes;
 use server_core::ServerCore;
-use service_core::{AppendFailed, Fault, Link, Outside, PIECE_LEN, SaveFailed, Served, Stop, turn};
+use service_core::{AppendFailed, Fault, ConnectionState, Outside, PIECE_LEN, SaveFailed, Served, Stop, turn};
 use std::alloc::{AllocError, Global};
 use std::process::Abort;
 use std::test::Fail;
@@ -135,7 +135,7 @@ fn take_turns(
     device: &mut Device<'_>,
 ) -> Result<Option<Fault>, Fail> {
     core.open_session(id)?;
-    let mut link = Link::new(alloc, 0);
+    let mut state = ConnectionState::new(alloc, 0);
     let mut buffer = Vec::from_elem(alloc, 0u8, PIECE_LEN)?;
     for now in 0..TURNS {
         if device.saved != core.store().version() || !core.has_session(id) {
@@ -144,7 +144,7 @@ fn take_turns(
         if buffer.len() != PIECE_LEN {
             return Ok(None);
         }
-        match turn(&mut link, core, device, id, u64::from(now), &mut buffer) {
+        match turn(&mut state, core, device, id, u64::from(now), &mut buffer) {
             Ok(Served::Done | Served::PutOff) => {}
             Err(fault) => return Ok(Some(fault)),
         }
@@ -286,15 +286,15 @@ fn who_makes_no_progress_is_expired(rt: HostRuntime) -> Result<(), Fail> {
     let alloc = rt.alloc();
     let mut core = server(alloc)?;
     core.open_session(7)?;
-    let mut link = Link::new(alloc, 0);
+    let mut state = ConnectionState::new(alloc, 0);
     let mut device = Device::new(alloc, &GREETING[..4], 1, 1)?;
     let mut buffer = Vec::from_elem(alloc, 0u8, PIECE_LEN)?;
     for now in 0..20 {
-        assert_eq!(&rt; turn(&mut link, &mut core, &mut device, 7, now, &mut buffer), Ok(Served::Done));
+        assert_eq!(&rt; turn(&mut state, &mut core, &mut device, 7, now, &mut buffer), Ok(Served::Done));
     }
     // Four bytes came since its opening, and no frame.
-    assert!(&rt; !link.is_expired(9, 10));
-    assert!(&rt; link.is_expired(10, 10));
+    assert!(&rt; !state.is_expired(9, 10));
+    assert!(&rt; state.is_expired(10, 10));
     assert_eq!(&rt; core.unfinished_len(7), 4);
     Ok(())
 }

@@ -6,9 +6,9 @@ use Rattle.connection_table.proofs.connection.Connection.end_turn.Goals as goal
 pub returns : goal.returns
 returns g c = record {
   id = c.retired-outcome.ensures.id ∙ ap (λ (k : Connection). k.id) c.note_held.ensures;
-  held = stays_noted c.args.kept.now.core c.args.self.now c.note_held.new.self c.retired-outcome.new.self c.note_held.ensures
-      c.retired-outcome.ensures.held c.retired-outcome.ensures.id c.retired-outcome.ensures.link;
+  held = stays_noted c.args.server.now.core c.args.self.now c.note_held.new.self c.retired-outcome.new.self c.note_held.ensures
+      c.retired-outcome.ensures.held c.retired-outcome.ensures.id c.retired-outcome.ensures.state;
   queued = c.retired-outcome.ensures.queued ∙ ap (λ (k : Connection). k.queued) c.note_held.ensures;
-  active = judged_active c.retired-outcome.result c.judged.result c.retired-outcome.new.self c.args.now c.args.idle c.judged.ensures.idle c.judged.ensures.over;
-  over = stays_over c.args.outcome c.retired-outcome.result c.judged.result (λ n. (c.retired-outcome.ensures.over n).1) c.judged.ensures.over;
+  active = judged_active c.retired-outcome.result c.close_if_idle.result c.retired-outcome.new.self c.args.now c.args.idle c.close_if_idle.ensures.idle c.close_if_idle.ensures.over;
+  over = stays_over c.args.outcome c.retired-outcome.result c.close_if_idle.result (λ n. (c.retired-outcome.ensures.over n).1) c.close_if_idle.ensures.over;
 }

@@ -9,7 +9,7 @@ loop-preserved g c = elim c.match-accept_next.branch [
       let begin = c.args.self.now.places.connections.items in
       let l = c.loop.self in
       let new = w.open.new.self in
-      rw (w.self-is, w.kept-is) (record {
+      rw (w.self-is, w.server-is) (record {
         noted = w.open.ensures.noted;
         turns = λ i h. w.open.ensures.turns i (c.loop.invariant.turns i h);
         comes = λ i. comes_on begin l.places.connections.items new.places.connections.items l.visits_all new.visits_all l.ready.items new.ready.items i
@@ -17,7 +17,7 @@ loop-preserved g c = elim c.match-accept_next.branch [
         limits = w.open.ensures.limits ∙ c.loop.invariant.limits;
         scanned = w.open.ensures.scanned ∙ c.loop.invariant.scanned;
       })
-  | in-Err-2+else-has_no_descriptor w ↦ rw (w.self-is, w.kept-is) (record {
+  | in-Err-2+else-has_no_descriptor w ↦ rw (w.self-is, w.server-is) (record {
     noted = c.loop.invariant.noted;
     turns = c.loop.invariant.turns;
     comes = c.loop.invariant.comes;

@@ -11,15 +11,15 @@ use Rattle.service_loop.proofs.serving.Service.round.Goals as goal
 
 pub accept_all-requires : goal.accept_all-requires
 accept_all-requires g c = record {
-  noted = subst (λ n. AreNoted c.note_all.new.self.places.connections.items c.args.kept.core n) (sym c.note_all.ensures.number)
-      (flags_noted c.args.self.now.places.connections.items c.note_all.new.self.places.connections.items c.args.kept.core c.args.self.now.next_id
+  noted = subst (λ n. AreNoted c.note_all.new.self.places.connections.items c.args.server.core n) (sym c.note_all.ensures.number)
+      (flags_noted c.args.self.now.places.connections.items c.note_all.new.self.places.connections.items c.args.server.core c.args.self.now.next_id
       c.note_all.ensures.flags c.requires.noted);
 }
 
 pub take_turns-requires : goal.take_turns-requires
 take_turns-requires g c = record {
-  noted = subst (λ n. AreNoted c.note_due.new.self.places.connections.items c.accept_all.new.kept.core n) (sym c.note_due.ensures.number)
-      (flags_noted c.accept_all.new.self.places.connections.items c.note_due.new.self.places.connections.items c.accept_all.new.kept.core
+  noted = subst (λ n. AreNoted c.note_due.new.self.places.connections.items c.accept_all.new.server.core n) (sym c.note_due.ensures.number)
+      (flags_noted c.accept_all.new.self.places.connections.items c.note_due.new.self.places.connections.items c.accept_all.new.server.core
       c.accept_all.new.self.next_id c.note_due.ensures.flags c.accept_all.ensures.noted);
 }
 

@@ -1,5 +1,5 @@
 use Rattle.std.proofs.Common.{sym, ap, subst}
-use Rattle.connection_table.specs.declared.places.Places.{Places}
+use Rattle.connection_table.specs.declared.table.ConnectionTable.{ConnectionTable}
 use Rattle.service_loop.specs.declared.serving.Limits.{Limits}
 use Rattle.service_loop.specs.Turns.{HasNoIdle}
 use Rattle.service_loop.specs.Sessions.{AreNoted}
@@ -11,15 +11,15 @@ pub loop-preserved : goal.loop-preserved
 loop-preserved g c =
     let r = c.round.new.self in
     let s = c.stop_at_end.new.self in
-    let n = c.in_ok-kept.ensures in
+    let n = c.in_ok-server.ensures in
     let e = c.stop_at_end.ensures in
-    let core = c.in_ok-kept.kept.core in
+    let core = c.in_ok-server.server.core in
     record {
       noted = subst (λ k. AreNoted s.places.connections.items core k) (sym e.number)
-          (subst (λ (p : Places). AreNoted p.connections.items core r.next_id) (sym e.places) n.noted);
+          (subst (λ (p : ConnectionTable). AreNoted p.connections.items core r.next_id) (sym e.places) n.noted);
       marked = marks_stay r.places.connections.items s.places.connections.items r.visits_all s.visits_all r.ready.items s.ready.items
-          (ap (λ (p : Places). p.connections.items) e.places) e.all (ap (λ v. v.items) e.ready) n.marked;
+          (ap (λ (p : ConnectionTable). p.connections.items) e.places) e.all (ap (λ v. v.items) e.ready) n.marked;
       idle = λ i. here_moved s.places.connections.items i r.scanned r.limits.idle s.scanned s.limits.idle (sym e.scanned)
           (sym (ap (λ (k : Limits). k.idle) e.limits))
-          (subst (λ (p : Places). HasNoIdle p.connections.items i r.scanned r.limits.idle) (sym e.places) (n.idle i));
+          (subst (λ (p : ConnectionTable). HasNoIdle p.connections.items i r.scanned r.limits.idle) (sym e.places) (n.idle i));
     }

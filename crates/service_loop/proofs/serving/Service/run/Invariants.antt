@@ -5,7 +5,7 @@ use Rattle.service_loop.proofs.serving.Service.run.Given as goal
 
 abbrev pub invariant-loop : goal.invariant-loop
 invariant-loop g l = record {
-  noted : AreNoted l.self.places.connections.items l.kept.core l.self.next_id;
+  noted : AreNoted l.self.places.connections.items l.server.core l.self.next_id;
   marked : AreMarkedNoted l.self.places.connections.items l.self.visits_all l.self.ready.items;
   idle : (i : ℕ) → HasNoIdle l.self.places.connections.items i l.self.scanned l.self.limits.idle;
 }

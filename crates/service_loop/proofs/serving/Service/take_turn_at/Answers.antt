@@ -19,68 +19,68 @@ is_there : (o : Option Connection) (k : Connection) → Some k ≡ o → o ≡ N
 is_there o k there none = let no : Some k ≡ None = there ∙ none in cc
 
 pub returns-in_default-clause-noted : goal.returns-in_default-clause-noted
-returns-in_default-clause-noted g c = subst (λ (k : List (Option Connection)). AreNoted k c.args.kept.core c.args.self.now.next_id) (sym c.in_default.ensures.places)
-    (freed_noted c.args.self.now.places.connections.items c.args.place c.args.kept.core c.args.self.now.next_id c.requires.noted)
+returns-in_default-clause-noted g c = subst (λ (k : List (Option Connection)). AreNoted k c.args.server.core c.args.self.now.next_id) (sym c.in_default.ensures.places)
+    (freed_noted c.args.self.now.places.connections.items c.args.place c.args.server.core c.args.self.now.next_id c.requires.noted)
 
 pub returns-clause-noted : goal.returns-clause-noted
 returns-clause-noted g c =
-    subst (λ n. AreNoted c.conclude-more.new.self.places.connections.items c.conclude-more.new.kept.core n) (sym c.conclude-more.ensures.number)
+    subst (λ n. AreNoted c.finish_turn-more.new.self.places.connections.items c.finish_turn-more.new.server.core n) (sym c.finish_turn-more.ensures.number)
     (concluded_noted c.end_turn-outcome.result c.args.place c.in-Some.connection c.end_turn-outcome.new.self c.args.self.now.places.connections.items
-    c.take.new.self.connections.items c.args.kept.core c.in_ok-kept.kept.core c.conclude-more.new.self.places.connections.items
-    c.conclude-more.new.kept.core c.in-Some.ensures.places c.conclude-more.ensures.goes_on c.conclude-more.ensures.over
-    (c.end_turn-outcome.ensures.id ∙ c.in_ok-kept.ensures.id) c.in_ok-kept.ensures.others c.args.self.now.next_id
+    c.take.new.self.connections.items c.args.server.core c.in_ok-server.server.core c.finish_turn-more.new.self.places.connections.items
+    c.finish_turn-more.new.server.core c.in-Some.ensures.places c.finish_turn-more.ensures.goes_on c.finish_turn-more.ensures.over
+    (c.end_turn-outcome.ensures.id ∙ c.in_ok-server.ensures.id) c.in_ok-server.ensures.others c.args.self.now.next_id
     (is_within c.args.self.now.places.connections.items c.args.place c.in-Some.connection (sym c.in-Some.ensures.taken))
     (sym c.in-Some.ensures.taken) c.requires.noted c.end_turn-outcome.ensures.held)
 
 pub returns-clause-others : goal.returns-clause-others
 returns-clause-others g c =
     concluded_others c.end_turn-outcome.result c.args.place c.in-Some.connection c.end_turn-outcome.new.self c.args.self.now.places.connections.items
-    c.take.new.self.connections.items c.args.kept.core c.in_ok-kept.kept.core c.conclude-more.new.self.places.connections.items
-    c.conclude-more.new.kept.core c.in-Some.ensures.places c.conclude-more.ensures.goes_on c.conclude-more.ensures.over
-    (c.end_turn-outcome.ensures.id ∙ c.in_ok-kept.ensures.id) c.in_ok-kept.ensures.others
+    c.take.new.self.connections.items c.args.server.core c.in_ok-server.server.core c.finish_turn-more.new.self.places.connections.items
+    c.finish_turn-more.new.server.core c.in-Some.ensures.places c.finish_turn-more.ensures.goes_on c.finish_turn-more.ensures.over
+    (c.end_turn-outcome.ensures.id ∙ c.in_ok-server.ensures.id) c.in_ok-server.ensures.others
 
 pub returns-clause-sessions : goal.returns-clause-sessions
 returns-clause-sessions g c =
-    subst (λ (o : Option Connection). IfSome o (λ k. SessionsStayOrGo k.id c.args.kept.core c.conclude-more.new.kept.core)) c.in-Some.ensures.taken
+    subst (λ (o : Option Connection). IfSome o (λ k. SessionsStayOrGo k.id c.args.server.core c.finish_turn-more.new.server.core)) c.in-Some.ensures.taken
     (concluded_sessions c.end_turn-outcome.result c.args.place c.in-Some.connection c.end_turn-outcome.new.self c.args.self.now.places.connections.items
-    c.take.new.self.connections.items c.args.kept.core c.in_ok-kept.kept.core c.conclude-more.new.self.places.connections.items
-    c.conclude-more.new.kept.core c.in-Some.ensures.places c.conclude-more.ensures.goes_on c.conclude-more.ensures.over
-    (c.end_turn-outcome.ensures.id ∙ c.in_ok-kept.ensures.id) c.in_ok-kept.ensures.others)
+    c.take.new.self.connections.items c.args.server.core c.in_ok-server.server.core c.finish_turn-more.new.self.places.connections.items
+    c.finish_turn-more.new.server.core c.in-Some.ensures.places c.finish_turn-more.ensures.goes_on c.finish_turn-more.ensures.over
+    (c.end_turn-outcome.ensures.id ∙ c.in_ok-server.ensures.id) c.in_ok-server.ensures.others)
 
 pub returns-clause-idle : goal.returns-clause-idle
 returns-clause-idle g c =
     concluded_holds (λ k. HasBeenIdle k c.args.self.now.scanned c.args.self.now.limits.idle → ⊥) c.end_turn-outcome.result c.args.place
-    c.end_turn-outcome.new.self c.args.self.now.places.connections.items c.take.new.self.connections.items c.in_ok-kept.kept.core
-    c.conclude-more.new.self.places.connections.items c.conclude-more.new.kept.core c.in-Some.ensures.places
+    c.end_turn-outcome.new.self c.args.self.now.places.connections.items c.take.new.self.connections.items c.in_ok-server.server.core
+    c.finish_turn-more.new.self.places.connections.items c.finish_turn-more.new.server.core c.in-Some.ensures.places
     (is_within c.args.self.now.places.connections.items c.args.place c.in-Some.connection (sym c.in-Some.ensures.taken))
-    c.conclude-more.ensures.goes_on c.conclude-more.ensures.over
+    c.finish_turn-more.ensures.goes_on c.finish_turn-more.ensures.over
     (λ on was. c.end_turn-outcome.ensures.active on (stays_idle c.end_turn-outcome.new.self c.args.self.now.scanned c.in_ok-now.now
     c.args.self.now.limits.idle c.in_ok-now.ensures was))
 
 pub returns-clause-unmarked : goal.returns-clause-unmarked
 returns-clause-unmarked g c =
     concluded_holds (λ k. k.queued ≡ false) c.end_turn-outcome.result c.args.place c.end_turn-outcome.new.self c.args.self.now.places.connections.items
-    c.take.new.self.connections.items c.in_ok-kept.kept.core c.conclude-more.new.self.places.connections.items c.conclude-more.new.kept.core
+    c.take.new.self.connections.items c.in_ok-server.server.core c.finish_turn-more.new.self.places.connections.items c.finish_turn-more.new.server.core
     c.in-Some.ensures.places (is_within c.args.self.now.places.connections.items c.args.place c.in-Some.connection (sym c.in-Some.ensures.taken))
-    c.conclude-more.ensures.goes_on c.conclude-more.ensures.over (λ _. c.end_turn-outcome.ensures.queued ∙ c.in_ok-kept.ensures.queued)
+    c.finish_turn-more.ensures.goes_on c.finish_turn-more.ensures.over (λ _. c.end_turn-outcome.ensures.queued ∙ c.in_ok-server.ensures.queued)
 
 pub returns-clause-limits : goal.returns-clause-limits
-returns-clause-limits g c = c.conclude-more.ensures.limits
+returns-clause-limits g c = c.finish_turn-more.ensures.limits
 
 pub returns-clause-scanned : goal.returns-clause-scanned
-returns-clause-scanned g c = c.conclude-more.ensures.scanned
+returns-clause-scanned g c = c.finish_turn-more.ensures.scanned
 
 pub returns-clause-turns : goal.returns-clause-turns
-returns-clause-turns g c = c.conclude-more.ensures.turns
+returns-clause-turns g c = c.finish_turn-more.ensures.turns
 
 pub returns-clause-all : goal.returns-clause-all
-returns-clause-all g c = c.conclude-more.ensures.all
+returns-clause-all g c = c.finish_turn-more.ensures.all
 
 pub returns-clause-ready : goal.returns-clause-ready
-returns-clause-ready g c = c.conclude-more.ensures.ready
+returns-clause-ready g c = c.finish_turn-more.ensures.ready
 
 pub returns-clause-bounded : goal.returns-clause-bounded
-returns-clause-bounded g c = is_bounded c.conclude-more.new.self
+returns-clause-bounded g c = is_bounded c.finish_turn-more.new.self
 
 pub returns-clause-free : goal.returns-clause-free
 returns-clause-free g c = λ none. absurd (is_there (connection_at c.args.self.now.places.connections.items c.args.place) c.in-Some.connection

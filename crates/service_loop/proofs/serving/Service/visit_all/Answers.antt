@@ -12,17 +12,17 @@ loop-place-preserved g c =
     let s = c.args.self.now.scanned in
     let t = c.args.self.now.limits.idle in
     let same : c.loop-place.self.limits.idle ≡ t = ap (λ (k : Limits). k.idle) c.loop-place.invariant.limits in
-    let moved = stays_moved before after c.loop-place.self.scanned c.loop-place.self.limits.idle s t c.loop-place.invariant.scanned same c.in_ok-kept.ensures.stays in
+    let moved = stays_moved before after c.loop-place.self.scanned c.loop-place.self.limits.idle s t c.loop-place.invariant.scanned same c.in_ok-server.ensures.stays in
     let here = here_moved after c.loop-place.place c.loop-place.self.scanned c.loop-place.self.limits.idle s t c.loop-place.invariant.scanned same
-    c.in_ok-kept.ensures.idle in
+    c.in_ok-server.ensures.idle in
     record {
-      noted = c.in_ok-kept.ensures.noted;
-      limits = c.in_ok-kept.ensures.limits ∙ c.loop-place.invariant.limits;
-      scanned = c.in_ok-kept.ensures.scanned ∙ c.loop-place.invariant.scanned;
+      noted = c.in_ok-server.ensures.noted;
+      limits = c.in_ok-server.ensures.limits ∙ c.loop-place.invariant.limits;
+      scanned = c.in_ok-server.ensures.scanned ∙ c.loop-place.invariant.scanned;
       stays = λ i h. moved i (c.loop-place.invariant.stays i h);
-      marks_stay = λ i h. c.in_ok-kept.ensures.marks_stay i (c.loop-place.invariant.marks_stay i h);
+      marks_stay = λ i h. c.in_ok-server.ensures.marks_stay i (c.loop-place.invariant.marks_stay i h);
       marked = λ i lt. below_next (λ k. HasTurnIfMarked after c.visit.new.self.visits_all c.visit.new.self.ready.items k) c.loop-place.place i lt
-          c.in_ok-kept.ensures.marked (λ lower. c.in_ok-kept.ensures.marks_stay i (c.loop-place.invariant.marked i lower));
+          c.in_ok-server.ensures.marked (λ lower. c.in_ok-server.ensures.marks_stay i (c.loop-place.invariant.marked i lower));
       idle = λ i lt. below_next (λ k. HasNoIdle after k s t) c.loop-place.place i lt here (λ lower. moved i (c.loop-place.invariant.idle i lower));
     }
 

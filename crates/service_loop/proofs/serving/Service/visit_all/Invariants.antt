@@ -5,7 +5,7 @@ use Rattle.service_loop.proofs.serving.Service.visit_all.Given as goal
 
 abbrev pub invariant-loop-place : goal.invariant-loop-place
 invariant-loop-place g l = record {
-  noted : AreNoted l.self.places.connections.items l.kept.core l.self.next_id;
+  noted : AreNoted l.self.places.connections.items l.server.core l.self.next_id;
   limits : l.self.limits ≡ l.fn.self.limits;
   scanned : l.self.scanned ≡ l.fn.self.scanned;
   stays : (i : ℕ) → HasNoIdle l.fn.self.places.connections.items i l.fn.self.scanned l.fn.self.limits.idle

@@ -13,9 +13,9 @@ loop-at-preserved g c =
     let t = c.args.self.now.limits.idle in
     let ready = c.args.self.now.ready.items in
     let same : c.loop-at.self.limits.idle ≡ t = ap (λ (k : Limits). k.idle) c.loop-at.invariant.limits in
-    let moved = stays_moved before after c.loop-at.self.scanned c.loop-at.self.limits.idle s t c.loop-at.invariant.scanned same c.in_ok-kept.ensures.stays in
+    let moved = stays_moved before after c.loop-at.self.scanned c.loop-at.self.limits.idle s t c.loop-at.invariant.scanned same c.in_ok-server.ensures.stays in
     let here = here_moved after c.index-place.result.now c.loop-at.self.scanned c.loop-at.self.limits.idle s t c.loop-at.invariant.scanned same
-    c.in_ok-kept.ensures.idle in
+    c.in_ok-server.ensures.idle in
     let is = c.len-at-end.ensures in
     let swapped : length c.swap.new.y.items ≡ length ready = ap (λ v. length v.items) c.swap.ensures.y_after in
     let test = c.loop-at-test.true in
@@ -23,17 +23,17 @@ loop-at-preserved g c =
     let there = at_index (λ i. HasNoIdle after i s t) c.loop-at.self.turns.items ready c.loop-at.at c.index-place.result.now
     (ap (λ v. v.items) c.loop-at.invariant.turns) within c.index-place.ensures here in
     record {
-      noted = c.in_ok-kept.ensures.noted;
-      limits = c.in_ok-kept.ensures.limits ∙ c.loop-at.invariant.limits;
-      scanned = c.in_ok-kept.ensures.scanned ∙ c.loop-at.invariant.scanned;
-      turns = c.in_ok-kept.ensures.turns ∙ c.loop-at.invariant.turns;
+      noted = c.in_ok-server.ensures.noted;
+      limits = c.in_ok-server.ensures.limits ∙ c.loop-at.invariant.limits;
+      scanned = c.in_ok-server.ensures.scanned ∙ c.loop-at.invariant.scanned;
+      turns = c.in_ok-server.ensures.turns ∙ c.loop-at.invariant.turns;
       stays = λ i h. moved i (c.loop-at.invariant.stays i h);
       marked = λ m i. turns_go_on
           (λ n. HasTurnIfMarked before c.loop-at.self.visits_all c.loop-at.self.ready.items n)
           (λ n. HasTurnIfMarked after c.visit.new.self.visits_all c.visit.new.self.ready.items n) ready c.loop-at.at c.index-place.result.now
           (at_index (λ x. x ≡ c.index-place.result.now) c.loop-at.self.turns.items ready c.loop-at.at c.index-place.result.now
           (ap (λ v. v.items) c.loop-at.invariant.turns) within c.index-place.ensures refl)
-          c.in_ok-kept.ensures.marked c.in_ok-kept.ensures.marks_stay i (c.loop-at.invariant.marked m i);
+          c.in_ok-server.ensures.marked c.in_ok-server.ensures.marks_stay i (c.loop-at.invariant.marked m i);
       idle = λ k lt. below_next (λ n. IfSome (slice_get ready n) (λ i. HasNoIdle after i s t)) c.loop-at.at k lt there
           (λ lower. shown_at (λ i. HasNoIdle before i s t) (λ i. HasNoIdle after i s t) ready k moved (c.loop-at.invariant.idle k lower));
     }

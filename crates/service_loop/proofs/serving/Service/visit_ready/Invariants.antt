@@ -5,7 +5,7 @@ use Rattle.service_loop.proofs.serving.Service.visit_ready.Given as goal
 
 abbrev pub invariant-loop-at : goal.invariant-loop-at
 invariant-loop-at g l = record {
-  noted : AreNoted l.self.places.connections.items l.kept.core l.self.next_id;
+  noted : AreNoted l.self.places.connections.items l.server.core l.self.next_id;
   limits : l.self.limits ≡ l.fn.self.limits;
   scanned : l.self.scanned ≡ l.fn.self.scanned;
   turns : l.self.turns ≡ l.fn.self.ready;

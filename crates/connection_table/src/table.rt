@@ -13,7 +13,7 @@ use std::alloc::{AllocError, Global};
 /// A place for each connection that there may be at once. Between two calls no more bytes are held for all of them, of
 /// unfinished frames and of replies that are owed, than is allowed.
 #[derive(Drop)]
-pub struct Places {
+pub struct ConnectionTable {
     /// The connection at each place.
     pub connections: Vec<Option<Connection>>,
     /// How many bytes may be held for all connections.
@@ -24,13 +24,13 @@ pub struct Places {
     ghost within: { held ≤ memory },
 }
 
-impl Places {
+impl ConnectionTable {
     /// So many places, all free.
     ///
     /// # Errors
     ///
     /// `AllocError` where there is no memory for them.
-    pub fn new(alloc: Global, most: usize, memory: usize) -> Result<Places, AllocError>
+    pub fn new(alloc: Global, most: usize, memory: usize) -> Result<ConnectionTable, AllocError>
         ensures free { IfOk result (λ places. places.connections.items ≡ replicate most None) }
         ensures memory { IfOk result (λ places. places.memory ≡ memory) }
     {
@@ -38,7 +38,7 @@ impl Places {
         for _ in 0..most {
             connections.push(None)?;
         }
-        Ok(Places {
+        Ok(ConnectionTable {
             connections,
             memory,
             held: 0,
@@ -249,7 +249,7 @@ fn owed_to(place: &Option<Connection>) -> u64
     ensures { result ≡ owed_bytes place.now }
 {
     match place {
-        Some(connection) => connection.link.owed().len() as u64,
+        Some(connection) => connection.state.owed().len() as u64,
         None => 0,
     }
 }

@@ -7,7 +7,7 @@ ghost use Rattle.service_core.specs.Links.{accepted, after_end, after_receipt, a
 ghost use Rattle.service_core.specs.Runs.{OthersStay};
 ghost use Rattle.service_core.specs.Turns.{AtEach, ServesNext, StopsNext};
 
-use crate::tail::Tail;
+use crate::byte_queue::ByteQueue;
 use matrix_u32::Kernel;
 use server_core::ServerCore;
 use std::alloc::{AllocError, Global};
@@ -21,9 +21,9 @@ const OWED_LIMIT: usize = 65_536;
 
 /// A connection: what was received and not yet served, what is owed and not yet written.
 #[derive(Drop)]
-pub struct Link {
-    unserved: Tail,
-    owed: Tail,
+pub struct ConnectionState {
+    unserved: ByteQueue,
+    owed: ByteQueue,
     // The session is open.
     live: bool,
     // A read found the end of the input.
@@ -40,12 +40,12 @@ struct Progress {
     awaited: usize,
 }
 
-impl Model for Link {
+impl Model for ConnectionState {
     ghost use Rattle.std.specs.Prelude.{◌≤◌, length};
     ghost use Rattle.service_core.specs.Sizes.{piece_size};
-    ghost use Rattle.service_core.specs.Links.{LinkState};
+    ghost use Rattle.service_core.specs.Links.{ConnectionSeen};
 
-    ghost Value = { LinkState };
+    ghost Value = { ConnectionSeen };
 
     ghost view = { λ l. record {
       unserved = l.unserved;
@@ -59,14 +59,14 @@ impl Model for Link {
     ghost invariant = { λ l. length l.unserved ≤ piece_size };
 }
 
-impl Link {
+impl ConnectionState {
     /// A connection that was accepted just now, at a moment in milliseconds.
-    pub fn new(alloc: Global, now: u64) -> Link
+    pub fn new(alloc: Global, now: u64) -> ConnectionState
         ensures { result ≡ accepted now }
     {
-        Link {
-            unserved: Tail::new(alloc),
-            owed: Tail::new(alloc),
+        ConnectionState {
+            unserved: ByteQueue::new(alloc),
+            owed: ByteQueue::new(alloc),
             live: true,
             ended: false,
             last: Progress {

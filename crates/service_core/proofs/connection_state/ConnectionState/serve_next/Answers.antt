@@ -1,14 +1,14 @@
 use Rattle.std.proofs.Common.{◌∙◌, ◌-◌, List, length, ap, ℕ}
 use Rattle.std.specs.Prelude.{cond}
 use Rattle.server_core.specs.Serving.{setting_of}
-use Rattle.service_core.specs.Links.{LinkState, is_progress}
-use Rattle.service_core.specs.declared.link.Progress.{Progress}
+use Rattle.service_core.specs.Links.{ConnectionSeen, is_progress}
+use Rattle.service_core.specs.declared.connection_state.Progress.{Progress}
 use Rattle.service_core.proofs.Steps.{serves_next, stops_given, Saw}
-use Rattle.service_core.proofs.link.Link.serve_next.Goals as goal
+use Rattle.service_core.proofs.connection_state.ConnectionState.serve_next.Goals as goal
 
 pub returns-in-Ok-clause-served : goal.returns-in-Ok-clause-served
 returns-in-Ok-clause-served g c h stands s is =
-    let old : LinkState = record {
+    let old : ConnectionSeen = record {
       unserved = c.self.inside.unserved;
       owed = c.self.inside.owed;
       live = c.self.inside.live;
@@ -34,7 +34,7 @@ returns-in-Ok-clause-served g c h stands s is =
 
 pub returns-in-Err-clause-stopped : goal.returns-in-Err-clause-stopped
 returns-in-Err-clause-stopped g c h stands s is =
-    let old : LinkState = record {
+    let old : ConnectionSeen = record {
       unserved = c.self.inside.unserved;
       owed = c.self.inside.owed;
       live = c.self.inside.live;

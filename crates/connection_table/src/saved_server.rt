@@ -13,7 +13,7 @@ use server_core::{ServerCore, SessionError};
 /// it back, unless a publication may be there in part or without having been made: then there is none with which another
 /// turn could be made, and nothing is written any more.
 #[derive(Drop)]
-pub struct Kept<S: Saver> {
+pub struct SavedServer<S: Saver> {
     /// The server.
     pub core: ServerCore<Lanes>,
     /// What writes its publications down.
@@ -23,14 +23,14 @@ pub struct Kept<S: Saver> {
     ghost is_saved: { S.saved saver ≡ core.store.version },
 }
 
-impl<S: Saver> Kept<S> {
+impl<S: Saver> SavedServer<S> {
     /// A server whose version was written down by this saver, or was there to begin with.
-    pub fn opened(core: ServerCore<Lanes>, saver: S) -> Kept<S>
+    pub fn opened(core: ServerCore<Lanes>, saver: S) -> SavedServer<S>
         requires saved { S.saved saver ≡ core.store.version }
         ensures core { result.core ≡ core }
         ensures saver { result.saver ≡ saver }
     {
-        Kept {
+        SavedServer {
             core,
             saver,
             counters: Tallies::new(),
@@ -52,16 +52,16 @@ impl<S: Saver> Kept<S> {
     }
 
     /// The same server without its draft.
-    pub fn without_draft(self) -> Kept<S>
+    pub fn without_draft(self) -> SavedServer<S>
         ensures { DoesToCore self.core Undrafts result.core }
     {
-        let Kept {
+        let SavedServer {
             mut core,
             saver,
             counters,
         } = self;
         core.drop_draft();
-        Kept {
+        SavedServer {
             core,
             saver,
             counters,

@@ -3,7 +3,7 @@ use Rattle.std.specs.List.{IsFirstMaxByKey}
 use Rattle.connection_table.specs.declared.connection.Connection.{Connection}
 use Rattle.connection_table.specs.Places.{held_bytes, all_held}
 use Rattle.connection_table.proofs.Largest.{largest_is_no_less, sum_without_largest}
-use Rattle.connection_table.proofs.places.Places.put.Goals as goal
+use Rattle.connection_table.proofs.table.ConnectionTable.put.Goals as goal
 
 pub overflow_sub-self-2 : goal.overflow_sub-self-2
 overflow_sub-self-2 c =
