@@ -15,7 +15,7 @@ mod turning;
 mod watch;
 
 pub use connection::{Connection, TurnResult};
-pub use device::{Saver, micros_since, unix_millis};
+pub use device::Saver;
 pub use report::{Closing, RunFault};
 pub use saved_server::SavedServer;
 pub use table::ConnectionTable;

@@ -9,11 +9,12 @@ ghost use Rattle.connection_table.specs.Judging.{GoesOn, IsIdle};
 ghost use Rattle.connection_table.specs.Watching.{published_between};
 
 use crate::connection::{Connection, TurnResult};
-use crate::device::{Saver, micros_since, unix_millis};
+use crate::device::Saver;
 use crate::report::RunFault;
 use crate::saved_server::SavedServer;
 use crate::tallies::{Tallies, TurnTimes};
 use crate::watch::Watch;
+use service_status::{micros_since, unix_millis};
 use service_watch::Counted;
 use std::time::Instant;
 

@@ -2,14 +2,12 @@
 
 ghost use Rattle.std.specs.Prelude.{IfOk};
 ghost use Rattle.snapshot_file.specs.declared.snapshot.Snapshot.{Snapshot};
-ghost use Rattle.server_files.specs.Moves.{HasRecordsOf, IsWideOf};
+ghost use Rattle.server_commands.specs.Moves.{HasRecordsOf, IsWideOf};
 
 use crate::running::run_file;
 use command_words::{Failed, Failure, open_standard_descriptors, printed, program_words};
-use server_files::{
-    OwnFile, RecordsOf, back_up, compact_file, failed_at, make, moved, rekey, serve_file, show,
-    whole_of, widened, write_anew,
-};
+use server_commands::{back_up, make, moved, rekey, serve_file, show, widened};
+use server_files::{OwnFile, RecordsOf, compact_file, failed_at, whole_of, write_anew};
 use server_words::{Making, Migrating, SEED_TAKES, Task, Widening, task_of};
 use service_loop::say_line;
 use session_core::{OnceFault, Snapshot, once};

@@ -5,7 +5,8 @@ ghost use Rattle.publisher_files.specs.Names.{name_in};
 
 use command_words::{Failed, Failure};
 use safe_files::{FileSystem, folder_of};
-use server_files::{OwnFile, failed_at, make};
+use server_commands::make;
+use server_files::{OwnFile, failed_at};
 use server_words::Making;
 use std::alloc::{AllocError, Global};
 use std::fs;

@@ -1,5 +1,3 @@
-pub mod Moves
-pub mod Makings
 pub mod Progress
 pub mod ReadIn
 pub mod Versions

@@ -15,7 +15,7 @@ use crate::file_version::{
 };
 use crate::last_bytes::LastBytes;
 use crate::logs::{OwnLog, log_failure, replay_failure};
-use crate::progress::{Progress, Whole};
+use crate::progress::{InputSize, Progress};
 use crate::reading_in::{Unwritten, how_unwritten, replace_read};
 use command_words::Failure;
 use log_replay::earlier_count;
@@ -232,8 +232,8 @@ pub fn kept_file<R: FileSystem>(
 /// What reports on the reading of a file, a line each second; nothing if the system has no clock.
 pub fn progress_of_file<'a>(rt: &'a HostRuntime, name: &str) -> Option<Progress<'a>> {
     let whole = match fs::metadata(rt, name) {
-        Ok(found) => Whole::Bytes(found.len()),
-        Err(_) => Whole::Unknown,
+        Ok(found) => InputSize::Bytes(found.len()),
+        Err(_) => InputSize::Unknown,
     };
     Progress::new(rt, whole)
 }

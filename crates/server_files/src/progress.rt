@@ -69,7 +69,7 @@ impl<'a> Pace<'a> {
 
 /// How much there is to read, where that is known.
 #[derive(Clone, Copy)]
-pub enum Whole {
+pub enum InputSize {
     /// So many bytes.
     Bytes(u64),
     /// So many lines.
@@ -82,14 +82,14 @@ pub enum Whole {
 #[derive(Drop)]
 pub struct Progress<'a> {
     pace: Pace<'a>,
-    whole: Whole,
+    whole: InputSize,
     bytes: u64,
     lines: u64,
 }
 
 impl<'a> Progress<'a> {
     /// Of an input of this size nothing has been read. None where the system has no clock.
-    pub fn new(rt: &'a HostRuntime, whole: Whole) -> Option<Progress<'a>> {
+    pub fn new(rt: &'a HostRuntime, whole: InputSize) -> Option<Progress<'a>> {
         let Some(pace) = Pace::new(rt) else {
             return None;
         };
@@ -104,7 +104,7 @@ impl<'a> Progress<'a> {
     // Counts a piece that was read, and says so once a second.
     fn take(&mut self, piece: &[u8]) {
         self.bytes = self.bytes.saturating_add(piece.len() as u64);
-        if matches!(self.whole, Whole::Lines(_)) {
+        if matches!(self.whole, InputSize::Lines(_)) {
             let ends = piece.iter().filter(|byte| **byte == b'\n').count();
             self.lines = self.lines.saturating_add(ends as u64);
         }
@@ -124,9 +124,9 @@ impl<'a> Progress<'a> {
     // How many seconds are left, where that can be known.
     fn left(&self) -> Option<u128> {
         match self.whole {
-            Whole::Bytes(whole) => self.pace.left(self.bytes, whole),
-            Whole::Lines(whole) => self.pace.left(self.lines, whole),
-            Whole::Unknown => None,
+            InputSize::Bytes(whole) => self.pace.left(self.bytes, whole),
+            InputSize::Lines(whole) => self.pace.left(self.lines, whole),
+            InputSize::Unknown => None,
         }
     }
 }

@@ -4,13 +4,10 @@
 //! be accepted, whose turn it is, who is closed, and when the service stops.
 #![tactic(auto)]
 
-mod lines;
 mod serving;
-mod status;
-mod stopping;
 
 pub use connection_table::{RunFault, Saver};
-pub use lines::say_line;
 pub use service_core::{AppendFailed, SaveFailed};
+pub use service_status::say_line;
 pub use service_watch::LogFormat;
 pub use serving::{Limits, run_service};

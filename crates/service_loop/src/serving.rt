@@ -8,15 +8,13 @@ mod drafting;
 mod queueing;
 mod turns;
 
-use crate::lines::Log;
-use crate::status::Status;
-use crate::stopping::{InputState, Phase, read_input, watch_input};
 use connection_table::{ConnectionTable, RunFault, SavedServer, Saver};
 use lane_kernels::Lanes;
 use mio::net::TcpListener;
 use mio::{Events, Interest, Poll, Token};
 use server_core::ServerCore;
 use service_core::PIECE_LEN;
+use service_status::{InputState, Log, Phase, Status, StatusFault, read_input, watch_input};
 use service_watch::{DraftLife, Entry, Event, LogFormat};
 use std::io;
 use std::net::SocketAddr;
@@ -112,12 +110,18 @@ pub fn run_service<S: Saver + Drop>(
         Err(_) => return Err(RunFault::Memory),
     };
     let mut status = match status {
-        Some(address) => Some(Status::listen(rt, &service.poll, address)?),
+        Some(address) => match Status::listen(rt, &service.poll, address) {
+            Ok(status) => Some(status),
+            Err(fault) => return Err(fault_of_status(fault)),
+        },
         None => None,
     };
     let address = service.print(rt)?;
     if let Some(status) = &status {
-        status.print(rt)?;
+        match status.print(rt) {
+            Ok(()) => {}
+            Err(fault) => return Err(fault_of_status(fault)),
+        }
     }
     service
         .log
@@ -128,6 +132,15 @@ pub fn run_service<S: Saver + Drop>(
         SavedServer::opened(core, saver),
         &mut status,
     )
+}
+
+// How a service ends whose status has this fault.
+fn fault_of_status(fault: StatusFault) -> RunFault {
+    match fault {
+        StatusFault::Listen => RunFault::Status,
+        StatusFault::Write => RunFault::Write,
+        StatusFault::Memory => RunFault::Memory,
+    }
 }
 
 // Listens.
@@ -193,8 +206,8 @@ fn listen(
         Ok(poll) => poll,
         Err(e) => return Err(RunFault::of_system(&e)),
     };
-    if watches {
-        watch_input(&poll)?;
+    if watches && watch_input(&poll).is_err() {
+        return Err(RunFault::Input);
     }
     match bind(rt, &poll, address) {
         Ok(listener) => Ok((poll, listener)),
@@ -212,7 +225,7 @@ fn bind(rt: &HostRuntime, poll: &Poll, address: SocketAddr) -> io::Result<TcpLis
 
 impl Service {
     ghost use Rattle.service_loop.specs.Turns.{AreMarkedNoted, HasNoIdle};
-    ghost use Rattle.service_loop.specs.Stopping.{IsOver, is_stopping, stopping_from};
+    ghost use Rattle.service_status.specs.Stopping.{IsOver, is_stopping, stopping_from};
     ghost use Rattle.connection_table.specs.Places.{open_count};
     ghost use Rattle.service_loop.specs.Sessions.{AreNoted};
 

@@ -60,7 +60,7 @@ impl Service {
                     return Ok(());
                 }
                 Err(e) => {
-                    self.log.report(rt, Closing::Connect, None, None);
+                    self.log.report(rt, Closing::Connect.name(), None, None);
                     server.counters.add(Counted::Closed(Cause::Connect), 1);
                     if has_no_descriptor(&e) {
                         self.accepts_from = now.saturating_add(PAUSE);
@@ -109,13 +109,15 @@ impl Service {
     {
         let peer = octets_of(address.ip());
         if has_enough(self.limits.most_per_peer, self.places.open_of(&peer)) {
-            self.log.report(rt, Closing::TooMany, None, Some(address));
+            self.log
+                .report(rt, Closing::TooMany.name(), None, Some(address));
             server.counters.add(Counted::Closed(Cause::TooMany), 1);
             return;
         }
         let id = self.next_id;
         let Some(next_id) = id.checked_add(1) else {
-            self.log.report(rt, Closing::Connect, None, Some(address));
+            self.log
+                .report(rt, Closing::Connect.name(), None, Some(address));
             server.counters.add(Counted::Closed(Cause::Connect), 1);
             return;
         };
@@ -127,7 +129,8 @@ impl Service {
             .registry()
             .register(&mut stream, Token(place), both);
         if registered.is_err() || server.open_session(id).is_err() {
-            self.log.report(rt, Closing::Connect, None, Some(address));
+            self.log
+                .report(rt, Closing::Connect.name(), None, Some(address));
             server.counters.add(Counted::Closed(Cause::Connect), 1);
             return;
         }

@@ -1,9 +1,9 @@
 //! Those who ask how the service does, after the turns of a round.
 
 use super::Service;
-use crate::status::Status;
-use connection_table::{RunFault, SavedServer, Saver, micros_since};
+use connection_table::{RunFault, SavedServer, Saver};
 use mio::Events;
+use service_status::{Status, micros_since};
 use service_watch::Figures;
 use std::net::SocketAddr;
 

@@ -3,8 +3,8 @@
 ghost use Rattle.std.specs.Prelude.{◌≡◌, ◌≤◌, ◌<◌, ℕ, slice_set};
 
 use super::{LISTENER, LONGEST_WAIT, Service};
-use crate::stopping::INPUT;
 use mio::Events;
+use service_status::INPUT;
 
 /// How many milliseconds at least lie between two looks at all connections for what is due.
 const RESCAN: u64 = 100;

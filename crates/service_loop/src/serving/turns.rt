@@ -224,7 +224,7 @@ impl Service {
         let (id, address) = (connection.id, connection.address);
         match outcome {
             TurnResult::Closed(closing) => {
-                self.log.report(rt, closing, Some(id), Some(address));
+                self.log.report(rt, closing.name(), Some(id), Some(address));
                 server.counters.add(Counted::Closed(closing.cause()), 1);
             }
             _ => {
@@ -259,8 +259,12 @@ impl Service {
         ensures ready { self.new.ready ≡ self.old.ready }
     {
         if let Some(lost) = self.places.put(place, connection) {
-            self.log
-                .report(rt, Closing::Crowded, Some(lost.id), Some(lost.address));
+            self.log.report(
+                rt,
+                Closing::Crowded.name(),
+                Some(lost.id),
+                Some(lost.address),
+            );
             server.counters.add(Counted::Closed(Cause::Memory), 1);
             self.full = false;
             server.close_session(lost.id);

@@ -1,5 +1,5 @@
 use Rattle.std.proofs.Common.{◌≡◌, ℕ, Option, IfSome, inr, sym, subst}
-use Rattle.service_loop.specs.Stopping.{stopping_from}
+use Rattle.service_status.specs.Stopping.{stopping_from}
 use Rattle.service_loop.proofs.serving.Service.stop_at_end.Goals as goal
 
 pub returns-in_ok-now-in-Ended-clause-phase : goal.returns-in_ok-now-in-Ended-clause-phase
