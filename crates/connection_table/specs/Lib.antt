@@ -2,6 +2,6 @@ pub mod Drafting
 pub mod Ending
 pub mod Holding
 pub mod Judging
-pub mod ConnectionTable
+pub mod Places
 pub mod Timing
 pub mod Watching
