@@ -36,14 +36,56 @@ pub fn run_file(rt: &HostRuntime, options: &RunOptions<'_>) -> Result<(), Failed
         Ok(file) => file,
         Err(failure) => return Err(failed_at(rt, options.file, failure)),
     };
+    run_own(rt, options, &mut file)
+}
+
+// Serves a file that no other process has.
+fn run_own(
+    rt: &HostRuntime,
+    options: &RunOptions<'_>,
+    file: &mut OwnFile<'_>,
+) -> Result<(), Failed> {
     let limit = bytes_of_mib(options.log_limit);
     let mut lines = HintLines::new(rt, options.progress);
-    let (store, saver) = match open_to_run(rt, &mut file, limit, options.progress, &mut lines) {
-        Ok(both) => both,
-        Err(failure) => return Err(failed_at(rt, options.file, failure)),
+    match open_to_run(rt, file, limit, options.progress, &mut lines) {
+        Ok((store, saver)) => run_saved(rt, options, ServerCore::new(rt.alloc(), store), saver),
+        Err(failure) => Err(failed_at(rt, options.file, failure)),
+    }
+}
+
+// Serves a store whose version is saved.
+fn run_saved(
+    rt: &HostRuntime,
+    options: &RunOptions<'_>,
+    core: ServerCore<Lanes>,
+    saver: FileSaver,
+) -> Result<(), Failed>
+    requires saved { saved_version saver.log ≡ core.store.version }
+{
+    let ended = match limits_of(rt, options) {
+        Ok(limits) => run_service(rt, core, options.listen, limits, options.status, saver),
+        Err(failure) => return Err(Failed::from(failure)),
     };
-    let core = ServerCore::new(rt.alloc(), store);
-    let limits = Limits {
+    match ended {
+        Ok(()) => Ok(()),
+        Err(fault) => Err(how_ended(rt, options, fault)),
+    }
+}
+
+// How the command fails when the service has ended so.
+fn how_ended(rt: &HostRuntime, options: &RunOptions<'_>, fault: RunFault) -> Failed {
+    match fault {
+        RunFault::Connect => not_listening(rt, options.listen),
+        RunFault::Status => not_listening(rt, options.status.unwrap_or(options.listen)),
+        RunFault::Write => failed_at(rt, options.file, Failure::Fault("Write")),
+        RunFault::Input => failed_at(rt, "standard input", Failure::Fault("Input")),
+        RunFault::Memory => Failed::from(Failure::Memory),
+    }
+}
+
+// What the service allows.
+fn limits_of(rt: &HostRuntime, options: &RunOptions<'_>) -> Result<Limits, Failure> {
+    Ok(Limits {
         most: possible_most(rt, options.most, other_descriptors(options))?,
         idle: options.idle.saturating_mul(1000),
         memory: bytes_of_mib(options.memory),
@@ -52,15 +94,7 @@ pub fn run_file(rt: &HostRuntime, options: &RunOptions<'_>) -> Result<(), Failed
         format: options.log,
         grace: grace_of(options),
         draft: options.draft,
-    };
-    match run_service(rt, core, options.listen, limits, options.status, saver) {
-        Ok(()) => Ok(()),
-        Err(RunFault::Connect) => Err(not_listening(rt, options.listen)),
-        Err(RunFault::Status) => Err(not_listening(rt, options.status.unwrap_or(options.listen))),
-        Err(RunFault::Write) => Err(failed_at(rt, options.file, Failure::Fault("Write"))),
-        Err(RunFault::Input) => Err(failed_at(rt, "standard input", Failure::Fault("Input"))),
-        Err(RunFault::Memory) => Err(Failed::from(Failure::Memory)),
-    }
+    })
 }
 
 // How many milliseconds what was begun has after the end of standard input.

@@ -21,17 +21,29 @@ pub fn back_up(rt: &HostRuntime, backing_up: &BackingUp<'_>) -> Result<(), Faile
         Ok(out) => out,
         Err(failure) => return Err(failed_at(rt, backing_up.out, failure)),
     };
-    let whole = match whole_of(rt, backing_up.file) {
-        Ok(whole) => whole,
-        Err(failure) => return Err(failed_at(rt, backing_up.file, failure)),
-    };
-    let header = match write_and_read(rt, &mut out, &whole.snapshot) {
+    let header = match copy_to(rt, backing_up, &mut out) {
         Ok(header) => header,
-        Err(failure) => return Err(failed_at(rt, backing_up.out, failure)),
+        Err(failed) => return Err(failed),
     };
     let count = header.count;
     let version = header.version;
     printed(rt, println!(rt; "backed up {count} {version}"))
+}
+
+// Writes the last version to a file that no other process has.
+fn copy_to(
+    rt: &HostRuntime,
+    backing_up: &BackingUp<'_>,
+    out: &mut OwnFile<'_>,
+) -> Result<Header, Failed> {
+    let whole = match whole_of(rt, backing_up.file) {
+        Ok(whole) => whole,
+        Err(failure) => return Err(failed_at(rt, backing_up.file, failure)),
+    };
+    match write_and_read(rt, out, &whole.snapshot) {
+        Ok(header) => Ok(header),
+        Err(failure) => Err(failed_at(rt, backing_up.out, failure)),
+    }
 }
 
 // Writes a snapshot to a file, and reads it again.

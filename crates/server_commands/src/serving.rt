@@ -39,18 +39,39 @@ pub fn serve_file(rt: &HostRuntime, serving: &Serving<'_>) -> Result<(), Failed>
         Ok(file) => file,
         Err(failure) => return Err(failed_at(rt, serving.file, failure)),
     };
-    let (store, mut saved) = match open_to_serve(rt, &mut file) {
-        Ok(both) => both,
-        Err(failure) => return Err(failed_at(rt, serving.file, failure)),
-    };
-    let mut core = ServerCore::new(rt.alloc(), store);
+    serve_own(rt, serving, &mut file)
+}
+
+// Serves a file that no other process has.
+fn serve_own(
+    rt: &HostRuntime,
+    serving: &Serving<'_>,
+    file: &mut OwnFile<'_>,
+) -> Result<(), Failed> {
+    match open_to_serve(rt, file) {
+        Ok((store, saved)) => {
+            let mut core = ServerCore::new(rt.alloc(), store);
+            serve_all(rt, serving, file, &mut core, saved)
+        }
+        Err(failure) => Err(failed_at(rt, serving.file, failure)),
+    }
+}
+
+// Listens, and serves so many connections, one after the other.
+fn serve_all(
+    rt: &HostRuntime,
+    serving: &Serving<'_>,
+    file: &mut OwnFile<'_>,
+    core: &mut ServerCore<Lanes>,
+    mut saved: FileVersion,
+) -> Result<(), Failed> {
     let listener = listen(rt, serving.port)?;
     for id in 0..serving.connections {
-        if let Err(fault) = serve_next(rt, &listener, &mut core, u64::from(id)) {
+        if let Err(fault) = serve_next(rt, &listener, core, u64::from(id)) {
             let name = fault_name(fault);
             let _ = eprintln!(rt; "connection: {name}");
         }
-        saved = match save_published(rt, &mut file, core.store(), saved) {
+        saved = match save_published(rt, file, core.store(), saved) {
             Ok(saved) => saved,
             Err(failure) => return Err(failed_at(rt, serving.file, failure)),
         };

@@ -57,19 +57,18 @@ fn description(alloc: Global, snapshot: &Snapshot, layout: &Layout) -> Result<St
     let version = snapshot.version;
     let form = snapshot.form;
     let mut text = format!(in alloc; "version {version}\nform {form}\n")?;
-    let records = records_line(alloc, snapshot, layout)?;
-    text.push_str(&records)?;
-    let sizes = sizes(alloc, layout, n)?;
-    text.push_str(&sizes)?;
-    let simple = words_of(alloc, Scheme::Simple, layout, n)?;
-    text.push_str(&simple)?;
-    let double = words_of(alloc, Scheme::Double, layout, n)?;
-    text.push_str(&double)?;
-    let simple = certainty_of(alloc, Scheme::Simple, layout)?;
-    text.push_str(&simple)?;
-    let double = certainty_of(alloc, Scheme::Double, layout)?;
-    text.push_str(&double)?;
+    add(&mut text, records_line(alloc, snapshot, layout))?;
+    add(&mut text, sizes(alloc, layout, n))?;
+    add(&mut text, words_of(alloc, Scheme::Simple, layout, n))?;
+    add(&mut text, words_of(alloc, Scheme::Double, layout, n))?;
+    add(&mut text, certainty_of(alloc, Scheme::Simple, layout))?;
+    add(&mut text, certainty_of(alloc, Scheme::Double, layout))?;
     Ok(text)
+}
+
+// Adds a line to a text, if there was memory for it.
+fn add(text: &mut String, line: Result<String, AllocError>) -> Result<(), AllocError> {
+    text.push_str(&line?)
 }
 
 // How many records there are, and their length: in form 2 the most that a slot has room for, and that of the longest one.
