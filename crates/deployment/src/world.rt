@@ -7,7 +7,7 @@ mod publishing;
 mod servers;
 
 use crate::events::{Event, Events, What};
-use deployment_model::{Broken, Client, Publisher, Setting, Talk, Truth};
+use deployment_model::{Broken, Client, Publisher, Records, Setting, Talk, Truth};
 use publisher_files::FolderVersion;
 use simulated_host::{Dice, Network, SimulatedDisk, SimulatedFiles};
 use simulated_server::{PIECE_LEN, Server};
@@ -203,22 +203,16 @@ pub fn begin<'a>(
 ) -> Result<World<'a>, Broken> {
     let setting = Setting::choose(&mut dice, sizes.large);
     let first = setting.first(alloc, &mut dice)?;
-    let Some(own) = files.first() else {
-        return Err(Broken::Memory);
-    };
     servers::make_files(alloc, disk, files, &sizes, &setting, &first)?;
-    let publisher = Publisher::new(
-        alloc,
-        own,
-        (PUBLISHER, RECORDS),
-        (setting.most(), !setting.has_slots()),
-        &first,
-    )?;
-    let seen = Vec::from_elem(
-        alloc,
-        0u64,
-        sizes.servers.saturating_mul(sizes.clients).min(65_536),
-    )?;
+    let Actors {
+        publisher,
+        servers,
+        clients,
+    } = actors(alloc, files, &sizes, &setting, &first)?;
+    let (truth, notes, rooms) = match beside(alloc, &sizes, first) {
+        Ok(made) => made,
+        Err(_) => return Err(Broken::Memory),
+    };
     Ok(World {
         alloc,
         disk,
@@ -228,18 +222,100 @@ pub fn begin<'a>(
         dice,
         network: Network::new(alloc),
         publisher,
-        servers: servers::all(alloc, files, &sizes)?,
-        clients: clients::all(alloc, files, &sizes)?,
-        seen,
-        truth: Truth::new(alloc, first)?,
+        servers,
+        clients,
+        seen: notes.seen,
+        truth,
         now: 0,
         step: 0,
-        unreachable: Vec::from_elem(alloc, false, sizes.machines().min(65_536))?,
-        behind: Vec::from_elem(alloc, false, sizes.servers.min(65_536))?,
+        unreachable: notes.unreachable,
+        behind: notes.behind,
         is_calm: false,
         events: Events::none(alloc),
         counts: Counts::default(),
-        buffer: Vec::from_elem(alloc, 0u8, PIECE_LEN)?,
-        room: Vec::from_elem(alloc, 0u8, 65_535)?,
+        buffer: rooms.buffer,
+        room: rooms.room,
     })
+}
+
+// Who acts.
+#[derive(Drop)]
+struct Actors<'a> {
+    publisher: Publisher<'a>,
+    servers: Vec<Server<'a>>,
+    clients: Vec<Client<'a>>,
+}
+
+// Those who act, with nothing that goes on.
+fn actors<'a>(
+    alloc: Global,
+    files: &'a [SimulatedFiles<'a>],
+    sizes: &Sizes,
+    setting: &Setting,
+    first: &Records,
+) -> Result<Actors<'a>, Broken> {
+    let Some(own) = files.first() else {
+        return Err(Broken::Memory);
+    };
+    let servers = servers::all(alloc, files, sizes)?;
+    let clients = clients::all(alloc, files, sizes)?;
+    let publisher = Publisher::new(
+        alloc,
+        own,
+        (PUBLISHER, RECORDS),
+        (setting.most(), !setting.has_slots()),
+        first,
+    )?;
+    Ok(Actors {
+        publisher,
+        servers,
+        clients,
+    })
+}
+
+// What is noted of machines.
+#[derive(Drop)]
+struct Notes {
+    seen: Vec<u64>,
+    unreachable: Vec<bool>,
+    behind: Vec<bool>,
+}
+
+impl Notes {
+    fn new(alloc: Global, sizes: &Sizes) -> Result<Notes, AllocError> {
+        let pairs = sizes.servers.saturating_mul(sizes.clients);
+        Ok(Notes {
+            seen: Vec::from_elem(alloc, 0u64, pairs.min(65_536))?,
+            unreachable: Vec::from_elem(alloc, false, sizes.machines().min(65_536))?,
+            behind: Vec::from_elem(alloc, false, sizes.servers.min(65_536))?,
+        })
+    }
+}
+
+// Room for pieces and records.
+#[derive(Drop)]
+struct Rooms {
+    buffer: Vec<u8>,
+    room: Vec<u8>,
+}
+
+impl Rooms {
+    fn new(alloc: Global) -> Result<Rooms, AllocError> {
+        Ok(Rooms {
+            buffer: Vec::from_elem(alloc, 0u8, PIECE_LEN)?,
+            room: Vec::from_elem(alloc, 0u8, 65_535)?,
+        })
+    }
+}
+
+// What stands beside those who act. Each part is made by itself: what is dropped when one can't be made is proved for each.
+fn beside(
+    alloc: Global,
+    sizes: &Sizes,
+    first: Records,
+) -> Result<(Truth, Notes, Rooms), AllocError> {
+    let truth = Truth::new(alloc, first)?;
+    let notes = Notes::new(alloc, sizes)?;
+    let rooms = Rooms::new(alloc)?;
+    Ok((truth, notes, rooms))
 }

@@ -155,54 +155,59 @@ impl<'a> Client<'a> {
         let Some(mut running) = self.running.take() else {
             return Ok(ClientStep::Nothing);
         };
-        let moved = if running.sent < running.out.len() {
-            running.send(network, dice)?
-        } else {
-            running.receive(self.number, network, dice, buffer)?
-        };
-        if let Some(retrieved) = running.run.take_retrieved() {
-            self.judge(&retrieved, truth)?;
-            self.retrieved = self.retrieved.saturating_add(1);
-            self.in_run = self.in_run.saturating_add(1);
-            let step = ClientStep::Retrieved(retrieved.index, retrieved.version);
-            if let ClientStep::Ended(_) = moved {
-                network.close(running.end);
-            } else {
-                self.running = Some(running);
-            }
-            return Ok(step);
+        match running.go(self.number, truth, network, dice, buffer) {
+            Ok(went) => Ok(self.after(running, went, network)),
+            Err(broken) => Err(broken),
         }
-        if running.run.counts.unreadable > 0 {
-            return Err(Broken::Unreadable {
-                client: self.number,
-            });
-        }
-        if let ClientStep::Ended(_) = moved {
+    }
+
+    // Goes on with a run after a step, unless it has ended. What came of the step: a record, if one was retrieved.
+    fn after(&mut self, running: Running<'a>, went: Went, network: &mut Network) -> ClientStep {
+        if let ClientStep::Ended(_) = went.moved {
             network.close(running.end);
         } else {
             self.running = Some(running);
         }
-        Ok(moved)
-    }
-
-    // Whether a record is the one that was published.
-    fn judge(&self, retrieved: &Retrieved, truth: &Truth) -> Result<(), Broken> {
-        let found = match truth.at(retrieved.version) {
-            Some(records) => records.get(retrieved.index as usize),
-            None => None,
+        let Some((index, version)) = went.retrieved else {
+            return went.moved;
         };
-        match found {
-            Some(bytes) if bytes == retrieved.bytes.as_slice() => Ok(()),
-            _ => Err(Broken::WrongRecord {
-                client: self.number,
-                index: retrieved.index,
-                version: retrieved.version,
-            }),
-        }
+        self.retrieved = self.retrieved.saturating_add(1);
+        self.in_run = self.in_run.saturating_add(1);
+        ClientStep::Retrieved(index, version)
     }
 }
 
+// What a step of a run came to.
+#[derive(Clone, Copy)]
+struct Went {
+    moved: ClientStep,
+    // The number and the version of a record that was retrieved.
+    retrieved: Option<(u32, u64)>,
+}
+
 impl Running<'_> {
+    // Sends or takes what there is, and judges the record that was retrieved, if one was.
+    fn go(
+        &mut self,
+        client: usize,
+        truth: &Truth,
+        network: &mut Network,
+        dice: &mut Dice,
+        buffer: &mut [u8],
+    ) -> Result<Went, Broken> {
+        let moved = if self.sent < self.out.len() {
+            self.send(network, dice)?
+        } else {
+            self.receive(client, network, dice, buffer)?
+        };
+        let retrieved = match self.run.take_retrieved() {
+            Some(retrieved) => Some(judged(client, &retrieved, truth)?),
+            None if self.run.counts.unreadable > 0 => return Err(Broken::Unreadable { client }),
+            None => None,
+        };
+        Ok(Went { moved, retrieved })
+    }
+
     // Sends some of what is to be sent.
     fn send(&mut self, network: &mut Network, dice: &mut Dice) -> Result<ClientStep, Broken> {
         let Some(left) = self.out.get(self.sent..) else {
@@ -263,6 +268,24 @@ impl Running<'_> {
             return ClientStep::Ended("Silent");
         }
         ClientStep::Nothing
+    }
+}
+
+// The number and the version of a record that was retrieved, if it is the one that was published.
+fn judged(client: usize, retrieved: &Retrieved, truth: &Truth) -> Result<(u32, u64), Broken> {
+    let found = match truth.at(retrieved.version) {
+        Some(records) => records.get(retrieved.index as usize),
+        None => None,
+    };
+    match found {
+        Some(bytes) if bytes == retrieved.bytes.as_slice() => {
+            Ok((retrieved.index, retrieved.version))
+        }
+        _ => Err(Broken::WrongRecord {
+            client,
+            index: retrieved.index,
+            version: retrieved.version,
+        }),
     }
 }
 
