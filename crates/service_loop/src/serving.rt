@@ -6,16 +6,18 @@ mod accepting;
 mod attending;
 mod drafting;
 mod queueing;
+mod schedule;
 mod turns;
 
-use connection_table::{ConnectionTable, RunFault, SavedServer, Saver};
+use connection_table::{Closing, ConnectionTable, RunFault, SavedServer, Saver, Tallies};
 use lane_kernels::Lanes;
 use mio::net::TcpListener;
 use mio::{Events, Interest, Poll, Token};
+use schedule::Schedule;
 use server_core::ServerCore;
 use service_core::PIECE_LEN;
 use service_status::{InputState, Log, Phase, Status, StatusFault, read_input, watch_input};
-use service_watch::{DraftLife, Entry, Event, LogFormat};
+use service_watch::{Counted, DraftLife, Entry, Event, LogFormat};
 use std::io;
 use std::net::SocketAddr;
 use std::time::{Duration, Instant};
@@ -65,15 +67,7 @@ struct Service {
     full: bool,
     // Where a free place is looked for first.
     place_from: usize,
-    // The places whose connections have their turn in this round, or the next one.
-    ready: Vec<usize>,
-    // Those that have it now.
-    turns: Vec<usize>,
-    // There was no memory to note a place: each one has a turn.
-    visits_all: bool,
-    // When all connections are looked at for what is due, and when they were last.
-    scan_at: u64,
-    scanned: u64,
+    schedule: Schedule,
     log: Log,
     // The number of the next session: none is used twice.
     next_id: u64,
@@ -104,34 +98,97 @@ pub fn run_service<S: Saver + Drop>(
 ) -> Result<(), RunFault>
     requires saved { S.saved saver ≡ core.store.version }
 {
+    match begin(rt, address, limits, status) {
+        Ok(mut begun) => begun.service.run(
+            rt,
+            &mut begun.events,
+            SavedServer::opened(core, saver),
+            &mut begun.status,
+        ),
+        Err(fault) => Err(fault),
+    }
+}
+
+// A service that listens, the room for its events, and who asks for its health, if that is wanted.
+#[derive(Drop)]
+struct Begun {
+    service: Service,
+    events: Events,
+    status: Option<Status>,
+}
+
+// Listens, and says where.
+fn begin(
+    rt: &HostRuntime,
+    address: SocketAddr,
+    limits: Limits,
+    status: Option<SocketAddr>,
+) -> Result<Begun, RunFault>
+    ensures limits { IfOk result (λ begun. begun.service.limits ≡ limits) }
+    ensures free { IfOk result (λ begun.
+        begun.service.places.connections.items ≡ replicate limits.most None) }
+    ensures number { IfOk result (λ begun. begun.service.next_id ≡ 0) }
+    ensures serving { IfOk result (λ begun. begun.service.phase ≡ Phase.Serving) }
+{
     let mut service = open_service(rt, address, limits)?;
-    let mut events = match Events::with_capacity(rt.alloc(), EVENTS) {
+    let events = match Events::with_capacity(rt.alloc(), EVENTS) {
         Ok(events) => events,
         Err(_) => return Err(RunFault::Memory),
     };
-    let mut status = match status {
-        Some(address) => match Status::listen(rt, &service.poll, address) {
-            Ok(status) => Some(status),
-            Err(fault) => return Err(fault_of_status(fault)),
-        },
-        None => None,
-    };
-    let address = service.print(rt)?;
-    if let Some(status) = &status {
-        match status.print(rt) {
-            Ok(()) => {}
-            Err(fault) => return Err(fault_of_status(fault)),
-        }
-    }
+    let status = listen_for_status(rt, &service.poll, status)?;
+    let address = print_addresses(rt, &service, &status)?;
     service
         .log
         .note(rt, &service_entry(Event::Listening, Some(address)));
-    service.run(
-        rt,
-        &mut events,
-        SavedServer::opened(core, saver),
-        &mut status,
-    )
+    Ok(Begun {
+        service,
+        events,
+        status,
+    })
+}
+
+// Listens for those who ask, if that is wanted.
+fn listen_for_status(
+    rt: &HostRuntime,
+    poll: &Poll,
+    address: Option<SocketAddr>,
+) -> Result<Option<Status>, RunFault> {
+    let Some(address) = address else {
+        return Ok(None);
+    };
+    match Status::listen(rt, poll, address) {
+        Ok(status) => Ok(Some(status)),
+        Err(fault) => Err(fault_of_status(fault)),
+    }
+}
+
+// Prints where the service listens, and answers that, and where those who ask are listened for.
+fn print_addresses(
+    rt: &HostRuntime,
+    service: &Service,
+    status: &Option<Status>,
+) -> Result<SocketAddr, RunFault> {
+    let address = service.print(rt)?;
+    match status {
+        Some(status) => match status.print(rt) {
+            Ok(()) => Ok(address),
+            Err(fault) => Err(fault_of_status(fault)),
+        },
+        None => Ok(address),
+    }
+}
+
+// Says why a connection is closed, and counts it.
+fn note_closing(
+    rt: &HostRuntime,
+    log: &mut Log,
+    counters: &mut Tallies,
+    closing: Closing,
+    session: Option<u64>,
+    address: Option<SocketAddr>,
+) {
+    log.report(rt, closing.name(), session, address);
+    counters.add(Counted::Closed(closing.cause()), 1);
 }
 
 // How a service ends whose status has this fault.
@@ -173,11 +230,7 @@ fn open_service(rt: &HostRuntime, address: SocketAddr, limits: Limits) -> Result
         places,
         full: false,
         place_from: 0,
-        ready: Vec::new(rt.alloc()),
-        turns: Vec::new(rt.alloc()),
-        visits_all: false,
-        scan_at: 0,
-        scanned: 0,
+        schedule: Schedule::new(rt.alloc()),
         log: Log::new(start, limits.quiet, limits.format),
         next_id: 0,
         buffer,
@@ -223,6 +276,28 @@ fn bind(rt: &HostRuntime, poll: &Poll, address: SocketAddr) -> io::Result<TcpLis
     Ok(listener)
 }
 
+// Waits so many milliseconds at most for events. Answers when it is then, in milliseconds since the start.
+fn await_events(
+    rt: &HostRuntime,
+    poll: &mut Poll,
+    start: Instant,
+    events: &mut Events,
+    wait: u64,
+) -> Result<u64, RunFault> {
+    match poll.poll(events, Some(Duration::from_millis(wait))) {
+        Ok(()) => millis_since(rt, start),
+        Err(e) => Err(RunFault::of_system(&e)),
+    }
+}
+
+// Milliseconds since a moment.
+fn millis_since(rt: &HostRuntime, start: Instant) -> Result<u64, RunFault> {
+    match start.elapsed(rt) {
+        Ok(elapsed) => Ok(u64::try_from(elapsed.as_millis()).unwrap_or(u64::MAX)),
+        Err(e) => Err(RunFault::of_system(&e)),
+    }
+}
+
 impl Service {
     ghost use Rattle.service_loop.specs.Turns.{AreMarkedNoted, HasNoIdle};
     ghost use Rattle.service_status.specs.Stopping.{IsOver, is_stopping, stopping_from};
@@ -239,36 +314,59 @@ impl Service {
     ) -> Result<(), RunFault>
         requires noted { AreNoted self.old.places.connections.items server.core self.old.next_id }
         requires marked { AreMarkedNoted self.old.places.connections.items
-            self.old.visits_all self.old.ready.items }
+            self.old.schedule.visits_all self.old.schedule.ready.items }
         requires idle { (i : ℕ) → HasNoIdle self.old.places.connections.items i
-            self.old.scanned self.old.limits.idle }
+            self.old.schedule.scanned self.old.limits.idle }
     {
-        let mut until = 0;
+        let mut wait = 0;
         for _ in 0..u64::MAX {
-            server = self.round(rt, events, until, server)?;
-            until = self.attend(rt, events, status, &server)?;
-            self.stop_at_end(rt)?;
-            if self.is_over(rt)? {
-                self.log.note(rt, &service_entry(Event::Stopped, None));
-                break;
+            server = self.round(rt, events, wait, server)?;
+            match self.end_round(rt, events, status, &server)? {
+                Some(next) => wait = next,
+                None => break,
             }
         }
         Ok(())
+    }
+
+    // What comes after the turns of a round: those who ask have their part, and the service stops if its input has ended. Answers how long
+    // the next round waits for events; nothing if the service is over.
+    fn end_round<S: Saver>(
+        &mut self,
+        rt: &HostRuntime,
+        events: &Events,
+        status: &mut Option<Status>,
+        server: &SavedServer<S>,
+    ) -> Result<Option<u64>, RunFault>
+        ensures places { self.new.places ≡ self.old.places }
+        ensures limits { self.new.limits ≡ self.old.limits }
+        ensures scanned { self.new.schedule.scanned ≡ self.old.schedule.scanned }
+        ensures number { self.new.next_id ≡ self.old.next_id }
+        ensures ready { self.new.schedule.ready ≡ self.old.schedule.ready }
+        ensures all { self.old.schedule.visits_all ≡ true → self.new.schedule.visits_all ≡ true }
+    {
+        let until = self.attend(rt, events, status, server)?;
+        self.stop_at_end(rt)?;
+        if self.is_over(rt)? {
+            self.log.note(rt, &service_entry(Event::Stopped, None));
+            return Ok(None);
+        }
+        Ok(Some(self.wait(rt, until)?))
     }
 
     // Stops if standard input has ended: nothing more is accepted, and each connection has a turn.
     fn stop_at_end(&mut self, rt: &HostRuntime) -> Result<(), RunFault>
         ensures places { self.new.places ≡ self.old.places }
         ensures limits { self.new.limits ≡ self.old.limits }
-        ensures scanned { self.new.scanned ≡ self.old.scanned }
+        ensures scanned { self.new.schedule.scanned ≡ self.old.schedule.scanned }
         ensures number { self.new.next_id ≡ self.old.next_id }
-        ensures ready { self.new.ready ≡ self.old.ready }
-        ensures all { self.old.visits_all ≡ true → self.new.visits_all ≡ true }
+        ensures ready { self.new.schedule.ready ≡ self.old.schedule.ready }
+        ensures all { self.old.schedule.visits_all ≡ true → self.new.schedule.visits_all ≡ true }
         ensures phase { (self.new.phase ≡ self.old.phase)
             ⊎ ((now : ℕ) × IfSome self.old.limits.grace (λ grace.
             self.new.phase ≡ stopping_from now grace self.old.phase)) }
         ensures stops { is_stopping self.old.phase ≡ false → is_stopping self.new.phase ≡ true →
-            (self.new.visits_all ≡ true) × (self.new.listener ≡ None) }
+            (self.new.schedule.visits_all ≡ true) × (self.new.listener ≡ None) }
     {
         if !self.input_ready {
             return Ok(());
@@ -292,10 +390,10 @@ impl Service {
     fn stop(&mut self, now: u64, grace: u64)
         ensures places { self.new.places ≡ self.old.places }
         ensures limits { self.new.limits ≡ self.old.limits }
-        ensures scanned { self.new.scanned ≡ self.old.scanned }
+        ensures scanned { self.new.schedule.scanned ≡ self.old.schedule.scanned }
         ensures number { self.new.next_id ≡ self.old.next_id }
-        ensures ready { self.new.ready ≡ self.old.ready }
-        ensures all { self.new.visits_all ≡ true }
+        ensures ready { self.new.schedule.ready ≡ self.old.schedule.ready }
+        ensures all { self.new.schedule.visits_all ≡ true }
         ensures closed { self.new.listener ≡ None }
         ensures phase { self.new.phase ≡ stopping_from now grace self.old.phase }
     {
@@ -303,7 +401,7 @@ impl Service {
         self.listener = None;
         self.acceptable = false;
         self.input_ready = false;
-        self.visits_all = true;
+        self.schedule.visits_all = true;
     }
 
     // Whether the service is over.
@@ -319,54 +417,47 @@ impl Service {
         }
     }
 
-    // Waits for events until a moment at most, unless there is more to do at once, accepts, and gives each connection a turn that has something to do.
+    // Waits so many milliseconds for events, accepts, and gives each connection a turn that has something to do.
     fn round<S: Saver + Drop>(
         &mut self,
         rt: &HostRuntime,
         events: &mut Events,
-        until: u64,
+        wait: u64,
         mut server: SavedServer<S>,
     ) -> Result<SavedServer<S>, RunFault>
         requires noted { AreNoted self.old.places.connections.items server.core self.old.next_id }
         requires marked { AreMarkedNoted self.old.places.connections.items
-            self.old.visits_all self.old.ready.items }
+            self.old.schedule.visits_all self.old.schedule.ready.items }
         requires idle { (i : ℕ) → HasNoIdle self.old.places.connections.items i
-            self.old.scanned self.old.limits.idle }
+            self.old.schedule.scanned self.old.limits.idle }
         ensures noted { IfOk result (λ server.
             AreNoted self.new.places.connections.items server.core self.new.next_id) }
         ensures marked { OnOk result (AreMarkedNoted self.new.places.connections.items
-            self.new.visits_all self.new.ready.items) }
+            self.new.schedule.visits_all self.new.schedule.ready.items) }
         ensures idle { OnOk result ((i : ℕ) → HasNoIdle self.new.places.connections.items i
-            self.new.scanned self.new.limits.idle) }
+            self.new.schedule.scanned self.new.limits.idle) }
     {
-        let wait = self.wait(rt, until)?;
-        match self.poll.poll(events, Some(Duration::from_millis(wait))) {
-            Ok(()) => {}
-            Err(e) => return Err(RunFault::of_system(&e)),
-        }
+        let now = await_events(rt, &mut self.poll, self.start, events, wait)?;
         server.counters.polled = self.micros(rt);
         self.note_all(events);
         self.accept_all(rt, &mut server)?;
-        self.note_due(self.now(rt)?);
+        self.note_due(now);
         self.take_turns(rt, server)
     }
 
     // Milliseconds since the start.
     fn now(&self, rt: &HostRuntime) -> Result<u64, RunFault> {
-        match self.start.elapsed(rt) {
-            Ok(elapsed) => Ok(u64::try_from(elapsed.as_millis()).unwrap_or(u64::MAX)),
-            Err(e) => Err(RunFault::of_system(&e)),
-        }
+        millis_since(rt, self.start)
     }
 
     // How long nothing needs to be done, until a moment at most, unless an event comes.
     fn wait(&self, rt: &HostRuntime, until: u64) -> Result<u64, RunFault> {
-        if self.visits_all || self.input_ready || !self.ready.is_empty() {
+        if self.schedule.visits_all || self.input_ready || !self.schedule.ready.is_empty() {
             return Ok(0);
         }
         let now = self.now(rt)?;
         let mut until = until
-            .min(self.scan_at)
+            .min(self.schedule.scan_at)
             .min(now.saturating_add(LONGEST_WAIT));
         if self.acceptable && !self.full {
             until = until.min(self.accepts_from);

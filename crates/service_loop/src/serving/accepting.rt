@@ -3,12 +3,12 @@
 ghost use Rattle.std.specs.Prelude.{◌≡◌, ◌<◌, ◌↔◌, ℕ, None, IsTrue, length};
 ghost use Rattle.service_loop.specs.Accepting.{HasEnough};
 
-use super::Service;
+use super::{Service, note_closing};
 use connection_table::{Closing, Connection, RunFault, SavedServer, Saver};
 use mio::net::TcpStream;
 use mio::{Interest, Token};
 use service_core::ConnectionState;
-use service_watch::{Cause, Counted, Event};
+use service_watch::{Counted, Event};
 use std::io;
 use std::io::ErrorKind;
 use std::net::{IpAddr, SocketAddr};
@@ -37,12 +37,14 @@ impl Service {
             self.old.next_id }
         ensures noted { AreNoted self.new.places.connections.items server.new.core
             self.new.next_id }
-        ensures turns { (i : ℕ) → HasTurn self.old.visits_all self.old.ready.items i
-            → HasTurn self.new.visits_all self.new.ready.items i }
+        ensures turns { (i : ℕ) → HasTurn self.old.schedule.visits_all
+            self.old.schedule.ready.items i
+            → HasTurn self.new.schedule.visits_all self.new.schedule.ready.items i }
         ensures comes { (i : ℕ) → ComesWithTurn self.old.places.connections.items
-            self.new.places.connections.items self.new.visits_all self.new.ready.items i }
+            self.new.places.connections.items self.new.schedule.visits_all
+            self.new.schedule.ready.items i }
         ensures limits { self.new.limits ≡ self.old.limits }
-        ensures scanned { self.new.scanned ≡ self.old.scanned }
+        ensures scanned { self.new.schedule.scanned ≡ self.old.schedule.scanned }
     {
         let now = self.now(rt)?;
         if !self.acceptable || now < self.accepts_from {
@@ -60,8 +62,14 @@ impl Service {
                     return Ok(());
                 }
                 Err(e) => {
-                    self.log.report(rt, Closing::Connect.name(), None, None);
-                    server.counters.add(Counted::Closed(Cause::Connect), 1);
+                    note_closing(
+                        rt,
+                        &mut self.log,
+                        &mut server.counters,
+                        Closing::Connect,
+                        None,
+                        None,
+                    );
                     if has_no_descriptor(&e) {
                         self.accepts_from = now.saturating_add(PAUSE);
                         return Ok(());
@@ -100,40 +108,57 @@ impl Service {
             self.new.places.connections.items }
         ensures sessions { SessionsStayOrGo self.old.next_id server.old.core server.new.core }
         ensures store { server.new.core.store ≡ server.old.core.store }
-        ensures turns { (i : ℕ) → HasTurn self.old.visits_all self.old.ready.items i
-            → HasTurn self.new.visits_all self.new.ready.items i }
+        ensures turns { (i : ℕ) → HasTurn self.old.schedule.visits_all
+            self.old.schedule.ready.items i
+            → HasTurn self.new.schedule.visits_all self.new.schedule.ready.items i }
         ensures comes { (i : ℕ) → ComesWithTurn self.old.places.connections.items
-            self.new.places.connections.items self.new.visits_all self.new.ready.items i }
+            self.new.places.connections.items self.new.schedule.visits_all
+            self.new.schedule.ready.items i }
         ensures limits { self.new.limits ≡ self.old.limits }
-        ensures scanned { self.new.scanned ≡ self.old.scanned }
+        ensures scanned { self.new.schedule.scanned ≡ self.old.schedule.scanned }
     {
         let peer = octets_of(address.ip());
         if has_enough(self.limits.most_per_peer, self.places.open_of(&peer)) {
-            self.log
-                .report(rt, Closing::TooMany.name(), None, Some(address));
-            server.counters.add(Counted::Closed(Cause::TooMany), 1);
+            note_closing(
+                rt,
+                &mut self.log,
+                &mut server.counters,
+                Closing::TooMany,
+                None,
+                Some(address),
+            );
             return;
         }
         let id = self.next_id;
         let Some(next_id) = id.checked_add(1) else {
-            self.log
-                .report(rt, Closing::Connect.name(), None, Some(address));
-            server.counters.add(Counted::Closed(Cause::Connect), 1);
+            note_closing(
+                rt,
+                &mut self.log,
+                &mut server.counters,
+                Closing::Connect,
+                None,
+                Some(address),
+            );
             return;
         };
-        self.next_id = next_id;
-        self.place_from = place + 1;
         let both = Interest::READABLE | Interest::WRITABLE;
         let registered = self
             .poll
             .registry()
             .register(&mut stream, Token(place), both);
         if registered.is_err() || server.open_session(id).is_err() {
-            self.log
-                .report(rt, Closing::Connect.name(), None, Some(address));
-            server.counters.add(Counted::Closed(Cause::Connect), 1);
+            note_closing(
+                rt,
+                &mut self.log,
+                &mut server.counters,
+                Closing::Connect,
+                None,
+                Some(address),
+            );
             return;
         }
+        self.next_id = next_id;
+        self.place_from = place + 1;
         self.log
             .note_connection(rt, Event::Accepted, id, address, None);
         server.counters.add(Counted::Accepted, 1);
@@ -146,7 +171,7 @@ impl Service {
             id,
             ConnectionState::new(rt.alloc(), now),
         );
-        self.push_ready(place);
+        self.schedule.push_ready(place);
         self.put_or_evict(rt, server, place, connection);
     }
 }

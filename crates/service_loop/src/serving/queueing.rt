@@ -6,9 +6,6 @@ use super::{LISTENER, LONGEST_WAIT, Service};
 use mio::Events;
 use service_status::INPUT;
 
-/// How many milliseconds at least lie between two looks at all connections for what is due.
-const RESCAN: u64 = 100;
-
 impl Service {
     ghost use Rattle.connection_table.specs.Places.{connection_at, noted};
     ghost use Rattle.service_loop.specs.Turns.{AreQueued, HasTurn, HasTurnIfMarked, OnlyFlagsChange};
@@ -19,57 +16,41 @@ impl Service {
             slice_set self.old.places.connections.items place
             (noted readable writable (connection_at self.old.places.connections.items place)) }
         ensures limits { self.new.limits ≡ self.old.limits }
-        ensures scanned { self.new.scanned ≡ self.old.scanned }
+        ensures scanned { self.new.schedule.scanned ≡ self.old.schedule.scanned }
         ensures flags { OnlyFlagsChange self.old.places.connections.items
             self.new.places.connections.items }
         ensures number { self.new.next_id ≡ self.old.next_id }
-        ensures turns { self.new.turns ≡ self.old.turns }
+        ensures turns { self.new.schedule.turns ≡ self.old.schedule.turns }
         ensures marked { (i : ℕ) → HasTurnIfMarked self.old.places.connections.items
-            self.old.visits_all self.old.ready.items i
+            self.old.schedule.visits_all self.old.schedule.ready.items i
             → HasTurnIfMarked self.new.places.connections.items
-            self.new.visits_all self.new.ready.items i }
+            self.new.schedule.visits_all self.new.schedule.ready.items i }
     {
         if self.places.note(place, readable, writable) {
-            self.push_ready(place);
-        }
-    }
-
-    // Notes a place whose connection is to have its turn.
-    pub(super) fn push_ready(&mut self, place: usize)
-        ensures places { self.new.places ≡ self.old.places }
-        ensures limits { self.new.limits ≡ self.old.limits }
-        ensures scanned { self.new.scanned ≡ self.old.scanned }
-        ensures number { self.new.next_id ≡ self.old.next_id }
-        ensures turns { self.new.turns ≡ self.old.turns }
-        ensures noted { HasTurn self.new.visits_all self.new.ready.items place }
-        ensures others { (i : ℕ) → HasTurn self.old.visits_all self.old.ready.items i
-            → HasTurn self.new.visits_all self.new.ready.items i }
-    {
-        if self.ready.push(place).is_err() {
-            self.visits_all = true;
+            self.schedule.push_ready(place);
         }
     }
 
     // Has each connection have its turn for which something is due, and notes when that is so for the next one. What is due is looked
     // for among all of them, but only where it can be found, and not too often.
     pub(super) fn note_due(&mut self, now: u64)
-        ensures looks { self.old.scan_at ≤ now → (self.new.scanned ≡ now)
+        ensures looks { self.old.schedule.scan_at ≤ now → (self.new.schedule.scanned ≡ now)
             × AreQueued self.new.places.connections.items self.new.limits.idle now }
         ensures limits { self.new.limits ≡ self.old.limits }
         ensures flags { OnlyFlagsChange self.old.places.connections.items
             self.new.places.connections.items }
         ensures number { self.new.next_id ≡ self.old.next_id }
         ensures marked { (i : ℕ) → HasTurnIfMarked self.old.places.connections.items
-            self.old.visits_all self.old.ready.items i
+            self.old.schedule.visits_all self.old.schedule.ready.items i
             → HasTurnIfMarked self.new.places.connections.items
-            self.new.visits_all self.new.ready.items i }
-        ensures waits { now < self.old.scan_at → self.new ≡ self.old }
+            self.new.schedule.visits_all self.new.schedule.ready.items i }
+        ensures waits { now < self.old.schedule.scan_at → self.new ≡ self.old }
     {
-        if now < self.scan_at {
+        if now < self.schedule.scan_at {
             return;
         }
-        self.scanned = now;
-        self.scan_at = now.saturating_add(LONGEST_WAIT);
+        self.schedule.scanned = now;
+        self.schedule.scan_at = now.saturating_add(LONGEST_WAIT);
         self.queue_due(now);
     }
 
@@ -77,36 +58,22 @@ impl Service {
     pub(super) fn queue_due(&mut self, now: u64)
         ensures due { AreQueued self.new.places.connections.items self.new.limits.idle now }
         ensures limits { self.new.limits ≡ self.old.limits }
-        ensures scanned { self.new.scanned ≡ self.old.scanned }
+        ensures scanned { self.new.schedule.scanned ≡ self.old.schedule.scanned }
         ensures flags { OnlyFlagsChange self.old.places.connections.items
             self.new.places.connections.items }
         ensures number { self.new.next_id ≡ self.old.next_id }
         ensures marked { (i : ℕ) → HasTurnIfMarked self.old.places.connections.items
-            self.old.visits_all self.old.ready.items i
+            self.old.schedule.visits_all self.old.schedule.ready.items i
             → HasTurnIfMarked self.new.places.connections.items
-            self.new.visits_all self.new.ready.items i }
+            self.new.schedule.visits_all self.new.schedule.ready.items i }
     {
         for place in 0..self.places.len() {
             match self.places.due_at(place, self.limits.idle) {
                 Some(due) if due <= now => self.queue(place, false, false),
-                Some(due) => self.note_next(due),
+                Some(due) => self.schedule.note_next(due),
                 None => {}
             }
         }
-    }
-
-    // Notes when something is due for a connection.
-    pub(super) fn note_next(&mut self, due: u64)
-        ensures places { self.new.places ≡ self.old.places }
-        ensures limits { self.new.limits ≡ self.old.limits }
-        ensures scanned { self.new.scanned ≡ self.old.scanned }
-        ensures number { self.new.next_id ≡ self.old.next_id }
-        ensures turns { self.new.turns ≡ self.old.turns }
-        ensures all { self.new.visits_all ≡ self.old.visits_all }
-        ensures ready { self.new.ready ≡ self.old.ready }
-    {
-        let due = due.max(self.scanned.saturating_add(RESCAN));
-        self.scan_at = self.scan_at.min(due);
     }
 
     // Notes what the events say. One of a connection that is gone does no harm: the next call would wait. Nor does one of those who ask how
@@ -116,11 +83,11 @@ impl Service {
             self.new.places.connections.items }
         ensures number { self.new.next_id ≡ self.old.next_id }
         ensures marked { (i : ℕ) → HasTurnIfMarked self.old.places.connections.items
-            self.old.visits_all self.old.ready.items i
+            self.old.schedule.visits_all self.old.schedule.ready.items i
             → HasTurnIfMarked self.new.places.connections.items
-            self.new.visits_all self.new.ready.items i }
+            self.new.schedule.visits_all self.new.schedule.ready.items i }
         ensures limits { self.new.limits ≡ self.old.limits }
-        ensures scanned { self.new.scanned ≡ self.old.scanned }
+        ensures scanned { self.new.schedule.scanned ≡ self.old.schedule.scanned }
     {
         for event in events {
             let token = event.token();
@@ -142,14 +109,14 @@ impl Service {
     pub(super) fn note_next_at(&mut self, place: usize)
         ensures places { self.new.places ≡ self.old.places }
         ensures number { self.new.next_id ≡ self.old.next_id }
-        ensures turns { self.new.turns ≡ self.old.turns }
+        ensures turns { self.new.schedule.turns ≡ self.old.schedule.turns }
         ensures limits { self.new.limits ≡ self.old.limits }
-        ensures scanned { self.new.scanned ≡ self.old.scanned }
-        ensures all { self.new.visits_all ≡ self.old.visits_all }
-        ensures ready { self.new.ready ≡ self.old.ready }
+        ensures scanned { self.new.schedule.scanned ≡ self.old.schedule.scanned }
+        ensures all { self.new.schedule.visits_all ≡ self.old.schedule.visits_all }
+        ensures ready { self.new.schedule.ready ≡ self.old.schedule.ready }
     {
         if let Some(due) = self.places.due_at(place, self.limits.idle) {
-            self.note_next(due);
+            self.schedule.note_next(due);
         }
     }
 
@@ -158,13 +125,13 @@ impl Service {
         ensures flags { OnlyFlagsChange self.old.places.connections.items
             self.new.places.connections.items }
         ensures number { self.new.next_id ≡ self.old.next_id }
-        ensures turns { self.new.turns ≡ self.old.turns }
+        ensures turns { self.new.schedule.turns ≡ self.old.schedule.turns }
         ensures limits { self.new.limits ≡ self.old.limits }
-        ensures scanned { self.new.scanned ≡ self.old.scanned }
+        ensures scanned { self.new.schedule.scanned ≡ self.old.schedule.scanned }
         ensures marked { (i : ℕ) → HasTurnIfMarked self.old.places.connections.items
-            self.old.visits_all self.old.ready.items i
+            self.old.schedule.visits_all self.old.schedule.ready.items i
             → HasTurnIfMarked self.new.places.connections.items
-            self.new.visits_all self.new.ready.items i }
+            self.new.schedule.visits_all self.new.schedule.ready.items i }
     {
         if more {
             self.queue(place, false, false);

@@ -2,7 +2,7 @@
 
 ghost use Rattle.std.specs.Prelude.{◌≡◌, ◌≤◌, ◌<◌, ℕ, slice_get, None, IfOk, IfSome, OnOk, length, true, false};
 
-use super::Service;
+use super::{Service, note_closing};
 use connection_table::{Closing, Connection, RunFault, SavedServer, Saver, TurnResult};
 use service_watch::{Cause, Counted, Event};
 use std::mem;
@@ -23,17 +23,21 @@ impl Service {
         requires noted { AreNoted self.old.places.connections.items server.core self.old.next_id }
         ensures noted { IfOk result (λ server.
             AreNoted self.new.places.connections.items server.core self.new.next_id) }
-        ensures idle { OnOk result ((i : ℕ) → HasTurn self.old.visits_all self.old.ready.items i
+        ensures idle { OnOk result ((i : ℕ) → HasTurn self.old.schedule.visits_all
+            self.old.schedule.ready.items i
             → HasNoIdle self.new.places.connections.items i
-            self.old.scanned self.old.limits.idle) }
+            self.old.schedule.scanned self.old.limits.idle) }
         ensures limits { OnOk result (self.new.limits ≡ self.old.limits) }
-        ensures scanned { OnOk result (self.new.scanned ≡ self.old.scanned) }
+        ensures scanned { OnOk result (self.new.schedule.scanned ≡ self.old.schedule.scanned) }
         ensures stays { OnOk result ((i : ℕ) → HasNoIdle self.old.places.connections.items i
-            self.old.scanned self.old.limits.idle → HasNoIdle self.new.places.connections.items i
-            self.old.scanned self.old.limits.idle) }
-        ensures marked { AreMarkedNoted self.old.places.connections.items self.old.visits_all
-            self.old.ready.items → OnOk result (AreMarkedNoted
-            self.new.places.connections.items self.new.visits_all self.new.ready.items) }
+            self.old.schedule.scanned self.old.limits.idle → HasNoIdle
+            self.new.places.connections.items i
+            self.old.schedule.scanned self.old.limits.idle) }
+        ensures marked { AreMarkedNoted self.old.places.connections.items
+            self.old.schedule.visits_all
+            self.old.schedule.ready.items → OnOk result (AreMarkedNoted
+            self.new.places.connections.items self.new.schedule.visits_all
+            self.new.schedule.ready.items) }
     {
         let server = self.visit_all(rt, server)?;
         self.visit_ready(rt, server)
@@ -48,22 +52,25 @@ impl Service {
         requires noted { AreNoted self.old.places.connections.items server.core self.old.next_id }
         ensures noted { IfOk result (λ server.
             AreNoted self.new.places.connections.items server.core self.new.next_id) }
-        ensures idle { OnOk result ((k : ℕ) → IfSome (slice_get self.old.ready.items k)
+        ensures idle { OnOk result ((k : ℕ) → IfSome (slice_get self.old.schedule.ready.items k)
             (λ i. HasNoIdle self.new.places.connections.items i
-            self.old.scanned self.old.limits.idle)) }
+            self.old.schedule.scanned self.old.limits.idle)) }
         ensures stays { OnOk result ((i : ℕ) → HasNoIdle self.old.places.connections.items i
-            self.old.scanned self.old.limits.idle → HasNoIdle self.new.places.connections.items i
-            self.old.scanned self.old.limits.idle) }
+            self.old.schedule.scanned self.old.limits.idle → HasNoIdle
+            self.new.places.connections.items i
+            self.old.schedule.scanned self.old.limits.idle) }
         ensures limits { OnOk result (self.new.limits ≡ self.old.limits) }
-        ensures scanned { OnOk result (self.new.scanned ≡ self.old.scanned) }
-        ensures marked { AreMarkedNoted self.old.places.connections.items self.old.visits_all
-            self.old.ready.items → OnOk result (AreMarkedNoted
-            self.new.places.connections.items self.new.visits_all self.new.ready.items) }
+        ensures scanned { OnOk result (self.new.schedule.scanned ≡ self.old.schedule.scanned) }
+        ensures marked { AreMarkedNoted self.old.places.connections.items
+            self.old.schedule.visits_all
+            self.old.schedule.ready.items → OnOk result (AreMarkedNoted
+            self.new.places.connections.items self.new.schedule.visits_all
+            self.new.schedule.ready.items) }
     {
-        mem::swap(&mut self.ready, &mut self.turns);
-        self.ready.clear();
-        for at in 0..self.turns.len() {
-            let place = self.turns[at];
+        mem::swap(&mut self.schedule.ready, &mut self.schedule.turns);
+        self.schedule.ready.clear();
+        for at in 0..self.schedule.turns.len() {
+            let place = self.schedule.turns[at];
             server = self.visit(rt, place, server)?;
         }
         Ok(server)
@@ -78,20 +85,22 @@ impl Service {
         requires noted { AreNoted self.old.places.connections.items server.core self.old.next_id }
         ensures noted { IfOk result (λ server.
             AreNoted self.new.places.connections.items server.core self.new.next_id) }
-        ensures idle { self.old.visits_all ≡ true → OnOk result ((i : ℕ) →
-            HasNoIdle self.new.places.connections.items i self.old.scanned self.old.limits.idle) }
-        ensures none { self.old.visits_all ≡ false → OnOk result (self.new ≡ self.old) }
+        ensures idle { self.old.schedule.visits_all ≡ true → OnOk result ((i : ℕ) →
+            HasNoIdle self.new.places.connections.items i self.old.schedule.scanned
+            self.old.limits.idle) }
+        ensures none { self.old.schedule.visits_all ≡ false → OnOk result (self.new ≡ self.old) }
         ensures limits { OnOk result (self.new.limits ≡ self.old.limits) }
-        ensures scanned { OnOk result (self.new.scanned ≡ self.old.scanned) }
-        ensures marked { self.old.visits_all ≡ true → OnOk result (AreMarkedNoted
-            self.new.places.connections.items self.new.visits_all self.new.ready.items) }
+        ensures scanned { OnOk result (self.new.schedule.scanned ≡ self.old.schedule.scanned) }
+        ensures marked { self.old.schedule.visits_all ≡ true → OnOk result (AreMarkedNoted
+            self.new.places.connections.items self.new.schedule.visits_all
+            self.new.schedule.ready.items) }
     {
-        if !self.visits_all {
+        if !self.schedule.visits_all {
             return Ok(server);
         }
-        self.visits_all = false;
+        self.schedule.visits_all = false;
         // What was noted has its turn among all, and none a second one.
-        self.ready.clear();
+        self.schedule.ready.clear();
         for place in 0..self.places.len() {
             server = self.visit(rt, place, server)?;
         }
@@ -109,19 +118,21 @@ impl Service {
         ensures noted { IfOk result (λ server.
             AreNoted self.new.places.connections.items server.core self.new.next_id) }
         ensures idle { OnOk result (HasNoIdle self.new.places.connections.items place
-            self.old.scanned self.old.limits.idle) }
+            self.old.schedule.scanned self.old.limits.idle) }
         ensures stays { OnOk result ((i : ℕ) → HasNoIdle self.old.places.connections.items i
-            self.old.scanned self.old.limits.idle → HasNoIdle self.new.places.connections.items i
-            self.old.scanned self.old.limits.idle) }
+            self.old.schedule.scanned self.old.limits.idle → HasNoIdle
+            self.new.places.connections.items i
+            self.old.schedule.scanned self.old.limits.idle) }
         ensures limits { OnOk result (self.new.limits ≡ self.old.limits) }
-        ensures scanned { OnOk result (self.new.scanned ≡ self.old.scanned) }
-        ensures turns { OnOk result (self.new.turns ≡ self.old.turns) }
+        ensures scanned { OnOk result (self.new.schedule.scanned ≡ self.old.schedule.scanned) }
+        ensures turns { OnOk result (self.new.schedule.turns ≡ self.old.schedule.turns) }
         ensures marked { OnOk result (HasTurnIfMarked self.new.places.connections.items
-            self.new.visits_all self.new.ready.items place) }
+            self.new.schedule.visits_all self.new.schedule.ready.items place) }
         ensures marks_stay { OnOk result ((i : ℕ) → HasTurnIfMarked
-            self.old.places.connections.items self.old.visits_all self.old.ready.items i
+            self.old.places.connections.items self.old.schedule.visits_all
+            self.old.schedule.ready.items i
             → HasTurnIfMarked self.new.places.connections.items
-            self.new.visits_all self.new.ready.items i) }
+            self.new.schedule.visits_all self.new.schedule.ready.items i) }
     {
         let server = self.end_draft(server);
         let (server, more) = self.take_turn_at(rt, place, server)?;
@@ -142,9 +153,9 @@ impl Service {
         ensures noted { IfOk result (λ it.
             AreNoted self.new.places.connections.items it.0.core self.new.next_id) }
         ensures idle { OnOk result (HasNoIdle self.new.places.connections.items place
-            self.old.scanned self.old.limits.idle) }
+            self.old.schedule.scanned self.old.limits.idle) }
         ensures limits { OnOk result (self.new.limits ≡ self.old.limits) }
-        ensures scanned { OnOk result (self.new.scanned ≡ self.old.scanned) }
+        ensures schedule { OnOk result (self.new.schedule ≡ self.old.schedule) }
         ensures bounded { OnOk result
             (all_held self.new.places.connections.items ≤ self.new.limits.memory) }
         ensures free { connection_at self.old.places.connections.items place ≡ None →
@@ -155,11 +166,8 @@ impl Service {
         ensures sessions { IfOk result (λ it.
             IfSome (connection_at self.old.places.connections.items place)
             (λ c. SessionsStayOrGo c.id server.core it.0.core)) }
-        ensures turns { OnOk result (self.new.turns ≡ self.old.turns) }
         ensures unmarked { OnOk result (IfSome
             (connection_at self.new.places.connections.items place) (λ c. c.queued ≡ false)) }
-        ensures all { OnOk result (self.new.visits_all ≡ self.old.visits_all) }
-        ensures ready { OnOk result (self.new.ready ≡ self.old.ready) }
     {
         if self.places.is_free(place) {
             return Ok((server, false));
@@ -211,11 +219,8 @@ impl Service {
         ensures waits { outcome ≡ TurnResult.Waits → result ≡ false }
         ensures again { (GoesOn outcome → ⊥) → result ≡ self.old.acceptable }
         ensures limits { self.new.limits ≡ self.old.limits }
-        ensures scanned { self.new.scanned ≡ self.old.scanned }
+        ensures schedule { self.new.schedule ≡ self.old.schedule }
         ensures number { self.new.next_id ≡ self.old.next_id }
-        ensures turns { self.new.turns ≡ self.old.turns }
-        ensures all { self.new.visits_all ≡ self.old.visits_all }
-        ensures ready { self.new.ready ≡ self.old.ready }
     {
         if outcome.goes_on() {
             self.put_or_evict(rt, server, place, connection);
@@ -224,8 +229,14 @@ impl Service {
         let (id, address) = (connection.id, connection.address);
         match outcome {
             TurnResult::Closed(closing) => {
-                self.log.report(rt, closing.name(), Some(id), Some(address));
-                server.counters.add(Counted::Closed(closing.cause()), 1);
+                note_closing(
+                    rt,
+                    &mut self.log,
+                    &mut server.counters,
+                    closing,
+                    Some(id),
+                    Some(address),
+                );
             }
             _ => {
                 self.log
@@ -252,20 +263,18 @@ impl Service {
             server.old.core
             self.new.places.connections.items server.new.core }
         ensures limits { self.new.limits ≡ self.old.limits }
-        ensures scanned { self.new.scanned ≡ self.old.scanned }
+        ensures schedule { self.new.schedule ≡ self.old.schedule }
         ensures number { self.new.next_id ≡ self.old.next_id }
-        ensures turns { self.new.turns ≡ self.old.turns }
-        ensures all { self.new.visits_all ≡ self.old.visits_all }
-        ensures ready { self.new.ready ≡ self.old.ready }
     {
         if let Some(lost) = self.places.put(place, connection) {
-            self.log.report(
+            note_closing(
                 rt,
-                Closing::Crowded.name(),
+                &mut self.log,
+                &mut server.counters,
+                Closing::Crowded,
                 Some(lost.id),
                 Some(lost.address),
             );
-            server.counters.add(Counted::Closed(Cause::Memory), 1);
             self.full = false;
             server.close_session(lost.id);
         }
@@ -273,11 +282,11 @@ impl Service {
 
     // Milliseconds since the start, no fewer than when all connections were looked at.
     pub(super) fn now_of_turn(&self, rt: &HostRuntime) -> Result<u64, RunFault>
-        ensures { IfOk result (λ now. self.now.scanned ≤ now) }
+        ensures { IfOk result (λ now. self.now.schedule.scanned ≤ now) }
     {
         let now = self.now(rt)?;
-        Ok(if now < self.scanned {
-            self.scanned
+        Ok(if now < self.schedule.scanned {
+            self.schedule.scanned
         } else {
             now
         })

@@ -7,10 +7,10 @@ use Rattle.service_loop.proofs.serving.run_service.Goals as goal
 
 pub run-requires : goal.run-requires
 run-requires g c = record {
-  noted = subst (λ n. AreNoted c.in_ok-service.service.places.connections.items c.opened.result.core n) (sym c.in_ok-service.ensures.number)
-      (none_noted c.in_ok-service.service.places.connections.items c.args.limits.most c.opened.result.core c.in_ok-service.ensures.free);
-  marked = λ i. free_holds (λ k. k.queued ≡ true → HasTurn c.in_ok-service.service.visits_all c.in_ok-service.service.ready.items i)
-      c.in_ok-service.service.places.connections.items c.args.limits.most c.in_ok-service.ensures.free i;
-  idle = λ i. free_holds (λ k. HasBeenIdle k c.in_ok-service.service.scanned c.in_ok-service.service.limits.idle → ⊥)
-      c.in_ok-service.service.places.connections.items c.args.limits.most c.in_ok-service.ensures.free i;
+  noted = subst (λ n. AreNoted c.in-Ok.begun.service.places.connections.items c.opened.result.core n) (sym c.in-Ok.ensures.number)
+      (none_noted c.in-Ok.begun.service.places.connections.items c.args.limits.most c.opened.result.core c.in-Ok.ensures.free);
+  marked = λ i. free_holds (λ k. k.queued ≡ true → HasTurn c.in-Ok.begun.service.schedule.visits_all c.in-Ok.begun.service.schedule.ready.items i)
+      c.in-Ok.begun.service.places.connections.items c.args.limits.most c.in-Ok.ensures.free i;
+  idle = λ i. free_holds (λ k. HasBeenIdle k c.in-Ok.begun.service.schedule.scanned c.in-Ok.begun.service.limits.idle → ⊥)
+      c.in-Ok.begun.service.places.connections.items c.args.limits.most c.in-Ok.ensures.free i;
 }

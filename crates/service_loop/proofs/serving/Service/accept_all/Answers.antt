@@ -12,7 +12,7 @@ loop-preserved g c = elim c.match-accept_next.branch [
       rw (w.self-is, w.server-is) (record {
         noted = w.open.ensures.noted;
         turns = λ i h. w.open.ensures.turns i (c.loop.invariant.turns i h);
-        comes = λ i. comes_on begin l.places.connections.items new.places.connections.items l.visits_all new.visits_all l.ready.items new.ready.items i
+        comes = λ i. comes_on begin l.places.connections.items new.places.connections.items l.schedule.visits_all new.schedule.visits_all l.schedule.ready.items new.schedule.ready.items i
             (w.open.ensures.turns i) (c.loop.invariant.comes i) (w.open.ensures.comes i);
         limits = w.open.ensures.limits ∙ c.loop.invariant.limits;
         scanned = w.open.ensures.scanned ∙ c.loop.invariant.scanned;

@@ -3,8 +3,8 @@ use Rattle.std.specs.Result.{is_err}
 use Rattle.server_core.specs.Cores.{session_of}
 use Rattle.connection_table.specs.Holding.{held_by}
 use Rattle.connection_table.specs.declared.connection.Connection.{Connection}
-use Rattle.connection_table.specs.declared.table.ConnectionTable.{ConnectionTable}
 use Rattle.server_core.specs.Sessions.{new_session}
+use Rattle.service_loop.specs.declared.serving.schedule.Schedule.{Schedule}
 use Rattle.service_loop.specs.Sessions.{AreNoted, PutsOrEvicts}
 use Rattle.service_loop.proofs.Noted.{opened_noted, given_noted, settled_noted}
 use Rattle.service_loop.proofs.Marks.{settled_comes, turn_moved}
@@ -33,30 +33,26 @@ returns-clause-noted g c =
       queued = true;
       watch = c.opened-connection.result.watch;
     } in
-    let pushed = subst (λ (k : Connection). PutsOrEvicts c.args.place k c.push_ready.new.self.places.connections.items mid
+    let settles = subst (λ (k : Connection). PutsOrEvicts c.args.place k before mid
     c.put_or_evict.new.self.places.connections.items c.put_or_evict.new.server.core) c.opened-connection.ensures c.put_or_evict.ensures.settles in
-    let settles = subst (λ (k : ConnectionTable). PutsOrEvicts c.args.place made k.connections.items mid c.put_or_evict.new.self.places.connections.items c.put_or_evict.new.server.core)
-    c.push_ready.ensures.places pushed in
     let on = opened_noted before c.args.server.now.core mid next c.requires.noted does.3 in
     let low : next < next + 1 = omega arith in
     let is : 0 ≡ held_by (session_of mid.sessions next) c.new.result =
     sym (ap (λ s. held_by s c.new.result) does.1 ∙ ap (held_by (Some new_session)) c.new.ensures) in
-    subst (λ n. AreNoted c.put_or_evict.new.self.places.connections.items c.put_or_evict.new.server.core n) (sym (c.put_or_evict.ensures.number ∙ (c.push_ready.ensures.number ∙ c.in-Some.ensures.1)))
+    subst (λ n. AreNoted c.put_or_evict.new.self.places.connections.items c.put_or_evict.new.server.core n) (sym (c.put_or_evict.ensures.number ∙ c.in-Some.ensures.1))
     (settled_noted c.args.place made before mid c.put_or_evict.new.self.places.connections.items c.put_or_evict.new.server.core (next + 1) settles
     (given_noted before c.args.place made mid (next + 1) c.requires.within on.0 on.1 low is))
 
 pub returns-clause-turns : goal.returns-clause-turns
-returns-clause-turns g c = λ i h. turn_moved c.push_ready.new.self.visits_all c.put_or_evict.new.self.visits_all c.push_ready.new.self.ready.items c.put_or_evict.new.self.ready.items i
-    c.put_or_evict.ensures.all (ap (λ v. v.items) c.put_or_evict.ensures.ready) (c.push_ready.ensures.others i h)
+returns-clause-turns g c = λ i h. turn_moved c.push_ready.new.self.visits_all c.put_or_evict.new.self.schedule.visits_all c.push_ready.new.self.ready.items c.put_or_evict.new.self.schedule.ready.items i
+    (ap (λ (s : Schedule). s.visits_all) c.put_or_evict.ensures.schedule) (ap (λ (s : Schedule). s.ready.items) c.put_or_evict.ensures.schedule) (c.push_ready.ensures.others i h)
 
 pub returns-clause-comes : goal.returns-clause-comes
 returns-clause-comes g c =
     let mid = c.open_session.new.self.core in
     let made = c.opened-connection.result in
     let after = c.put_or_evict.new.self.places.connections.items in
-    let settles = subst (λ (k : ConnectionTable). PutsOrEvicts c.args.place made k.connections.items mid after c.put_or_evict.new.server.core)
-    c.push_ready.ensures.places c.put_or_evict.ensures.settles in
-    settled_comes c.args.place made c.args.self.now.places.connections.items mid after c.put_or_evict.new.server.core c.put_or_evict.new.self.visits_all
-    c.put_or_evict.new.self.ready.items c.requires.within (ap (λ (k : Connection). k.queued) c.opened-connection.ensures)
-    (turn_moved c.push_ready.new.self.visits_all c.put_or_evict.new.self.visits_all c.push_ready.new.self.ready.items c.put_or_evict.new.self.ready.items c.args.place
-    c.put_or_evict.ensures.all (ap (λ v. v.items) c.put_or_evict.ensures.ready) c.push_ready.ensures.noted) settles
+    settled_comes c.args.place made c.args.self.now.places.connections.items mid after c.put_or_evict.new.server.core c.put_or_evict.new.self.schedule.visits_all
+    c.put_or_evict.new.self.schedule.ready.items c.requires.within (ap (λ (k : Connection). k.queued) c.opened-connection.ensures)
+    (turn_moved c.push_ready.new.self.visits_all c.put_or_evict.new.self.schedule.visits_all c.push_ready.new.self.ready.items c.put_or_evict.new.self.schedule.ready.items c.args.place
+    (ap (λ (s : Schedule). s.visits_all) c.put_or_evict.ensures.schedule) (ap (λ (s : Schedule). s.ready.items) c.put_or_evict.ensures.schedule) c.push_ready.ensures.noted) c.put_or_evict.ensures.settles

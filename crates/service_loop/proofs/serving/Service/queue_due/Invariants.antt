@@ -8,10 +8,10 @@ use Rattle.service_loop.proofs.serving.Service.queue_due.Given as goal
 abbrev pub invariant-loop-place : goal.invariant-loop-place
 invariant-loop-place l = record {
   flags : OnlyFlagsChange l.fn.self.places.connections.items l.self.places.connections.items;
-  marked : (i : ℕ) → HasTurnIfMarked l.fn.self.places.connections.items l.fn.self.visits_all l.fn.self.ready.items i
-      → HasTurnIfMarked l.self.places.connections.items l.self.visits_all l.self.ready.items i;
+  marked : (i : ℕ) → HasTurnIfMarked l.fn.self.places.connections.items l.fn.self.schedule.visits_all l.fn.self.schedule.ready.items i
+      → HasTurnIfMarked l.self.places.connections.items l.self.schedule.visits_all l.self.schedule.ready.items i;
   number : l.self.next_id ≡ l.fn.self.next_id;
   limits : l.self.limits ≡ l.fn.self.limits;
-  scanned : l.self.scanned ≡ l.fn.self.scanned;
+  scanned : l.self.schedule.scanned ≡ l.fn.self.schedule.scanned;
   due : (i : ℕ) (c : Connection) → i < l.place → connection_at l.self.places.connections.items i ≡ Some c → due_of l.self.limits.idle c ≤ l.now → c.queued ≡ true;
 }

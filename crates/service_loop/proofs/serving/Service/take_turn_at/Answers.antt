@@ -49,12 +49,12 @@ returns-clause-sessions g c =
 
 pub returns-clause-idle : goal.returns-clause-idle
 returns-clause-idle g c =
-    concluded_holds (λ k. HasBeenIdle k c.args.self.now.scanned c.args.self.now.limits.idle → ⊥) c.end_turn-outcome.result c.args.place
+    concluded_holds (λ k. HasBeenIdle k c.args.self.now.schedule.scanned c.args.self.now.limits.idle → ⊥) c.end_turn-outcome.result c.args.place
     c.end_turn-outcome.new.self c.args.self.now.places.connections.items c.take.new.self.connections.items c.in_ok-server.server.core
     c.finish_turn-more.new.self.places.connections.items c.finish_turn-more.new.server.core c.in-Some.ensures.places
     (is_within c.args.self.now.places.connections.items c.args.place c.in-Some.connection (sym c.in-Some.ensures.taken))
     c.finish_turn-more.ensures.goes_on c.finish_turn-more.ensures.over
-    (λ on was. c.end_turn-outcome.ensures.active on (stays_idle c.end_turn-outcome.new.self c.args.self.now.scanned c.in_ok-now.now
+    (λ on was. c.end_turn-outcome.ensures.active on (stays_idle c.end_turn-outcome.new.self c.args.self.now.schedule.scanned c.in_ok-now.now
     c.args.self.now.limits.idle c.in_ok-now.ensures was))
 
 pub returns-clause-unmarked : goal.returns-clause-unmarked
@@ -67,17 +67,8 @@ returns-clause-unmarked g c =
 pub returns-clause-limits : goal.returns-clause-limits
 returns-clause-limits g c = c.finish_turn-more.ensures.limits
 
-pub returns-clause-scanned : goal.returns-clause-scanned
-returns-clause-scanned g c = c.finish_turn-more.ensures.scanned
-
-pub returns-clause-turns : goal.returns-clause-turns
-returns-clause-turns g c = c.finish_turn-more.ensures.turns
-
-pub returns-clause-all : goal.returns-clause-all
-returns-clause-all g c = c.finish_turn-more.ensures.all
-
-pub returns-clause-ready : goal.returns-clause-ready
-returns-clause-ready g c = c.finish_turn-more.ensures.ready
+pub returns-clause-schedule : goal.returns-clause-schedule
+returns-clause-schedule g c = c.finish_turn-more.ensures.schedule
 
 pub returns-clause-bounded : goal.returns-clause-bounded
 returns-clause-bounded g c = is_bounded c.finish_turn-more.new.self

@@ -7,11 +7,11 @@ abbrev pub invariant-loop-place : goal.invariant-loop-place
 invariant-loop-place g l = record {
   noted : AreNoted l.self.places.connections.items l.server.core l.self.next_id;
   limits : l.self.limits ≡ l.fn.self.limits;
-  scanned : l.self.scanned ≡ l.fn.self.scanned;
-  stays : (i : ℕ) → HasNoIdle l.fn.self.places.connections.items i l.fn.self.scanned l.fn.self.limits.idle
-      → HasNoIdle l.self.places.connections.items i l.fn.self.scanned l.fn.self.limits.idle;
+  scanned : l.self.schedule.scanned ≡ l.fn.self.schedule.scanned;
+  stays : (i : ℕ) → HasNoIdle l.fn.self.places.connections.items i l.fn.self.schedule.scanned l.fn.self.limits.idle
+      → HasNoIdle l.self.places.connections.items i l.fn.self.schedule.scanned l.fn.self.limits.idle;
   marks_stay : (i : ℕ) → HasTurnIfMarked l.fn.self.places.connections.items false [] i
-      → HasTurnIfMarked l.self.places.connections.items l.self.visits_all l.self.ready.items i;
-  marked : (i : ℕ) → i < l.place → HasTurnIfMarked l.self.places.connections.items l.self.visits_all l.self.ready.items i;
-  idle : (i : ℕ) → i < l.place → HasNoIdle l.self.places.connections.items i l.fn.self.scanned l.fn.self.limits.idle;
+      → HasTurnIfMarked l.self.places.connections.items l.self.schedule.visits_all l.self.schedule.ready.items i;
+  marked : (i : ℕ) → i < l.place → HasTurnIfMarked l.self.places.connections.items l.self.schedule.visits_all l.self.schedule.ready.items i;
+  idle : (i : ℕ) → i < l.place → HasNoIdle l.self.places.connections.items i l.fn.self.schedule.scanned l.fn.self.limits.idle;
 }
