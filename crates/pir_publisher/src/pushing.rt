@@ -46,25 +46,40 @@ pub fn push(rt: &HostRuntime, pushing: &Pushing<'_>) -> Result<(), Failed> {
     // Two at once would append to the same drafts.
     let _lock = lock_pushes(rt, pushing.dir)?;
     let mut rounds = Rounds::new(rt)?;
-    let folder = folder_to_push(rt, &mut rounds, pushing.dir)?;
+    push_from(rt, &mut rounds, pushing, aim, key)
+}
+
+// Pushes, or watches and pushes, from a folder that is locked for it.
+fn push_from(
+    rt: &HostRuntime,
+    rounds: &mut Rounds,
+    pushing: &Pushing<'_>,
+    aim: Aim,
+    key: [u8; 32],
+) -> Result<(), Failed> {
+    let folder = folder_to_push(rt, rounds, pushing.dir)?;
     if pushing.watch {
-        let records = records_name(rt.alloc(), pushing.dir)?;
-        return watch(
-            rt,
-            &mut rounds,
-            folder,
-            records.as_str(),
-            aim,
-            key,
-            &pushing.to,
-        );
+        return watch_from(rt, rounds, folder, pushing, aim, key);
     }
     let round = Round {
         folder: &folder,
         aim,
         key,
     };
-    push_all(rt, &mut rounds, &round, &pushing.to)
+    push_all(rt, rounds, &round, &pushing.to)
+}
+
+// Goes on with the versions to come.
+fn watch_from(
+    rt: &HostRuntime,
+    rounds: &mut Rounds,
+    folder: FolderVersion,
+    pushing: &Pushing<'_>,
+    aim: Aim,
+    key: [u8; 32],
+) -> Result<(), Failed> {
+    let records = records_name(rt.alloc(), pushing.dir)?;
+    watch(rt, rounds, folder, records.as_str(), aim, key, &pushing.to)
 }
 
 // Tries servers until each is at the folder's version, or is left as it is.
@@ -131,12 +146,16 @@ pub fn say_end(rt: &HostRuntime, peer: &Peer<'_>, end: End) -> Result<(), Failed
 /// Those of the folder; `Connect` if a server did not tell, after a line for each. `Write` if a line can't be printed, `Memory`.
 pub fn status(rt: &HostRuntime, asking: &Asking<'_>) -> Result<(), Failed> {
     let folder = read_folder(rt, asking.dir)?;
+    say_all(rt, &folder, &asking.to)
+}
+
+// Prints the table of a folder's servers.
+fn say_all(rt: &HostRuntime, folder: &FolderVersion, to: &[Peer<'_>]) -> Result<(), Failed> {
     let mut rounds = Rounds::new(rt)?;
-    let round = Round::to_ask(&folder);
-    let ends = rounds.run(rt, &round, &asking.to, SILENCE)?;
+    let ends = rounds.run(rt, &Round::to_ask(folder), to, SILENCE)?;
     printed(rt, println!(rt; "ADDRESS VERSION LAG RECORDS"))?;
     let mut silent = 0u64;
-    for (peer, end) in asking.to.iter().zip(ends.iter()) {
+    for (peer, end) in to.iter().zip(ends.iter()) {
         if let End::Left(_) = end {
             silent = silent.saturating_add(1);
         }
