@@ -4,7 +4,7 @@
 
 use lane_kernels::Lanes;
 use server_core::ServerCore;
-use service_core::{AppendFailed, Fault, ConnectionState, Outside, PIECE_LEN, SaveFailed, Served, Stop, turn};
+use service_core::{AppendFailed, ConnectionState, Fault, Outside, PIECE_LEN, SaveFailed, Served, Stop, turn};
 use std::alloc::{AllocError, Global};
 use std::process::Abort;
 use std::test::Fail;
