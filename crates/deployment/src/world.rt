@@ -208,7 +208,7 @@ pub fn begin<'a>(
         publisher,
         servers,
         clients,
-    } = actors(alloc, files, &sizes, &setting, &first)?;
+    } = actors_at_first(alloc, files, &sizes, &setting, &first)?;
     let (truth, notes, rooms) = match beside(alloc, &sizes, first) {
         Ok(made) => made,
         Err(_) => return Err(Broken::Memory),
@@ -247,7 +247,7 @@ struct Actors<'a> {
 }
 
 // Those who act, with nothing that goes on.
-fn actors<'a>(
+fn actors_at_first<'a>(
     alloc: Global,
     files: &'a [SimulatedFiles<'a>],
     sizes: &Sizes,
