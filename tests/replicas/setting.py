@@ -113,7 +113,13 @@ class Publisher:
             file.write(formats.snapshot_bytes(layout, WORDS, 1, bytes.fromhex(seed), hashlib.sha256(wire.KEY).digest(), records))
 
     def done(self, command, *words, data=b""):
-        return run(programs.publisher, command, "--dir", self.dir, *words, data=data)
+        """What a command comes to: once more while a push that goes on has the folder's lock, which it takes for a moment."""
+        for _ in range(100):
+            got = run(programs.publisher, command, "--dir", self.dir, *words, data=data)
+            if got != (3, "", "fault: Locked"):
+                break
+            time.sleep(0.05)
+        return got
 
     def publish(self, changes):
         """Makes a version of changes by their places: those past the last record are appended."""
