@@ -1,4 +1,5 @@
 """A forwarder before servers, for tests without a balancer."""
+import contextlib
 import socket
 import threading
 
@@ -48,4 +49,7 @@ def pump(source, sink):
             sink.sendall(piece)
         sink.shutdown(socket.SHUT_WR)
     except OSError:
-        pass
+        # One end is gone, of a server that was killed with bytes unread, say: the other one must not wait for it.
+        for end in (source, sink):
+            with contextlib.suppress(OSError):
+                end.shutdown(socket.SHUT_RDWR)
