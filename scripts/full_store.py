@@ -62,7 +62,8 @@ def exchange(connection, sent, count):
 
 def spent_millis(pid):
     """The time that a process spent so far."""
-    # The number that Linux gives to the clock of a process's time, as clock_getcpuclockid answers it: /proc counts in steps of 10 ms.
+    # The number that Linux gives to the clock of a process's time, as clock_getcpuclockid answers
+    # it: /proc counts in steps of 10 ms.
     return time.clock_gettime_ns((~pid << 3) | 2) / 1e6
 
 

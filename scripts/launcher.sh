@@ -1,5 +1,6 @@
 #!/bin/sh
-# Runs NAME as it was built for this processor: for x86-64-v3 if /proc/cpuinfo has its features, else for every x86-64-v2.
+# Runs NAME as it was built for this processor: for x86-64-v3 if /proc/cpuinfo has its features,
+# else for every x86-64-v2.
 at="PLACE/x86-64-v2"
 if [ -x "PLACE/x86-64-v3/NAME" ] && [ -r /proc/cpuinfo ]; then
   while read -r field _ features; do

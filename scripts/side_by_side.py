@@ -22,7 +22,8 @@ ALL = (SERVER, CLIENT, KERNELS)
 
 # A build's name, and where each of its programs is, by the program's name.
 Build = collections.namedtuple("Build", "name programs")
-# One line of a program: milliseconds, what it read and multiplied in a second, and the sum of the words that it made.
+# One line of a program: milliseconds, what it read and multiplied in a second, and the sum of the
+# words that it made.
 Figure = collections.namedtuple("Figure", "millis speed rate check")
 
 

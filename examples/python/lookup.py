@@ -1,13 +1,15 @@
 #!/usr/bin/env python3
 """A private look-up by name. Names and their values, of any lengths, are kept in buckets: record i holds all entries whose
-name hashes to i. Who looks a name up gets its bucket, and the server learns neither name nor bucket.
+name hashes to i. Who looks a name up gets its bucket, and the server learns neither name nor
+bucket.
 
 usage: lookup.py make FILE KEY BUCKETS ROOM < ENTRIES    ENTRIES has a line 'NAME VALUE' each; ROOM is a bucket's bytes
        lookup.py get PORT HINTS NAME                     prints the value, or ends with status 1
        lookup.py put PORT HINTS KEY NAME VALUE           sets a value, and publishes
 
-FILE is served by `pir_server run --file FILE --listen 127.0.0.1:PORT`. KEY is a file with the publisher's key, 64 hex digits;
-HINTS is a folder that keeps the hint for the next time. PIR_SERVER names the program where it isn't on the path.
+FILE is served by `pir_server run --file FILE --listen 127.0.0.1:PORT`. KEY is a file with the
+publisher's key, 64 hex digits; HINTS is a folder that keeps the hint for the next time. PIR_SERVER
+names the program where it isn't on the path.
 """
 import hashlib
 import os

@@ -3,7 +3,8 @@
 
 usage: several.py HINTS INDEX PORT ..    prints a line 'PORT VERSION RECORD' for each, the record in hex digits, or 'PORT FAULT'
 
-HINTS is a folder that keeps the hints for the next time. While one hint is fetched the others are, too.
+HINTS is a folder that keeps the hints for the next time. While one hint is fetched the others are,
+too.
 """
 import asyncio
 import sys

@@ -1,8 +1,9 @@
 """Private information retrieval: a client gets a record without the server learning which.
 
-The client and the server are proved, and called from here through their C interface: `Client` over a socket, `AsyncClient` over a
-connection of asyncio, `ServerCore` over bytes. Nothing of this package itself is proved. Each refusal is an exception with a name
-of its own, in `vulandrai.faults`, which says what to do.
+The client and the server are proved, and called from here through their C interface: `Client` over
+a socket, `AsyncClient` over a connection of asyncio, `ServerCore` over bytes. Nothing of this
+package itself is proved. Each refusal is an exception with a name of its own, in
+`vulandrai.faults`, which says what to do.
 
     with Client("127.0.0.1", 7000, hints="hints") as client:
         print(client.get(5))

@@ -1,7 +1,8 @@
 """usage: python -m vulandrai get|put|append|publish|state --help
 
-Does what the commands of `pir_client` of these names do, and prints the same lines. Exit status: 0 done, 1 refused by the server (or stale,
-or unreadable), 2 a bad command line, 3 a fault, 4 out of memory.
+Does what the commands of `pir_client` of these names do, and prints the same lines. Exit status: 0
+done, 1 refused by the server (or stale, or unreadable), 2 a bad command line, 3 a fault, 4 out of
+memory.
 """
 import argparse
 import os

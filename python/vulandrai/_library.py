@@ -1,8 +1,9 @@
 """The C interface over ctypes, as include/vulandrai.h declares it.
 
-The shared library is the file that VULANDRAI_LIBRARY names; or that of this package's folder, or of out/c in the repository in which this
-file stands; or the one that the system's loader finds. Each of these folders has two, one for every x86-64-v2 and one for processors with
-AVX2 and what goes with it (x86-64-v3): /proc/cpuinfo decides.
+The shared library is the file that VULANDRAI_LIBRARY names; or that of this package's folder, or of
+out/c in the repository in which this file stands; or the one that the system's loader finds. Each
+of these folders has two, one for every x86-64-v2 and one for processors with AVX2 and what goes
+with it (x86-64-v3): /proc/cpuinfo decides.
 """
 import ctypes
 import os

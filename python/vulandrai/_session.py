@@ -14,10 +14,12 @@ from .hints import Hints, version_of
 READER = bytes(32)
 SYNCED, RETRIEVED, UNREADABLE, STALE, REFUSED = 2, 3, 4, 5, 7
 
-# How often a hint or an answer may be stale before the server is given up: it may publish again and again, or lie.
+# How often a hint or an answer may be stale before the server is given up: it may publish again and
+# again, or lie.
 STALE_ANSWERS = 3
 
-# Where frames have their kind, and the kind that asks for a part of a hint, whose number is its last field (docs/FORMATS.md).
+# Where frames have their kind, and the kind that asks for a part of a hint, whose number is its
+# last field (docs/FORMATS.md).
 KIND, HINT_ASK = 4, 0x03
 # Bytes of a HintPart besides its words, and words of a part.
 PART_HEAD, PART_WORDS = 18, 1 << 16

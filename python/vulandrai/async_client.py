@@ -60,10 +60,12 @@ class AsyncClient:
         async with AsyncClient("127.0.0.1", 7000, hints="hints") as client:
             print(await client.get(5))
 
-    It takes the same words as `Client`, and has calls of the same names; `await AsyncClient(..)` connects without a block. What a call computes,
-    and what it reads and writes of the folder, is done in a thread of the loop's executor, so that the loop goes on meanwhile; `progress`
-    is called in the loop. Tasks may share a client: each call has the connection to itself until it ends. A call that is cancelled, or
-    fails before its end in any other way, closes the client; what the server refuses does not.
+    It takes the same words as `Client`, and has calls of the same names; `await AsyncClient(..)`
+    connects without a block. What a call computes, and what it reads and writes of the folder, is
+    done in a thread of the loop's executor, so that the loop goes on meanwhile; `progress` is
+    called in the loop. Tasks may share a client: each call has the connection to itself until it
+    ends. A call that is cancelled, or fails before its end in any other way, closes the client;
+    what the server refuses does not.
     """
 
     def __init__(

@@ -10,10 +10,12 @@ from ._buffers import Bytes
 from ._session import READER, Folder, Known, Record, Scheme, Session, Step, Steps, T
 
 PIECE = 1 << 16
-# How many connections are tried where each leads to a server of an older version: a balancer may lead to another one.
+# How many connections are tried where each leads to a server of an older version: a balancer may
+# lead to another one.
 CONNECTIONS = 4
 
-# Told how many bytes of a hint have come, and of how many, or None where only the rows that changed are sent.
+# Told how many bytes of a hint have come, and of how many, or None where only the rows that changed
+# are sent.
 Progress = Callable[[int, Optional[int]], object]
 
 
@@ -32,18 +34,22 @@ class Client:
         with Client("127.0.0.1", 7000, hints="hints") as client:
             print(client.get(5))
 
-    Its secret seed is drawn from the system's random source (`os.urandom`), and is on no disk; numbers count from 0. With `seed` and
-    `number` it is the caller who must never use a number twice with one seed. `hints` is a folder in which the public hint is kept
-    for the next time, the same as that of `pir_client get --state`. `key` is the publisher's, for who edits. A server whose dimension is
-    below `least_dimension` raises `LowDimension`. Connecting, and each piece that is waited for, may take `timeout` seconds.
+    Its secret seed is drawn from the system's random source (`os.urandom`), and is on no disk;
+    numbers count from 0. With `seed` and `number` it is the caller who must never use a number
+    twice with one seed. `hints` is a folder in which the public hint is kept for the next time, the
+    same as that of `pir_client get --state`. `key` is the publisher's, for who edits. A server
+    whose dimension is below `least_dimension` raises `LowDimension`. Connecting, and each piece
+    that is waited for, may take `timeout` seconds.
 
-    A server whose version is lower than one that was seen before of its store, by what is kept in `hints`, is warned of
-    (`faults.OlderVersion`); with `no_older` it raises `Older`, after four connections. `progress` is called with two numbers while
-    a hint is fetched: how many bytes have come, and of how many, or None where only the rows that changed are sent.
+    A server whose version is lower than one that was seen before of its store, by what is kept in
+    `hints`, is warned of (`faults.OlderVersion`); with `no_older` it raises `Older`, after four
+    connections. `progress` is called with two numbers while a hint is fetched: how many bytes have
+    come, and of how many, or None where only the rows that changed are sent.
 
-    Threads may share a client: each call has the connection to itself until it ends. A client that is used in another process than the
-    one that made it raises `Forked`, and none can be pickled or copied. A call that fails before its end, by a timeout or any other
-    exception, closes the client; what the server refuses does not.
+    Threads may share a client: each call has the connection to itself until it ends. A client that
+    is used in another process than the one that made it raises `Forked`, and none can be pickled or
+    copied. A call that fails before its end, by a timeout or any other exception, closes the
+    client; what the server refuses does not.
     """
 
     def __init__(

@@ -8,8 +8,9 @@ import re
 import stat
 from typing import List, NamedTuple, Optional, Union
 
-# Where fields stand in a file, as docs/FORMATS.md has them: the store's plan with its dimension, the records and the version that the server
-# had reported last, the scheme, the hint's version, rows and columns, and the digests of its parts.
+# Where fields stand in a file, as docs/FORMATS.md has them: the store's plan with its dimension,
+# the records and the version that the server had reported last, the scheme, the hint's version,
+# rows and columns, and the digests of its parts.
 PLAN, DIMENSION, RECORDS, REPORTED, SCHEME, OWN = slice(8, 49), slice(15, 17), slice(49, 53), slice(53, 61), 61, slice(62, 70)
 ROWS, COLUMNS, PARTS = slice(70, 78), slice(78, 86), 86
 MAGIC, DIGEST, PART_WORDS, MOST_WORDS = b"PIRHINT3", 32, 1 << 16, 1 << 25

@@ -14,10 +14,11 @@ class ServerCore:
             server.open_session(1)
             replies = server.feed(1, piece)
 
-    Bytes are taken without a copy if they are `bytes` or a `memoryview` that is read-only, whose bytes nothing may change meanwhile; others
-    are copied. Threads may share a server: each frame is served, and its reply taken, by one of them alone. None can be pickled or
-    copied. In a process that was forked a server goes on by itself; if another thread was in a call on it at the fork, each call raises
-    `Forked`, and `close` does nothing.
+    Bytes are taken without a copy if they are `bytes` or a `memoryview` that is read-only, whose
+    bytes nothing may change meanwhile; others are copied. Threads may share a server: each frame is
+    served, and its reply taken, by one of them alone. None can be pickled or copied. In a process
+    that was forked a server goes on by itself; if another thread was in a call on it at the fork,
+    each call raises `Forked`, and `close` does nothing.
     """
 
     def __init__(self, snapshot: Bytes) -> None:

@@ -31,7 +31,8 @@ LANES = 4
 counts = {"passed": 0, "failed": 0}
 counting = threading.Lock()
 numbers = itertools.count()
-# The two programs, the folder in which all is done, and the two libraries that are loaded before the C library.
+# The two programs, the folder in which all is done, and the two libraries that are loaded before
+# the C library.
 programs = types.SimpleNamespace(server=None, client=None, room=None, library=None, refuser=None)
 
 
@@ -251,7 +252,8 @@ def got(port, index, state=None):
 def version_at(port):
     if not port:
         return None
-    # A connection to which memory is refused ends without a Welcome; the next one has it, unless the server has ended.
+    # A connection to which memory is refused ends without a Welcome; the next one has it, unless
+    # the server has ended.
     for _ in range(3):
         try:
             with Connection(port, wire.READER) as reader:

@@ -176,7 +176,8 @@ class Limits(Streams):
 
     def streams(self, layout):
         first = [(0, 0)]
-        # One record, another, both back, bytes that stay, appends, a blank one and its edit, all, and one again and again.
+        # One record, another, both back, bytes that stay, appends, a blank one and its edit, all,
+        # and one again and again.
         turns = [[(0, 9)], [(0, 8), (1, 8)], [(0, 0), (1, 1)], first, [(None, 7)], [(None, None)], [(4, 6)], [(4, None)], [(i, 5) for i in range(5)]]
         turns += [[(2, 10 + turn)] for turn in range(18)] + [first, [(0, 4), (None, 3)], [(5, 2), (0, 0)]]
         for version, turn in enumerate(turns, 2):

@@ -15,7 +15,8 @@ MOST_DELTA_ROWS = 1024
 # The most bytes that the entries of Changes have: the payload has 20 before them.
 MOST_ENTRIES = MOST_PAYLOAD - 20
 SIMPLE, DOUBLE = 0, 1
-# The highest forms that there are, which are the profiles of a client that knows all ordinary ones, or all wide ones.
+# The highest forms that there are, which are the profiles of a client that knows all ordinary ones,
+# or all wide ones.
 LAST_FORM, LAST_WIDE_FORM = 2, 130
 LIMITS = [
     2043, 6079, 9970, 13630, 16990, 20001, 22633, 24879, 26749, 28269, 29474, 30407, 31111, 31630,

@@ -3,10 +3,13 @@
 
 usage: fuzz.py [--seconds N] [--seed S] [--jobs J] [--streams N] [--area NAME] [SERVER CLIENT]
 
-Areas: streams to the sessions of a served store, every order of three frames of every kind there, what changed in a wide one, and the limits of
-what it keeps of that; one database over one stream, replies to the client's commands, the hint that a folder keeps and what moves it, scripts of a world, and
-snapshot files as they are shown, migrated and made wide; stores and worlds are of all four forms. All follows from the seed. It runs for N seconds (60 if not given), or until N streams were sent. A
-case that differs is made smaller, and printed with its seed. It ends with 'N passed, M failed'; a stream counts as one case.
+Areas: streams to the sessions of a served store, every order of three frames of every kind there,
+what changed in a wide one, and the limits of what it keeps of that; one database over one stream,
+replies to the client's commands, the hint that a folder keeps and what moves it, scripts of a
+world, and snapshot files as they are shown, migrated and made wide; stores and worlds are of all
+four forms. All follows from the seed. It runs for N seconds (60 if not given), or until N streams
+were sent. A case that differs is made smaller, and printed with its seed. It ends with 'N passed, M
+failed'; a stream counts as one case.
 """
 import argparse
 import multiprocessing

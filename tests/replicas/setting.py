@@ -106,7 +106,8 @@ class Publisher:
         with open(self.key_file, "w", encoding="ascii") as file:
             file.write(KEY + "\n")
         self.known, self.last, self.took = {1: list(records)}, 1, 0.02
-        # As `init` makes it, but that secrets have fewer words, so that servers start and clients ask in little time.
+        # As `init` makes it, but that secrets have fewer words, so that servers start and clients
+        # ask in little time.
         layout = formats.Layout(8, SIZE, GROUPS, len(records))
         os.mkdir(self.dir, 0o700)
         with open(self.file, "wb") as file:

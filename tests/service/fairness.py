@@ -9,7 +9,8 @@ import time
 import wire
 from wire import Connection
 
-# 64 digits to a record, in 2,048 rows: each digit of a record has a part of the query by DoublePIR for itself.
+# 64 digits to a record, in 2,048 rows: each digit of a record has a part of the query by DoublePIR
+# for itself.
 RECORD, WIDTH, GROUPS, COLUMNS = 80, 10, 32, 64
 DIGITS = RECORD * 8 // WIDTH
 WORDS = COLUMNS + DIGITS * GROUPS * DIGITS

@@ -49,7 +49,8 @@ def pump(source, sink):
             sink.sendall(piece)
         sink.shutdown(socket.SHUT_WR)
     except OSError:
-        # One end is gone, of a server that was killed with bytes unread, say: the other one must not wait for it.
+        # One end is gone, of a server that was killed with bytes unread, say: the other one must
+        # not wait for it.
         for end in (source, sink):
             with contextlib.suppress(OSError):
                 end.shutdown(socket.SHUT_RDWR)

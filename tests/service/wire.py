@@ -120,7 +120,8 @@ class Server:
             preexec_fn=prepare,
             pass_fds=passed,
             env={**os.environ, **(more or {})},
-            # Python ignores SIGXFSZ, and a process that is to see that a file is too large needs it ignored, too.
+            # Python ignores SIGXFSZ, and a process that is to see that a file is too large needs it
+            # ignored, too.
             restore_signals=not keep_signals,
         )
         self.line = self.process.stdout.readline().decode().strip()

@@ -114,7 +114,8 @@ def killed_runs_leave_their_parts(t):
         process = subprocess.Popen(t.words_of_get(folder, cutter.port, 5), **quiet)
         t.holds("it came so far", cutter.is_held.wait(30))
         if cut == 2:
-            # Another run meanwhile fetches the hint by itself, and neither waits nor adds to the parts.
+            # Another run meanwhile fetches the hint by itself, and neither waits nor adds to the
+            # parts.
             before = t.read(folder, f"{name}.part")
             t.same("another run", (0, t.retrieved(7, 1, records), ""), t.get(folder, server.port, 7))
             t.same("fetches all parts", list(range(parts)), parts_asked(t, server))
