@@ -2,7 +2,7 @@
 //!
 //! Proved by `tests/long/run --prove`.
 
-use rehearsal::rehearse;
+use world_script::rehearse;
 use std::alloc::Global;
 use std::process::Abort;
 use std::test::Fail;

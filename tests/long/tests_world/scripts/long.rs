@@ -7,18 +7,6 @@ const SEED: &str = "seed 0000000000000000000000000000000000000000000000000000000
 
 const CLIENT: &str = "client 1111111111111111111111111111111111111111111111111111111111111111\n";
 
-#[test]
-fn a_hundred_thousand_outcomes_and_one(rt: HostRuntime) -> Result<(), Fail> {
-    let steps = "edit 2 00\n".repeat(rt.alloc(), 100_001)?;
-    let reported = "edit 2: refused BadIndex\n".repeat(rt.alloc(), 100_001)?;
-    let script = format!(in rt.alloc(); "world 8 1 1 1\n{SEED}record 0a\nrecord c8\n{CLIENT}{steps}")?;
-    let mut out = Vec::new(rt.alloc());
-    let played = rehearse(rt.alloc(), &mut script.as_bytes(), &mut out);
-    assert_eq!(rt; played, Ok(0));
-    assert!(rt; out.as_slice() == reported.as_bytes());
-    Ok(())
-}
-
 // 274 records of 256 bytes, each of one byte's value.
 fn records(alloc: Global) -> Result<String, Fail> {
     let mut text = String::new(alloc);

@@ -1,7 +1,6 @@
 //! Lines of scripts, and what they print.
 
 use super::*;
-use rehearsal::SCRIPT_LIMIT;
 
 // The start of most scripts.
 const SEED: &str = "seed 0000000000000000000000000000000000000000000000000000000000000000\n";
@@ -251,19 +250,5 @@ fn a_world_can_be_refused(rt: HostRuntime) -> Result<(), Fail> {
         let bad = format!(in alloc; "{refused}hello\n")?;
         check(&rt, alloc, bad.as_str(), "line 5: bad\n", 3)?;
     }
-    Ok(())
-}
-
-#[test]
-fn a_script_can_be_too_long(rt: HostRuntime) -> Result<(), Fail> {
-    let alloc = rt.alloc();
-    let mut script = Vec::from_elem(alloc, b'\n', SCRIPT_LIMIT)?;
-    let mut out = Vec::new(alloc);
-    assert_eq!(rt; rehearse(alloc, &mut script.as_slice(), &mut out), Ok(3));
-    assert_eq!(rt; out.as_slice(), b"line 1048577: bad\n".as_slice());
-    script.push(b'\n').map_err(std::alloc::AllocError::from)?;
-    out.clear();
-    assert_eq!(rt; rehearse(alloc, &mut script.as_slice(), &mut out), Ok(3));
-    assert_eq!(rt; out.as_slice(), b"script: too long\n".as_slice());
     Ok(())
 }

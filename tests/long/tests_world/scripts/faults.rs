@@ -2,7 +2,7 @@
 
 use super::*;
 use test_support::{Input, Output};
-use rehearsal::RehearseFault;
+use world_script::RehearseFault;
 
 #[test]
 fn the_stored_run_byte_by_byte(rt: HostRuntime) -> Result<(), Fail> {
