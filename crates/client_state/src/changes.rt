@@ -1,13 +1,14 @@
-//! The file of changes beside the file of a hint: what moves the hint on, so that it needn't be written anew.
+//! The file of changes beside the file of a hint: what moves the hint on, so that it needn't be
+//! written anew.
 
 use crate::fault::FolderFault;
-use crate::files::{is_free, open_file, remove_file};
+use crate::files::{is_free, lock_beside, open_file, remove_file};
 use crate::folder::Folder;
 use crate::kept::KeptFile;
 use change_file::{Block, ChangesEnd, HEAD_LEN, block_bytes, empty_end, end_in, head_bytes};
 use client_core::{Plan, Scheme};
 use hint_file::{HintError, HintFields, KeptHead, file_name};
-use safe_files::{FileSystem, LockFault, lock};
+use safe_files::FileSystem;
 use std::alloc::{AllocError, Global};
 use std::fs::{OpenFile, OpenOptions};
 use std::os::unix::fs::OpenOptionsExt;
@@ -15,7 +16,8 @@ use std::os::unix::fs::OpenOptionsExt;
 /// The mode of a file that is made: its owner alone may use it.
 const FILE_MODE: u32 = 0o600;
 
-/// The changes that are kept beside a hint's file: the bytes of the head and of all whole blocks, and where they end.
+/// The changes that are kept beside a hint's file: the bytes of the head and of all whole blocks,
+/// and where they end.
 #[derive(Drop)]
 pub struct KeptChanges {
     bytes: Vec<u8>,
@@ -38,8 +40,8 @@ impl KeptChanges {
         self.bytes.len() <= HEAD_LEN
     }
 
-    /// Which hint the file has once the changes have moved it, by the head of the file. The server had reported this version, or a later
-    /// one.
+    /// Which hint the file has once the changes have moved it, by the head of the file. The server
+    /// had reported this version, or a later one.
     pub fn moved_fields(&self, head: &KeptHead) -> HintFields {
         let mut fields = head.fields;
         fields.version = self.end.version;
@@ -90,14 +92,16 @@ fn end_of<R: FileSystem>(kept: &KeptFile<'_, R>, bytes: &[u8]) -> Option<Changes
     end_in(bytes, kept.digest(), fields.version, fields.known.count)
 }
 
-/// How many bytes of changes are kept beside a hint at most: an eighth of its bytes. Once there would be more, the hint is written anew.
+/// How many bytes of changes are kept beside a hint at most: an eighth of its bytes. Once there
+/// would be more, the hint is written anew.
 pub fn most_changes(fields: &HintFields) -> usize {
     fields.rows.saturating_mul(fields.cols) / 2
 }
 
 impl<'a, R: FileSystem> Folder<'a, R> {
-    /// The changes that are kept beside an open hint's file. A file of another hint, one of more bytes than there may be, and one that
-    /// can't be read are none: the hint is sound without them.
+    /// The changes that are kept beside an open hint's file. A file of another hint, one of more
+    /// bytes than there may be, and one that can't be read are none: the hint is sound without
+    /// them.
     ///
     /// # Errors
     ///
@@ -116,14 +120,15 @@ impl<'a, R: FileSystem> Folder<'a, R> {
         }
     }
 
-    /// Adds a block to the changes that were read, and to those that are kept beside a hint's file if there is room. Whether there was: if
-    /// not, the hint is to be written anew. Nothing is written when another run writes the hint's file or its changes, or has written them
-    /// since these were read.
+    /// Adds a block to the changes that were read, and to those that are kept beside a hint's file
+    /// if there is room. Whether there was: if not, the hint is to be written anew. Nothing is
+    /// written when another run writes the hint's file or its changes, or has written them since
+    /// these were read.
     ///
     /// # Errors
     ///
-    /// `State` when the file can't be written, or there is no block of so many entries, which alone is not added to those read; `Memory`
-    /// when memory was refused: then nothing was.
+    /// `State` when the file can't be written, or there is no block of so many entries, which alone
+    /// is not added to those read; `Memory` when memory was refused: then nothing was.
     pub fn add_changes(
         &self,
         kept: &KeptFile<'_, R>,
@@ -151,43 +156,35 @@ impl<'a, R: FileSystem> Folder<'a, R> {
         Ok(has_room)
     }
 
-    // Writes a block after those read, or, if the file has none of this hint's, the head and these before it.
+    // Writes a block after those read, or, if the file has none of this hint's, the head and these
+    // before it.
     fn write_changes(
         &self,
         kept: &KeptFile<'_, R>,
         changes: &KeptChanges,
         block: &[u8],
     ) -> Result<(), FolderFault> {
+        let path = self.changes_path(kept)?;
+        if !is_free(self.rt(), path.as_str()) {
+            return Err(FolderFault::State);
+        }
+        let Some(_lock) = lock_beside(self.rt(), path.as_str())? else {
+            return Ok(());
+        };
+        if self.still_has(kept, changes)? {
+            write_block(self.rt(), path.as_str(), changes, block)
+        } else {
+            Ok(())
+        }
+    }
+
+    // The name of the file of changes beside a hint's file, with the folder's.
+    fn changes_path(&self, kept: &KeptFile<'_, R>) -> Result<String, AllocError> {
         let alloc = self.rt().alloc();
         let fields = &kept.head().fields;
         let folder = self.path();
         let name = changes_name(alloc, fields.scheme, &fields.known.plan)?;
-        let path = format!(in alloc; "{folder}/{name}")?;
-        if !is_free(self.rt(), path.as_str()) {
-            return Err(FolderFault::State);
-        }
-        let beside = format!(in alloc; "{path}.lock")?;
-        let _lock = match lock(self.rt(), beside.as_str()) {
-            Ok(taken) => taken,
-            Err(LockFault::Held) => return Ok(()),
-            Err(fault) => return Err(fault.into()),
-        };
-        if !self.still_has(kept, changes)? {
-            return Ok(());
-        }
-        let file = OpenOptions::new()
-            .write(true)
-            .create(true)
-            .truncate(false)
-            .mode(FILE_MODE)
-            .open(self.rt(), path.as_str())?;
-        let at = changes.bytes.len() as u64;
-        if changes.is_empty() {
-            self.rt().write_all_at(&file, &changes.bytes, 0)?;
-        }
-        self.rt().write_all_at(&file, block, at)?;
-        file.set_len(at.saturating_add(block.len() as u64))?;
-        Ok(())
+        format!(in alloc; "{folder}/{name}")
     }
 
     // Whether the folder has this hint still, and these changes beside it.
@@ -205,7 +202,8 @@ impl<'a, R: FileSystem> Folder<'a, R> {
         Ok(self.changes(kept)?.end.link == changes.end.link)
     }
 
-    /// Removes the changes that are kept beside the hint of a scheme and a store, when there are any.
+    /// Removes the changes that are kept beside the hint of a scheme and a store, when there are
+    /// any.
     ///
     /// # Errors
     ///
@@ -220,6 +218,28 @@ impl<'a, R: FileSystem> Folder<'a, R> {
 fn changes_name(alloc: Global, scheme: Scheme, plan: &Plan) -> Result<String, AllocError> {
     let name = file_name(alloc, scheme, plan)?;
     format!(in alloc; "{name}.changes")
+}
+
+// Writes a block after the changes that were read, or, if there are none, the head before it.
+fn write_block<R: FileSystem>(
+    rt: &R,
+    path: &str,
+    changes: &KeptChanges,
+    block: &[u8],
+) -> Result<(), FolderFault> {
+    let file = OpenOptions::new()
+        .write(true)
+        .create(true)
+        .truncate(false)
+        .mode(FILE_MODE)
+        .open(rt, path)?;
+    let at = changes.bytes.len() as u64;
+    if changes.is_empty() {
+        rt.write_all_at(&file, &changes.bytes, 0)?;
+    }
+    rt.write_all_at(&file, block, at)?;
+    file.set_len(at.saturating_add(block.len() as u64))?;
+    Ok(())
 }
 
 // How many bytes a file of changes may have.

@@ -1,13 +1,14 @@
 //! The files in a client's folder.
 
 use crate::fault::FolderFault;
-use safe_files::FileSystem;
+use safe_files::{FileLock, FileSystem, LockFault, lock};
 use std::alloc::AllocError;
 use std::fs;
 use std::fs::File;
 use std::io::ErrorKind;
 
-/// Opens a file to be read, when there is one. What is no file of its own, as a link or a pipe, is never opened.
+/// Opens a file to be read, when there is one. What is no file of its own, as a link or a pipe, is
+/// never opened.
 pub fn open_file<R: FileSystem>(
     rt: &R,
     path: &str,
@@ -27,11 +28,29 @@ pub fn open_file<R: FileSystem>(
     }
 }
 
-/// Whether a file of its own stands there, or nothing: no link, pipe or folder, which is never opened or replaced.
+/// Whether a file of its own stands there, or nothing: no link, pipe or folder, which is never
+/// opened or replaced.
 pub fn is_free<R: FileSystem>(rt: &R, name: &str) -> bool {
     match fs::symlink_metadata(rt, name) {
         Ok(found) => found.is_file(),
         Err(fault) => fault.kind() == ErrorKind::NotFound,
+    }
+}
+
+/// Takes the lock on a file, beside it; none when another run has it.
+pub fn lock_beside<R: FileSystem>(rt: &R, path: &str) -> Result<Option<FileLock<R>>, FolderFault> {
+    let name = format!(in rt.alloc(); "{path}.lock")?;
+    unless_held(lock(rt, name.as_str()))
+}
+
+/// A lock that was taken; none when another run has it.
+pub fn unless_held<R: FileSystem>(
+    taken: Result<FileLock<R>, LockFault>,
+) -> Result<Option<FileLock<R>>, FolderFault> {
+    match taken {
+        Ok(taken) => Ok(Some(taken)),
+        Err(LockFault::Held) => Ok(None),
+        Err(fault) => Err(fault.into()),
     }
 }
 

@@ -2,12 +2,13 @@
 
 use crate::content::HintContent;
 use crate::fault::{FolderFault, read_fault};
-use crate::files::{add, is_free, names_in, open_file, remove_file};
+use crate::files::{add, is_free, names_in, open_file, remove_file, unless_held};
 use crate::kept::KeptFile;
 use crate::names::{is_hint_name, is_name_of_ours};
 use client_core::{Hint, Plan, Scheme, ServerInfo};
-use hint_file::{HintError, KeptHead, file_name, hint_file, is_no_newer};
-use safe_files::{FileSystem, LockFault, Place, replace};
+use hint_file::{HintError, HintFields, KeptHead, file_name, hint_file, is_no_newer};
+use safe_files::{FileSystem, Place, replace};
+use std::alloc::Global;
 use std::fs;
 use std::fs::DirBuilder;
 use std::io::ErrorKind;
@@ -36,7 +37,8 @@ impl<'a, R: FileSystem> Folder<'a, R> {
     ///
     /// # Errors
     ///
-    /// `State` when the folder can't be made, when others than its owner may use it, and when what stands there is no folder.
+    /// `State` when the folder can't be made, when others than its owner may use it, and when what
+    /// stands there is no folder.
     pub fn open(rt: &'a R, path: &'a str) -> Result<Folder<'a, R>, FolderFault> {
         match DirBuilder::new().mode(FOLDER_MODE).create(rt, path) {
             Err(fault) if fault.kind() != ErrorKind::AlreadyExists => Err(FolderFault::State),
@@ -56,12 +58,13 @@ impl<'a, R: FileSystem> Folder<'a, R> {
         }
     }
 
-    /// The hint that is kept of a scheme and a store, when there is one. Its file is opened once, and its head is read.
+    /// The hint that is kept of a scheme and a store, when there is one. Its file is opened once,
+    /// and its head is read.
     ///
     /// # Errors
     ///
-    /// `Damaged` when its file begins with no head of such a hint, or is longer or shorter than that head says; `Read` when it can't
-    /// be read; `Memory` when memory was refused.
+    /// `Damaged` when its file begins with no head of such a hint, or is longer or shorter than
+    /// that head says; `Read` when it can't be read; `Memory` when memory was refused.
     pub fn kept(&self, scheme: Scheme, plan: &Plan) -> Result<Option<KeptFile<'a, R>>, HintError> {
         let name = file_name(self.rt.alloc(), scheme, plan)?;
         let Some(kept) = self.opened(name.as_str())? else {
@@ -74,31 +77,23 @@ impl<'a, R: FileSystem> Folder<'a, R> {
         Ok(Some(kept))
     }
 
-    /// Keeps a hint, with what the server has reported, in place of the one of its scheme and store that was kept before. Nothing
-    /// is written when another run writes that file, or when it is of a later version, or says that one was reported.
+    /// Keeps a hint, with what the server has reported, in place of the one of its scheme and store
+    /// that was kept before. Nothing is written when another run writes that file, or when it is of
+    /// a later version, or says that one was reported.
     ///
     /// # Errors
     ///
-    /// `State` when the file can't be written: the one before it is left, or the new one. `Memory` when memory was refused.
+    /// `State` when the file can't be written: the one before it is left, or the new one. `Memory`
+    /// when memory was refused.
     pub fn keep(&self, known: &ServerInfo, hint: &Hint) -> Result<(), FolderFault> {
-        let alloc = self.rt.alloc();
-        let name = file_name(alloc, hint.scheme, &known.plan)?;
-        let path = self.path;
-        let path = format!(in alloc; "{path}/{name}")?;
-        if !is_free(self.rt, path.as_str()) {
-            return Err(FolderFault::State);
-        }
-        let mut place = Place::of(self.rt, path.as_str())?;
-        let _lock = match place.lock() {
-            Ok(taken) => taken,
-            Err(LockFault::Held) => return Ok(()),
-            Err(fault) => return Err(fault.into()),
+        let mut place = self.place_of(hint.scheme, &known.plan)?;
+        let Some(_lock) = unless_held(place.lock())? else {
+            return Ok(());
         };
         if !self.may_replace(known, hint.scheme, hint.version)? {
             return Ok(());
         }
-        let content = HintContent(hint_file(alloc, known, hint)?);
-        replace(alloc, &mut place, &content)?;
+        write_hint(self.rt.alloc(), &mut place, known, hint)?;
         // One that stays is judged by its version, or by the hint that it names, when it is wanted.
         let _ = self.drop_partial(known, hint.scheme);
         let _ = self.drop_changes(hint.scheme, &known.plan);
@@ -116,7 +111,8 @@ impl<'a, R: FileSystem> Folder<'a, R> {
         self.drop_changes(scheme, plan)
     }
 
-    /// The heads of all hints that are kept, with the versions to which their changes have moved them.
+    /// The heads of all hints that are kept, with the versions to which their changes have moved
+    /// them.
     ///
     /// # Errors
     ///
@@ -138,7 +134,8 @@ impl<'a, R: FileSystem> Folder<'a, R> {
         Ok(KeptHeads { heads, damaged })
     }
 
-    /// Drops all hints, with the locks of their files and what was left of writing them. Other files are left alone.
+    /// Drops all hints, with the locks of their files and what was left of writing them. Other
+    /// files are left alone.
     ///
     /// # Errors
     ///
@@ -162,6 +159,27 @@ impl<'a, R: FileSystem> Folder<'a, R> {
         self.path
     }
 
+    /// Where the file of this name is replaced.
+    ///
+    /// # Errors
+    ///
+    /// `State` when no file of its own stands there, `Memory` when memory was refused.
+    pub(crate) fn place_at(&self, path: &str) -> Result<Place<'a, R>, FolderFault> {
+        if !is_free(self.rt, path) {
+            return Err(FolderFault::State);
+        }
+        Ok(Place::of(self.rt, path)?)
+    }
+
+    // Where the file of a scheme and a store is replaced.
+    fn place_of(&self, scheme: Scheme, plan: &Plan) -> Result<Place<'a, R>, FolderFault> {
+        let alloc = self.rt.alloc();
+        let folder = self.path;
+        let name = file_name(alloc, scheme, plan)?;
+        let path = format!(in alloc; "{folder}/{name}")?;
+        self.place_at(path.as_str())
+    }
+
     // The file of a hint, open.
     fn opened(&self, name: &str) -> Result<Option<KeptFile<'a, R>>, HintError> {
         match open_file(self.rt, self.path, name) {
@@ -176,18 +194,23 @@ impl<'a, R: FileSystem> Folder<'a, R> {
         let Some(kept) = self.opened(name)? else {
             return Ok(None);
         };
+        let fields = self.fields_of(&kept, name)?;
+        let KeptHead { digests, .. } = kept.into_head();
+        Ok(Some(KeptHead { fields, digests }))
+    }
+
+    // Which hint a file of this name has once its changes have moved it, if the name belongs to it.
+    fn fields_of(&self, kept: &KeptFile<'_, R>, name: &str) -> Result<HintFields, HintError> {
         let fields = &kept.head().fields;
         let named = file_name(self.rt.alloc(), fields.scheme, &fields.known.plan)?;
         if named.as_str() != name {
             return Err(HintError::Damaged);
         }
-        let changes = self.changes(&kept)?;
-        let fields = changes.moved_fields(kept.head());
-        let KeptHead { digests, .. } = kept.into_head();
-        Ok(Some(KeptHead { fields, digests }))
+        Ok(self.changes(kept)?.moved_fields(kept.head()))
     }
 
-    /// Whether a hint of a version may take the place of the one that is kept: of one that is damaged or can't be read, too.
+    /// Whether a hint of a version may take the place of the one that is kept: of one that is
+    /// damaged or can't be read, too.
     pub(crate) fn may_replace(
         &self,
         known: &ServerInfo,
@@ -203,4 +226,16 @@ impl<'a, R: FileSystem> Folder<'a, R> {
             Err(HintError::Memory) => Err(FolderFault::Memory),
         }
     }
+}
+
+// Puts a hint's file in place of the one before it.
+fn write_hint<R: FileSystem>(
+    alloc: Global,
+    place: &mut Place<'_, R>,
+    known: &ServerInfo,
+    hint: &Hint,
+) -> Result<(), FolderFault> {
+    let content = HintContent(hint_file(alloc, known, hint)?);
+    replace(alloc, place, &content)?;
+    Ok(())
 }

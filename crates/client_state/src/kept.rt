@@ -15,7 +15,8 @@ const FRONT_LEN: usize = 86;
 /// How many bytes a digest has.
 const DIGEST_LEN: usize = 32;
 
-/// The file of a hint that was kept, open: what another run puts in its place changes nothing of it.
+/// The file of a hint that was kept, open: what another run puts in its place changes nothing of
+/// it.
 #[derive(Drop)]
 pub struct KeptFile<'a, R: FileSystem = HostRuntime> {
     rt: &'a R,
@@ -45,22 +46,10 @@ impl<'a, R: FileSystem> KeptFile<'a, R> {
     ///
     /// # Errors
     ///
-    /// `Damaged` when the file begins with no head of a hint, or is longer or shorter than that head says; `Read` when it can't be
-    /// read; `Memory` when memory was refused.
+    /// `Damaged` when the file begins with no head of a hint, or is longer or shorter than that
+    /// head says; `Read` when it can't be read; `Memory` when memory was refused.
     pub(crate) fn of(rt: &'a R, file: R::File) -> Result<KeptFile<'a, R>, HintError> {
-        let Ok(found) = file.metadata() else {
-            return Err(HintError::Read);
-        };
-        let most = found.len().min(MOST_HEAD as u64) as usize;
-        let mut bytes = vec![in rt.alloc(); 0u8; most]?;
-        if rt.read_exact_at(&file, &mut bytes, 0).is_err() {
-            return Err(HintError::Read);
-        }
-        let head = head_in(rt.alloc(), &bytes)?;
-        if found.len() != head.file_len() {
-            return Err(HintError::Damaged);
-        }
-        let digest = head_digest(&head, &bytes)?;
+        let (head, digest) = read_head(rt, &file)?;
         Ok(KeptFile {
             rt,
             file,
@@ -88,8 +77,8 @@ impl<'a, R: FileSystem> KeptFile<'a, R> {
     ///
     /// # Errors
     ///
-    /// `Damaged` when the hint has no such parts, or the file has other bytes than its head says; `Read` when it can't be read;
-    /// `Memory` when memory was refused.
+    /// `Damaged` when the hint has no such parts, or the file has other bytes than its head says;
+    /// `Read` when it can't be read; `Memory` when memory was refused.
     pub fn parts(&self, span: PartSpan) -> Result<Hint, HintError> {
         let alloc = self.rt.alloc();
         let Some((start, len)) = place_of(&self.head, span) else {
@@ -106,12 +95,13 @@ impl<'a, R: FileSystem> KeptFile<'a, R> {
         parts_in(alloc, &self.head, span, &bytes)
     }
 
-    /// The whole hint, with what the server had reported last. No more than the bytes of one of its parts stand in memory beside
-    /// its words.
+    /// The whole hint, with what the server had reported last. No more than the bytes of one of its
+    /// parts stand in memory beside its words.
     ///
     /// # Errors
     ///
-    /// `Damaged` when the file is no hint's, `Read` when it can't be read, `Memory` when memory was refused.
+    /// `Damaged` when the file is no hint's, `Read` when it can't be read, `Memory` when memory was
+    /// refused.
     pub fn whole(&self) -> Result<KeptHint, HintError> {
         let mut reader = FromStart {
             rt: self.rt,
@@ -120,6 +110,27 @@ impl<'a, R: FileSystem> KeptFile<'a, R> {
         };
         read_hint(self.rt.alloc(), &mut reader)
     }
+}
+
+// The head of a file, if that is as long as its head says, and the digest of the head.
+fn read_head<R: FileSystem>(
+    rt: &R,
+    file: &R::File,
+) -> Result<(KeptHead, [u8; DIGEST_LEN]), HintError> {
+    let Ok(found) = file.metadata() else {
+        return Err(HintError::Read);
+    };
+    let most = found.len().min(MOST_HEAD as u64) as usize;
+    let mut bytes = vec![in rt.alloc(); 0u8; most]?;
+    if rt.read_exact_at(file, &mut bytes, 0).is_err() {
+        return Err(HintError::Read);
+    }
+    let head = head_in(rt.alloc(), &bytes)?;
+    if found.len() != head.file_len() {
+        return Err(HintError::Damaged);
+    }
+    let digest = head_digest(&head, &bytes)?;
+    Ok((head, digest))
 }
 
 // The digest at the end of a head, which stands at the beginning of these bytes.

@@ -1,7 +1,12 @@
-//! A client's folder: the hints that it keeps from one run to the next, and nothing else. It holds no secret.
+//! A client's folder: the hints that it keeps from one run to the next, and nothing else. It holds
+//! no secret.
 //!
-//! There is one file for each scheme and store, which is replaced whole and read through one open file; `hint_file` has its
-//! bytes. Beside it may be a file of changes, which is added to and moves the hint on; `change_file` has its bytes. No lock is held while anything else is waited for, so any number of runs may use one folder.
+//! There is one file for each scheme and store, which is replaced whole and read through one open
+//! file; `hint_file` has its bytes. Beside it may be a file of changes, which is added to and moves
+//! the hint on; `change_file` has its bytes. No lock is held while anything else is waited for, so
+//! any number of runs may use one folder.
+//!
+//! Its tests are in tests/long/client_state and tests/state.
 #![tactic(auto)]
 
 mod changes;

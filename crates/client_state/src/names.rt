@@ -13,7 +13,8 @@ pub fn is_hint_name(name: &str) -> bool {
     }
 }
 
-/// Whether this is the name of a hint's file, of its lock, of what a replacement of it left, or of its partial file or its changes or the lock of either.
+/// Whether this is the name of a hint's file, of its lock, of what a replacement of it left, or of
+/// its partial file or its changes or the lock of either.
 pub fn is_name_of_ours(name: &str) -> bool {
     match after_hint_name(name) {
         Some("" | ".lock" | ".new" | ".part" | ".part.lock") => true,

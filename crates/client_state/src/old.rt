@@ -1,10 +1,11 @@
-//! A folder of before, which had a seed, the number of the next retrieval, and one hint that named the seed.
+//! A folder of before, which had a seed, the number of the next retrieval, and one hint that named
+//! the seed.
 
 use crate::fault::FolderFault;
-use crate::files::{open_file, remove_file};
+use crate::files::{open_file, remove_file, unless_held};
 use crate::folder::Folder;
 use hint_file::{HintError, KeptHint, read_old_hint};
-use safe_files::{FileLock, FileSystem, LockFault, lock};
+use safe_files::{FileLock, FileSystem, lock};
 
 /// The files of a folder of before, the secret one first, and what each begins with.
 const OLD_FILES: [(&str, [u8; 8]); 3] = [
@@ -24,13 +25,14 @@ pub struct OldFolder {
 }
 
 impl<R: FileSystem> Folder<'_, R> {
-    /// Takes a folder of before over, when this is one: its hint is kept, when it is a sound one, and its seed, its counter, its hint
-    /// and its lock are removed. None when this is no such folder, or another process uses it as one.
+    /// Takes a folder of before over, when this is one: its hint is kept, when it is a sound one,
+    /// and its seed, its counter, its hint and its lock are removed. None when this is no such
+    /// folder, or another process uses it as one.
     ///
     /// # Errors
     ///
-    /// `State` when the hint can't be kept, and then nothing is removed, or when a file can't be removed; `Memory` when memory was
-    /// refused.
+    /// `State` when the hint can't be kept, and then nothing is removed, or when a file can't be
+    /// removed; `Memory` when memory was refused.
     pub fn take_old(&self) -> Result<Option<OldFolder>, FolderFault> {
         if !has_old(self)? {
             return Ok(None);
@@ -38,13 +40,7 @@ impl<R: FileSystem> Folder<'_, R> {
         let Some(_lock) = old_lock(self)? else {
             return Ok(None);
         };
-        let hint_kept = match old_hint(self)? {
-            Some(kept) => {
-                self.keep(&kept.known, &kept.hint)?;
-                true
-            }
-            None => false,
-        };
+        let hint_kept = keep_old_hint(self)?;
         let removed = remove_old(self)?;
         remove_left(self)?;
         // Another run may have taken it over just before the lock was had.
@@ -86,10 +82,17 @@ fn is_old<R: FileSystem>(
 fn old_lock<R: FileSystem>(folder: &Folder<'_, R>) -> Result<Option<FileLock<R>>, FolderFault> {
     let path = folder.path();
     let name = format!(in folder.rt().alloc(); "{path}/lock")?;
-    match lock(folder.rt(), name.as_str()) {
-        Ok(taken) => Ok(Some(taken)),
-        Err(LockFault::Held) => Ok(None),
-        Err(fault) => Err(fault.into()),
+    unless_held(lock(folder.rt(), name.as_str()))
+}
+
+// Keeps the hint of a folder of before, when there is a sound one. Whether there was.
+fn keep_old_hint<R: FileSystem>(folder: &Folder<'_, R>) -> Result<bool, FolderFault> {
+    match old_hint(folder)? {
+        Some(kept) => {
+            folder.keep(&kept.known, &kept.hint)?;
+            Ok(true)
+        }
+        None => Ok(false),
     }
 }
 

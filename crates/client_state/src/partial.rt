@@ -1,7 +1,7 @@
 //! The file of a hint of which only the first parts are there: what a fetch that was cut leaves.
 
 use crate::fault::{FolderFault, read_fault};
-use crate::files::is_free;
+use crate::files::{is_free, lock_beside, unless_held};
 use crate::folder::Folder;
 use crate::kept::KeptFile;
 use client_core::{Scheme, ServerInfo};
@@ -9,7 +9,7 @@ use hint_file::{
     HintError, KeptHead, PartSpan, are_parts, empty_part, file_name, head_to_fetch, part_ask,
     part_digest, partial_front, place_of, whole_head,
 };
-use safe_files::{Disk, FileLock, FileSystem, LockFault, Place, lock};
+use safe_files::{Disk, FileLock, FileSystem, Place};
 use std::alloc::AllocError;
 use std::fs;
 use std::fs::{OpenFile, OpenOptions};
@@ -24,18 +24,30 @@ const DIGEST_LEN: usize = 32;
 /// How many bytes stand before the digests.
 const FRONT_LEN: usize = 86;
 
-/// The file of a hint that is fetched part by part, open. While this value lives no other run adds to it.
+/// The file of a hint that is fetched part by part, open. While this value lives no other run adds
+/// to it.
 #[derive(Drop)]
 pub struct PartialFile<'a, R: FileSystem = HostRuntime> {
     folder: Folder<'a, R>,
+    held: HeldFile<R>,
+    paths: PartPaths,
+    head: KeptHead,
+    taken: u32,
+}
+
+// A partial file, open.
+#[derive(Drop)]
+struct HeldFile<R: FileSystem> {
     file: R::File,
     // Given back when the value is dropped.
     _lock: FileLock<R>,
-    // The names of the hint's file and of this one.
-    name: String,
+}
+
+// The names of the file of a hint and of its partial file.
+#[derive(Drop)]
+struct PartPaths {
+    whole: String,
     partial: String,
-    head: KeptHead,
-    taken: u32,
 }
 
 /// A hint that was fetched.
@@ -47,8 +59,9 @@ pub struct Fetched<'a, R: FileSystem = HostRuntime> {
 }
 
 impl<'a, R: FileSystem> Folder<'a, R> {
-    /// The partial file of the hint of the version known: the one that stands there, with its first whole parts, or a new one in place
-    /// of that of another version. None when another run adds to it, or when there is no such hint.
+    /// The partial file of the hint of the version known: the one that stands there, with its first
+    /// whole parts, or a new one in place of that of another version. None when another run adds to
+    /// it, or when there is no such hint.
     ///
     /// # Errors
     ///
@@ -58,64 +71,48 @@ impl<'a, R: FileSystem> Folder<'a, R> {
         known: &ServerInfo,
         scheme: Scheme,
     ) -> Result<Option<PartialFile<'a, R>>, FolderFault> {
-        let alloc = self.rt().alloc();
-        let Some(head) = head_to_fetch(alloc, known, scheme)? else {
+        let Some(head) = head_to_fetch(self.rt().alloc(), known, scheme)? else {
             return Ok(None);
         };
-        let (name, partial) = self.paths(known, scheme)?;
-        let beside = format!(in alloc; "{partial}.lock")?;
-        let taken = match lock(self.rt(), beside.as_str()) {
-            Ok(taken) => taken,
-            Err(LockFault::Held) => return Ok(None),
-            Err(fault) => return Err(fault.into()),
+        let paths = self.part_paths(known, scheme)?;
+        let Some(held) = held_file(self.rt(), paths.partial.as_str(), &head)? else {
+            return Ok(None);
         };
-        let front = partial_front(alloc, &head)?;
-        let file = match standing(self.rt(), partial.as_str(), &front)? {
-            Some(file) => file,
-            None => made(self.rt(), partial.as_str(), &front)?,
-        };
-        let mut found = PartialFile {
+        let found = PartialFile {
             folder: *self,
-            file,
-            _lock: taken,
-            name,
-            partial,
+            held,
+            paths,
             head,
             taken: 0,
         };
-        found.count()?;
-        Ok(Some(found))
+        Ok(Some(found.counted()?))
     }
 
-    /// Drops the partial file of a scheme and a store, when there is one and no other run adds to it.
+    /// Drops the partial file of a scheme and a store, when there is one and no other run adds to
+    /// it.
     ///
     /// # Errors
     ///
     /// `State` when it can't be removed, `Memory` when memory was refused.
     pub fn drop_partial(&self, known: &ServerInfo, scheme: Scheme) -> Result<(), FolderFault> {
-        let (_, partial) = self.paths(known, scheme)?;
+        let PartPaths { partial, .. } = self.part_paths(known, scheme)?;
         if fs::symlink_metadata(self.rt(), partial.as_str()).is_err() {
             return Ok(());
         }
-        let beside = format!(in self.rt().alloc(); "{partial}.lock")?;
-        match lock(self.rt(), beside.as_str()) {
-            Ok(_taken) => {
-                fs::remove_file(self.rt(), partial.as_str())?;
-                Ok(())
-            }
-            Err(LockFault::Held) => Ok(()),
-            Err(fault) => Err(fault.into()),
+        if let Some(_taken) = lock_beside(self.rt(), partial.as_str())? {
+            fs::remove_file(self.rt(), partial.as_str())?;
         }
+        Ok(())
     }
 
     // The names of the file of a hint and of its partial file.
-    fn paths(&self, known: &ServerInfo, scheme: Scheme) -> Result<(String, String), FolderFault> {
+    fn part_paths(&self, known: &ServerInfo, scheme: Scheme) -> Result<PartPaths, FolderFault> {
         let alloc = self.rt().alloc();
         let name = file_name(alloc, scheme, &known.plan)?;
         let folder = self.path();
-        let partial = format!(in alloc; "{folder}/{name}.part")?;
-        let name = format!(in alloc; "{folder}/{name}")?;
-        Ok((name, partial))
+        let whole = format!(in alloc; "{folder}/{name}")?;
+        let partial = format!(in alloc; "{whole}.part")?;
+        Ok(PartPaths { whole, partial })
     }
 }
 
@@ -154,7 +151,8 @@ impl<'a, R: FileSystem> PartialFile<'a, R> {
         empty_part(self.folder.rt().alloc(), &self.head, self.taken)
     }
 
-    /// Adds the next part. Its bytes are written before their digest, so that a file that was cut between has one part less.
+    /// Adds the next part. Its bytes are written before their digest, so that a file that was cut
+    /// between has one part less.
     ///
     /// # Errors
     ///
@@ -163,31 +161,34 @@ impl<'a, R: FileSystem> PartialFile<'a, R> {
         match place_of(&self.head, self.next()) {
             Some((start, len)) if len == bytes.len() => {
                 let rt = self.folder.rt();
-                rt.write_all_at(&self.file, bytes, start)?
+                rt.write_all_at(&self.held.file, bytes, start)?
             }
             _ => return Err(FolderFault::State),
         }
         let digest = part_digest(bytes);
         let rt = self.folder.rt();
-        rt.write_all_at(&self.file, &digest, digest_place(self.taken()))?;
+        rt.write_all_at(&self.held.file, &digest, digest_place(self.taken()))?;
         self.note(digest);
         self.taken = self.taken.saturating_add(1);
         Ok(())
     }
 
-    /// Makes the file, in which all parts are, the hint's file: sends it to the device, with the whole head then, gives it the name and
-    /// sends the folder to the device. What is read of it goes through the file that is open, whatever becomes of its names.
+    /// Makes the file, in which all parts are, the hint's file: sends it to the device, with the
+    /// whole head then, gives it the name and sends the folder to the device. What is read of it
+    /// goes through the file that is open, whatever becomes of its names.
     ///
     /// # Errors
     ///
-    /// `Read` when it can't be written, `Damaged` when parts are missing, `Memory` when memory was refused.
+    /// `Read` when it can't be written, `Damaged` when parts are missing, `Memory` when memory was
+    /// refused.
     pub fn finish(self) -> Result<Fetched<'a, R>, HintError> {
         if self.taken() < self.parts() {
             return Err(HintError::Damaged);
         }
         self.seal().map_err(read_fault)?;
         let could_keep = self.take_place().is_ok();
-        let PartialFile { folder, file, .. } = self;
+        let PartialFile { folder, held, .. } = self;
+        let HeldFile { file, .. } = held;
         let file = KeptFile::of(folder.rt(), file)?;
         Ok(Fetched { file, could_keep })
     }
@@ -195,7 +196,7 @@ impl<'a, R: FileSystem> PartialFile<'a, R> {
     /// Removes the file.
     pub fn discard(self) {
         // One that stays is judged again by the next run.
-        let _ = fs::remove_file(self.folder.rt(), self.partial.as_str());
+        let _ = fs::remove_file(self.folder.rt(), self.paths.partial.as_str());
     }
 
     // The next part.
@@ -204,6 +205,12 @@ impl<'a, R: FileSystem> PartialFile<'a, R> {
             first: self.taken(),
             end: self.taken().saturating_add(1),
         }
+    }
+
+    // The same, with its parts counted.
+    fn counted(mut self) -> Result<PartialFile<'a, R>, FolderFault> {
+        self.count()?;
+        Ok(self)
     }
 
     // Counts the parts from the first one on that are whole, with their digests.
@@ -227,9 +234,11 @@ impl<'a, R: FileSystem> PartialFile<'a, R> {
         let mut bytes = vec![in alloc; 0u8; len]?;
         let rt = self.folder.rt();
         if rt
-            .read_exact_at(&self.file, &mut digest, digest_place(self.taken()))
+            .read_exact_at(&self.held.file, &mut digest, digest_place(self.taken()))
             .is_err()
-            || rt.read_exact_at(&self.file, &mut bytes, start).is_err()
+            || rt
+                .read_exact_at(&self.held.file, &mut bytes, start)
+                .is_err()
         {
             return Ok(false);
         }
@@ -252,13 +261,15 @@ impl<'a, R: FileSystem> PartialFile<'a, R> {
         place.copy_from_slice(&digest);
     }
 
-    // Writes the whole head, once all parts are on the device: a run that is killed meanwhile leaves them as parts.
+    // Writes the whole head, once all parts are on the device: a run that is killed meanwhile
+    // leaves them as parts.
     fn seal(&self) -> Result<(), FolderFault> {
-        self.file.sync_all()?;
+        let file = &self.held.file;
+        file.sync_all()?;
         let head = whole_head(self.folder.rt().alloc(), &self.head)?;
-        self.folder.rt().write_all_at(&self.file, &head, 0)?;
-        self.file.set_len(self.whole_len())?;
-        self.file.sync_all()?;
+        self.folder.rt().write_all_at(file, &head, 0)?;
+        file.set_len(self.whole_len())?;
+        file.sync_all()?;
         Ok(())
     }
 
@@ -275,12 +286,13 @@ impl<'a, R: FileSystem> PartialFile<'a, R> {
         }
     }
 
-    // Gives the file the hint's name, unless another run writes that, or has kept a newer one: then it is removed.
+    // Gives the file the hint's name, unless another run writes that, or has kept a newer one: then
+    // it is removed.
     fn take_place(&self) -> Result<(), FolderFault> {
         let rt = self.folder.rt();
         let taken = self.rename();
         if !matches!(taken, Ok(true)) {
-            let _ = fs::remove_file(rt, self.partial.as_str());
+            let _ = fs::remove_file(rt, self.paths.partial.as_str());
         }
         match taken {
             Ok(_) => Ok(()),
@@ -290,15 +302,9 @@ impl<'a, R: FileSystem> PartialFile<'a, R> {
 
     // Gives the file the hint's name. Whether it has it then.
     fn rename(&self) -> Result<bool, FolderFault> {
-        let rt = self.folder.rt();
-        if !is_free(rt, self.name.as_str()) {
-            return Err(FolderFault::State);
-        }
-        let mut place = Place::of(rt, self.name.as_str())?;
-        let _lock = match place.lock() {
-            Ok(taken) => taken,
-            Err(LockFault::Held) => return Ok(false),
-            Err(fault) => return Err(fault.into()),
+        let mut place = self.folder.place_at(self.paths.whole.as_str())?;
+        let Some(_lock) = unless_held(place.lock())? else {
+            return Ok(false);
         };
         let fields = &self.head.fields;
         if !self
@@ -307,7 +313,14 @@ impl<'a, R: FileSystem> PartialFile<'a, R> {
         {
             return Ok(false);
         }
-        fs::rename(rt, self.partial.as_str(), self.name.as_str())?;
+        self.rename_to(&mut place)
+    }
+
+    // Gives the file the name of a place that is locked.
+    fn rename_to(&self, place: &mut Place<'_, R>) -> Result<bool, FolderFault> {
+        let (from, to) = (self.paths.partial.as_str(), self.paths.whole.as_str());
+        fs::rename(self.folder.rt(), from, to)?;
+        let fields = &self.head.fields;
         // Those that stay name the hint before.
         let _ = self.folder.drop_changes(fields.scheme, &fields.known.plan);
         match place.sync_folder() {
@@ -320,6 +333,33 @@ impl<'a, R: FileSystem> PartialFile<'a, R> {
 // Where the digest of a part stands.
 fn digest_place(part: usize) -> u64 {
     FRONT_LEN.saturating_add(part.saturating_mul(DIGEST_LEN)) as u64
+}
+
+// The partial file of a hint, locked: the one that stands there, or a new one. None when another
+// run has it.
+fn held_file<R: FileSystem>(
+    rt: &R,
+    path: &str,
+    head: &KeptHead,
+) -> Result<Option<HeldFile<R>>, FolderFault> {
+    let Some(taken) = lock_beside(rt, path)? else {
+        return Ok(None);
+    };
+    let file = standing_or_new(rt, path, head)?;
+    Ok(Some(HeldFile { file, _lock: taken }))
+}
+
+// The partial file that stands there, if it is of this hint, or a new one.
+fn standing_or_new<R: FileSystem>(
+    rt: &R,
+    path: &str,
+    head: &KeptHead,
+) -> Result<R::File, FolderFault> {
+    let front = partial_front(rt.alloc(), head)?;
+    match standing(rt, path, &front)? {
+        Some(file) => Ok(file),
+        None => made(rt, path, &front),
+    }
 }
 
 // The partial file that stands there, when it begins so.

@@ -161,7 +161,8 @@ impl<'a> Client<'a> {
         }
     }
 
-    // Goes on with a run after a step, unless it has ended. What came of the step: a record, if one was retrieved.
+    // Goes on with a run after a step, unless it has ended. What came of the step: a record, if one
+    // was retrieved.
     fn after(&mut self, running: Running<'a>, went: Went, network: &mut Network) -> ClientStep {
         if let ClientStep::Ended(_) = went.moved {
             network.close(running.end);

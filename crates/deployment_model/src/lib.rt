@@ -1,7 +1,11 @@
-//! What a simulated deployment is judged by, and who acts in it: the records of each version, by a model that knows nothing of stores and
-//! files; what must never be; a publisher, whose folder may be in any state that its commands may have left; pushes; clients.
+//! What a simulated deployment is judged by, and who acts in it: the records of each version, by a
+//! model that knows nothing of stores and files; what must never be; a publisher, whose folder may
+//! be in any state that its commands may have left; pushes; clients.
 //!
-//! The program `deployment` puts these together, with servers (`simulated_server`) over the disks and the network of `simulated_host`.
+//! The program `deployment` puts these together, with servers (`simulated_server`) over the disks
+//! and the network of `simulated_host`.
+//!
+//! Its tests are in tests/deployment, with wrong bodies that it is to find.
 #![tactic(auto)]
 
 mod broken;

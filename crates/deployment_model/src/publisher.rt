@@ -167,7 +167,8 @@ impl<'a> Publisher<'a> {
         }
     }
 
-    // Whether a publication that failed may be there: another one comes once that is clear, so that the model has each version's records.
+    // Whether a publication that failed may be there: another one comes once that is clear, so that
+    // the model has each version's records.
     fn may_have_published(&self, truth: &Truth) -> bool {
         self.states.iter().any(|state| state.version > truth.last())
     }
@@ -194,36 +195,43 @@ impl<'a> Publisher<'a> {
         } else {
             Target::At(u32::try_from(place).unwrap_or(u32::MAX))
         };
-        let copy = bytes.to_vec(self.alloc)?;
-        match draft_one(self.files, self.dir, target, copy) {
-            Ok(_) => {
-                self.states = self.drafted(appends, place, &bytes)?;
-                self.settle(truth)?;
-                Ok(Command::Drafted)
-            }
-            Err(failure) => {
-                let others = self.drafted(appends, place, &bytes)?;
-                self.may_be(failure, others)
-            }
+        let after = self.drafted(appends, place, &bytes)?;
+        match draft_one(self.files, self.dir, target, bytes) {
+            Ok(_) => self.done(after, truth, Command::Drafted),
+            Err(failure) => self.may_be(failure, after),
         }
     }
 
     // Publishes the draft.
     fn publish(&mut self, truth: &mut Truth) -> Result<Command, Broken> {
-        match publish_draft(self.files, self.dir) {
-            Ok(has) => {
-                self.states = self.published()?;
-                self.settle(truth)?;
-                Ok(Command::Published(has.number()))
-            }
-            Err(failure) => {
-                if name_of(failure) == "NothingToPublish" && !self.may_have_no_draft() {
-                    return Err(self.other_folder());
-                }
-                let others = self.published()?;
-                self.may_be(failure, others)
-            }
+        let after = self.published()?;
+        match self.version_published() {
+            Ok(version) => self.done(after, truth, Command::Published(version)),
+            Err(failure) if self.cannot_be(failure) => Err(self.other_folder()),
+            Err(failure) => self.may_be(failure, after),
         }
+    }
+
+    // Publishes the draft, and gives the number of the version.
+    fn version_published(&self) -> Result<u64, Failure> {
+        Ok(publish_draft(self.files, self.dir)?.number())
+    }
+
+    // Whether a publication failed for want of changes where the draft has some.
+    fn cannot_be(&self, failure: Failure) -> bool {
+        name_of(failure) == "NothingToPublish" && !self.may_have_no_draft()
+    }
+
+    // A command was done, after which the folder is in one of these states.
+    fn done(
+        &mut self,
+        after: Vec<Possible>,
+        truth: &mut Truth,
+        command: Command,
+    ) -> Result<Command, Broken> {
+        self.states = after;
+        self.settle(truth)?;
+        Ok(command)
     }
 
     // Whether the draft may change nothing.
@@ -305,12 +313,13 @@ impl<'a> Publisher<'a> {
         Ok(after)
     }
 
-    /// Looks at the folder after a command that was done, or after a crash: what is seen then is there from now on. Whether it could be
-    /// looked at.
+    /// Looks at the folder after a command that was done, or after a crash: what is seen then is
+    /// there from now on. Whether it could be looked at.
     ///
     /// # Errors
     ///
-    /// `OtherFolder` when it is in no state that the commands left, `BadFolder` when its files are damaged.
+    /// `OtherFolder` when it is in no state that the commands left, `BadFolder` when its files are
+    /// damaged.
     pub fn settle(&mut self, truth: &mut Truth) -> Result<bool, Broken> {
         let Some(seen) = self.look()? else {
             return Ok(false);

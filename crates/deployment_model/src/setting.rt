@@ -168,7 +168,8 @@ impl Shape {
     }
 }
 
-// How many words a secret has: one, mostly. With more, a hint has room for a log of the records that changed.
+// How many words a secret has: one, mostly. With more, a hint has room for a log of the records
+// that changed.
 fn dimension_of(dice: &mut Dice) -> u16 {
     match dice.below(4) {
         0 => 64,

@@ -46,8 +46,8 @@ fn has_record(store: &Store<Lanes>, index: usize, record: Option<&[u8]>, room: &
     }
 }
 
-/// Whether a store's hints and digits are those that are made of its snapshot anew, and the snapshot is that of each other server of the
-/// version.
+/// Whether a store's hints and digits are those that are made of its snapshot anew, and the
+/// snapshot is that of each other server of the version.
 ///
 /// # Errors
 ///
@@ -66,18 +66,18 @@ pub fn check_hints(
     if !truth.note_digest(version, last_bytes(&bytes)) {
         return Err(Broken::OtherSnapshot { server, version });
     }
-    let mut reader = bytes.as_slice();
-    let Ok(snapshot) = read_snapshot(alloc, &mut reader) else {
-        return Err(Broken::OtherSnapshot { server, version });
-    };
-    let Ok(anew) = Store::open(alloc, Lanes, snapshot) else {
-        return Err(Broken::Memory);
-    };
-    if are_alike(store, &anew) {
-        Ok(())
-    } else {
-        Err(Broken::OtherHint { server, version })
+    match made_anew(alloc, &bytes) {
+        Some(anew) if are_alike(store, &anew) => Ok(()),
+        Some(_) => Err(Broken::OtherHint { server, version }),
+        None => Err(Broken::OtherSnapshot { server, version }),
     }
+}
+
+// A store that is made of the bytes of a snapshot, if they are any.
+fn made_anew(alloc: Global, bytes: &[u8]) -> Option<Store<Lanes>> {
+    let mut reader = bytes;
+    let snapshot = read_snapshot(alloc, &mut reader).ok()?;
+    Store::open(alloc, Lanes, snapshot).ok()
 }
 
 // The last 32 bytes.

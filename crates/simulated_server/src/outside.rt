@@ -1,8 +1,8 @@
 //! The disk, and the end of one connection.
 
+use connection_turns::{AppendFailed, Outside, SaveFailed, Stop};
 use publication_log::LogFile;
 use server_files::LogSaver;
-use service_core::{AppendFailed, Outside, SaveFailed, Stop};
 use session_core::{Lanes, Store};
 use simulated_host::{Dice, End, Moved, Network, SimulatedFiles};
 use std::alloc::Global;

@@ -6,8 +6,8 @@ ghost use Rattle.server_core.specs.Cores.{session_of};
 use crate::outside::Surroundings;
 use crate::server::Limits;
 use crate::serving::Serving;
+use connection_turns::{ConnectionState, Fault, PIECE_LEN, Served, turn};
 use server_files::OwnFile;
-use service_core::{ConnectionState, Fault, PIECE_LEN, Served, turn};
 use session_core::{Lanes, Store};
 use simulated_host::{Dice, End, Moved, Network, SimulatedFile, SimulatedFiles};
 use std::alloc::Global;
@@ -71,7 +71,8 @@ impl Held {
 pub struct Process<'a> {
     // Its lock is kept until the process ends.
     _file: OwnFile<'a, SimulatedFiles<'a>>,
-    serving: Serving<SimulatedFile<'a>>,
+    // None once a version could not be saved.
+    serving: Option<Serving<SimulatedFile<'a>>>,
     connections: Vec<Held>,
     next_id: u64,
 }
@@ -104,15 +105,18 @@ impl<'a> Process<'a> {
     ) -> Process<'a> {
         Process {
             _file: file,
-            serving,
+            serving: Some(serving),
             connections: Vec::new(alloc),
             next_id: 0,
         }
     }
 
-    /// The store that is served.
-    pub fn store(&self) -> &Store<Lanes> {
-        self.serving.core.store()
+    /// The store that is served, unless a version of it could not be saved.
+    pub fn store(&self) -> Option<&Store<Lanes>> {
+        match &self.serving {
+            Some(serving) => Some(serving.core.store()),
+            None => None,
+        }
     }
 
     /// How many connections it has.
@@ -124,16 +128,26 @@ impl<'a> Process<'a> {
     pub fn held(&self) -> usize {
         let mut held = 0usize;
         for connection in self.connections.iter() {
-            held = held.saturating_add(held_for(&self.serving, connection));
+            held = held.saturating_add(self.held_for(connection));
         }
         held
     }
 
-    /// Accepts a connection, or makes a turn of one for which there is something to do, chosen at random; now and then of any.
-    pub fn step(mut self, around: &mut Around<'_, 'a>) -> (Option<Process<'a>>, Turned) {
+    // How many bytes are held for a connection: of an unfinished frame, and of replies that are
+    // owed.
+    fn held_for(&self, held: &Held) -> usize {
+        let unfinished = match &self.serving {
+            Some(serving) => serving.core.unfinished_len(held.id),
+            None => 0,
+        };
+        unfinished.saturating_add(held.state.owed().len())
+    }
+
+    /// Accepts a connection, or makes a turn of one for which there is something to do, chosen at
+    /// random; now and then of any. After `Ended` no other step is to be made.
+    pub fn step(&mut self, around: &mut Around<'_, 'a>) -> Turned {
         if self.connections.len() < around.limits.most && around.dice.one_in(4) {
-            let turned = self.accept(around);
-            return (Some(self), turned);
+            return self.accept(around);
         }
         let start = around.dice.below(self.connections.len());
         let place = if around.dice.one_in(16) {
@@ -149,7 +163,8 @@ impl<'a> Process<'a> {
         self.connections.iter().any(|held| held.is_ready(network))
     }
 
-    // The first place from one on whose connection has something to do, or the first of all; the one given if there is none.
+    // The first place from one on whose connection has something to do, or the first of all; the
+    // one given if there is none.
     fn ready_from(&self, start: usize, network: &Network) -> usize {
         let count = self.connections.len();
         for place in (start..count).chain(0..start) {
@@ -174,86 +189,92 @@ impl<'a> Process<'a> {
             edits: false,
             lingers: None,
         };
-        if self.serving.open_session(id).is_err() || self.connections.push(held).is_err() {
+        if !self.opens_session(id) || self.connections.push(held).is_err() {
             around.network.close(end);
             return Turned::Over;
         }
         Turned::Accepted
     }
 
-    // Makes a turn of the connection at a place.
-    fn turn_at(self, place: usize, around: &mut Around<'_, 'a>) -> (Option<Process<'a>>, Turned) {
-        let Process {
-            _file,
-            serving,
-            mut connections,
-            next_id,
-        } = self;
-        if place >= connections.len() {
-            let process = Process {
-                _file,
-                serving,
-                connections,
-                next_id,
-            };
-            return (Some(process), Turned::Nothing);
-        }
-        let mut held = connections.swap_remove(place);
-        let before = serving.core.store().version();
-        let (serving, outcome) = take_turn(serving, &mut held, around);
-        let Some(serving) = serving else {
-            return (None, Turned::Ended);
-        };
-        let after = serving.core.store().version();
-        let process = Process {
-            _file,
-            serving,
-            connections,
-            next_id,
-        };
-        let (process, turned) = process.after_turn(held, outcome, around);
-        if before != after {
-            (Some(process), Turned::Published(after))
-        } else {
-            (Some(process), turned)
+    // Opens the session of a connection. Whether it is open.
+    fn opens_session(&mut self, id: u64) -> bool {
+        match &mut self.serving {
+            Some(serving) => serving.open_session(id).is_ok(),
+            None => false,
         }
     }
 
+    // Makes a turn of the connection at a place.
+    fn turn_at(&mut self, place: usize, around: &mut Around<'_, 'a>) -> Turned {
+        if place >= self.connections.len() {
+            return Turned::Nothing;
+        }
+        let mut held = self.connections.swap_remove(place);
+        let before = self.version();
+        let outcome = self.take_turn(&mut held, around);
+        let after = self.version();
+        if after.is_none() {
+            return Turned::Ended;
+        }
+        let turned = self.after_turn(held, outcome, around);
+        match after {
+            Some(version) if before != after => Turned::Published(version),
+            _ => turned,
+        }
+    }
+
+    // The version that is served.
+    fn version(&self) -> Option<u64> {
+        match &self.serving {
+            Some(serving) => Some(serving.core.store().version()),
+            None => None,
+        }
+    }
+
+    // Makes a turn of a connection. Nothing is served any more if a version could not be saved.
+    fn take_turn(&mut self, held: &mut Held, around: &mut Around<'_, 'a>) -> Outcome {
+        if let Some(until) = held.lingers {
+            return linger(held, until, around);
+        }
+        let Some(serving) = self.serving.take() else {
+            return Outcome::Ends(Turned::Ended);
+        };
+        let (serving, outcome) = turn_over(serving, held, around);
+        self.serving = serving;
+        outcome
+    }
+
     // Puts a connection back, or lets it go.
-    fn after_turn(
-        mut self,
-        held: Held,
-        outcome: Outcome,
-        around: &mut Around<'_, 'a>,
-    ) -> (Process<'a>, Turned) {
+    fn after_turn(&mut self, held: Held, outcome: Outcome, around: &mut Around<'_, 'a>) -> Turned {
         match outcome {
             Outcome::GoesOn(turned) => {
                 let end = held.end;
                 if self.connections.push(held).is_err() {
                     around.network.close(end);
-                    return (self, Turned::Over);
+                    return Turned::Over;
                 }
                 self.within_memory(turned, around)
             }
-            Outcome::Ends(turned) => (self.let_go(held, around), turned),
+            Outcome::Ends(turned) => {
+                self.let_go(&held, around);
+                turned
+            }
         }
     }
 
-    // Closes the connection for which most bytes are held, if there are more than are allowed for all.
-    fn within_memory(
-        mut self,
-        turned: Turned,
-        around: &mut Around<'_, 'a>,
-    ) -> (Process<'a>, Turned) {
+    // Closes the connection for which most bytes are held, if there are more than are allowed for
+    // all.
+    fn within_memory(&mut self, turned: Turned, around: &mut Around<'_, 'a>) -> Turned {
         if self.held() <= around.limits.memory {
-            return (self, turned);
+            return turned;
         }
         let largest = self.largest();
         if largest >= self.connections.len() {
-            return (self, turned);
+            return turned;
         }
         let held = self.connections.swap_remove(largest);
-        (self.let_go(held, around), Turned::Closed(Closing::Memory))
+        self.let_go(&held, around);
+        Turned::Closed(Closing::Memory)
     }
 
     // The place of the connection for which most bytes are held.
@@ -261,7 +282,7 @@ impl<'a> Process<'a> {
         let mut largest = 0;
         let mut most = 0;
         for (place, connection) in self.connections.iter().enumerate() {
-            let held = held_for(&self.serving, connection);
+            let held = self.held_for(connection);
             if held > most {
                 largest = place;
                 most = held;
@@ -271,24 +292,15 @@ impl<'a> Process<'a> {
     }
 
     // Lets a connection go, and drops the draft if nobody is left who edited it.
-    fn let_go(mut self, held: Held, around: &mut Around<'_, 'a>) -> Process<'a> {
+    fn let_go(&mut self, held: &Held, around: &mut Around<'_, 'a>) {
         around.network.close(held.end);
-        self.serving.close_session(held.id);
-        if held.edits && !self.connections.iter().any(|other| other.edits) {
-            let Process {
-                _file,
-                serving,
-                connections,
-                next_id,
-            } = self;
-            return Process {
-                _file,
-                serving: serving.without_draft(),
-                connections,
-                next_id,
-            };
+        let drops = held.edits && !self.connections.iter().any(|other| other.edits);
+        if let Some(serving) = &mut self.serving {
+            serving.close_session(held.id);
+            if drops {
+                serving.drop_draft();
+            }
         }
-        self
     }
 }
 
@@ -301,21 +313,13 @@ enum Outcome {
     Ends(Turned),
 }
 
-// How many bytes are held for a connection: of an unfinished frame, and of replies that are owed.
-fn held_for<F: Write + OpenFile + Drop>(serving: &Serving<F>, held: &Held) -> usize {
-    let unfinished = serving.core.unfinished_len(held.id);
-    unfinished.saturating_add(held.state.owed().len())
-}
-
-// Makes a turn of a connection. Nothing is given back if a version could not be saved.
-fn take_turn<'a>(
+// Makes a turn of a connection over what is served. Nothing is given back if a version could not be
+// saved.
+fn turn_over<'a>(
     serving: Serving<SimulatedFile<'a>>,
     held: &mut Held,
     around: &mut Around<'_, 'a>,
 ) -> (Option<Serving<SimulatedFile<'a>>>, Outcome) {
-    if let Some(until) = held.lingers {
-        return (Some(serving), linger(held, until, around));
-    }
     if !serving.core.has_session(held.id) || around.buffer.len() != PIECE_LEN {
         return (Some(serving), Outcome::Ends(Turned::Over));
     }

@@ -61,7 +61,7 @@ impl<'a> Server<'a> {
     /// The store that is served, if a process runs.
     pub fn store(&self) -> Option<&Store<Lanes>> {
         match &self.process {
-            Some(process) => Some(process.store()),
+            Some(process) => process.store(),
             None => None,
         }
     }
@@ -105,11 +105,13 @@ impl<'a> Server<'a> {
 
     /// Makes a step of the process.
     pub fn step(&mut self, around: &mut Around<'_, 'a>) -> Turned {
-        let Some(process) = self.process.take() else {
+        let Some(process) = &mut self.process else {
             return Turned::Nothing;
         };
-        let (process, turned) = process.step(around);
-        self.process = process;
+        let turned = process.step(around);
+        if let Turned::Ended = turned {
+            self.process = None;
+        }
         turned
     }
 }

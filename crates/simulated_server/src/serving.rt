@@ -12,8 +12,8 @@ use std::alloc::Global;
 use std::fs::OpenFile;
 use std::io::Write;
 
-/// A server whose current version is there after a crash, and what saves its publications. A turn takes it and gives it back, unless a
-/// publication may be there in part.
+/// A server whose current version is there after a crash, and what saves its publications. A turn
+/// takes it and gives it back, unless a publication may be there in part.
 #[derive(Drop)]
 pub struct Serving<F: Write + OpenFile + Drop> {
     /// The server.
@@ -48,10 +48,8 @@ impl<F: Write + OpenFile + Drop> Serving<F> {
         self.core.close_session(id);
     }
 
-    /// The same without the draft.
-    pub fn without_draft(self) -> Serving<F> {
-        let Serving { mut core, saver } = self;
-        core.drop_draft();
-        Serving { core, saver }
+    /// Drops the draft.
+    pub fn drop_draft(&mut self) {
+        self.core.drop_draft();
     }
 }
